@@ -1,0 +1,4 @@
+pub mod Places
+pub mod RowLaws
+pub mod SliceLaws
+pub mod OrderLaws

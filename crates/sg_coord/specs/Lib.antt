@@ -1,0 +1,4 @@
+pub mod Bounds
+pub mod Coord
+pub mod Slices
+pub mod Laws

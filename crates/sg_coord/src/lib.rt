@@ -1,0 +1,16 @@
+//! Coordinates and extents: what is inside, row numbers and row order, and the slices of workers.
+#![tactic(auto)]
+
+pub mod coord;
+pub mod extents;
+pub mod laws;
+pub mod rows;
+pub mod slices;
+#[cfg(test)]
+mod tests;
+
+pub use coord::{Coord, rises};
+pub use extents::Extents;
+pub use laws::{numbering, row_order, slices_partition, strict_order};
+pub use rows::{coord_at, inside, row};
+pub use slices::slice_of;

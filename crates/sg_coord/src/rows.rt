@@ -1,0 +1,56 @@
+ghost use Rattle.std.specs.Prelude.{◌≡◌, ◌<◌, ◌↔◌, IsTrue, pos, ◌≤ℤ◌};
+ghost use Rattle.sg_coord.specs.Bounds.{bounds_of, volume};
+ghost use Rattle.sg_coord.specs.Coord.{Inside, is_inside, is_on_axis, offset_of, row_of, point_at};
+
+use crate::coord::Coord;
+use crate::extents::Extents;
+
+/// Whether a coordinate has as many axes as the extents, with each part at least 0 and below the
+/// extent of its axis.
+pub fn inside(extents: &Extents, at: Coord) -> bool
+    ensures value { result ≡ is_inside (bounds_of extents.now) at }
+    ensures inside { IsTrue result ↔ Inside (bounds_of extents.now) at }
+{
+    at.n == extents.n
+        && on_axis(extents.a, at.a)
+        && on_axis(extents.b, at.b)
+        && on_axis(extents.c, at.c)
+}
+
+fn on_axis(extent: u32, part: i32) -> bool
+    ensures { result ≡ is_on_axis extent part }
+{
+    0 <= part && (part as u32) < extent
+}
+
+/// The row number of a coordinate: how many points stand before it in row order.
+pub fn row(extents: &Extents, at: Coord) -> u32
+    requires { Inside (bounds_of extents.now) at }
+    ensures value { result ≡ row_of (bounds_of extents.now) at }
+    ensures below { result < volume (bounds_of extents.now) }
+    ensures inverse { point_at (bounds_of extents.now) result ≡ at }
+{
+    (offset(at.a) * extents.b + offset(at.b)) * extents.c + offset(at.c)
+}
+
+fn offset(part: i32) -> u32
+    requires { pos 0 ≤ℤ part }
+    ensures { result ≡ offset_of part }
+{
+    part as u32
+}
+
+/// The coordinate with row number `k`.
+pub fn coord_at(extents: &Extents, k: u32) -> Coord
+    requires { k < volume (bounds_of extents.now) }
+    ensures value { result ≡ point_at (bounds_of extents.now) k }
+    ensures inside { Inside (bounds_of extents.now) result }
+    ensures inverse { row_of (bounds_of extents.now) result ≡ k }
+{
+    Coord {
+        n: extents.n,
+        a: (k / (extents.b * extents.c)) as i32,
+        b: (k / extents.c % extents.b) as i32,
+        c: (k % extents.c) as i32,
+    }
+}

@@ -1,0 +1,30 @@
+use Rattle.std.specs.Prelude.{◌≡◌, ℕ, ℤ, pos, ◌+ℤ◌, ◌-ℤ◌, Bool, List, [], ◌∷◌, map, if◌then◌else◌, nat_le, Option, Some, None, slice_get, refl}
+use Rattle.std.specs.List.{flat_map, range_with_len}
+use Rattle.sg_coord.specs.declared.coord.Coord.{Coord}
+use Rattle.sg_layout.specs.Axes.{count_of}
+use Rattle.sg_flat.specs.declared.effects.Domain.{Domain}
+use Rattle.sg_flat.specs.declared.effects.Domain.TheVariants.{Walk, Range}
+use Rattle.sg_flat.specs.declared.state.FlatLayout.{FlatLayout}
+use Rattle.sg_flat.specs.declared.state.FlatState.{FlatState}
+
+-- the whole numbers from lo up to below hi: none where hi isn't above lo
+abbrev pub numbers : ℤ → ℤ → List ℤ
+numbers lo hi = map (λ k. lo +ℤ pos k) (range_with_len 0 (count_of (hi -ℤ lo)))
+
+-- the parts of an axis in a box: the range's numbers, and 0 alone for an axis that isn't there
+abbrev pub parts_of : Bool → ℤ → ℤ → List ℤ
+parts_of used lo hi = if used then numbers lo hi else pos 0 ∷ []
+
+-- the points of a box, in row order
+abbrev pub box_points : Coord → Coord → List Coord
+box_points lo hi =
+    flat_map (λ a. flat_map (λ b. map (λ c. record { n = lo.n; a = a; b = b; c = c }) (parts_of (nat_le 3 lo.n) lo.c hi.c)) (parts_of (nat_le 2 lo.n) lo.b hi.b)) (parts_of (nat_le 1 lo.n) lo.a hi.a)
+
+abbrev pub active_in : Option FlatLayout → List Coord
+active_in None = []
+active_in (Some layout) = layout.active
+
+-- the points that a loop visits, in row order
+abbrev pub domain_points : FlatState → Domain → List Coord
+domain_points state (Walk number) = active_in (slice_get state.layouts number)
+domain_points state (Range lo hi) = box_points lo hi

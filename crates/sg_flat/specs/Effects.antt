@@ -1,0 +1,47 @@
+use Rattle.std.specs.Prelude.{◌≡◌, ℕ, Bool, true, false, ◌&&◌, List, [], ◌∷◌, map, filter, length, ◌==◌, nat_lt, Option, Some, None, slice_get}
+use Rattle.std.specs.List.{flat_map, list_all, fold}
+use Rattle.sg_coord.specs.declared.coord.Coord.{Coord}
+use Rattle.sg_coord.specs.Bounds.{Bounds}
+use Rattle.sg_coord.specs.Coord.{row_of}
+use Rattle.sg_words.specs.declared.operators.Ty.{Ty}
+use Rattle.sg_words.specs.Words.{folded}
+use Rattle.sg_layout.specs.declared.shape.Shape.{Shape}
+use Rattle.sg_flat.specs.declared.effects.Way.{Way}
+use Rattle.sg_flat.specs.declared.effects.Way.TheVariants.{Own, Acc}
+use Rattle.sg_flat.specs.declared.effects.Write.{Write}
+use Rattle.sg_flat.specs.declared.effects.Turn.{Turn}
+use Rattle.sg_flat.specs.declared.effects.Effects.{Effects}
+
+-- all writes, iteration by iteration, in order of execution
+abbrev pub writes_of : List Turn → List Write
+writes_of turns = flat_map (λ turn. turn.writes) turns
+
+abbrev pub names_place : Option Shape → Write → Bool
+names_place None write = false
+names_place (Some shape) write = nat_lt write.place (length shape.fields) && (write.at.n == shape.axes)
+
+-- the write names a layout and a field that are there, and a coordinate with the layout's number of axes
+abbrev pub names_field : List Shape → Write → Bool
+names_field shapes write = names_place (slice_get shapes write.layout) write
+
+-- every write names what is there
+abbrev pub name_fields : List Shape → List Turn → Bool
+name_fields shapes turns = list_all (names_field shapes) (writes_of turns)
+
+-- the coordinates that the writes into a layout have
+abbrev pub written_in : ℕ → List Turn → List Coord
+written_in layout turns = map (λ write. write.at) (filter (λ write. write.layout == layout) (writes_of turns))
+
+-- the writes to one cell of a field, in order; for coordinates inside the bounds the row tells the cell
+abbrev pub writes_to : Bounds → ℕ → ℕ → ℕ → List Turn → List Write
+writes_to bounds layout place row turns =
+    filter (λ write. (write.layout == layout) && ((write.place == place) && (row_of bounds write.at == row))) (writes_of turns)
+
+-- what one write makes of its cell's word
+abbrev pub land : Ty → ℕ → Way → ℕ → ℕ
+land ty old Own value = value
+land ty old (Acc op) value = folded op ty old value
+
+-- what writes to one cell make of its word: the last own value, or the fold of the contributions over the old word
+abbrev pub landed : Ty → ℕ → List Write → ℕ
+landed ty old writes = fold (λ word write. land ty word write.way write.value) old writes

@@ -1,0 +1,21 @@
+use Rattle.std.specs.Prelude.{ℕ, ◌*◌, List, [], ◌∷◌, if◌then◌else◌, ◌==◌}
+use Rattle.sg_coord.specs.Bounds.{Bounds}
+pub use Rattle.sg_coord.specs.Coord.{offset_of as count_of}
+use Rattle.sg_layout.specs.declared.shape.Size.{Size}
+use Rattle.sg_layout.specs.declared.shape.NodeShape.{NodeShape}
+use Rattle.sg_layout.specs.declared.shape.Shape.{Shape}
+
+-- the extent that a node's sizes give an axis; 1 where they don't name it
+abbrev pub extent_in : List Size → ℕ → ℕ
+extent_in [] axis = 1
+extent_in (size ∷ sizes) axis = if size.axis == axis then count_of size.extent else extent_in sizes axis
+
+-- the extent of an axis over a list of nodes: the product of what each of them gives it
+abbrev pub extent_over : List NodeShape → ℕ → ℕ
+extent_over [] axis = 1
+extent_over (node ∷ nodes) axis = extent_in node.sizes axis * extent_over nodes axis
+
+-- the extents of a layout's axes; an axis that it doesn't have has extent 1
+abbrev pub bounds_of_shape : Shape → Bounds
+bounds_of_shape shape =
+    record { n = shape.axes; a = extent_over shape.nodes 1; b = extent_over shape.nodes 2; c = extent_over shape.nodes 3 }
