@@ -1,10 +1,17 @@
+//! Words of 32 bits and their arithmetic, and what every crate shares: want of memory, refusals, lists.
 #![tactic(auto)]
 
+pub mod arithmetic;
+pub mod laws;
 pub mod memory;
 pub mod operators;
 pub mod text;
 
+pub use arithmetic::{apply, apply_un, fold, mulq, number, rank, unrank};
 pub use memory::{Memory, Stop};
 pub use operators::{AccOp, BinOp, Ty, UnOp};
 pub use sqlite_items::{Boxed, Items};
 pub use text::Text;
+
+#[cfg(test)]
+mod tests;

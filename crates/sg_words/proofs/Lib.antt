@@ -1,0 +1,3 @@
+pub mod DivisionLemmas
+pub mod FoldLemmas
+pub mod WordLemmas
