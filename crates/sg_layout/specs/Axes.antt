@@ -15,7 +15,7 @@ abbrev pub extent_over : List NodeShape → ℕ → ℕ
 extent_over [] axis = 1
 extent_over (node ∷ nodes) axis = extent_in node.sizes axis * extent_over nodes axis
 
--- the extents of a layout's axes; an axis that it doesn't have has extent 1
+-- the extents of a layout's axes; an axis that no node names has extent 1
 abbrev pub bounds_of_shape : Shape → Bounds
 bounds_of_shape shape =
     record { n = shape.axes; a = extent_over shape.nodes 1; b = extent_over shape.nodes 2; c = extent_over shape.nodes 3 }

@@ -11,6 +11,7 @@ use Rattle.sg_layout.specs.Axes.{bounds_of_shape}
 use Rattle.sg_layout.specs.Path.{path}
 use Rattle.sg_layout.specs.Live.{is_live}
 
+-- a node with no activity of its own
 abbrev pub is_dense : Kind → Bool
 is_dense Dense = true
 is_dense Bitmasked = false

@@ -3,5 +3,7 @@ pub mod Path
 pub mod Live
 pub mod Closure
 pub mod Need
+pub mod ClosureLaws
 pub mod Rules
+pub mod Accepted
 pub mod Examples

@@ -24,14 +24,15 @@ makes_live Bitmasked reached slot = bytes_eq reached slot
 makes_live Pointer reached slot = bytes_eq reached slot
 makes_live Hash reached slot = bytes_eq reached slot
 
+-- the kind of a node that may be there
 abbrev pub kind_or : Option NodeShape → Kind
 kind_or None = Dense
 kind_or (Some node) = node.kind
 
--- the kind of a node, numbered from 1; Dense where there is none of this number
+-- the kind of a node, numbered from 1; Dense past the last
 abbrev pub kind_at : List NodeShape → ℕ → Kind
 kind_at nodes number = kind_or (slice_get nodes (number - 1))
 
--- the slot of a node is live for a list of coordinates: the path of some coordinate makes it so
+-- the slot of a node is live for a list of coordinates, which are meant to be inside: the path of some coordinate makes it so
 abbrev pub is_live : Shape → List Coord → ℕ → List ℕ → Bool
 is_live shape written number slot = list_any (λ at. makes_live (kind_at shape.nodes number) (path shape at number) slot) written

@@ -39,6 +39,7 @@ need_by Hash shape written number chunk = length (reached_slots shape written nu
 need_by Dense shape written number chunk = 0
 need_by Bitmasked shape written number chunk = 0
 
+-- the need of a node with this number
 abbrev pub need_of : Shape → List Coord → ℕ → NodeShape → ℕ
 need_of shape written number node = need_by node.kind shape written number (count_of node.chunk)
 
@@ -53,5 +54,6 @@ first_full_from shape written number [] = None
 first_full_from shape written number (node ∷ later) =
     if nat_lt (count_of node.cap) (need_of shape written number node) then Some (record { node = number; cap = count_of node.cap }) else first_full_from shape written (suc number) later
 
+-- the first node from the root whose need passes its cap
 abbrev pub first_full : Shape → List Coord → Option FullNode
 first_full shape written = first_full_from shape written 1 shape.nodes

@@ -30,7 +30,7 @@ stands_well Dense number later = true
 stands_well Bitmasked number later = true
 stands_well Pointer number later = true
 
--- an axis of the layout that none of the later sizes names again
+-- each size names an axis of the layout, from 1 to `axes`, that no later size names again
 abbrev pub names_axes_once : ℕ → List Size → Bool
 names_axes_once axes [] = true
 names_axes_once axes (size ∷ sizes) =
@@ -88,6 +88,7 @@ abbrev pub is_small : Bounds → Bool
 is_small bounds =
     nat_le bounds.a (2 ^ 15) && (nat_le bounds.b (2 ^ 15) && (nat_le bounds.c (2 ^ 15) && nat_le (volume bounds) (2 ^ 30)))
 
+-- the shape after its nodes: their first fault, else rule 4
 abbrev pub checked_by : Option LayoutFault → Shape → Result Shape LayoutFault
 checked_by (Some fault) shape = Err fault
 checked_by None shape = if is_small (bounds_of_shape shape) then Ok shape else Err TooLarge

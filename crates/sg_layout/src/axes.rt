@@ -1,0 +1,66 @@
+ghost use Rattle.std.specs.Prelude.{◌≡◌, ◌≤◌, ◌<◌, ◌^◌, IsTrue, MatchOption, false, None};
+ghost use Rattle.std.specs.List.{list_all};
+ghost use Rattle.sg_coord.specs.Bounds.{bounds_of};
+ghost use Rattle.sg_layout.specs.Axes.{extent_in, extent_over, bounds_of_shape};
+ghost use Rattle.sg_layout.specs.Rules.{is_extent, has_good_extents, first_node_fault, is_small, is_declared};
+
+use crate::rules::MOST_EXTENT;
+use crate::shape::{NodeShape, Shape, Size};
+use sg_coord::Extents;
+
+/// The greatest number of points of a layout.
+const MOST_POINTS: u64 = 1 << 30;
+
+/// The extents of a shape whose nodes have no fault. None where an axis or their product is too large.
+pub fn extents_of(shape: &Shape) -> Option<Extents>
+    requires declared { IsTrue (is_declared shape.now) }
+    requires no_fault { first_node_fault shape.now.axes 1 shape.now.nodes ≡ None }
+    ensures { MatchOption result (is_small (bounds_of_shape shape.now) ≡ false)
+        (λ extents. IsTrue (is_small (bounds_of_shape shape.now))
+        × (bounds_of extents ≡ bounds_of_shape shape.now)) }
+{
+    let nodes = shape.nodes.as_slice();
+    let a = extent_over(nodes, 1)?;
+    let b = extent_over(nodes, 2)?;
+    let c = extent_over(nodes, 3)?;
+    if u64::from(a) * u64::from(b) * u64::from(c) > MOST_POINTS {
+        return None;
+    }
+    Some(Extents {
+        n: shape.axes,
+        a,
+        b,
+        c,
+    })
+}
+
+/// The extent of an axis over all nodes. None where it is too large.
+fn extent_over(nodes: &[NodeShape], axis: u32) -> Option<u32>
+    requires { IsTrue (list_all has_good_extents nodes.now) }
+    ensures { MatchOption result (2 ^ 15 < extent_over nodes.now axis)
+        (λ extent. (extent ≡ extent_over nodes.now axis) × (extent ≤ 2 ^ 15)) }
+{
+    let mut extent = 1;
+    for node in nodes {
+        extent *= extent_in(node.sizes.as_slice(), axis);
+        if extent > MOST_EXTENT {
+            return None;
+        }
+    }
+    Some(extent)
+}
+
+/// The extent that sizes give an axis: 1 where they do not name it.
+fn extent_in(sizes: &[Size], axis: u32) -> u32
+    requires { IsTrue (list_all (λ size. is_extent size.extent) sizes.now) }
+    ensures value { result ≡ extent_in sizes.now axis }
+    ensures some { 1 ≤ result }
+    ensures most { result ≤ 2 ^ 15 }
+{
+    for size in sizes {
+        if size.axis == axis {
+            return size.extent as u32;
+        }
+    }
+    1
+}
