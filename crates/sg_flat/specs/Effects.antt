@@ -1,4 +1,4 @@
-use Rattle.std.specs.Prelude.{◌≡◌, ℕ, Bool, true, false, ◌&&◌, List, [], ◌∷◌, map, filter, length, ◌==◌, nat_lt, Option, Some, None, slice_get}
+use Rattle.std.specs.Prelude.{ℕ, Bool, false, ◌&&◌, List, map, filter, length, ◌==◌, nat_lt, Option, Some, None, slice_get}
 use Rattle.std.specs.List.{flat_map, list_all, fold}
 use Rattle.sg_coord.specs.declared.coord.Coord.{Coord}
 use Rattle.sg_coord.specs.Bounds.{Bounds}
@@ -10,7 +10,6 @@ use Rattle.sg_flat.specs.declared.effects.Way.{Way}
 use Rattle.sg_flat.specs.declared.effects.Way.TheVariants.{Own, Acc}
 use Rattle.sg_flat.specs.declared.effects.Write.{Write}
 use Rattle.sg_flat.specs.declared.effects.Turn.{Turn}
-use Rattle.sg_flat.specs.declared.effects.Effects.{Effects}
 
 -- all writes, iteration by iteration, in order of execution
 abbrev pub writes_of : List Turn → List Write

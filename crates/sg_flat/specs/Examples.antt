@@ -1,16 +1,14 @@
 -- Worked examples of kernel runs.
-use Rattle.std.specs.Prelude.{◌≡◌, ℕ, ◌*◌, pos, negsuc, List, [], ◌∷◌, map, Result, Ok, Err, refl}
+use Rattle.std.specs.Prelude.{◌≡◌, ℕ, ◌*◌, pos, negsuc, List, [], ◌∷◌, map, Ok, Err, refl}
 use Rattle.sg_coord.specs.declared.coord.Coord.{Coord}
 use Rattle.sg_words.specs.declared.operators.AccOp.TheVariants as acc
-use Rattle.sg_layout.specs.declared.shape.Shape.{Shape}
-use Rattle.sg_layout.specs.Examples.{at1, at2, blocks, four, growing}
+use Rattle.sg_layout.specs.Examples.{at1, at2, blocks, four}
 use Rattle.sg_flat.specs.declared.effects.Way.{Way}
 use Rattle.sg_flat.specs.declared.effects.Way.TheVariants.{Own, Acc}
 use Rattle.sg_flat.specs.declared.effects.Write.{Write}
 use Rattle.sg_flat.specs.declared.effects.Turn.{Turn}
 use Rattle.sg_flat.specs.declared.effects.Effects.{Effects}
 use Rattle.sg_flat.specs.declared.effects.RunFault.TheVariants.{WriteOutside, PoolFull}
-use Rattle.sg_flat.specs.declared.state.FlatLayout.{FlatLayout}
 use Rattle.sg_flat.specs.declared.state.FlatState.{FlatState}
 use Rattle.sg_flat.specs.State.{opening}
 use Rattle.sg_flat.specs.Domain.{box_points}

@@ -1,17 +1,18 @@
-use Rattle.std.specs.Prelude.{◌≡◌, ℕ, Bool, List, [], ◌∷◌, map, length, if◌then◌else◌, Option, Some, None, All, Contains, slice_get}
+use Rattle.std.specs.Prelude.{◌≡◌, ℕ, List, [], ◌∷◌, map, length, if◌then◌else◌, Option, Some, None, All, Contains, IsTrue, slice_get}
 use Rattle.sg_coord.specs.declared.coord.Coord.{Coord}
-use Rattle.sg_coord.specs.Bounds.{volume}
+use Rattle.sg_coord.specs.Bounds.{Bounds, volume}
 use Rattle.sg_coord.specs.Coord.{is_inside, row_of, point_at}
 use Rattle.sg_layout.specs.declared.shape.Shape.{Shape}
 use Rattle.sg_layout.specs.Axes.{bounds_of_shape}
 use Rattle.sg_layout.specs.Closure.{closure}
 use Rattle.sg_flat.specs.declared.state.FlatLayout.{FlatLayout}
 use Rattle.sg_flat.specs.declared.state.FlatState.{FlatState}
-use Rattle.sg_flat.specs.Words.{word_at, words_of}
+use Rattle.sg_flat.specs.Words.{are_words, word_at, words_of}
 
--- the words are those of rows of the layout, in order, and each row with a word is that of an active coordinate
+-- the words are those of rows of the layout, in order, each below 2 ^ 32 (the code's words are u32), and each row with a word is that of an active coordinate
 pub record IsFlatField (shape : Shape) (active : List Coord) (words : List (ℕ × ℕ)) : Type 0 where
   pub canonical : words ≡ words_of (volume (bounds_of_shape shape)) (word_at words)
+  pub in_range : IsTrue (are_words words)
   pub active_rows : All (λ entry. Contains active (point_at (bounds_of_shape shape) entry.0)) words
 
 -- the active coordinates are their own closure (so each is inside, once, in row order), there is one list of words for each field, and no word but 0 stands at a coordinate that isn't active
@@ -30,13 +31,18 @@ AreFlatLayouts (shape ∷ shapes) (layout ∷ layouts) = IsFlatLayout shape layo
 abbrev pub IsFlat : List Shape → FlatState → Type 0
 IsFlat shapes state = AreFlatLayouts shapes state.layouts
 
-abbrev pub word_in : Option (List (ℕ × ℕ)) → ℕ → ℕ
-word_in None row = 0
-word_in (Some words) row = word_at words row
+-- the word of a field at a coordinate; 0 outside the extents
+abbrev pub value_in : Bounds → List (ℕ × ℕ) → Coord → ℕ
+value_in bounds words at = if is_inside bounds at then word_at words (row_of bounds at) else 0
 
--- the value of a field of a layout at a coordinate; 0 outside the extents, and where there is no such field
+-- the words of a field of a layout; none where there is no such field
+abbrev pub words_or_none : Option (List (ℕ × ℕ)) → List (ℕ × ℕ)
+words_or_none None = []
+words_or_none (Some words) = words
+
+-- the value of a field of a layout at a coordinate
 abbrev pub value_at : Shape → FlatLayout → ℕ → Coord → ℕ
-value_at shape layout place at = if is_inside (bounds_of_shape shape) at then word_in (slice_get layout.fields place) (row_of (bounds_of_shape shape) at) else 0
+value_at shape layout place at = value_in (bounds_of_shape shape) (words_or_none (slice_get layout.fields place)) at
 
 -- at the start the active coordinates are the closure of nothing, and all words are 0
 abbrev pub opening_layout : Shape → FlatLayout

@@ -2,7 +2,11 @@
 #![tactic(auto)]
 
 pub mod effects;
+pub mod kernel;
+pub mod laws;
 pub mod state;
+#[cfg(test)]
+mod tests;
 
 pub use effects::{Domain, Effects, RunFault, Turn, Way, Write};
 pub use state::{FlatField, FlatLayout, FlatState};

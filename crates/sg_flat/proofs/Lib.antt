@@ -1,0 +1,9 @@
+pub mod FieldWords
+pub mod MapWords
+pub mod Landings
+pub mod Pairs
+pub mod AfterRuns
+pub mod FlatLayouts
+pub mod Insides
+pub mod WriteLaws
+pub mod Boxes
