@@ -1,0 +1,34 @@
+use Rattle.std.specs.Prelude.{◌≡◌, ℕ, true, false, Bool, List, [], ◌∷◌, ◌++◌, take, refl}
+use Rattle.sg_outside.specs.declared.sink.Put.{Put}
+use Rattle.sg_outside.specs.declared.sink.Put.TheVariants as put
+use Rattle.sg_outside.specs.Counts.{one_more}
+use Rattle.sg_outside.specs.Sink.{faults_after}
+
+-- what a `MemSink` is: its bytes, the numbers of the puts that fail, the most that such a put takes, and its counts
+pub record SinkInMemory : Type 0 where
+  pub bytes : List ℕ
+  pub failing : List ℕ
+  pub most : ℕ
+  pub puts : ℕ
+  pub faults : ℕ
+
+-- a put fails exactly where it is listed, and has then taken this much; either kind may want memory
+abbrev pub PutsExactly : Put → Bool → ℕ → Type 0
+PutsExactly put.All listed part = listed ≡ false
+PutsExactly (put.Failed taken) listed part = (listed ≡ true) × (taken ≡ part)
+PutsExactly put.Memory listed part = Unit {0}
+
+-- how much of a piece an answer tells as taken
+abbrev pub taken_of : Put → List ℕ → List ℕ
+taken_of put.All piece = piece
+taken_of (put.Failed taken) piece = take taken piece
+taken_of put.Memory piece = []
+
+-- after a put: what it took of the piece, one more put, one more fault where it failed, and all else as before
+abbrev pub after_put : Put → List ℕ → SinkInMemory → SinkInMemory
+after_put answer piece sink =
+    record sink { bytes = sink.bytes ++ taken_of answer piece; puts = one_more sink.puts; faults = faults_after answer sink.faults }
+
+after_put_failed : after_put (put.Failed 1) (8 ∷ 9 ∷ []) (record { bytes = 7 ∷ []; failing = 1 ∷ []; most = 1; puts = 0; faults = 0 })
+    ≡ record { bytes = 7 ∷ 8 ∷ []; failing = 1 ∷ []; most = 1; puts = 1; faults = 1 }
+after_put_failed = refl

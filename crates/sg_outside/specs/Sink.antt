@@ -1,0 +1,46 @@
+use Rattle.std.specs.Prelude.{◌≡◌, ℕ, ◌<◌, List, [], ◌∷◌, ◌++◌, length, take, Option, Some, None, refl}
+use Rattle.std.specs.Option.{option_map}
+use Rattle.sg_outside.specs.declared.sink.Put.{Put}
+use Rattle.sg_outside.specs.declared.sink.Put.TheVariants as put
+use Rattle.std.proofs.Common.{lit<}
+use Rattle.sg_outside.specs.Counts.{one_more, Rose}
+
+-- the told bytes with a piece after them; where nothing is told, nothing is
+abbrev pub and_then : Option (List ℕ) → List ℕ → Option (List ℕ)
+and_then told piece = option_map (λ bytes. bytes ++ piece) told
+
+and_then_told : and_then (Some (1 ∷ [])) (2 ∷ 3 ∷ []) ≡ Some (1 ∷ 2 ∷ 3 ∷ [])
+and_then_told = refl
+
+and_then_untold : and_then None (2 ∷ 3 ∷ []) ≡ None
+and_then_untold = refl
+
+-- what a put wrote: the whole piece, a part at its front that is not the whole, or nothing
+abbrev pub Puts : Put → Option (List ℕ) → Option (List ℕ) → List ℕ → Type 0
+Puts put.All old new piece = new ≡ and_then old piece
+Puts (put.Failed taken) old new piece = (taken < length piece) × (new ≡ and_then old (take taken piece))
+Puts put.Memory old new piece = new ≡ old
+
+puts_all : Puts put.All (Some (1 ∷ [])) (Some (1 ∷ 2 ∷ 3 ∷ [])) (2 ∷ 3 ∷ [])
+puts_all = refl
+
+puts_front : Puts (put.Failed 1) (Some (1 ∷ [])) (Some (1 ∷ 2 ∷ [])) (2 ∷ 3 ∷ [])
+puts_front = (lit< tt, refl)
+
+puts_nothing : Puts put.Memory (Some (1 ∷ [])) (Some (1 ∷ [])) (2 ∷ 3 ∷ [])
+puts_nothing = refl
+
+puts_untold : Puts put.All None None (2 ∷ 3 ∷ [])
+puts_untold = refl
+
+-- the count of faults rose where the put failed, and stays at every other answer
+abbrev pub PutCause : Put → ℕ → ℕ → Type 0
+PutCause put.All before now = now ≡ before
+PutCause (put.Failed taken) before now = Rose before now
+PutCause put.Memory before now = now ≡ before
+
+-- the count of faults after an answer, where each failure is counted once
+abbrev pub faults_after : Put → ℕ → ℕ
+faults_after put.All faults = faults
+faults_after (put.Failed taken) faults = one_more faults
+faults_after put.Memory faults = faults

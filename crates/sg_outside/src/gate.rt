@@ -1,0 +1,20 @@
+/// The two parts of a parallel run: activation, and the computing of values.
+#[derive(Clone, Copy, Debug, PartialEq, Eq)]
+pub enum Phase {
+    Activate,
+    Values,
+}
+
+/// What a worker passes before each piece of its slice of the work. It promises nothing.
+pub trait Gate {
+    /// Called by a worker before its turn, both counted from 0.
+    fn before(&self, phase: Phase, worker: u32, turn: u32);
+}
+
+/// The gate that is always open.
+#[derive(Clone, Copy, Debug)]
+pub struct FreeGate;
+
+impl Gate for FreeGate {
+    fn before(&self, _phase: Phase, _worker: u32, _turn: u32) {}
+}
