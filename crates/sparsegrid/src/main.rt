@@ -1,0 +1,48 @@
+//! Sparse grids: a file of layouts, kernels and commands is read and run, and its grids are written.
+#![tactic(auto)]
+
+mod first_run;
+mod form;
+mod grid_text;
+mod output;
+mod session;
+#[cfg(test)]
+mod tests;
+
+pub use form::{FirstForm, Formula, Operator, Term};
+pub use session::{Done, Session, run};
+use sg_outside::{FreeGate, RealFiles, RealOut};
+use std::io::ErrorKind;
+use std::process::ExitCode;
+use std::rt::Env;
+use std::{env, io};
+
+/// Runs the program with the words of the command line, over the files and the output of the system.
+/// A command line that is not UTF-8 has bad words.
+fn main(rt: HostRuntime) -> ExitCode {
+    let words = match command_line(&rt) {
+        Ok(words) => words,
+        Err(error) if error.kind() == ErrorKind::OutOfMemory => return ExitCode::from(9),
+        Err(_) => Vec::new(rt.alloc()),
+    };
+    let mut files = RealFiles::new(&rt);
+    let mut out = RealOut::new(&rt);
+    let done = run(
+        &rt,
+        rt.alloc(),
+        words.as_slice(),
+        &mut files,
+        &mut out,
+        &FreeGate,
+    );
+    ExitCode::from(done.status)
+}
+
+/// The words after the program's name.
+fn command_line<R: Env + AllocGlobal>(rt: &R) -> io::Result<Vec<String>> {
+    let mut words = Vec::new(rt.alloc());
+    for word in env::args(rt)?.skip(1) {
+        words.push(word)?;
+    }
+    Ok(words)
+}
