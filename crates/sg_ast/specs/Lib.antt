@@ -1,0 +1,10 @@
+pub mod Token
+pub mod Expr
+pub mod Stmt
+pub mod Layout
+pub mod Kernel
+pub mod Command
+pub mod Program
+pub mod Grammar
+pub mod Items
+pub mod Laws

@@ -1,0 +1,9 @@
+mod Numbers
+mod Passing
+mod Tables
+mod Texts
+mod Fronts
+mod Returning
+mod Walks
+mod Uniqueness
+mod Rereading

@@ -1,0 +1,255 @@
+-- Runs and the tokens that they are, both ways.
+use Rattle.std.proofs.Common.{◌≡◌, ◌≢◌, ◌⊎◌, ℕ, ◌+◌, ◌-◌, ◌*◌, ◌^◌, ◌<◌, ◌≤◌, ◌==◌, Bool, true, false, not, ◌&&◌, ◌||◌, nat_eq, nat_lt, nat_le, List, [], ◌∷◌, ◌++◌, length, slice_index, get_or, take, Option, Some, None, Result, Ok, Err, codes, decimal, fold, refl, sym, ap, ◌∙◌, subst, inl, inr, arith, rules, append-nil}
+use Rattle.std.specs.Char.{is_ascii_digit}
+use Rattle.std.specs.List.{ends_with, list_all}
+use Rattle.std.proofs.lemmas.Bool.{and_parts, and_from, or_left, or_right, or_cases, not-true, not_from_false, both_ways, false_from_ne_true, ltb-true, ltb-false, leb-true, lt-ltb, le-ltb, le-leb, eqb-true, eqb-false, eq-eqb, ne_eqb, cond-true, cond-false, cases_Bool, false≢true}
+use Rattle.std.proofs.lemmas.Bool.Decides.{nat_tests, Decides-eqb}
+use Rattle.std.proofs.lemmas.Fmt.{decimal-digits_value, digits_decimal, digits_value-decimal, decimal_nonempty, first_decimal, decimal_digit}
+use Rattle.std.proofs.lemmas.Str.Parse.{IsNumeralModel, numerals_by_fold}
+use Rattle.std.proofs.lemmas.Slice.Eq.{ends_is}
+use Rattle.std.proofs.lemmas.List.{get_or_append_left, length-append, take_at}
+use Rattle.std.proofs.lemmas.List.Folds.{list_all-append}
+use Rattle.std.proofs.lemmas.List.Sums.{AllPass-from_list_all, list_all-from_AllPass}
+use Rattle.sg_ast.specs.declared.token.Word.{Word}
+use Rattle.sg_ast.specs.declared.token.Sign.{Sign}
+use Rattle.sg_ast.specs.declared.token.Token.{Token}
+use Rattle.sg_ast.specs.declared.token.Token.TheVariants as token
+use Rattle.sg_lexer.specs.declared.fault.LexFault.{LexFault}
+use Rattle.sg_lexer.specs.declared.fault.LexFault.TheVariants as fault
+use Rattle.sg_lexer.specs.Alphabet.{is_inner, word_text, word_of, sign_text, suffix, text_of}
+use Rattle.sg_lexer.specs.Lexing.{word_or_name, name, value_of, is_decimal, limit, number_as, number, run_token}
+use Rattle.sg_lexer.specs.Laws.{IsName, IsToken}
+use Rattle.sg_lexer.proofs.Tables.{chosen, for_word, word_again, word_found, no_word_found, sign_outer}
+
+-- what an element of a list that passes does
+pub all_at : (p : ℕ → Bool) (xs : List ℕ) (i : ℕ) → list_all p xs ≡ true → i < length xs → p (get_or xs i 0) ≡ true
+all_at p xs i e within = AllPass-from_list_all p xs e i 0 within
+
+pub digit_inner : (b : ℕ) → is_ascii_digit b ≡ true → is_inner b ≡ true
+digit_inner b e = grind (arith, nat_tests)
+
+digits_inner : (ds : List ℕ) → list_all is_ascii_digit ds ≡ true → list_all is_inner ds ≡ true
+digits_inner ds e = list_all-from_AllPass is_inner ds (λ k d h. digit_inner (get_or ds k d) (AllPass-from_list_all is_ascii_digit ds e k d h))
+
+-- ---- numbers
+
+own : IsNumeralModel (λ ds. list_all is_ascii_digit ds ≡ true) value_of
+own = numerals_by_fold _ (search rules) (λ n ds. fold (λ v d. 10 * v + (d - 48)) n ds) (search rules)
+
+limit_small : (unsigned : Bool) → limit unsigned < 2 ^ 64
+limit_small true = omega arith
+limit_small false = omega arith
+
+number_as_found : (line : ℕ) (unsigned : Bool) (ds : List ℕ) (t : Token) → number_as line unsigned ds ≡ Ok t → (token.Number (value_of ds) unsigned ≡ t) × (value_of ds ≤ limit unsigned) × (decimal (value_of ds) ≡ ds)
+unfolding number_as
+number_as_found line unsigned ds t e =
+    elim (chosen {A = Result Token LexFault} (is_decimal ds && nat_le (value_of ds) (limit unsigned)) (Ok (token.Number (value_of ds) unsigned)) (Err (fault.BadNumber line)) (Ok t) e) [
+      | inl h ↦ (
+          let both = and_parts (is_decimal ds) (nat_le (value_of ds) (limit unsigned)) h.0 in
+          let below : value_of ds ≤ limit unsigned = leb-true (value_of ds) (limit unsigned) both.1 in
+          let parts = and_parts (nat_lt 0 (length ds) && list_all is_ascii_digit ds) (length ds == 1 || not (slice_index ds 0 == 48)) both.0 in
+          let front = and_parts (nat_lt 0 (length ds)) (list_all is_ascii_digit ds) parts.0 in
+          let alone : get_or ds 0 0 ≡ 48 → length ds ≡ 1 = λ zero. elim (or_cases (length ds == 1) (not (slice_index ds 0 == 48)) parts.1) [ inl one ↦ eqb-true (length ds) 1 one | inr no_zero ↦ absurd (eqb-false (slice_index ds 0) 48 (not-true (slice_index ds 0 == 48) no_zero) zero) ] in
+          let small : value_of ds < 2 ^ 64 = omega (arith, limit_small unsigned) in
+          (cc, below, decimal-digits_value own ds front.1 (ltb-true 0 (length ds) front.0) alone small))
+      | inr h ↦ cc
+    ]
+
+number_as_is : (line : ℕ) (unsigned : Bool) (ds : List ℕ) → is_decimal ds ≡ true → value_of ds ≤ limit unsigned → number_as line unsigned ds ≡ Ok (token.Number (value_of ds) unsigned)
+unfolding number_as
+number_as_is line unsigned ds good below = cond-true _ _ _ (and_from (is_decimal ds) (nat_le (value_of ds) (limit unsigned)) good (le-leb (value_of ds) (limit unsigned) below))
+
+number_as_fault : (line : ℕ) (unsigned : Bool) (ds : List ℕ) (f : LexFault) → number_as line unsigned ds ≡ Err f → fault.BadNumber line ≡ f
+unfolding number_as
+number_as_fault line unsigned ds f e =
+    elim (chosen {A = Result Token LexFault} (is_decimal ds && nat_le (value_of ds) (limit unsigned)) (Ok (token.Number (value_of ds) unsigned)) (Err (fault.BadNumber line)) (Err f) e) [ inl h ↦ cc | inr h ↦ cc ]
+
+number_found : (line : ℕ) (run : List ℕ) (t : Token) → number line run ≡ Ok t → (run ≡ text_of t) × IsToken t
+unfolding number
+number_found line run t e =
+    elim (chosen {A = Result Token LexFault} (ends_with nat_eq run (codes "u")) (number_as line true (take (length run - 1) run)) (number_as line false run) (Ok t) e) [
+      | inl h ↦ (
+          let found = number_as_found line true (take (length run - 1) run) t h.1 in
+          let split : run ≡ take (length run - 1) run ++ codes "u" = (ends_is Decides-eqb run (codes "u") (ends_with nat_eq run (codes "u")) refl).0 h.0 in
+          let text : run ≡ text_of (token.Number (value_of (take (length run - 1) run)) true) = split ∙ ap (λ (ds : List ℕ). ds ++ codes "u") (sym found.2) in
+          (text ∙ ap text_of found.0, let P : Token → Type 0 = IsToken in subst P found.0 found.1))
+      | inr h ↦ (
+          let found = number_as_found line false run t h.1 in
+          let text : run ≡ text_of (token.Number (value_of run) false) = sym found.2 ∙ sym (append-nil (decimal (value_of run))) in
+          (text ∙ ap text_of found.0, let P : Token → Type 0 = IsToken in subst P found.0 found.1))
+    ]
+
+number_fault : (line : ℕ) (run : List ℕ) (f : LexFault) → number line run ≡ Err f → fault.BadNumber line ≡ f
+unfolding number
+number_fault line run f e =
+    elim (chosen {A = Result Token LexFault} (ends_with nat_eq run (codes "u")) (number_as line true (take (length run - 1) run)) (number_as line false run) (Err f) e) [
+      | inl h ↦ number_as_fault line true (take (length run - 1) run) f h.1
+      | inr h ↦ number_as_fault line false run f h.1
+    ]
+
+is_decimal-decimal : (v : ℕ) → v < 2 ^ 64 → is_decimal (decimal v) ≡ true
+is_decimal-decimal v small =
+    let first : (length (decimal v) == 1 || not (slice_index (decimal v) 0 == 48)) ≡ true =
+    elim (cases_Bool (nat_lt 0 v)) [
+      | inl some ↦ or_right (length (decimal v) == 1) (not (slice_index (decimal v) 0 == 48)) (not_from_false (slice_index (decimal v) 0 == 48) (ne_eqb (slice_index (decimal v) 0) 48 (λ e. omega (arith, first_decimal v (ltb-true 0 v some) small))))
+      | inr none ↦ (
+          let zero : v ≡ 0 = omega (arith, ltb-false 0 v none) in
+          let digit : decimal v ≡ (48 + v) ∷ [] = decimal_digit v (omega arith) in
+          or_left (length (decimal v) == 1) (not (slice_index (decimal v) 0 == 48)) (eq-eqb (length (decimal v)) 1 (ap length digit)))
+    ] in
+    and_from (nat_lt 0 (length (decimal v)) && list_all is_ascii_digit (decimal v)) (length (decimal v) == 1 || not (slice_index (decimal v) 0 == 48)) (and_from (nat_lt 0 (length (decimal v))) (list_all is_ascii_digit (decimal v)) (lt-ltb 0 (length (decimal v)) (decimal_nonempty v small)) (digits_decimal own v small)) first
+
+-- the digits of a number that is within its limit
+number_as_again : (line v : ℕ) (unsigned : Bool) → v ≤ limit unsigned → number_as line unsigned (decimal v) ≡ Ok (token.Number v unsigned)
+number_as_again line v unsigned below =
+    let small : v < 2 ^ 64 = omega (arith, limit_small unsigned) in
+    let value : value_of (decimal v) ≡ v = digits_value-decimal own v small in
+    number_as_is line unsigned (decimal v) (is_decimal-decimal v small) (omega arith) ∙ ap (λ (k : ℕ). let out : Result Token LexFault = Ok (token.Number k unsigned) in out) value
+
+-- digits do not end in `u`
+ends_in_digit : (ds : List ℕ) → list_all is_ascii_digit ds ≡ true → ends_with nat_eq ds (codes "u") ≡ false
+ends_in_digit ds digits =
+    false_from_ne_true (ends_with nat_eq ds (codes "u")) (λ ends.
+    let front : List ℕ = take (length ds - 1) ds in
+    let split : ds ≡ front ++ codes "u" = (ends_is Decides-eqb ds (codes "u") (ends_with nat_eq ds (codes "u")) refl).0 ends in
+    let all : list_all is_ascii_digit (front ++ codes "u") ≡ true = ap (list_all is_ascii_digit) (sym split) ∙ digits in
+    let last : list_all is_ascii_digit (codes "u") ≡ true = (and_parts (list_all is_ascii_digit front) (list_all is_ascii_digit (codes "u")) (sym (list_all-append is_ascii_digit front (codes "u")) ∙ all)).1 in
+    false≢true last)
+
+number_again : (line v : ℕ) (unsigned : Bool) → v ≤ limit unsigned → number line (decimal v ++ suffix unsigned) ≡ Ok (token.Number v unsigned)
+unfolding number
+number_again line v true below =
+    let run : List ℕ = decimal v ++ codes "u" in
+    let ends : ends_with nat_eq run (codes "u") ≡ true = (ends_is Decides-eqb run (codes "u") (ends_with nat_eq run (codes "u")) refl).1 (decimal v) refl in
+    let long : length (decimal v) ≡ length run - 1 = omega (arith, length-append (decimal v) (codes "u")) in
+    let front : take (length run - 1) run ≡ decimal v = take_at (decimal v) (codes "u") (length run - 1) long in
+    cond-true _ _ _ ends ∙ ap (number_as line true) front ∙ number_as_again line v true below
+number_again line v false below =
+    let small : v < 2 ^ 64 = omega (arith, limit_small false) in
+    let same : decimal v ++ [] ≡ decimal v = append-nil (decimal v) in
+    let ends : ends_with nat_eq (decimal v ++ []) (codes "u") ≡ false = ap (λ (ds : List ℕ). ends_with nat_eq ds (codes "u")) same ∙ ends_in_digit (decimal v) (digits_decimal own v small) in
+    cond-false _ _ _ ends ∙ ap (number_as line false) same ∙ number_as_again line v false below
+
+-- ---- names and words
+
+name_is : (line : ℕ) (run : List ℕ) → length run ≤ 32 → name line run ≡ Ok (word_or_name run (word_of run))
+unfolding name
+name_is line run short = cond-false _ _ _ (le-ltb 32 (length run) short)
+
+name_found : (line : ℕ) (run : List ℕ) (t : Token) → name line run ≡ Ok t → (length run ≤ 32) × (word_or_name run (word_of run) ≡ t)
+unfolding name
+name_found line run t e =
+    elim (chosen {A = Result Token LexFault} (nat_lt 32 (length run)) (Err (fault.LongName line)) (Ok (word_or_name run (word_of run))) (Ok t) e) [ inl h ↦ cc | inr h ↦ (ltb-false 32 (length run) h.0, cc) ]
+
+name_fault : (line : ℕ) (run : List ℕ) (f : LexFault) → name line run ≡ Err f → (32 < length run) × (fault.LongName line ≡ f)
+unfolding name
+name_fault line run f e =
+    elim (chosen {A = Result Token LexFault} (nat_lt 32 (length run)) (Err (fault.LongName line)) (Ok (word_or_name run (word_of run))) (Err f) e) [ inl h ↦ (ltb-true 32 (length run) h.0, cc) | inr h ↦ cc ]
+
+word_none : (text : List ℕ) → ((w : Word) → word_text w ≢ text) → word_of text ≡ None
+word_none text other = (elim (word_of text) as (λ o. word_of text ≡ o → o ≡ None) [ None ↦ λ e. refl | Some w ↦ λ e. absurd (other w (word_found text w e)) ]) refl
+
+-- a reserved word or a name
+spelled : (run : List ℕ) (o : Option Word) → word_of run ≡ o → length run ≤ 32 → list_all is_inner run ≡ true → is_ascii_digit (slice_index run 0) ≡ false → 0 < length run → (run ≡ text_of (word_or_name run o)) × IsToken (word_or_name run o)
+spelled run None e short inner first some = (refl, record { some = some; short = short; inner = inner; no_digit = first; no_word = no_word_found run e })
+spelled run (Some w) e short inner first some = (sym (word_found run w e), tt)
+
+-- ---- runs
+
+run_number : (line : ℕ) (run : List ℕ) → is_ascii_digit (slice_index run 0) ≡ true → run_token line run ≡ number line run
+unfolding run_token
+run_number line run first = cond-true _ _ _ first
+
+run_name : (line : ℕ) (run : List ℕ) → is_ascii_digit (slice_index run 0) ≡ false → run_token line run ≡ name line run
+unfolding run_token
+run_name line run first = cond-false _ _ _ first
+
+-- the token of a run has its text, and can be spelled
+pub run_found : (line : ℕ) (run : List ℕ) (t : Token) → run_token line run ≡ Ok t → list_all is_inner run ≡ true → 0 < length run → (run ≡ text_of t) × IsToken t
+run_found line run t e inner some =
+    elim (cases_Bool (is_ascii_digit (slice_index run 0))) [
+      | inl first ↦ number_found line run t (sym (run_number line run first) ∙ e)
+      | inr first ↦ (
+          let found = name_found line run t (sym (run_name line run first) ∙ e) in
+          let P : Token → Type 0 = λ u. (run ≡ text_of u) × IsToken u in
+          subst P found.1 (spelled run (word_of run) refl found.0 inner first some))
+    ]
+
+-- what is known of a token that is a run
+pub record IsRun (t : Token) : Type 0 where
+  pub some : 0 < length (text_of t)
+  pub inner : list_all is_inner (text_of t) ≡ true
+  pub again : (line : ℕ) → run_token line (text_of t) ≡ Ok t
+
+word_run : (w : Word) → IsRun (token.Word w)
+word_run w =
+    let some : 0 < length (word_text w) = ltb-true 0 (length (word_text w)) (for_word (λ v. nat_lt 0 (length (word_text v))) refl w) in
+    let short : length (word_text w) ≤ 32 = leb-true (length (word_text w)) 32 (for_word (λ v. nat_le (length (word_text v)) 32) refl w) in
+    let first : is_ascii_digit (slice_index (word_text w) 0) ≡ false = not-true (is_ascii_digit (slice_index (word_text w) 0)) (for_word (λ v. not (is_ascii_digit (slice_index (word_text v) 0))) refl w) in
+    record {
+      some = some;
+      inner = for_word (λ v. list_all is_inner (word_text v)) refl w;
+      again = λ line. run_name line (word_text w) first ∙ name_is line (word_text w) short ∙ ap (λ (o : Option Word). let out : Result Token LexFault = Ok (word_or_name (word_text w) o) in out) (word_again w);
+    }
+
+name_run : (text : List ℕ) → IsName text → IsRun (token.Name (record { text = text }))
+name_run text h = record {
+  some = h.some;
+  inner = h.inner;
+  again = λ line. run_name line text h.no_digit ∙ name_is line text h.short ∙ ap (λ (o : Option Word). let out : Result Token LexFault = Ok (word_or_name text o) in out) (word_none text h.no_word);
+}
+
+suffix_inner : (unsigned : Bool) → list_all is_inner (suffix unsigned) ≡ true
+suffix_inner true = refl
+suffix_inner false = refl
+
+number_run : (v : ℕ) (unsigned : Bool) → v ≤ limit unsigned → IsRun (token.Number v unsigned)
+number_run v unsigned below =
+    let small : v < 2 ^ 64 = omega (arith, limit_small unsigned) in
+    let digits : list_all is_ascii_digit (decimal v) ≡ true = digits_decimal own v small in
+    let some : 0 < length (decimal v) = decimal_nonempty v small in
+    let first : is_ascii_digit (slice_index (decimal v ++ suffix unsigned) 0) ≡ true = ap is_ascii_digit (get_or_append_left (decimal v) (suffix unsigned) 0 0 some) ∙ all_at is_ascii_digit (decimal v) 0 digits some in
+    record {
+      some = omega (arith, length-append (decimal v) (suffix unsigned));
+      inner = list_all-append is_inner (decimal v) (suffix unsigned) ∙ and_from (list_all is_inner (decimal v)) (list_all is_inner (suffix unsigned)) (digits_inner (decimal v) digits) (suffix_inner unsigned);
+      again = λ line. run_number line (decimal v ++ suffix unsigned) first ∙ number_again line v unsigned below;
+    }
+
+-- a token is a run or a sign
+pub run_or_sign : (t : Token) → IsToken t → IsRun t ⊎ ((s : Sign) × (token.Sign s ≡ t))
+run_or_sign (token.Name n) h = inl (name_run n.text h)
+run_or_sign (token.Word w) h = inl (word_run w)
+run_or_sign (token.Number v unsigned) h = inl (number_run v unsigned h)
+run_or_sign (token.Sign s) h = inr (s, refl)
+
+-- the faults of a run: a number that no token spells, or a long name
+pub run_fault : (line : ℕ) (run : List ℕ) (f : LexFault) → run_token line run ≡ Err f → is_inner (slice_index run 0) ≡ true →
+    ((is_ascii_digit (slice_index run 0) ≡ true) × (fault.BadNumber line ≡ f) × ((t : Token) → IsToken t → text_of t ≢ run)) ⊎ ((is_ascii_digit (slice_index run 0) ≡ false) × (fault.LongName line ≡ f) × (32 < length run))
+run_fault line run f e inner =
+    elim (cases_Bool (is_ascii_digit (slice_index run 0))) [
+      | inl first ↦ inl (
+        first,
+        number_fault line run f (sym (run_number line run first) ∙ e),
+        λ t good same.
+            elim (run_or_sign t good) [
+              | inl r ↦ (let spelt : run_token line run ≡ Ok t = ap (run_token line) (sym same) ∙ r.again line in cc)
+              | inr s ↦ both_ways (is_inner (slice_index run 0)) (ap (λ (text : List ℕ). is_inner (slice_index text 0)) (sym same ∙ ap text_of (sym s.1)) ∙ not-true (is_inner (slice_index (sign_text s.0) 0)) (sign_outer s.0)) inner
+            ],
+      )
+      | inr first ↦ (let long = name_fault line run f (sym (run_name line run first) ∙ e) in inr (first, long.1, long.0))
+    ]
+
+-- the same faults from what is known of a run
+pub run_long : (line : ℕ) (run : List ℕ) → is_ascii_digit (slice_index run 0) ≡ false → 32 < length run → run_token line run ≡ Err (fault.LongName line)
+unfolding name
+run_long line run first long = run_name line run first ∙ cond-true _ _ _ (lt-ltb 32 (length run) long)
+
+pub run_bad : (line : ℕ) (run : List ℕ) → list_all is_inner run ≡ true → 0 < length run → is_ascii_digit (slice_index run 0) ≡ true → ((t : Token) → IsToken t → text_of t ≢ run) → run_token line run ≡ Err (fault.BadNumber line)
+run_bad line run inner some first other =
+    (elim (run_token line run) as (λ r. run_token line run ≡ r → r ≡ Err (fault.BadNumber line)) [
+      | Ok t ↦ λ e. (let found = run_found line run t e inner some in absurd (other t found.1 (sym found.0)))
+      | Err g ↦ λ e. elim (run_fault line run g e (all_at is_inner run 0 inner some)) [
+        | inl h ↦ ap (λ (f : LexFault). let out : Result Token LexFault = Err f in out) (sym h.1)
+        | inr h ↦ absurd (both_ways (is_ascii_digit (slice_index run 0)) h.0 first)
+      ]
+    ]) refl

@@ -1,0 +1,3 @@
+pub mod Alphabet
+pub mod Lexing
+pub mod Laws
