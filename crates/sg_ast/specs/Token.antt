@@ -45,8 +45,8 @@ word_text w.Prune = codes "prune"
 word_text w.Clear = codes "clear"
 
 -- every reserved word
-abbrev pub words : List Word
-words =
+abbrev pub reserved_words : List Word
+reserved_words =
     w.Const ∷ w.Layout ∷ w.Field ∷ w.Kernel ∷ w.For ∷ w.In ∷ w.If ∷ w.Else ∷ w.Let ∷ w.True ∷ w.False
     ∷ w.I32 ∷ w.U32 ∷ w.Bool ∷ w.Min ∷ w.Max ∷ w.Mulq ∷ w.Active ∷ w.Dense ∷ w.Hash ∷ w.Pointer ∷ w.Bitmasked
     ∷ w.Dynamic ∷ w.Cap ∷ w.Chunk ∷ w.Load ∷ w.Run ∷ w.Times ∷ w.Dump ∷ w.Image ∷ w.Stats ∷ w.Prune ∷ w.Clear
@@ -63,7 +63,7 @@ is_name_form (c ∷ cs) = begins_name c && list_all (λ d. begins_name d || is_a
 
 -- the bytes are a reserved word's
 unfoldable pub is_reserved : List ℕ → Bool
-is_reserved text = list_any (λ word. bytes_eq (word_text word) text) words
+is_reserved text = list_any (λ word. bytes_eq (word_text word) text) reserved_words
 
 -- a name: of the form of names, at most 32 bytes, and no reserved word
 unfoldable pub is_name : Name → Bool

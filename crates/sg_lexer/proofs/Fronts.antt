@@ -9,11 +9,12 @@ use Rattle.std.proofs.lemmas.List.Sums.{list_all-from_AllPass, prefix_len-le-len
 use Rattle.sg_ast.specs.declared.token.Sign.{Sign}
 use Rattle.sg_ast.specs.declared.token.Token.{Token}
 use Rattle.sg_ast.specs.declared.token.Token.TheVariants as token
+use Rattle.sg_ast.specs.Token.{is_token}
 use Rattle.sg_lexer.specs.declared.fault.LexFault.{LexFault}
 use Rattle.sg_lexer.specs.declared.fault.LexFault.TheVariants as fault
 use Rattle.sg_lexer.specs.Alphabet.{is_space, is_inner, sign_text, sign_at, text_of}
 use Rattle.sg_lexer.specs.Lexing.{◌>>=◌, Piece, run_token, if_room, run_piece, sign_piece, is_in_line, piece}
-use Rattle.sg_lexer.specs.Laws.{Blank, none, space, comment, IsLexeme, IsToken}
+use Rattle.sg_lexer.specs.Laws.{Blank, none, space, comment, IsLexeme}
 use Rattle.sg_lexer.proofs.Tables.{chosen, sign_outer, sign_some, sign_found, sign_longest}
 use Rattle.sg_lexer.proofs.Texts.{all_at, run_found}
 
@@ -22,7 +23,7 @@ pub record Takes (bytes : List ℕ) (n : ℕ) (t : Token) : Type 0 where
   pub some : 0 < n
   pub within : n ≤ length bytes
   pub text : take n bytes ≡ text_of t
-  pub valid : IsToken t
+  pub valid : is_token t ≡ true
   pub no_comment : starts_with nat_eq bytes (codes "//") ≡ false
   pub longest : (m : ℕ) → n < m → m ≤ length bytes → IsLexeme (take m bytes) → ⊥
 
@@ -137,7 +138,7 @@ takes_sign bytes s no_comment outer e =
       some = leb-true 1 (length (sign_text s)) (sign_some s);
       within = starts_within bytes (sign_text s) there;
       text = starts_take bytes (sign_text s) there;
-      valid = tt;
+      valid = refl;
       no_comment = no_comment;
       longest = λ m past within lexeme. elim lexeme [
         | inl all ↦ both_ways (is_inner (slice_index bytes 0)) outer (first_inner bytes m (omega arith) within all)

@@ -1,13 +1,14 @@
 -- What holds of each reserved word and each sign, by a test over the whole table.
 use Rattle.std.proofs.Common.{◌≡◌, ◌⊎◌, ℕ, ◌≤◌, ◌==◌, Bool, true, false, not, ◌&&◌, cond, nat_eq, nat_le, List, [], ◌∷◌, ◌++◌, length, slice_index, Some, None, codes, find, bytes_eq, refl, sym, ap, ◌∙◌, subst, inl, inr, arith}
-use Rattle.std.specs.List.{starts_with, list_all}
-use Rattle.std.proofs.lemmas.Bool.{and_parts, leb-true, both_ways}
+use Rattle.std.specs.List.{starts_with, list_all, list_any}
+use Rattle.std.proofs.lemmas.Bool.{and_parts, or_left, or_right, leb-true, both_ways, false_from_ne_true}
 use Rattle.std.proofs.lemmas.Slice.Eq.{bytes_eq-Decides}
 use Rattle.sg_ast.specs.declared.token.Word.{Word}
 use Rattle.sg_ast.specs.declared.token.Word.TheVariants as word
 use Rattle.sg_ast.specs.declared.token.Sign.{Sign}
 use Rattle.sg_ast.specs.declared.token.Sign.TheVariants as sign
-use Rattle.sg_lexer.specs.Alphabet.{is_space, is_inner, word_text, words, word_of, sign_text, signs, sign_at}
+use Rattle.sg_ast.specs.Token.{is_reserved}
+use Rattle.sg_lexer.specs.Alphabet.{is_space, is_inner, word_text, reserved_words, word_of, sign_text, signs, sign_at}
 
 -- the two ways in which a choice gives a value
 pub chosen : {A : Type 0} (b : Bool) (x y z : A) → cond b x y ≡ z → ((b ≡ true) × (x ≡ z)) ⊎ ((b ≡ false) × (y ≡ z))
@@ -70,7 +71,7 @@ first_is_greatest size p (z ∷ zs) x y falls e (inr at) passes =
 
 -- ---- words
 
-pub each_word : (w : Word) → Stands w words
+pub each_word : (w : Word) → Stands w reserved_words
 each_word word.Const = inl refl
 each_word word.Layout = inr (inl refl)
 each_word word.Field = inr (inr (inl refl))
@@ -105,8 +106,8 @@ each_word word.Stats = inr (inr (inr (inr (inr (inr (inr (inr (inr (inr (inr (in
 each_word word.Prune = inr (inr (inr (inr (inr (inr (inr (inr (inr (inr (inr (inr (inr (inr (inr (inr (inr (inr (inr (inr (inr (inr (inr (inr (inr (inr (inr (inr (inr (inr (inr (inl refl)))))))))))))))))))))))))))))))
 each_word word.Clear = inr (inr (inr (inr (inr (inr (inr (inr (inr (inr (inr (inr (inr (inr (inr (inr (inr (inr (inr (inr (inr (inr (inr (inr (inr (inr (inr (inr (inr (inr (inr (inr (inl refl))))))))))))))))))))))))))))))))
 
-pub for_word : (p : Word → Bool) → list_all p words ≡ true → (w : Word) → p w ≡ true
-for_word p e w = passes_each p words e w (each_word w)
+pub for_word : (p : Word → Bool) → list_all p reserved_words ≡ true → (w : Word) → p w ≡ true
+for_word p e w = passes_each p reserved_words e w (each_word w)
 
 -- a word is found by its spelling
 pub word_again : (w : Word) → word_of (word_text w) ≡ Some w
@@ -148,12 +149,33 @@ word_again word.Clear = refl
 -- the word that is found has the spelling
 pub word_found : (text : List ℕ) (w : Word) → word_of text ≡ Some w → word_text w ≡ text
 unfolding word_of
-word_found text w e = (bytes_eq-Decides (word_text w) text).0 (found_passes (λ v. bytes_eq (word_text v) text) words w e)
+word_found text w e = (bytes_eq-Decides (word_text w) text).0 (found_passes (λ v. bytes_eq (word_text v) text) reserved_words w e)
 
 -- where none is found, no word has the spelling
 pub no_word_found : (text : List ℕ) → word_of text ≡ None → (w : Word) → word_text w ≡ text → ⊥
 unfolding word_of
-no_word_found text e w same = both_ways (bytes_eq (word_text w) text) (none_passes (λ v. bytes_eq (word_text v) text) words w e (each_word w)) ((bytes_eq-Decides (word_text w) text).1 same)
+no_word_found text e w same = both_ways (bytes_eq (word_text w) text) (none_passes (λ v. bytes_eq (word_text v) text) reserved_words w e (each_word w)) ((bytes_eq-Decides (word_text w) text).1 same)
+
+-- one that passes
+any_passes : {X : Type 0} (p : X → Bool) (xs : List X) (x : X) → Stands x xs → p x ≡ true → list_any p xs ≡ true
+any_passes p [] x at e = absurd at
+any_passes {X} p (y ∷ ys) x (inl same) e = or_left (p y) (list_any p ys) (let P : X → Type 0 = λ z. p z ≡ true in subst P (sym same) e)
+any_passes p (y ∷ ys) x (inr at) e = or_right (p y) (list_any p ys) (any_passes p ys x at e)
+
+any_none : {X : Type 0} (p : X → Bool) (xs : List X) → ((x : X) → p x ≡ false) → list_any p xs ≡ false
+any_none p [] none = refl
+any_none p (y ∷ ys) none = rw (none y) (any_none p ys none)
+
+-- what is no reserved word has the spelling of none
+pub no_reserved_word : (text : List ℕ) → is_reserved text ≡ false → (w : Word) → word_text w ≡ text → ⊥
+unfolding is_reserved
+no_reserved_word text e w same =
+    both_ways (list_any (λ v. bytes_eq (word_text v) text) reserved_words) e (any_passes (λ v. bytes_eq (word_text v) text) reserved_words w (each_word w) ((bytes_eq-Decides (word_text w) text).1 same))
+
+-- what has the spelling of none is no reserved word
+pub reserved_word : (text : List ℕ) → ((w : Word) → word_text w ≡ text → ⊥) → is_reserved text ≡ false
+unfolding is_reserved
+reserved_word text other = any_none (λ v. bytes_eq (word_text v) text) reserved_words (λ w. false_from_ne_true (bytes_eq (word_text w) text) (λ e. other w ((bytes_eq-Decides (word_text w) text).0 e)))
 
 -- ---- signs
 

@@ -14,12 +14,12 @@ use Rattle.sg_ast.specs.declared.token.Word.{Word}
 use Rattle.sg_ast.specs.declared.token.Sign.{Sign}
 use Rattle.sg_ast.specs.declared.token.Token.{Token}
 use Rattle.sg_ast.specs.declared.token.Token.TheVariants as token
+use Rattle.sg_ast.specs.Token.{begins_name, is_name_form, is_reserved, is_name, is_token}
 use Rattle.sg_lexer.specs.declared.fault.LexFault.{LexFault}
 use Rattle.sg_lexer.specs.declared.fault.LexFault.TheVariants as fault
 use Rattle.sg_lexer.specs.Alphabet.{is_inner, word_text, word_of, sign_text, suffix, text_of}
 use Rattle.sg_lexer.specs.Lexing.{word_or_name, name, value_of, is_decimal, limit, number_as, number, run_token}
-use Rattle.sg_lexer.specs.Laws.{IsName, IsToken}
-use Rattle.sg_lexer.proofs.Tables.{chosen, for_word, word_again, word_found, no_word_found, sign_outer}
+use Rattle.sg_lexer.proofs.Tables.{chosen, for_word, word_again, word_found, no_word_found, reserved_word, no_reserved_word, sign_outer}
 
 -- what an element of a list that passes does
 pub all_at : (p : ℕ → Bool) (xs : List ℕ) (i : ℕ) → list_all p xs ≡ true → i < length xs → p (get_or xs i 0) ≡ true
@@ -64,7 +64,7 @@ unfolding number_as
 number_as_fault line unsigned ds f e =
     elim (chosen {A = Result Token LexFault} (is_decimal ds && nat_le (value_of ds) (limit unsigned)) (Ok (token.Number (value_of ds) unsigned)) (Err (fault.BadNumber line)) (Err f) e) [ inl h ↦ cc | inr h ↦ cc ]
 
-number_found : (line : ℕ) (run : List ℕ) (t : Token) → number line run ≡ Ok t → (run ≡ text_of t) × IsToken t
+number_found : (line : ℕ) (run : List ℕ) (t : Token) → number line run ≡ Ok t → (run ≡ text_of t) × (is_token t ≡ true)
 unfolding number
 number_found line run t e =
     elim (chosen {A = Result Token LexFault} (ends_with nat_eq run (codes "u")) (number_as line true (take (length run - 1) run)) (number_as line false run) (Ok t) e) [
@@ -72,11 +72,11 @@ number_found line run t e =
           let found = number_as_found line true (take (length run - 1) run) t h.1 in
           let split : run ≡ take (length run - 1) run ++ codes "u" = (ends_is Decides-eqb run (codes "u") (ends_with nat_eq run (codes "u")) refl).0 h.0 in
           let text : run ≡ text_of (token.Number (value_of (take (length run - 1) run)) true) = split ∙ ap (λ (ds : List ℕ). ds ++ codes "u") (sym found.2) in
-          (text ∙ ap text_of found.0, let P : Token → Type 0 = IsToken in subst P found.0 found.1))
+          (text ∙ ap text_of found.0, let P : Token → Type 0 = λ u. is_token u ≡ true in subst P found.0 (le-leb (value_of (take (length run - 1) run)) (limit true) found.1)))
       | inr h ↦ (
           let found = number_as_found line false run t h.1 in
           let text : run ≡ text_of (token.Number (value_of run) false) = sym found.2 ∙ sym (append-nil (decimal (value_of run))) in
-          (text ∙ ap text_of found.0, let P : Token → Type 0 = IsToken in subst P found.0 found.1))
+          (text ∙ ap text_of found.0, let P : Token → Type 0 = λ u. is_token u ≡ true in subst P found.0 (le-leb (value_of run) (limit false) found.1)))
     ]
 
 number_fault : (line : ℕ) (run : List ℕ) (f : LexFault) → number line run ≡ Err f → fault.BadNumber line ≡ f
@@ -149,10 +149,61 @@ name_fault line run f e =
 word_none : (text : List ℕ) → ((w : Word) → word_text w ≢ text) → word_of text ≡ None
 word_none text other = (elim (word_of text) as (λ o. word_of text ≡ o → o ≡ None) [ None ↦ λ e. refl | Some w ↦ λ e. absurd (other w (word_found text w e)) ]) refl
 
+-- the text of a name: a run of at most 32 bytes that begins with no digit and is no reserved word
+record IsName (text : List ℕ) : Type 0 where
+  some : 0 < length text
+  short : length text ≤ 32
+  inner : list_all is_inner text ≡ true
+  no_digit : is_ascii_digit (slice_index text 0) ≡ false
+  no_word : (w : Word) → word_text w ≢ text
+
+begins_inner : (b : ℕ) → begins_name b ≡ true → is_inner b ≡ true
+begins_inner b e = grind (arith, nat_tests)
+
+begins_no_digit : (b : ℕ) → begins_name b ≡ true → is_ascii_digit b ≡ false
+begins_no_digit b e = grind (arith, nat_tests)
+
+inner_begins : (b : ℕ) → is_inner b ≡ true → is_ascii_digit b ≡ false → begins_name b ≡ true
+inner_begins b e no_digit = grind (arith, nat_tests)
+
+goes_on_inner : (b : ℕ) → (begins_name b || is_ascii_digit b) ≡ true → is_inner b ≡ true
+goes_on_inner b e = grind (arith, nat_tests)
+
+inner_goes_on : (b : ℕ) → is_inner b ≡ true → (begins_name b || is_ascii_digit b) ≡ true
+inner_goes_on b e = grind (arith, nat_tests)
+
+-- a test that follows from another, over a list
+all_alike : (p q : ℕ → Bool) → ((b : ℕ) → p b ≡ true → q b ≡ true) → (text : List ℕ) → list_all p text ≡ true → list_all q text ≡ true
+all_alike p q alike text e = list_all-from_AllPass q text (λ k d h. alike (get_or text k d) (AllPass-from_list_all p text e k d h))
+
+name_parts : (text : List ℕ) → is_name (record { text = text }) ≡ true → IsName text
+unfolding is_name
+name_parts [] e = absurd (false≢true e)
+name_parts (c ∷ cs) e =
+    let both = and_parts (is_name_form (c ∷ cs)) (nat_le (length (c ∷ cs)) 32 && not (is_reserved (c ∷ cs))) e in
+    let form = and_parts (begins_name c) (list_all (λ d. begins_name d || is_ascii_digit d) cs) both.0 in
+    let limits = and_parts (nat_le (length (c ∷ cs)) 32) (not (is_reserved (c ∷ cs))) both.1 in
+    record {
+      some = omega arith;
+      short = leb-true (length (c ∷ cs)) 32 limits.0;
+      inner = and_from (is_inner c) (list_all is_inner cs) (begins_inner c form.0) (all_alike (λ d. begins_name d || is_ascii_digit d) is_inner goes_on_inner cs form.1);
+      no_digit = begins_no_digit c form.0;
+      no_word = no_reserved_word (c ∷ cs) (not-true (is_reserved (c ∷ cs)) limits.1);
+    }
+
+name_from : (text : List ℕ) → IsName text → is_name (record { text = text }) ≡ true
+unfolding is_name
+name_from [] h = absurd (let some : 0 < 0 = h.some in omega arith)
+name_from (c ∷ cs) h =
+    let inner = and_parts (is_inner c) (list_all is_inner cs) h.inner in
+    and_from (is_name_form (c ∷ cs)) (nat_le (length (c ∷ cs)) 32 && not (is_reserved (c ∷ cs)))
+    (and_from (begins_name c) (list_all (λ d. begins_name d || is_ascii_digit d) cs) (inner_begins c inner.0 h.no_digit) (all_alike is_inner (λ d. begins_name d || is_ascii_digit d) inner_goes_on cs inner.1))
+    (and_from (nat_le (length (c ∷ cs)) 32) (not (is_reserved (c ∷ cs))) (le-leb (length (c ∷ cs)) 32 h.short) (not_from_false (is_reserved (c ∷ cs)) (reserved_word (c ∷ cs) h.no_word)))
+
 -- a reserved word or a name
-spelled : (run : List ℕ) (o : Option Word) → word_of run ≡ o → length run ≤ 32 → list_all is_inner run ≡ true → is_ascii_digit (slice_index run 0) ≡ false → 0 < length run → (run ≡ text_of (word_or_name run o)) × IsToken (word_or_name run o)
-spelled run None e short inner first some = (refl, record { some = some; short = short; inner = inner; no_digit = first; no_word = no_word_found run e })
-spelled run (Some w) e short inner first some = (sym (word_found run w e), tt)
+spelled : (run : List ℕ) (o : Option Word) → word_of run ≡ o → length run ≤ 32 → list_all is_inner run ≡ true → is_ascii_digit (slice_index run 0) ≡ false → 0 < length run → (run ≡ text_of (word_or_name run o)) × (is_token (word_or_name run o) ≡ true)
+spelled run None e short inner first some = (refl, name_from run (record { some = some; short = short; inner = inner; no_digit = first; no_word = no_word_found run e }))
+spelled run (Some w) e short inner first some = (sym (word_found run w e), refl)
 
 -- ---- runs
 
@@ -165,13 +216,13 @@ unfolding run_token
 run_name line run first = cond-false _ _ _ first
 
 -- the token of a run has its text, and can be spelled
-pub run_found : (line : ℕ) (run : List ℕ) (t : Token) → run_token line run ≡ Ok t → list_all is_inner run ≡ true → 0 < length run → (run ≡ text_of t) × IsToken t
+pub run_found : (line : ℕ) (run : List ℕ) (t : Token) → run_token line run ≡ Ok t → list_all is_inner run ≡ true → 0 < length run → (run ≡ text_of t) × (is_token t ≡ true)
 run_found line run t e inner some =
     elim (cases_Bool (is_ascii_digit (slice_index run 0))) [
       | inl first ↦ number_found line run t (sym (run_number line run first) ∙ e)
       | inr first ↦ (
           let found = name_found line run t (sym (run_name line run first) ∙ e) in
-          let P : Token → Type 0 = λ u. (run ≡ text_of u) × IsToken u in
+          let P : Token → Type 0 = λ u. (run ≡ text_of u) × (is_token u ≡ true) in
           subst P found.1 (spelled run (word_of run) refl found.0 inner first some))
     ]
 
@@ -216,15 +267,15 @@ number_run v unsigned below =
     }
 
 -- a token is a run or a sign
-pub run_or_sign : (t : Token) → IsToken t → IsRun t ⊎ ((s : Sign) × (token.Sign s ≡ t))
-run_or_sign (token.Name n) h = inl (name_run n.text h)
+pub run_or_sign : (t : Token) → is_token t ≡ true → IsRun t ⊎ ((s : Sign) × (token.Sign s ≡ t))
+run_or_sign (token.Name n) h = inl (name_run n.text (name_parts n.text h))
 run_or_sign (token.Word w) h = inl (word_run w)
-run_or_sign (token.Number v unsigned) h = inl (number_run v unsigned h)
+run_or_sign (token.Number v unsigned) h = inl (number_run v unsigned (leb-true v (limit unsigned) h))
 run_or_sign (token.Sign s) h = inr (s, refl)
 
 -- the faults of a run: a number that no token spells, or a long name
 pub run_fault : (line : ℕ) (run : List ℕ) (f : LexFault) → run_token line run ≡ Err f → is_inner (slice_index run 0) ≡ true →
-    ((is_ascii_digit (slice_index run 0) ≡ true) × (fault.BadNumber line ≡ f) × ((t : Token) → IsToken t → text_of t ≢ run)) ⊎ ((is_ascii_digit (slice_index run 0) ≡ false) × (fault.LongName line ≡ f) × (32 < length run))
+    ((is_ascii_digit (slice_index run 0) ≡ true) × (fault.BadNumber line ≡ f) × ((t : Token) → is_token t ≡ true → text_of t ≢ run)) ⊎ ((is_ascii_digit (slice_index run 0) ≡ false) × (fault.LongName line ≡ f) × (32 < length run))
 run_fault line run f e inner =
     elim (cases_Bool (is_ascii_digit (slice_index run 0))) [
       | inl first ↦ inl (
@@ -244,7 +295,7 @@ pub run_long : (line : ℕ) (run : List ℕ) → is_ascii_digit (slice_index run
 unfolding name
 run_long line run first long = run_name line run first ∙ cond-true _ _ _ (lt-ltb 32 (length run) long)
 
-pub run_bad : (line : ℕ) (run : List ℕ) → list_all is_inner run ≡ true → 0 < length run → is_ascii_digit (slice_index run 0) ≡ true → ((t : Token) → IsToken t → text_of t ≢ run) → run_token line run ≡ Err (fault.BadNumber line)
+pub run_bad : (line : ℕ) (run : List ℕ) → list_all is_inner run ≡ true → 0 < length run → is_ascii_digit (slice_index run 0) ≡ true → ((t : Token) → is_token t ≡ true → text_of t ≢ run) → run_token line run ≡ Err (fault.BadNumber line)
 run_bad line run inner some first other =
     (elim (run_token line run) as (λ r. run_token line run ≡ r → r ≡ Err (fault.BadNumber line)) [
       | Ok t ↦ λ e. (let found = run_found line run t e inner some in absurd (other t found.1 (sym found.0)))

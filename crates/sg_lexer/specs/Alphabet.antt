@@ -7,7 +7,7 @@ use Rattle.sg_ast.specs.declared.token.Sign.{Sign}
 use Rattle.sg_ast.specs.declared.token.Sign.TheVariants as sign
 use Rattle.sg_ast.specs.declared.token.Token.{Token}
 use Rattle.sg_ast.specs.declared.token.Token.TheVariants as token
-pub use Rattle.sg_ast.specs.Token.{word_text, words}
+pub use Rattle.sg_ast.specs.Token.{word_text, reserved_words}
 
 -- white space: the space, the tab, the carriage return and the newline
 abbrev pub is_space : ℕ → Bool
@@ -19,7 +19,7 @@ is_inner b = is_ascii_alphanumeric b || b == 95
 
 -- the reserved word of this spelling, if there is one
 unfoldable pub word_of : List ℕ → Option Word
-word_of text = find (λ w. bytes_eq (word_text w) text) words
+word_of text = find (λ w. bytes_eq (word_text w) text) reserved_words
 
 -- the word beside the first text that equals the given one
 abbrev pub lookup : List (List ℕ × Word) → List ℕ → Option Word

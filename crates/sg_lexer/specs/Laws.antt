@@ -1,17 +1,16 @@
 -- What the tokens of a list of bytes are, apart from the way they are found, and the laws that say so of `tokens`.
-use Rattle.std.specs.Prelude.{◌≡◌, ◌≢◌, ◌⊎◌, ◌↔◌, ◌<◌, ◌≤◌, ℕ, true, false, nat_eq, ⊤, List, [], ◌∷◌, map, length, take, drop, slice_index, slice_range, Ok, Err, codes, take_while}
+use Rattle.std.specs.Prelude.{◌≡◌, ◌≢◌, ◌⊎◌, ◌↔◌, ◌<◌, ◌≤◌, ℕ, true, false, IsTrue, nat_eq, List, [], ◌∷◌, map, length, take, drop, slice_index, slice_range, Ok, Err, codes, take_while}
 use Rattle.std.specs.Char.{is_ascii_digit}
-use Rattle.std.specs.List.{starts_with, list_all, prefix_len, join_with_byte, AllByRecursion}
-use Rattle.sg_ast.specs.declared.token.Word.{Word}
+use Rattle.std.specs.List.{starts_with, list_all, prefix_len, join_with_byte}
 use Rattle.sg_ast.specs.declared.token.Sign.{Sign}
 use Rattle.sg_ast.specs.declared.token.Token.{Token}
-use Rattle.sg_ast.specs.declared.token.Token.TheVariants as token
 use Rattle.sg_ast.specs.declared.token.Spanned.{Spanned}
 use Rattle.sg_ast.specs.declared.token.Tokens.{Tokens}
+use Rattle.sg_ast.specs.Token.{is_token}
 use Rattle.sg_lexer.specs.declared.fault.LexFault.{LexFault}
 use Rattle.sg_lexer.specs.declared.fault.LexFault.TheVariants as fault
-use Rattle.sg_lexer.specs.Alphabet.{is_space, is_inner, word_text, sign_text, text_of}
-use Rattle.sg_lexer.specs.Lexing.{limit, is_in_line, line_after, tokens}
+use Rattle.sg_lexer.specs.Alphabet.{is_space, is_inner, sign_text, text_of}
+use Rattle.sg_lexer.specs.Lexing.{is_in_line, line_after, tokens}
 
 -- only white space and comments stand before `after`
 pub data Blank : List ℕ → List ℕ → Type 0 where
@@ -23,27 +22,12 @@ pub data Blank : List ℕ → List ℕ → Type 0 where
 abbrev pub IsLexeme : List ℕ → Type 0
 IsLexeme text = (list_all is_inner text ≡ true) ⊎ ((s : Sign) × (text ≡ sign_text s))
 
--- the text of a name: a run of at most 32 bytes that begins with no digit and is no reserved word
-pub record IsName (text : List ℕ) : Type 0 where
-  pub some : 0 < length text
-  pub short : length text ≤ 32
-  pub inner : list_all is_inner text ≡ true
-  pub no_digit : is_ascii_digit (slice_index text 0) ≡ false
-  pub no_word : (w : Word) → word_text w ≢ text
-
--- a token that can be spelled
-abbrev pub IsToken : Token → Type 0
-IsToken (token.Name name) = IsName name.text
-IsToken (token.Word w) = ⊤
-IsToken (token.Number value unsigned) = value ≤ limit unsigned
-IsToken (token.Sign s) = ⊤
-
 -- A token of the bytes, with its span and line. No longer run or sign, and no comment, begins at its place.
 pub record IsTokenOf (bytes : List ℕ) (t : Spanned) : Type 0 where
   pub some : t.start < t.end
   pub within : t.end ≤ length bytes
   pub text : slice_range bytes t.start t.end ≡ text_of t.token
-  pub valid : IsToken t.token
+  pub valid : IsTrue (is_token t.token)
   pub no_comment : starts_with nat_eq (drop t.start bytes) (codes "//") ≡ false
   pub line : t.line ≡ line_after (take t.start bytes)
   pub longest : (end : ℕ) → t.end < end → end ≤ length bytes → IsLexeme (slice_range bytes t.start end) → ⊥
@@ -65,7 +49,7 @@ pub record IsNoBlank (bytes : List ℕ) : Type 0 where
 -- The fault of the bytes that stand in this line, after `count` tokens, with no white space or comment at their front.
 pub data IsFault (count line : ℕ) (bytes : List ℕ) : LexFault → Type 0 where
   bad_byte : is_inner (slice_index bytes 0) ≡ false → ((s : Sign) → starts_with nat_eq bytes (sign_text s) ≡ false) → IsFault count line bytes (fault.BadByte line)
-  bad_number : count < 16384 → is_ascii_digit (slice_index bytes 0) ≡ true → ((t : Token) → IsToken t → text_of t ≢ run_at bytes) → IsFault count line bytes (fault.BadNumber line)
+  bad_number : count < 16384 → is_ascii_digit (slice_index bytes 0) ≡ true → ((t : Token) → IsTrue (is_token t) → text_of t ≢ run_at bytes) → IsFault count line bytes (fault.BadNumber line)
   long_name : count < 16384 → is_inner (slice_index bytes 0) ≡ true → is_ascii_digit (slice_index bytes 0) ≡ false → 32 < length (run_at bytes) → IsFault count line bytes (fault.LongName line)
   too_many_runs : 16384 ≤ count → is_inner (slice_index bytes 0) ≡ true → IsFault count line bytes fault.TooManyTokens
   too_many_signs : 16384 ≤ count → (s : Sign) → starts_with nat_eq bytes (sign_text s) ≡ true → IsFault count line bytes fault.TooManyTokens
@@ -101,4 +85,4 @@ AnswersFewTokens bytes found = tokens bytes ≡ Ok found → length found.list �
 -- tokens that are spelled with a space between each two are read again
 abbrev pub ReadsAgain : List Token → Type 0
 ReadsAgain ts =
-    AllByRecursion IsToken ts → length ts ≤ 16384 → (read : Tokens) × (tokens (join_with_byte 32 (map (λ t. text_of t) ts)) ≡ Ok read) × (map (λ t. t.token) read.list ≡ ts)
+    IsTrue (list_all is_token ts) → length ts ≤ 16384 → (read : Tokens) × (tokens (join_with_byte 32 (map (λ t. text_of t) ts)) ≡ Ok read) × (map (λ t. t.token) read.list ≡ ts)

@@ -1,0 +1,11 @@
+pub mod StepLemmas
+pub mod Lists
+pub mod ExprSound
+pub mod ExprComplete
+pub mod Turns
+pub mod StmtSound
+pub mod StmtComplete
+pub mod ItemSound
+pub mod ItemComplete
+pub mod ParsedLemmas
+pub mod LawLemmas

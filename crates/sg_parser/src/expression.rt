@@ -1,0 +1,403 @@
+//! Expressions, read by the levels of their operators.
+
+ghost use Rattle.std.specs.Prelude.{◌≡◌, ◌+◌, ◌<◌, ◌≤◌, map, IfOk};
+ghost use Rattle.sg_ast.specs.Expr as spell;
+ghost use Rattle.sg_ast.specs.Grammar as grammar;
+ghost use Rattle.sg_parser.specs.Steps.{listed, kinds, Gives};
+ghost use Rattle.sg_parser.specs.ReadExpr as read;
+
+use crate::names;
+use crate::take::{Unread, after_sign, is_number, next_op};
+use sg_ast::{Callee, Expr, Name, Sign, Spanned, Token, Word};
+use sg_words::{BinOp, Boxed, Items, Stop, UnOp};
+use std::alloc::Global;
+
+/// An expression with its depth, and the tokens behind it.
+#[derive(Drop)]
+pub struct Reading<'a> {
+    pub tree: Expr,
+    pub depth: usize,
+    pub rest: &'a [Spanned],
+}
+
+/// Expressions with the depth of the deepest, and the tokens behind them.
+#[derive(Drop)]
+pub struct Readings<'a> {
+    pub trees: Items<Expr>,
+    pub depth: usize,
+    pub rest: &'a [Spanned],
+}
+
+/// How tightly an operator between two operands holds them, the loosest at 1.
+fn op_level(op: BinOp) -> u8
+    ensures value { result ≡ spell.op_level op }
+    ensures within { result ≤ 9 }
+{
+    match op {
+        BinOp::LOr => 1,
+        BinOp::LAnd => 2,
+        BinOp::Eq | BinOp::Ne | BinOp::Lt | BinOp::Le | BinOp::Gt | BinOp::Ge => 3,
+        BinOp::Or => 4,
+        BinOp::Xor => 5,
+        BinOp::And => 6,
+        BinOp::Shl | BinOp::Shr => 7,
+        BinOp::Add | BinOp::Sub => 8,
+        BinOp::Mul | BinOp::Div | BinOp::Rem => 9,
+        BinOp::Min | BinOp::Max => 0,
+    }
+}
+
+/// The level of an operator before its operand.
+const UN_LEVEL: u8 = 10;
+
+/// The least level of a left operand: comparisons do not chain.
+fn left_needs(op: BinOp) -> u8
+    ensures { result ≡ spell.left_needs op }
+{
+    let level = op_level(op);
+    if level == 3 { 4 } else { level }
+}
+
+fn level(tree: &Expr) -> u8
+    ensures { result ≡ spell.level tree.now }
+{
+    match tree {
+        Expr::Un { .. } => UN_LEVEL,
+        Expr::Bin { op, .. } => op_level(*op),
+        _ => 11,
+    }
+}
+
+/// Whether an operator joins what was read so far to what follows.
+fn goes_on(least: u8, left: &Expr, op: BinOp) -> bool
+    ensures { result ≡ read.goes_on least left.now op }
+{
+    least <= op_level(op) && left_needs(op) <= level(left)
+}
+
+fn arity(callee: Callee) -> usize
+    ensures { result ≡ grammar.arity callee }
+{
+    match callee {
+        Callee::Min | Callee::Max => 2,
+        Callee::Mulq => 3,
+        Callee::I32 | Callee::U32 => 1,
+    }
+}
+
+/// One expression or more, with a comma between each two.
+#[cycle(reading)]
+#[tactic(auto, unfolding(crate::specs::Steps::listed_from))]
+pub fn items(alloc: Global, inner: usize, tokens: &[Spanned]) -> Result<Readings<'_>, Stop<Unread>>
+    requires { inner ≤ 64 }
+    ensures value { Gives (λ x. (x.trees, kinds x.rest.now)) result (listed (read.expr_at inner 1) (kinds tokens.now)) }
+    ensures depth { IfOk result (λ x. x.depth ≡ spell.largest (map spell.depth x.trees)) }
+    ensures within { IfOk result (λ x. x.depth ≤ inner) }
+{
+    let mut trees = Items::new(alloc);
+    let mut depth: usize = 0;
+    let mut rest = tokens;
+    for _turn in 0..tokens.len() {
+        let next = expr(alloc, inner, 1, rest)?;
+        trees.push(next.tree)?;
+        depth = depth.max(next.depth);
+        rest = next.rest;
+        let Some(behind) = after_sign(rest, Sign::Comma) else {
+            return Ok(Readings { trees, depth, rest });
+        };
+        rest = behind;
+    }
+    Err(Stop::Refused(Unread))
+}
+
+/// The indices of an access, behind its `[`.
+#[cycle(reading)]
+#[tactic(auto, unfolding(crate::specs::ReadExpr::indices))]
+pub fn indices(
+    alloc: Global,
+    inner: usize,
+    tokens: &[Spanned],
+) -> Result<Readings<'_>, Stop<Unread>>
+    requires { inner ≤ 64 }
+    ensures value { Gives (λ x. (x.trees, kinds x.rest.now)) result (read.indices (read.expr_at inner) (kinds tokens.now)) }
+    ensures depth { IfOk result (λ x. x.depth ≡ spell.largest (map spell.depth x.trees)) }
+    ensures within { IfOk result (λ x. x.depth ≤ inner) }
+{
+    let index = items(alloc, inner, tokens)?;
+    let Some(rest) = after_sign(index.rest, Sign::CloseBracket) else {
+        return Err(Stop::Refused(Unread));
+    };
+    Ok(Readings {
+        trees: index.trees,
+        depth: index.depth,
+        rest,
+    })
+}
+
+/// What a name begins: a read, or the name alone.
+#[cycle(reading)]
+#[tactic(auto, unfolding(crate::specs::ReadExpr::named))]
+fn named<'a>(
+    alloc: Global,
+    inner: usize,
+    name: &Name,
+    tokens: &'a [Spanned],
+) -> Result<Reading<'a>, Stop<Unread>>
+    requires { inner < 64 }
+    ensures value { Gives (λ x. (x.tree, kinds x.rest.now)) result (read.named (read.expr_at inner) name.now (kinds tokens.now)) }
+    ensures depth { IfOk result (λ x. x.depth ≡ spell.depth x.tree) }
+    ensures within { IfOk result (λ x. x.depth ≤ inner + 1) }
+{
+    if !names::is_name(name) {
+        return Err(Stop::Refused(Unread));
+    }
+    let own = names::copy_name(alloc, name)?;
+    let Some(behind) = after_sign(tokens, Sign::OpenBracket) else {
+        return Ok(Reading {
+            tree: Expr::Name(own),
+            depth: 1,
+            rest: tokens,
+        });
+    };
+    let index = indices(alloc, inner, behind)?;
+    Ok(Reading {
+        tree: Expr::Read {
+            field: own,
+            index: index.trees,
+        },
+        depth: index.depth + 1,
+        rest: index.rest,
+    })
+}
+
+/// A call, behind its word.
+#[cycle(reading)]
+#[tactic(auto, unfolding(crate::specs::ReadExpr::call))]
+fn call(
+    alloc: Global,
+    inner: usize,
+    callee: Callee,
+    tokens: &[Spanned],
+) -> Result<Reading<'_>, Stop<Unread>>
+    requires { inner < 64 }
+    ensures value { Gives (λ x. (x.tree, kinds x.rest.now)) result (read.call (read.expr_at inner) callee (kinds tokens.now)) }
+    ensures depth { IfOk result (λ x. x.depth ≡ spell.depth x.tree) }
+    ensures within { IfOk result (λ x. x.depth ≤ inner + 1) }
+{
+    let Some(behind) = after_sign(tokens, Sign::OpenParen) else {
+        return Err(Stop::Refused(Unread));
+    };
+    let arguments = items(alloc, inner, behind)?;
+    let Some(rest) = after_sign(arguments.rest, Sign::CloseParen) else {
+        return Err(Stop::Refused(Unread));
+    };
+    if arguments.trees.len() != arity(callee) {
+        return Err(Stop::Refused(Unread));
+    }
+    Ok(Reading {
+        tree: Expr::Call {
+            callee,
+            args: arguments.trees,
+        },
+        depth: arguments.depth + 1,
+        rest,
+    })
+}
+
+/// An expression in parentheses, behind the `(`.
+#[cycle(reading)]
+#[tactic(auto, unfolding(crate::specs::ReadExpr::paren))]
+fn paren(alloc: Global, inner: usize, tokens: &[Spanned]) -> Result<Reading<'_>, Stop<Unread>>
+    requires { inner < 64 }
+    ensures value { Gives (λ x. (x.tree, kinds x.rest.now)) result (read.paren (read.expr_at inner) (kinds tokens.now)) }
+    ensures depth { IfOk result (λ x. x.depth ≡ spell.depth x.tree) }
+    ensures within { IfOk result (λ x. x.depth ≤ inner + 1) }
+{
+    let within = expr(alloc, inner, 1, tokens)?;
+    let Some(rest) = after_sign(within.rest, Sign::CloseParen) else {
+        return Err(Stop::Refused(Unread));
+    };
+    Ok(Reading {
+        tree: Expr::Paren(Boxed::new(alloc, within.tree)?),
+        depth: within.depth + 1,
+        rest,
+    })
+}
+
+/// An operator before its operand, behind its sign.
+#[cycle(reading)]
+#[tactic(auto, unfolding(crate::specs::ReadExpr::unary))]
+fn unary(
+    alloc: Global,
+    inner: usize,
+    op: UnOp,
+    tokens: &[Spanned],
+) -> Result<Reading<'_>, Stop<Unread>>
+    requires { inner < 64 }
+    ensures value { Gives (λ x. (x.tree, kinds x.rest.now)) result (read.unary (read.expr_at inner) op (kinds tokens.now)) }
+    ensures depth { IfOk result (λ x. x.depth ≡ spell.depth x.tree) }
+    ensures within { IfOk result (λ x. x.depth ≤ inner + 1) }
+{
+    let operand = expr(alloc, inner, UN_LEVEL, tokens)?;
+    Ok(Reading {
+        tree: Expr::Un {
+            op,
+            of: Boxed::new(alloc, operand.tree)?,
+        },
+        depth: operand.depth + 1,
+        rest: operand.rest,
+    })
+}
+
+/// What a word begins: a truth value, or a call.
+#[cycle(reading)]
+fn worded(
+    alloc: Global,
+    inner: usize,
+    word: Word,
+    tokens: &[Spanned],
+) -> Result<Reading<'_>, Stop<Unread>>
+    requires { inner < 64 }
+    ensures value { Gives (λ x. (x.tree, kinds x.rest.now)) result (read.worded (read.expr_at inner) word (kinds tokens.now)) }
+    ensures depth { IfOk result (λ x. x.depth ≡ spell.depth x.tree) }
+    ensures within { IfOk result (λ x. x.depth ≤ inner + 1) }
+{
+    match word {
+        Word::True => Ok(Reading {
+            tree: Expr::Truth(true),
+            depth: 1,
+            rest: tokens,
+        }),
+        Word::False => Ok(Reading {
+            tree: Expr::Truth(false),
+            depth: 1,
+            rest: tokens,
+        }),
+        Word::Min => call(alloc, inner, Callee::Min, tokens),
+        Word::Max => call(alloc, inner, Callee::Max, tokens),
+        Word::Mulq => call(alloc, inner, Callee::Mulq, tokens),
+        Word::I32 => call(alloc, inner, Callee::I32, tokens),
+        Word::U32 => call(alloc, inner, Callee::U32, tokens),
+        _ => Err(Stop::Refused(Unread)),
+    }
+}
+
+/// What a sign begins: parentheses, or an operator before its operand.
+#[cycle(reading)]
+fn signed(
+    alloc: Global,
+    inner: usize,
+    sign: Sign,
+    tokens: &[Spanned],
+) -> Result<Reading<'_>, Stop<Unread>>
+    requires { inner < 64 }
+    ensures value { Gives (λ x. (x.tree, kinds x.rest.now)) result (read.signed (read.expr_at inner) sign (kinds tokens.now)) }
+    ensures depth { IfOk result (λ x. x.depth ≡ spell.depth x.tree) }
+    ensures within { IfOk result (λ x. x.depth ≤ inner + 1) }
+{
+    match sign {
+        Sign::OpenParen => paren(alloc, inner, tokens),
+        Sign::Minus => unary(alloc, inner, UnOp::Neg, tokens),
+        Sign::Tilde => unary(alloc, inner, UnOp::Not, tokens),
+        Sign::Not => unary(alloc, inner, UnOp::LNot, tokens),
+        _ => Err(Stop::Refused(Unread)),
+    }
+}
+
+/// An expression up to its first operator between two operands.
+#[cycle(reading)]
+#[tactic(auto, unfolding(crate::specs::ReadExpr::prefix))]
+fn prefix(alloc: Global, inner: usize, tokens: &[Spanned]) -> Result<Reading<'_>, Stop<Unread>>
+    requires { inner < 64 }
+    ensures value { Gives (λ x. (x.tree, kinds x.rest.now)) result (read.prefix (read.expr_at inner) (kinds tokens.now)) }
+    ensures depth { IfOk result (λ x. x.depth ≡ spell.depth x.tree) }
+    ensures within { IfOk result (λ x. x.depth ≤ inner + 1) }
+{
+    let [first, rest @ ..] = tokens else {
+        return Err(Stop::Refused(Unread));
+    };
+    match &first.token {
+        Token::Number { value, unsigned } => {
+            if !is_number(*value, *unsigned) {
+                return Err(Stop::Refused(Unread));
+            }
+            Ok(Reading {
+                tree: Expr::Number {
+                    value: *value,
+                    unsigned: *unsigned,
+                },
+                depth: 1,
+                rest,
+            })
+        }
+        Token::Name(name) => named(alloc, inner, name, rest),
+        Token::Word(word) => worded(alloc, inner, *word, rest),
+        Token::Sign(sign) => signed(alloc, inner, *sign, rest),
+    }
+}
+
+/// What was read so far, with all operators of at least a level behind it.
+#[cycle(reading)]
+#[tactic(auto, unfolding(crate::specs::ReadExpr::climb))]
+fn climb(
+    alloc: Global,
+    inner: usize,
+    least: u8,
+    first: Reading<'_>,
+) -> Result<Reading<'_>, Stop<Unread>>
+    requires limit { inner < 64 }
+    requires depth { first.depth ≡ spell.depth first.tree }
+    requires within { first.depth ≤ inner + 1 }
+    ensures value { Gives (λ x. (x.tree, kinds x.rest.now)) result
+        (read.climb (read.expr_at inner) (inner + 1) least (inner + 1) first.entry.tree (kinds first.entry.rest.now)) }
+    ensures depth { IfOk result (λ x. x.depth ≡ spell.depth x.tree) }
+    ensures within { IfOk result (λ x. x.depth ≤ inner + 1) }
+{
+    let Reading {
+        mut tree,
+        mut depth,
+        mut rest,
+    } = first;
+    for _turn in 0..inner + 1 {
+        let Some((op, behind)) = next_op(rest) else {
+            return Ok(Reading { tree, depth, rest });
+        };
+        if !goes_on(least, &tree, op) {
+            return Ok(Reading { tree, depth, rest });
+        }
+        if depth > inner {
+            return Err(Stop::Refused(Unread));
+        }
+        let right = expr(alloc, inner, op_level(op) + 1, behind)?;
+        depth = depth.max(right.depth) + 1;
+        tree = Expr::Bin {
+            op,
+            left: Boxed::new(alloc, tree)?,
+            right: Boxed::new(alloc, right.tree)?,
+        };
+        rest = right.rest;
+    }
+    Err(Stop::Refused(Unread))
+}
+
+/// An expression of at least a level and at most a depth.
+#[cycle(reading)]
+#[tactic(auto, unfolding(crate::specs::ReadExpr::expr_at))]
+pub fn expr(
+    alloc: Global,
+    limit: usize,
+    least: u8,
+    tokens: &[Spanned],
+) -> Result<Reading<'_>, Stop<Unread>>
+    requires { limit ≤ 64 }
+    ensures value { Gives (λ x. (x.tree, kinds x.rest.now)) result (read.expr_at limit least (kinds tokens.now)) }
+    ensures depth { IfOk result (λ x. x.depth ≡ spell.depth x.tree) }
+    ensures within { IfOk result (λ x. x.depth ≤ limit) }
+{
+    if limit == 0 {
+        return Err(Stop::Refused(Unread));
+    }
+    let inner = limit - 1;
+    let first = prefix(alloc, inner, tokens)?;
+    climb(alloc, inner, least, first)
+}

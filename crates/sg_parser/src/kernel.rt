@@ -1,0 +1,96 @@
+//! Kernels: their variables and what they go over.
+
+ghost use Rattle.std.specs.Prelude.{◌≡◌};
+ghost use Rattle.sg_parser.specs.Steps.{kinds, Gives, listed};
+ghost use Rattle.sg_parser.specs.ReadStmt as statements;
+ghost use Rattle.sg_parser.specs.ReadItem as read;
+
+use crate::statement::{MAX_NESTING, block, read_range};
+use crate::take::{Unread, after_sign, after_word, next_name, read_names};
+use sg_ast::{DomainDecl, Item, KernelDecl, Name, RangeDecl, Sign, Spanned, Word};
+use sg_words::{Items, Stop};
+use std::alloc::Global;
+
+/// A name behind which a block begins, and what follows it.
+fn lone_name(alloc: Global, tokens: &[Spanned]) -> Result<(Name, &[Spanned]), Stop<Unread>>
+    ensures { Gives (λ x. (x.0, kinds x.1.now)) result (read.lone_name (kinds tokens.now)) }
+{
+    let (name, rest) = next_name(alloc, tokens)?;
+    match after_sign(rest, Sign::OpenBrace) {
+        Some(_brace) => Ok((name, rest)),
+        None => Err(Stop::Refused(Unread)),
+    }
+}
+
+/// Ranges, with a comma between each two.
+#[tactic(auto, unfolding(crate::specs::Steps::listed_from))]
+fn read_ranges(
+    alloc: Global,
+    tokens: &[Spanned],
+) -> Result<(Items<RangeDecl>, &[Spanned]), Stop<Unread>>
+    ensures { Gives (λ x. (x.0, kinds x.1.now)) result (listed statements.read_range (kinds tokens.now)) }
+{
+    let mut found = Items::new(alloc);
+    let mut rest = tokens;
+    for _turn in 0..tokens.len() {
+        let (next, end) = read_range(alloc, rest)?;
+        found.push(next)?;
+        rest = end;
+        let Some(behind) = after_sign(rest, Sign::Comma) else {
+            return Ok((found, rest));
+        };
+        rest = behind;
+    }
+    Err(Stop::Refused(Unread))
+}
+
+/// What a kernel goes over.
+#[tactic(auto, unfolding(crate::specs::ReadItem::read_domain))]
+fn read_domain(alloc: Global, tokens: &[Spanned]) -> Result<(DomainDecl, &[Spanned]), Stop<Unread>>
+    ensures { Gives (λ x. (x.0, kinds x.1.now)) result (read.read_domain (kinds tokens.now)) }
+{
+    match lone_name(alloc, tokens) {
+        Ok((name, rest)) => Ok((DomainDecl::Layout(name), rest)),
+        Err(Stop::Memory) => Err(Stop::Memory),
+        Err(Stop::Refused(_)) => {
+            let (ranges, rest) = read_ranges(alloc, tokens)?;
+            if ranges.len() > 3 {
+                return Err(Stop::Refused(Unread));
+            }
+            Ok((DomainDecl::Ranges(ranges), rest))
+        }
+    }
+}
+
+/// `kernel NAME { for VARIABLES in DOMAIN BLOCK }`, behind its word.
+#[tactic(auto, unfolding(crate::specs::ReadItem::read_kernel))]
+pub fn read_kernel(alloc: Global, tokens: &[Spanned]) -> Result<(Item, &[Spanned]), Stop<Unread>>
+    ensures { Gives (λ x. (x.0, kinds x.1.now)) result (read.read_kernel (kinds tokens.now)) }
+{
+    let (name, start) = next_name(alloc, tokens)?;
+    let Some(brace) = after_sign(start, Sign::OpenBrace) else {
+        return Err(Stop::Refused(Unread));
+    };
+    let Some(behind) = after_word(brace, Word::For) else {
+        return Err(Stop::Refused(Unread));
+    };
+    let (vars, end) = read_names(alloc, behind)?;
+    let Some(over) = after_word(end, Word::In) else {
+        return Err(Stop::Refused(Unread));
+    };
+    let (domain, inside) = read_domain(alloc, over)?;
+    let (body, last) = block(alloc, MAX_NESTING, inside)?;
+    let Some(rest) = after_sign(last, Sign::CloseBrace) else {
+        return Err(Stop::Refused(Unread));
+    };
+    if vars.len() > 3 {
+        return Err(Stop::Refused(Unread));
+    }
+    let kernel = KernelDecl {
+        name,
+        vars,
+        domain,
+        body,
+    };
+    Ok((Item::Kernel(kernel), rest))
+}

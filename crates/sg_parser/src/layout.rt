@@ -1,0 +1,286 @@
+//! Layouts: their axes, nodes and fields.
+
+ghost use Rattle.std.specs.Prelude.{◌≡◌, ◌&&◌, nat_le, option_map};
+ghost use Rattle.sg_ast.specs.declared.token.Sign.TheVariants as s;
+ghost use Rattle.sg_parser.specs.Steps.{kinds, Gives, listed, repeated};
+ghost use Rattle.sg_parser.specs.Steps as steps;
+ghost use Rattle.sg_parser.specs.ReadItem as read;
+
+use crate::names;
+use crate::take::{Unread, after_sign, after_word, is_number, next_name, read_names};
+use sg_ast::{
+    AxisDecl, FieldDecl, Item, LayoutDecl, NodeDecl, NodeKind, Sign, SizeDecl, Spanned, Token, Word,
+};
+use sg_words::{Items, Stop, Ty};
+use std::alloc::Global;
+
+/// A number without `u`, or a name, and what follows it.
+fn next_size(alloc: Global, tokens: &[Spanned]) -> Result<(SizeDecl, &[Spanned]), Stop<Unread>>
+    ensures { Gives (λ x. (x.0, kinds x.1.now)) result (read.next_size (kinds tokens.now)) }
+{
+    let [first, rest @ ..] = tokens else {
+        return Err(Stop::Refused(Unread));
+    };
+    match &first.token {
+        Token::Number { value, unsigned } if !*unsigned && is_number(*value, false) => Ok((
+            SizeDecl::Number(*value),
+            rest,
+        )),
+        Token::Name(name) if names::is_name(name) => Ok((
+            SizeDecl::Name(names::copy_name(alloc, name)?),
+            rest,
+        )),
+        _ => Err(Stop::Refused(Unread)),
+    }
+}
+
+/// `NAME: SIZE`.
+#[tactic(auto, unfolding(crate::specs::ReadItem::read_axis))]
+fn read_axis(alloc: Global, tokens: &[Spanned]) -> Result<(AxisDecl, &[Spanned]), Stop<Unread>>
+    ensures { Gives (λ x. (x.0, kinds x.1.now)) result (read.read_axis (kinds tokens.now)) }
+{
+    let (name, behind) = next_name(alloc, tokens)?;
+    let Some(colon) = after_sign(behind, Sign::Colon) else {
+        return Err(Stop::Refused(Unread));
+    };
+    let (size, rest) = next_size(alloc, colon)?;
+    Ok((AxisDecl { name, size }, rest))
+}
+
+/// Axes, with a comma between each two.
+#[tactic(auto, unfolding(crate::specs::Steps::listed_from))]
+fn read_axes(
+    alloc: Global,
+    tokens: &[Spanned],
+) -> Result<(Items<AxisDecl>, &[Spanned]), Stop<Unread>>
+    ensures { Gives (λ x. (x.0, kinds x.1.now)) result (listed read.read_axis (kinds tokens.now)) }
+{
+    let mut found = Items::new(alloc);
+    let mut rest = tokens;
+    for _turn in 0..tokens.len() {
+        let (next, end) = read_axis(alloc, rest)?;
+        found.push(next)?;
+        rest = end;
+        let Some(behind) = after_sign(rest, Sign::Comma) else {
+            return Ok((found, rest));
+        };
+        rest = behind;
+    }
+    Err(Stop::Refused(Unread))
+}
+
+/// The kind of node that a word begins.
+fn kind_of(word: Word) -> Option<NodeKind>
+    ensures { result ≡ read.kind_of word }
+{
+    match word {
+        Word::Dense => Some(NodeKind::Dense),
+        Word::Bitmasked => Some(NodeKind::Bitmasked),
+        Word::Pointer => Some(NodeKind::Pointer),
+        Word::Hash => Some(NodeKind::Hash),
+        Word::Dynamic => Some(NodeKind::Dynamic),
+        _ => None,
+    }
+}
+
+/// The kind of a node, and what follows its word.
+fn next_kind(tokens: &[Spanned]) -> Option<(NodeKind, &[Spanned])>
+    ensures { option_map (λ x. (x.0, kinds x.1.now)) result ≡ read.next_kind (kinds tokens.now) }
+{
+    let [first, rest @ ..] = tokens else {
+        return None;
+    };
+    match &first.token {
+        Token::Word(word) => match kind_of(*word) {
+            Some(kind) => Some((kind, rest)),
+            None => None,
+        },
+        _ => None,
+    }
+}
+
+fn has_chunk(kind: NodeKind) -> bool
+    ensures { result ≡ read.has_chunk kind }
+{
+    match kind {
+        NodeKind::Dynamic => true,
+        _ => false,
+    }
+}
+
+fn has_cap(kind: NodeKind) -> bool
+    ensures { result ≡ read.has_cap kind }
+{
+    match kind {
+        NodeKind::Dense | NodeKind::Bitmasked => false,
+        _ => true,
+    }
+}
+
+/// The word `chunk` or `cap` and its size, where the kind has one.
+fn next_bound(
+    alloc: Global,
+    word: Word,
+    has: bool,
+    tokens: &[Spanned],
+) -> Result<(Option<SizeDecl>, &[Spanned]), Stop<Unread>>
+    ensures { Gives (λ x. (x.0, kinds x.1.now)) result (read.next_bound word has (kinds tokens.now)) }
+{
+    if !has {
+        return Ok((None, tokens));
+    }
+    let Some(behind) = after_word(tokens, word) else {
+        return Err(Stop::Refused(Unread));
+    };
+    let (size, rest) = next_size(alloc, behind)?;
+    Ok((Some(size), rest))
+}
+
+/// `KIND(AXES) chunk SIZE cap SIZE;`.
+#[tactic(auto, unfolding(crate::specs::ReadItem::read_node))]
+fn read_node(alloc: Global, tokens: &[Spanned]) -> Result<(NodeDecl, &[Spanned]), Stop<Unread>>
+    ensures { Gives (λ x. (x.0, kinds x.1.now)) result (read.read_node (kinds tokens.now)) }
+{
+    let Some((kind, name)) = next_kind(tokens) else {
+        return Err(Stop::Refused(Unread));
+    };
+    let Some(behind) = after_sign(name, Sign::OpenParen) else {
+        return Err(Stop::Refused(Unread));
+    };
+    let (axes, end) = read_axes(alloc, behind)?;
+    let Some(close) = after_sign(end, Sign::CloseParen) else {
+        return Err(Stop::Refused(Unread));
+    };
+    let (chunk, bounds) = next_bound(alloc, Word::Chunk, has_chunk(kind), close)?;
+    let (cap, last) = next_bound(alloc, Word::Cap, has_cap(kind), bounds)?;
+    let Some(rest) = after_sign(last, Sign::Semicolon) else {
+        return Err(Stop::Refused(Unread));
+    };
+    if axes.len() > 3 {
+        return Err(Stop::Refused(Unread));
+    }
+    Ok((
+        NodeDecl {
+            kind,
+            axes,
+            chunk,
+            cap,
+        },
+        rest,
+    ))
+}
+
+/// The type of a field, and what follows it.
+fn next_ty(tokens: &[Spanned]) -> Option<(Ty, &[Spanned])>
+    ensures { option_map (λ x. (x.0, kinds x.1.now)) result ≡ read.next_ty (kinds tokens.now) }
+{
+    let [first, rest @ ..] = tokens else {
+        return None;
+    };
+    match &first.token {
+        Token::Word(Word::I32) => Some((Ty::I32, rest)),
+        Token::Word(Word::U32) => Some((Ty::U32, rest)),
+        _ => None,
+    }
+}
+
+/// `field NAME: TYPE;`.
+#[tactic(auto, unfolding(crate::specs::ReadItem::read_field))]
+fn read_field(alloc: Global, tokens: &[Spanned]) -> Result<(FieldDecl, &[Spanned]), Stop<Unread>>
+    ensures { Gives (λ x. (x.0, kinds x.1.now)) result (read.read_field (kinds tokens.now)) }
+{
+    let Some(word) = after_word(tokens, Word::Field) else {
+        return Err(Stop::Refused(Unread));
+    };
+    let (name, behind) = next_name(alloc, word)?;
+    let Some(colon) = after_sign(behind, Sign::Colon) else {
+        return Err(Stop::Refused(Unread));
+    };
+    let Some((ty, end)) = next_ty(colon) else {
+        return Err(Stop::Refused(Unread));
+    };
+    let Some(rest) = after_sign(end, Sign::Semicolon) else {
+        return Err(Stop::Refused(Unread));
+    };
+    Ok((FieldDecl { name, ty }, rest))
+}
+
+/// Nodes, up to the first field.
+#[tactic(auto, unfolding(crate::specs::Steps::repeated_from))]
+fn read_nodes(
+    alloc: Global,
+    tokens: &[Spanned],
+) -> Result<(Items<NodeDecl>, &[Spanned]), Stop<Unread>>
+    ensures { Gives (λ x. (x.0, kinds x.1.now)) result (repeated read.before_field read.read_node (kinds tokens.now)) }
+{
+    let mut found = Items::new(alloc);
+    let mut rest = tokens;
+    for _turn in 0..tokens.len() {
+        if let Some(_field) = after_word(rest, Word::Field) {
+            return Ok((found, rest));
+        }
+        let (next, behind) = read_node(alloc, rest)?;
+        found.push(next)?;
+        rest = behind;
+    }
+    Err(Stop::Refused(Unread))
+}
+
+/// Fields, up to the `}` behind them.
+#[tactic(auto, unfolding(crate::specs::Steps::repeated_from))]
+fn read_fields(
+    alloc: Global,
+    tokens: &[Spanned],
+) -> Result<(Items<FieldDecl>, &[Spanned]), Stop<Unread>>
+    ensures { Gives (λ x. (x.0, kinds x.1.now)) result
+        (repeated (steps.after_sign s.CloseBrace) read.read_field (kinds tokens.now)) }
+{
+    let mut found = Items::new(alloc);
+    let mut rest = tokens;
+    for _turn in 0..tokens.len() {
+        if let Some(end) = after_sign(rest, Sign::CloseBrace) {
+            return Ok((found, end));
+        }
+        let (next, behind) = read_field(alloc, rest)?;
+        found.push(next)?;
+        rest = behind;
+    }
+    Err(Stop::Refused(Unread))
+}
+
+/// `layout NAME(AXES) { NODES FIELDS }`, behind its word.
+#[tactic(auto, unfolding(crate::specs::ReadItem::read_layout))]
+pub fn read_layout(alloc: Global, tokens: &[Spanned]) -> Result<(Item, &[Spanned]), Stop<Unread>>
+    ensures { Gives (λ x. (x.0, kinds x.1.now)) result (read.read_layout (kinds tokens.now)) }
+{
+    let (name, start) = next_name(alloc, tokens)?;
+    let Some(behind) = after_sign(start, Sign::OpenParen) else {
+        return Err(Stop::Refused(Unread));
+    };
+    let (axes, end) = read_names(alloc, behind)?;
+    let Some(close) = after_sign(end, Sign::CloseParen) else {
+        return Err(Stop::Refused(Unread));
+    };
+    let Some(brace) = after_sign(close, Sign::OpenBrace) else {
+        return Err(Stop::Refused(Unread));
+    };
+    let (nodes, left) = read_nodes(alloc, brace)?;
+    let (fields, rest) = read_fields(alloc, left)?;
+    if !counts_hold(axes.len(), nodes.len(), fields.len()) {
+        return Err(Stop::Refused(Unread));
+    }
+    let layout = LayoutDecl {
+        name,
+        axes,
+        nodes,
+        fields,
+    };
+    Ok((Item::Layout(layout), rest))
+}
+
+/// Whether a layout has at most so many axes, so many nodes, and a field at least.
+fn counts_hold(axes: usize, nodes: usize, fields: usize) -> bool
+    ensures { result ≡ (nat_le axes 3 && ((nat_le 1 nodes && nat_le nodes 6) && nat_le 1 fields)) }
+{
+    axes <= 3 && 1 <= nodes && nodes <= 6 && 1 <= fields
+}

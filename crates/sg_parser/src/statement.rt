@@ -1,0 +1,266 @@
+//! Statements and blocks.
+
+ghost use Rattle.std.specs.Prelude.{◌≡◌, option_map};
+ghost use Rattle.sg_ast.specs.declared.token.Sign.TheVariants as s;
+ghost use Rattle.sg_parser.specs.Steps.{kinds, Gives, repeated};
+ghost use Rattle.sg_parser.specs.Steps as steps;
+ghost use Rattle.sg_parser.specs.ReadExpr as expressions;
+ghost use Rattle.sg_parser.specs.ReadStmt as read;
+
+use crate::expression::{expr, indices};
+use crate::names;
+use crate::take::{Unread, after_sign, after_word, next_name};
+use sg_ast::{Expr, Name, RangeDecl, Sign, Spanned, Stmt, Token, WayDecl, Word};
+use sg_words::{AccOp, Items, Stop};
+use std::alloc::Global;
+
+/// How deep an expression may be.
+const MAX_DEPTH: usize = 64;
+
+/// How deep blocks may nest, that of a kernel's loop counted.
+pub const MAX_NESTING: usize = 16;
+
+/// An expression of the grammar.
+fn read_expr(alloc: Global, tokens: &[Spanned]) -> Result<(Expr, &[Spanned]), Stop<Unread>>
+    ensures { Gives (λ x. (x.0, kinds x.1.now)) result (expressions.read_expr (kinds tokens.now)) }
+{
+    let read = expr(alloc, MAX_DEPTH, 1, tokens)?;
+    Ok((read.tree, read.rest))
+}
+
+/// `LO..HI`.
+#[tactic(auto, unfolding(crate::specs::ReadStmt::read_range))]
+pub fn read_range(
+    alloc: Global,
+    tokens: &[Spanned],
+) -> Result<(RangeDecl, &[Spanned]), Stop<Unread>>
+    ensures { Gives (λ x. (x.0, kinds x.1.now)) result (read.read_range (kinds tokens.now)) }
+{
+    let (lo, behind) = read_expr(alloc, tokens)?;
+    let Some(dots) = after_sign(behind, Sign::DotDot) else {
+        return Err(Stop::Refused(Unread));
+    };
+    let (hi, rest) = read_expr(alloc, dots)?;
+    Ok((RangeDecl { lo, hi }, rest))
+}
+
+/// An expression and `;`.
+#[tactic(auto, unfolding(crate::specs::ReadStmt::ended))]
+fn ended(alloc: Global, tokens: &[Spanned]) -> Result<(Expr, &[Spanned]), Stop<Unread>>
+    ensures { Gives (λ x. (x.0, kinds x.1.now)) result (read.ended (kinds tokens.now)) }
+{
+    let (value, behind) = read_expr(alloc, tokens)?;
+    let Some(rest) = after_sign(behind, Sign::Semicolon) else {
+        return Err(Stop::Refused(Unread));
+    };
+    Ok((value, rest))
+}
+
+/// `= VALUE ;`.
+#[tactic(auto, unfolding(crate::specs::ReadStmt::assigned))]
+fn assigned(alloc: Global, tokens: &[Spanned]) -> Result<(Expr, &[Spanned]), Stop<Unread>>
+    ensures { Gives (λ x. (x.0, kinds x.1.now)) result (read.assigned (kinds tokens.now)) }
+{
+    let Some(equal) = after_sign(tokens, Sign::Equal) else {
+        return Err(Stop::Refused(Unread));
+    };
+    ended(alloc, equal)
+}
+
+/// `=` behind the word `min` or `max`, and what follows it.
+fn behind_equal(how: WayDecl, tokens: &[Spanned]) -> Option<(WayDecl, &[Spanned])>
+    ensures { option_map (λ x. (x.0, kinds x.1.now)) result ≡ read.behind_equal how (kinds tokens.now) }
+{
+    match after_sign(tokens, Sign::Equal) {
+        Some(rest) => Some((how, rest)),
+        None => None,
+    }
+}
+
+/// How a write joins its value, and what follows it.
+fn next_way(tokens: &[Spanned]) -> Option<(WayDecl, &[Spanned])>
+    ensures { option_map (λ x. (x.0, kinds x.1.now)) result ≡ read.next_way (kinds tokens.now) }
+{
+    let [first, rest @ ..] = tokens else {
+        return None;
+    };
+    match &first.token {
+        Token::Sign(Sign::Equal) => Some((WayDecl::Own, rest)),
+        Token::Sign(Sign::PlusEqual) => Some((WayDecl::Acc(AccOp::Add), rest)),
+        Token::Word(Word::Min) => behind_equal(WayDecl::Acc(AccOp::Min), rest),
+        Token::Word(Word::Max) => behind_equal(WayDecl::Acc(AccOp::Max), rest),
+        _ => None,
+    }
+}
+
+/// `let NAME = VALUE;`, behind its word.
+#[tactic(auto, unfolding(crate::specs::ReadStmt::read_let))]
+fn read_let(alloc: Global, tokens: &[Spanned]) -> Result<(Stmt, &[Spanned]), Stop<Unread>>
+    ensures { Gives (λ x. (x.0, kinds x.1.now)) result (read.read_let (kinds tokens.now)) }
+{
+    let (name, behind) = next_name(alloc, tokens)?;
+    let (value, rest) = assigned(alloc, behind)?;
+    Ok((Stmt::Let { name, value }, rest))
+}
+
+/// A write, behind the `[` of its access.
+#[tactic(auto, unfolding(crate::specs::ReadStmt::read_write))]
+fn read_write(
+    alloc: Global,
+    field: Name,
+    tokens: &[Spanned],
+) -> Result<(Stmt, &[Spanned]), Stop<Unread>>
+    ensures { Gives (λ x. (x.0, kinds x.1.now)) result (read.read_write field (kinds tokens.now)) }
+{
+    let index = indices(alloc, MAX_DEPTH, tokens)?;
+    let Some((way, behind)) = next_way(index.rest) else {
+        return Err(Stop::Refused(Unread));
+    };
+    let (value, rest) = ended(alloc, behind)?;
+    Ok((
+        Stmt::Write {
+            field,
+            index: index.trees,
+            way,
+            value,
+        },
+        rest,
+    ))
+}
+
+/// What a name begins: a write, or an assignment.
+#[tactic(auto, unfolding(crate::specs::ReadStmt::placed))]
+fn placed<'a>(
+    alloc: Global,
+    name: &Name,
+    tokens: &'a [Spanned],
+) -> Result<(Stmt, &'a [Spanned]), Stop<Unread>>
+    ensures { Gives (λ x. (x.0, kinds x.1.now)) result (read.placed name.now (kinds tokens.now)) }
+{
+    if !names::is_name(name) {
+        return Err(Stop::Refused(Unread));
+    }
+    let own = names::copy_name(alloc, name)?;
+    let Some(behind) = after_sign(tokens, Sign::OpenBracket) else {
+        let (value, rest) = assigned(alloc, tokens)?;
+        return Ok((Stmt::Assign { name: own, value }, rest));
+    };
+    read_write(alloc, own, behind)
+}
+
+/// `if CONDITION BLOCK else BLOCK`, behind its word.
+#[cycle(blocks)]
+#[tactic(auto, unfolding(crate::specs::ReadStmt::read_if))]
+fn read_if(
+    alloc: Global,
+    inner: usize,
+    tokens: &[Spanned],
+) -> Result<(Stmt, &[Spanned]), Stop<Unread>>
+    ensures { Gives (λ x. (x.0, kinds x.1.now)) result (read.read_if (read.block_at inner) (kinds tokens.now)) }
+{
+    let (cond, behind) = read_expr(alloc, tokens)?;
+    let (yes, rest) = block(alloc, inner, behind)?;
+    let Some(other) = after_word(rest, Word::Else) else {
+        return Ok((
+            Stmt::If {
+                cond,
+                yes,
+                no: None,
+            },
+            rest,
+        ));
+    };
+    let (no, end) = block(alloc, inner, other)?;
+    Ok((
+        Stmt::If {
+            cond,
+            yes,
+            no: Some(no),
+        },
+        end,
+    ))
+}
+
+/// `for NAME in LO..HI BLOCK`, behind its word.
+#[cycle(blocks)]
+#[tactic(auto, unfolding(crate::specs::ReadStmt::read_for))]
+fn read_for(
+    alloc: Global,
+    inner: usize,
+    tokens: &[Spanned],
+) -> Result<(Stmt, &[Spanned]), Stop<Unread>>
+    ensures { Gives (λ x. (x.0, kinds x.1.now)) result (read.read_for (read.block_at inner) (kinds tokens.now)) }
+{
+    let (name, behind) = next_name(alloc, tokens)?;
+    let Some(bounds) = after_word(behind, Word::In) else {
+        return Err(Stop::Refused(Unread));
+    };
+    let (range, open) = read_range(alloc, bounds)?;
+    let (body, rest) = block(alloc, inner, open)?;
+    Ok((Stmt::For { name, range, body }, rest))
+}
+
+/// A statement.
+#[cycle(blocks)]
+#[tactic(auto, unfolding(crate::specs::ReadStmt::statement))]
+fn statement(
+    alloc: Global,
+    inner: usize,
+    tokens: &[Spanned],
+) -> Result<(Stmt, &[Spanned]), Stop<Unread>>
+    ensures { Gives (λ x. (x.0, kinds x.1.now)) result (read.statement (read.block_at inner) (kinds tokens.now)) }
+{
+    let [first, rest @ ..] = tokens else {
+        return Err(Stop::Refused(Unread));
+    };
+    match &first.token {
+        Token::Name(name) => placed(alloc, name, rest),
+        Token::Word(Word::Let) => read_let(alloc, rest),
+        Token::Word(Word::If) => read_if(alloc, inner, rest),
+        Token::Word(Word::For) => read_for(alloc, inner, rest),
+        _ => Err(Stop::Refused(Unread)),
+    }
+}
+
+/// The statements of a block, behind its `{`, up to its `}`.
+#[cycle(blocks)]
+#[tactic(auto, unfolding(crate::specs::Steps::repeated_from))]
+fn statements(
+    alloc: Global,
+    inner: usize,
+    tokens: &[Spanned],
+) -> Result<(Items<Stmt>, &[Spanned]), Stop<Unread>>
+    ensures { Gives (λ x. (x.0, kinds x.1.now)) result
+        (repeated (steps.after_sign s.CloseBrace) (read.statement (read.block_at inner)) (kinds tokens.now)) }
+{
+    let mut found = Items::new(alloc);
+    let mut rest = tokens;
+    for _turn in 0..tokens.len() {
+        if let Some(end) = after_sign(rest, Sign::CloseBrace) {
+            return Ok((found, end));
+        }
+        let (next, behind) = statement(alloc, inner, rest)?;
+        found.push(next)?;
+        rest = behind;
+    }
+    Err(Stop::Refused(Unread))
+}
+
+/// A block, where blocks nest at most so deep.
+#[cycle(blocks)]
+#[tactic(auto, unfolding(crate::specs::ReadStmt::block_at))]
+pub fn block(
+    alloc: Global,
+    limit: usize,
+    tokens: &[Spanned],
+) -> Result<(Items<Stmt>, &[Spanned]), Stop<Unread>>
+    ensures { Gives (λ x. (x.0, kinds x.1.now)) result (read.block_at limit (kinds tokens.now)) }
+{
+    if limit == 0 {
+        return Err(Stop::Refused(Unread));
+    }
+    let Some(behind) = after_sign(tokens, Sign::OpenBrace) else {
+        return Err(Stop::Refused(Unread));
+    };
+    statements(alloc, limit - 1, behind)
+}
