@@ -4,16 +4,16 @@ use Rattle.std.proofs.lemmas.Nat.{mod_below}
 use Rattle.std.proofs.lemmas.Int.{ints, to_z_pos}
 use Rattle.sg_coord.specs.declared.coord.Coord.{Coord}
 use Rattle.sg_coord.specs.Bounds.{Bounds, IsBounds, volume}
-use Rattle.sg_coord.specs.Coord.{Inside, offset_of, row_of, point_at, ComesBefore}
+use Rattle.sg_coord.specs.Coord.{Inside, count_of, row_of, point_at, ComesBefore}
 use Rattle.sg_coord.specs.Laws.{PointInside, RowOfPoint, RowBelow, PointOfRow, RowOrder, PointsRise}
 use Rattle.sg_coord.proofs.Places.{place_below, place_first, place_second, place_third, factors_above, first_below, place_of_parts, Lower, lower_place, lower_parts}
 
 -- a part that is at least 0 is its offset, which is below what the part is below
-pub part_is : (z : ℤ) → pos 0 ≤ℤ z → z ≡ pos (offset_of z)
+pub part_is : (z : ℤ) → pos 0 ≤ℤ z → z ≡ pos (count_of z)
 part_is (pos k) low = refl
 part_is (negsuc k) low = absurd (omega (arith, ints))
 
-pub offset_below : (z : ℤ) (n : ℕ) → pos 0 ≤ℤ z → z <ℤ pos n → offset_of z < n
+pub offset_below : (z : ℤ) (n : ℕ) → pos 0 ≤ℤ z → z <ℤ pos n → count_of z < n
 offset_below (pos k) n low high = omega (arith, ints)
 offset_below (negsuc k) n low high = absurd (omega (arith, ints))
 
@@ -47,7 +47,7 @@ row_of_point e k below = place_of_parts e.b e.c k
 
 pub row_below : RowBelow
 row_below e at inside =
-    place_below e.a e.b e.c (offset_of at.a) (offset_of at.b) (offset_of at.c)
+    place_below e.a e.b e.c (count_of at.a) (count_of at.b) (count_of at.c)
     (offset_below at.a e.a inside.a_low inside.a_high)
     (offset_below at.b e.b inside.b_low inside.b_high)
     (offset_below at.c e.c inside.c_low inside.c_high)
@@ -57,9 +57,9 @@ point_of_row e at inside =
     let b_below = offset_below at.b e.b inside.b_low inside.b_high in
     let c_below = offset_below at.c e.c inside.c_low inside.c_high in
     same_parts (point_at e (row_of e at)) at (sym inside.same_axes)
-    (ap pos (place_first e.b e.c (offset_of at.a) (offset_of at.b) (offset_of at.c) b_below c_below) ∙ sym (part_is at.a inside.a_low))
-    (ap pos (place_second e.b e.c (offset_of at.a) (offset_of at.b) (offset_of at.c) b_below c_below) ∙ sym (part_is at.b inside.b_low))
-    (ap pos (place_third e.b e.c (offset_of at.a) (offset_of at.b) (offset_of at.c) c_below) ∙ sym (part_is at.c inside.c_low))
+    (ap pos (place_first e.b e.c (count_of at.a) (count_of at.b) (count_of at.c) b_below c_below) ∙ sym (part_is at.a inside.a_low))
+    (ap pos (place_second e.b e.c (count_of at.a) (count_of at.b) (count_of at.c) b_below c_below) ∙ sym (part_is at.b inside.b_low))
+    (ap pos (place_third e.b e.c (count_of at.a) (count_of at.b) (count_of at.c) c_below) ∙ sym (part_is at.c inside.c_low))
 
 -- the point as the code makes it, by casts of its parts
 unfoldable pub cast_point : Bounds → ℕ → Coord
@@ -78,29 +78,29 @@ cast_point_is e k bounds below =
     (to_z_pos w32 (k % e.c) (omega (arith, bounds.c_most)))
 
 -- offsets follow the order of parts
-offset_rises : (x y : ℤ) → pos 0 ≤ℤ x → x <ℤ y → offset_of x < offset_of y
+offset_rises : (x y : ℤ) → pos 0 ≤ℤ x → x <ℤ y → count_of x < count_of y
 offset_rises (pos j) (pos k) low less = omega (arith, ints)
 offset_rises (pos j) (negsuc k) low less = absurd (omega (arith, ints))
 offset_rises (negsuc j) y low less = absurd (omega (arith, ints))
 
-part_rises : (x y : ℤ) → pos 0 ≤ℤ x → pos 0 ≤ℤ y → offset_of x < offset_of y → x <ℤ y
+part_rises : (x y : ℤ) → pos 0 ≤ℤ x → pos 0 ≤ℤ y → count_of x < count_of y → x <ℤ y
 part_rises x y low high less =
     let left = part_is x low in
     let right = part_is y high in
     omega (arith, ints)
 
-same_offset : (x y : ℤ) → pos 0 ≤ℤ x → pos 0 ≤ℤ y → offset_of x ≡ offset_of y → x ≡ y
+same_offset : (x y : ℤ) → pos 0 ≤ℤ x → pos 0 ≤ℤ y → count_of x ≡ count_of y → x ≡ y
 same_offset x y low high same = part_is x low ∙ ap pos same ∙ sym (part_is y high)
 
 -- row order is the order of the offsets
-lower_offsets : (e : Bounds) (x y : Coord) → Inside e x → Inside e y → ComesBefore x y → Lower (offset_of x.a) (offset_of x.b) (offset_of x.c) (offset_of y.a) (offset_of y.b) (offset_of y.c)
+lower_offsets : (e : Bounds) (x y : Coord) → Inside e x → Inside e y → ComesBefore x y → Lower (count_of x.a) (count_of x.b) (count_of x.c) (count_of y.a) (count_of y.b) (count_of y.c)
 lower_offsets e x y p q before = elim before [
   | inl first ↦ inl (offset_rises x.a y.a p.a_low first)
-  | inr (same, inl second) ↦ inr (ap offset_of same, inl (offset_rises x.b y.b p.b_low second))
-  | inr (same, inr (alike, third)) ↦ inr (ap offset_of same, inr (ap offset_of alike, offset_rises x.c y.c p.c_low third))
+  | inr (same, inl second) ↦ inr (ap count_of same, inl (offset_rises x.b y.b p.b_low second))
+  | inr (same, inr (alike, third)) ↦ inr (ap count_of same, inr (ap count_of alike, offset_rises x.c y.c p.c_low third))
 ]
 
-lower_coord : (e : Bounds) (x y : Coord) → Inside e x → Inside e y → Lower (offset_of x.a) (offset_of x.b) (offset_of x.c) (offset_of y.a) (offset_of y.b) (offset_of y.c) → ComesBefore x y
+lower_coord : (e : Bounds) (x y : Coord) → Inside e x → Inside e y → Lower (count_of x.a) (count_of x.b) (count_of x.c) (count_of y.a) (count_of y.b) (count_of y.c) → ComesBefore x y
 lower_coord e x y p q lower = elim lower [
   | inl first ↦ inl (part_rises x.a y.a p.a_low q.a_low first)
   | inr (same, inl second) ↦ inr (same_offset x.a y.a p.a_low q.a_low same, inl (part_rises x.b y.b p.b_low q.b_low second))

@@ -32,10 +32,11 @@ pub record IsBounds (e : Bounds) : Type 0 where
   pub c_unused : e.n < 3 → e.c ≡ 1
   pub volume_most : volume e ≤ 2 ^ 30
 
--- ---- examples: 4 rows of 8, and 2 planes of 3 rows of 5
+-- ---- examples: 4 rows of 8
 abbrev pub four_by_eight : Bounds
 four_by_eight = record { n = 2; a = 4; b = 8; c = 1 }
 
+-- 2 planes of 3 rows of 5
 abbrev pub two_by_three_by_five : Bounds
 two_by_three_by_five = record { n = 3; a = 2; b = 3; c = 5 }
 

@@ -22,17 +22,17 @@ is_on_axis extent part = int_le (pos 0) part && int_lt part (pos extent)
 abbrev pub is_inside : Bounds → Coord → Bool
 is_inside e at = (at.n == e.n) && is_on_axis e.a at.a && is_on_axis e.b at.b && is_on_axis e.c at.c
 
--- a part as a count; a negative part, which no coordinate inside has, counts as 0
-abbrev pub offset_of : ℤ → ℕ
-offset_of (pos k) = k
-offset_of (negsuc k) = 0
+-- a number as a count: 0 where it is negative, as no part of a coordinate inside is
+abbrev pub count_of : ℤ → ℕ
+count_of (pos k) = k
+count_of (negsuc k) = 0
 
--- the row-major number, with the first axis outermost: how many points stand before this one in
--- row order (a negative part counts as 0)
+-- the row-major number, with the first axis outermost; only of a coordinate inside is it the number of
+-- points that stand before this one in row order
 abbrev pub row_of : Bounds → Coord → ℕ
-row_of e at = (offset_of at.a * e.b + offset_of at.b) * e.c + offset_of at.c
+row_of e at = (count_of at.a * e.b + count_of at.b) * e.c + count_of at.c
 
--- the point with this row number, by quotients and remainders
+-- the point with this row number, by quotients and remainders; only a number below the volume has a point inside
 abbrev pub point_at : Bounds → ℕ → Coord
 point_at e k = record { n = e.n; a = pos (k / (e.b * e.c)); b = pos (k / e.c % e.b); c = pos (k % e.c) }
 
@@ -44,10 +44,11 @@ ComesBefore x y = (x.a <ℤ y.a) ⊎ ((x.a ≡ y.a) × ((x.b <ℤ y.b) ⊎ ((x.b
 abbrev pub comes_before : Coord → Coord → Bool
 comes_before x y = int_lt x.a y.a || (int_eq x.a y.a && (int_lt x.b y.b || (int_eq x.b y.b && int_lt x.c y.c)))
 
--- ---- examples
+-- ---- examples: a coordinate of two axes
 abbrev pub plane_point : ℤ → ℤ → Coord
 plane_point a b = record { n = 2; a = a; b = b; c = pos 0 }
 
+-- a coordinate of three axes
 abbrev pub space_point : ℤ → ℤ → ℤ → Coord
 space_point a b c = record { n = 3; a = a; b = b; c = c }
 
@@ -78,7 +79,8 @@ other_axes_are_outside = refl
 first_axis_first : comes_before (plane_point (pos 1) (pos 7)) (plane_point (pos 2) (pos 0)) ≡ true
 first_axis_first = refl
 
-second_axis_next : comes_before (space_point (negsuc 0) (pos 4) (pos 0)) (space_point (negsuc 0) (pos 2) (pos 9)) ≡ false
+second_axis_next : comes_before (space_point (negsuc 0) (pos 4) (pos 0)) (space_point (negsuc 0) (pos 2) (pos 9))
+    ≡ false
 second_axis_next = refl
 
 third_axis_last : comes_before (space_point (pos 1) (pos 2) (negsuc 2)) (space_point (pos 1) (pos 2) (pos 0)) ≡ true

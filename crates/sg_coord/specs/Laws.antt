@@ -13,14 +13,15 @@ InsideTest = (e : Bounds) (at : Coord) → IsTrue (is_inside e at) ↔ Inside e 
 abbrev pub OrderTest : Type 0
 OrderTest = (x y : Coord) → IsTrue (comes_before x y) ↔ ComesBefore x y
 
--- row order is strict and total: what comes before carries over, nothing comes before itself, and
--- of two coordinates with as many axes one comes before the other, unless they are equal
+-- what comes before carries over
 abbrev pub OrderCarriesOver : Type 0
 OrderCarriesOver = (x y z : Coord) → ComesBefore x y → ComesBefore y z → ComesBefore x z
 
+-- nothing comes before itself
 abbrev pub OrderIsStrict : Type 0
 OrderIsStrict = (x : Coord) → ¬ ComesBefore x x
 
+-- of two coordinates with as many axes one comes before the other, unless they are equal
 abbrev pub OrderIsTotal : Type 0
 OrderIsTotal = (x y : Coord) → x.n ≡ y.n → (x ≡ y) ⊎ (ComesBefore x y ⊎ ComesBefore y x)
 

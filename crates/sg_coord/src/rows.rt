@@ -1,6 +1,6 @@
 ghost use Rattle.std.specs.Prelude.{◌≡◌, ◌<◌, ◌↔◌, IsTrue, pos, ◌≤ℤ◌};
 ghost use Rattle.sg_coord.specs.Bounds.{bounds_of, volume};
-ghost use Rattle.sg_coord.specs.Coord.{Inside, is_inside, is_on_axis, offset_of, row_of, point_at};
+ghost use Rattle.sg_coord.specs.Coord.{Inside, is_inside, is_on_axis, count_of, row_of, point_at};
 
 use crate::coord::Coord;
 use crate::extents::Extents;
@@ -35,7 +35,7 @@ pub fn row(extents: &Extents, at: Coord) -> u32
 
 fn offset(part: i32) -> u32
     requires { pos 0 ≤ℤ part }
-    ensures { result ≡ offset_of part }
+    ensures { result ≡ count_of part }
 {
     part as u32
 }

@@ -1,30 +1,32 @@
 -- The fields of a layout and the layouts after a run, one after another.
-use Rattle.std.proofs.Common.{◌≡◌, ℕ, suc, ◌+◌, ◌≤◌, ◌⊎◌, inl, inr, List, [], ◌∷◌, ◌++◌, length, drop, Option, None, subst, refl, sym, ap, ◌∙◌, append_assoc, add-one, append-nil}
+use Rattle.std.specs.Option.{is_some}
+use Rattle.std.proofs.lemmas.Bool.{both_ways}
+use Rattle.std.proofs.Common.{true, false, Some, ◌≡◌, ℕ, suc, ◌+◌, ◌≤◌, ◌⊎◌, inl, inr, List, [], ◌∷◌, ◌++◌, length, drop, Option, None, subst, refl, sym, ap, ◌∙◌, append_assoc, add-one, append-nil}
 use Rattle.std.proofs.lemmas.List.{drop_more, drop_all}
 use Rattle.sg_coord.specs.Bounds.{Bounds}
 use Rattle.sg_words.specs.declared.operators.Ty.{Ty}
 use Rattle.sg_layout.specs.declared.shape.Shape.{Shape}
-use Rattle.sg_layout.specs.Need.{FullNode, first_full}
+use Rattle.sg_layout.specs.Need.{first_full}
 use Rattle.sg_layout.specs.Rules.{or_else}
 use Rattle.sg_flat.specs.declared.effects.Turn.{Turn}
 use Rattle.sg_flat.specs.declared.effects.RunFault.{RunFault}
 use Rattle.sg_flat.specs.declared.state.FlatLayout.{FlatLayout}
-use Rattle.sg_flat.specs.Effects.{written_in}
+use Rattle.sg_flat.specs.Effects.{writes_of, written_in}
 use Rattle.sg_flat.specs.Kernel.{field_after, fields_after, layout_after, layouts_after, full_fault, first_full_layout}
 use Rattle.sg_flat.proofs.Pairs.{StandsAt}
 
 -- the fields from one on are this field and those from the next on
-fields_after-more : (bounds : Bounds) (layout : ℕ) (types : List Ty) (fields : List (List (ℕ × ℕ))) (turns : List Turn) (i place : ℕ) (ty : Ty) (field : List (ℕ × ℕ)) → StandsAt types fields i place ty field → fields_after bounds layout i (drop i types) (drop i fields) turns ≡ field_after bounds layout place ty field turns ∷ fields_after bounds layout (i + 1) (drop (i + 1) types) (drop (i + 1) fields) turns
+fields_after-more : (bounds : Bounds) (layout : ℕ) (types : List Ty) (fields : List (List (ℕ × ℕ))) (turns : List Turn) (i place : ℕ) (ty : Ty) (field : List (ℕ × ℕ)) → StandsAt types fields i place ty field → fields_after bounds layout i (drop i types) (drop i fields) turns ≡ field_after bounds layout place ty field (writes_of turns) ∷ fields_after bounds layout (i + 1) (drop (i + 1) types) (drop (i + 1) fields) turns
 fields_after-more bounds layout types fields turns i place ty field stands =
     ap (λ (ts : List Ty). fields_after bounds layout i ts (drop i fields) turns) (drop_more types i ty stands.in_first ∙ ap (λ (t : Ty). t ∷ drop (i + 1) types) (sym stands.first))
     ∙ ap (λ (fs : List (List (ℕ × ℕ))). fields_after bounds layout i (ty ∷ drop (i + 1) types) fs turns) (drop_more fields i field stands.in_second ∙ ap (λ (f : List (ℕ × ℕ)). f ∷ drop (i + 1) fields) (sym stands.second))
-    ∙ ap (λ n. field_after bounds layout i ty field turns ∷ fields_after bounds layout n (drop (i + 1) types) (drop (i + 1) fields) turns) (sym (add-one i))
-    ∙ ap (λ n. field_after bounds layout n ty field turns ∷ fields_after bounds layout (i + 1) (drop (i + 1) types) (drop (i + 1) fields) turns) (sym stands.index)
+    ∙ ap (λ n. field_after bounds layout i ty field (writes_of turns) ∷ fields_after bounds layout n (drop (i + 1) types) (drop (i + 1) fields) turns) (sym (add-one i))
+    ∙ ap (λ n. field_after bounds layout n ty field (writes_of turns) ∷ fields_after bounds layout (i + 1) (drop (i + 1) types) (drop (i + 1) fields) turns) (sym stands.index)
 
-pub fields_after-step : (bounds : Bounds) (layout : ℕ) (types : List Ty) (fields done new_done whole : List (List (ℕ × ℕ))) (turns : List Turn) (i place : ℕ) (ty : Ty) (field new : List (ℕ × ℕ)) → StandsAt types fields i place ty field → done ++ fields_after bounds layout i (drop i types) (drop i fields) turns ≡ whole → new ≡ field_after bounds layout place ty field turns → new_done ≡ done ++ new ∷ [] → new_done ++ fields_after bounds layout (i + 1) (drop (i + 1) types) (drop (i + 1) fields) turns ≡ whole
+pub fields_after-step : (bounds : Bounds) (layout : ℕ) (types : List Ty) (fields done new_done whole : List (List (ℕ × ℕ))) (turns : List Turn) (i place : ℕ) (ty : Ty) (field new : List (ℕ × ℕ)) → StandsAt types fields i place ty field → done ++ fields_after bounds layout i (drop i types) (drop i fields) turns ≡ whole → new ≡ field_after bounds layout place ty field (writes_of turns) → new_done ≡ done ++ new ∷ [] → new_done ++ fields_after bounds layout (i + 1) (drop (i + 1) types) (drop (i + 1) fields) turns ≡ whole
 fields_after-step bounds layout types fields done new_done whole turns i place ty field new stands so_far is_new pushed =
     ap (λ (fs : List (List (ℕ × ℕ))). fs ++ fields_after bounds layout (i + 1) (drop (i + 1) types) (drop (i + 1) fields) turns) (pushed ∙ ap (λ (f : List (ℕ × ℕ)). done ++ f ∷ []) is_new)
-    ∙ append_assoc done (field_after bounds layout place ty field turns ∷ []) (fields_after bounds layout (i + 1) (drop (i + 1) types) (drop (i + 1) fields) turns)
+    ∙ append_assoc done (field_after bounds layout place ty field (writes_of turns) ∷ []) (fields_after bounds layout (i + 1) (drop (i + 1) types) (drop (i + 1) fields) turns)
     ∙ ap (λ (fs : List (List (ℕ × ℕ))). done ++ fs) (sym (fields_after-more bounds layout types fields turns i place ty field stands))
     ∙ so_far
 
@@ -68,15 +70,24 @@ layouts_after-end shapes flats done whole turns i over so_far =
     ] in
     sym (append-nil done) ∙ ap (λ (ls : List FlatLayout). done ++ ls) (sym none) ∙ so_far
 
--- a layout with room doesn't stop the search for a node without
-pub first_full_layout-step : (shapes : List Shape) (flats : List FlatLayout) (whole : Option RunFault) (turns : List Turn) (i number : ℕ) (shape : Shape) (flat : FlatLayout) → StandsAt shapes flats i number shape flat → first_full_layout i (drop i shapes) (drop i flats) turns ≡ whole → first_full shape (flat.active ++ written_in number turns) ≡ None → first_full_layout (i + 1) (drop (i + 1) shapes) (drop (i + 1) flats) turns ≡ whole
-first_full_layout-step shapes flats whole turns i number shape flat stands so_far roomy =
-    let later = first_full_layout (suc i) (drop (i + 1) shapes) (drop (i + 1) flats) turns in
-    let now : or_else (full_fault i (first_full shape (flat.active ++ written_in i turns))) later ≡ whole =
+-- the search for a layout without room, at one of them: its fault, or the search among those after it
+pub first_full_layout-here : (shapes : List Shape) (flats : List FlatLayout) (whole : Option RunFault) (turns : List Turn) (i number : ℕ) (shape : Shape) (flat : FlatLayout) → StandsAt shapes flats i number shape flat → first_full_layout i (drop i shapes) (drop i flats) turns ≡ whole → or_else (full_fault number (first_full shape (flat.active ++ written_in number turns))) (first_full_layout (i + 1) (drop (i + 1) shapes) (drop (i + 1) flats) turns) ≡ whole
+first_full_layout-here shapes flats whole turns i number shape flat stands so_far =
+    let later = first_full_layout (i + 1) (drop (i + 1) shapes) (drop (i + 1) flats) turns in
+    let now : or_else (full_fault i (first_full shape (flat.active ++ written_in i turns))) (first_full_layout (suc i) (drop (i + 1) shapes) (drop (i + 1) flats) turns) ≡ whole =
     drop_both (λ ss ls. first_full_layout i ss ls turns ≡ whole) shapes flats i number shape flat stands so_far in
-    ap (λ n. first_full_layout n (drop (i + 1) shapes) (drop (i + 1) flats) turns) (add-one i)
-    ∙ ap (λ (full : Option FullNode). or_else (full_fault i full) later) (sym (ap (λ n. first_full shape (flat.active ++ written_in n turns)) (sym stands.index) ∙ roomy))
+    ap (λ n. or_else (full_fault n (first_full shape (flat.active ++ written_in n turns))) later) stands.index
+    ∙ ap (λ n. or_else (full_fault i (first_full shape (flat.active ++ written_in i turns))) (first_full_layout n (drop (i + 1) shapes) (drop (i + 1) flats) turns)) (add-one i)
     ∙ now
+
+-- the search stops at a fault, and goes on where there is none
+pub stops_here : (fault full later whole : Option RunFault) → fault ≡ full → is_some fault ≡ true → or_else full later ≡ whole → fault ≡ whole
+stops_here fault None later whole is some found = absurd (both_ways (is_some fault) (ap is_some is) some)
+stops_here fault (Some full) later whole is some found = is ∙ found
+
+pub goes_on : (fault full later whole : Option RunFault) → fault ≡ full → is_some fault ≡ false → or_else full later ≡ whole → later ≡ whole
+goes_on fault None later whole is none found = found
+goes_on fault (Some full) later whole is none found = absurd (both_ways (is_some fault) none (ap is_some is))
 
 first_full_layout-none : (number : ℕ) (shapes : List Shape) (turns : List Turn) → first_full_layout number shapes [] turns ≡ None
 first_full_layout-none number [] turns = refl

@@ -1,19 +1,20 @@
 -- The points of a box: which they are, and in which order.
 use Rattle.std.proofs.Common.{◌≡◌, ℕ, zero, suc, ◌<◌, ◌⊎◌, inl, inr, ℤ, pos, negsuc, ◌+ℤ◌, ◌-ℤ◌, ◌≤ℤ◌, ◌<ℤ◌, Bool, true, false, List, [], ◌∷◌, ◌++◌, map, length, get_or, refl, sym, ap, ◌∙◌, subst, arith, zero-add}
-use Rattle.std.specs.Prelude.{All, AllPairs, Contains, nat_le}
+use Rattle.std.specs.Prelude.{All, AllPairs, Contains, nat_le, filter}
+use Rattle.std.proofs.lemmas.Bool.{cond-true, cond_both}
 use Rattle.std.specs.List.{flat_map}
 use Rattle.std.proofs.lemmas.Int.{ints}
-use Rattle.std.proofs.lemmas.List.Elements.{All-nil, All-map, All-weaker, All-append, All-contains, Contains-get_or, Contains-append_left, Contains-append_right, Contains-append_cases}
+use Rattle.std.proofs.lemmas.List.Elements.{All-nil, All-map, All-filter, All-contains_itself, filter_passes, All-weaker, All-append, All-contains, Contains-get_or, Contains-append_left, Contains-append_right, Contains-append_cases}
 use Rattle.std.proofs.lemmas.List.Kept.{AllPairs-cons}
 use Rattle.std.proofs.lemmas.List.FromFn.{length-map-range_with_len, get_or-map-range_with_len}
 use Rattle.sg_coord.specs.declared.coord.Coord.{Coord}
-use Rattle.sg_coord.specs.Coord.{offset_of, ComesBefore}
+use Rattle.sg_coord.specs.Coord.{count_of, ComesBefore}
 use Rattle.sg_coord.proofs.RowLaws.{part_is, offset_below, same_parts}
 use Rattle.sg_flat.specs.Domain.{numbers, parts_of, box_points}
 use Rattle.sg_flat.specs.Laws.{IsPartOf, IsInBox, BoxIsRanges, BoxIsInOrder}
 
 -- ---- lists made of lists
-Contains-here : {X : Type 0} (x : X) (xs : List X) → Contains (x ∷ xs) x
+pub Contains-here : {X : Type 0} (x : X) (xs : List X) → Contains (x ∷ xs) x
 Contains-here x xs = (0, omega arith, refl)
 
 Contains-later : {X : Type 0} (x : X) (xs : List X) (y : X) → Contains xs y → Contains (x ∷ xs) y
@@ -26,7 +27,7 @@ Contains-cases : {X : Type 0} (x : X) (xs : List X) (y : X) → Contains (x ∷ 
 Contains-cases x xs y (zero, below, is) = inl is
 Contains-cases x xs y (suc k, below, is) = inr (k, omega arith, is)
 
-Contains-map : {X Y : Type 0} (f : X → Y) (xs : List X) (x : X) → Contains xs x → Contains (map f xs) (f x)
+pub Contains-map : {X Y : Type 0} (f : X → Y) (xs : List X) (x : X) → Contains xs x → Contains (map f xs) (f x)
 Contains-map f [] x has = absurd (Contains-nil x has)
 Contains-map f (y ∷ ys) x has = elim (Contains-cases y ys x has) [
   | inl same ↦ subst (λ z. Contains (map f (y ∷ ys)) (f z)) same (Contains-here (f y) (map f ys))
@@ -38,6 +39,22 @@ from_map f [] y has = absurd (Contains-nil y has)
 from_map f (x ∷ xs) y has = elim (Contains-cases (f x) (map f xs) y has) [
   | inl same ↦ (x, Contains-here x xs, same)
   | inr later ↦ (let found = from_map f xs y later in (found.0, Contains-later x xs found.0 found.1, found.2))
+]
+
+-- a filter contains what passes
+pub from_filter : {X : Type 0} (test : X → Bool) (xs : List X) (x : X) → Contains (filter test xs) x → Contains xs x × (test x ≡ true)
+from_filter {X} test xs x has = (
+  All-contains (Contains xs) (filter test xs) x (All-filter test (Contains xs) xs (All-contains_itself xs)) has,
+  All-contains (λ (y : X). test y ≡ true) (filter test xs) x (filter_passes test xs) has,
+)
+
+pub into_filter : {X : Type 0} (test : X → Bool) (xs : List X) (x : X) → Contains xs x → test x ≡ true → Contains (filter test xs) x
+into_filter test [] x has passes = absurd (Contains-nil x has)
+into_filter {X} test (y ∷ ys) x has passes = elim (Contains-cases y ys x has) [
+  | inl same ↦ subst (λ (zs : List X). Contains zs x) (sym (cond-true (test y) (y ∷ filter test ys) (filter test ys) (ap test same ∙ passes)))
+      (subst (λ z. Contains (z ∷ filter test ys) x) (sym same) (Contains-here x (filter test ys)))
+  | inr later ↦ cond_both (test y) (y ∷ filter test ys) (filter test ys) (λ (zs : List X). Contains zs x)
+      (λ _. Contains-later y (filter test ys) x (into_filter test ys x later passes)) (λ _. into_filter test ys x later passes)
 ]
 
 Contains-flat_map : {X Y : Type 0} (f : X → List Y) (xs : List X) (x : X) (y : Y) → Contains xs x → Contains (f x) y → Contains (flat_map f xs) y
@@ -86,35 +103,35 @@ AllPairs-flat_map R S f (x ∷ xs) each across all =
     across x found.0 y y' (All-contains (S x) xs found.0 (AllPairs-head S x xs all) found.1) has found.2)
 
 -- ---- the parts of an axis
-above : (z : ℤ) (k : ℕ) → k < offset_of z → pos k <ℤ z
+above : (z : ℤ) (k : ℕ) → k < count_of z → pos k <ℤ z
 above (pos m) k below = omega (arith, ints)
 above (negsuc m) k below = absurd (omega arith)
 
-number_at : (lo hi : ℤ) (k : ℕ) (d : ℤ) → k < offset_of (hi -ℤ lo) → get_or (numbers lo hi) k d ≡ lo +ℤ pos k
-number_at lo hi k d below = get_or-map-range_with_len (λ (m : ℕ). lo +ℤ pos m) 0 (offset_of (hi -ℤ lo)) k k d below (zero-add k)
+number_at : (lo hi : ℤ) (k : ℕ) (d : ℤ) → k < count_of (hi -ℤ lo) → get_or (numbers lo hi) k d ≡ lo +ℤ pos k
+number_at lo hi k d below = get_or-map-range_with_len (λ (m : ℕ). lo +ℤ pos m) 0 (count_of (hi -ℤ lo)) k k d below (zero-add k)
 
-length-numbers : (lo hi : ℤ) → length (numbers lo hi) ≡ offset_of (hi -ℤ lo)
-length-numbers lo hi = length-map-range_with_len (λ (m : ℕ). lo +ℤ pos m) 0 (offset_of (hi -ℤ lo))
+length-numbers : (lo hi : ℤ) → length (numbers lo hi) ≡ count_of (hi -ℤ lo)
+length-numbers lo hi = length-map-range_with_len (λ (m : ℕ). lo +ℤ pos m) 0 (count_of (hi -ℤ lo))
 
 in_numbers : (lo hi part : ℤ) → lo ≤ℤ part → part <ℤ hi → Contains (numbers lo hi) part
 in_numbers lo hi part low high =
     let at = part_is (part -ℤ lo) (omega (arith, ints)) in
     let size = part_is (hi -ℤ lo) (omega (arith, ints)) in
-    let below : offset_of (part -ℤ lo) < offset_of (hi -ℤ lo) =
-    offset_below (part -ℤ lo) (offset_of (hi -ℤ lo)) (omega (arith, ints)) (subst (λ z. (part -ℤ lo) <ℤ z) size (omega (arith, ints))) in
-    let here : lo +ℤ pos (offset_of (part -ℤ lo)) ≡ part = subst (λ z. (lo +ℤ z) ≡ part) at (omega (arith, ints)) in
-    (offset_of (part -ℤ lo), omega (arith, length-numbers lo hi), number_at lo hi (offset_of (part -ℤ lo)) part below ∙ here)
+    let below : count_of (part -ℤ lo) < count_of (hi -ℤ lo) =
+    offset_below (part -ℤ lo) (count_of (hi -ℤ lo)) (omega (arith, ints)) (subst (λ z. (part -ℤ lo) <ℤ z) size (omega (arith, ints))) in
+    let here : lo +ℤ pos (count_of (part -ℤ lo)) ≡ part = subst (λ z. (lo +ℤ z) ≡ part) at (omega (arith, ints)) in
+    (count_of (part -ℤ lo), omega (arith, length-numbers lo hi), number_at lo hi (count_of (part -ℤ lo)) part below ∙ here)
 
 from_numbers : (lo hi part : ℤ) → Contains (numbers lo hi) part → (lo ≤ℤ part) × (part <ℤ hi)
 from_numbers lo hi part has =
-    let below : has.0 < offset_of (hi -ℤ lo) = omega (arith, length-numbers lo hi, has.1) in
+    let below : has.0 < count_of (hi -ℤ lo) = omega (arith, length-numbers lo hi, has.1) in
     let is : lo +ℤ pos has.0 ≡ part = sym (number_at lo hi has.0 part below) ∙ has.2 in
     let under = above (hi -ℤ lo) has.0 below in
     (omega (arith, ints), omega (arith, ints))
 
 numbers_rise : (lo hi : ℤ) → AllPairs ◌<ℤ◌ (numbers lo hi)
 numbers_rise lo hi i j d before below =
-    let last : j < offset_of (hi -ℤ lo) = omega (arith, length-numbers lo hi) in
+    let last : j < count_of (hi -ℤ lo) = omega (arith, length-numbers lo hi) in
     let first_is = number_at lo hi i d (omega arith) in
     let last_is = number_at lo hi j d last in
     rw (first_is, last_is) (omega (arith, ints))

@@ -11,30 +11,31 @@ use Rattle.std.proofs.lemmas.List.Folds.{list_all-append}
 use Rattle.sg_coord.specs.Bounds.{Bounds, volume}
 use Rattle.sg_coord.specs.Coord.{row_of, is_inside}
 use Rattle.sg_words.specs.declared.operators.Ty.{Ty}
+use Rattle.sg_flat.specs.Kernel.{field_after}
 use Rattle.sg_flat.specs.declared.effects.Write.{Write}
 use Rattle.sg_flat.specs.declared.effects.Turn.{Turn}
 use Rattle.sg_flat.specs.Words.{word_at, words_of}
-use Rattle.sg_flat.specs.Effects.{land, landed, writes_of}
-use Rattle.sg_flat.specs.Landing.{AreWordsBelow, put_word, is_to, field_with, stay_inside}
+use Rattle.sg_flat.specs.Effects.{land, landed, is_to, writes_of}
+use Rattle.sg_flat.specs.Landing.{AreWordsBelow, put_word, stay_inside}
 use Rattle.sg_flat.proofs.FieldWords.{word_at-words_of, words_of-agree, are_words_of}
 
 -- what a row's word is after writes
 abbrev row_after : Bounds → ℕ → ℕ → Ty → List (ℕ × ℕ) → List Write → ℕ → ℕ
 row_after bounds layout place ty words writes row = landed ty (word_at words row) (filter (is_to bounds layout place row) writes)
 
-pub field_with-nil : (bounds : Bounds) (layout place : ℕ) (ty : Ty) (words : List (ℕ × ℕ)) → AreWordsBelow (volume bounds) words → words ≡ field_with bounds layout place ty words []
-field_with-nil bounds layout place ty words are_words = are_words
+pub field_after-nil : (bounds : Bounds) (layout place : ℕ) (ty : Ty) (words : List (ℕ × ℕ)) → AreWordsBelow (volume bounds) words → words ≡ field_after bounds layout place ty words []
+field_after-nil bounds layout place ty words are_words = are_words
 
-pub field_with-append : (bounds : Bounds) (layout place : ℕ) (ty : Ty) (words : List (ℕ × ℕ)) (earlier later : List Write) → field_with bounds layout place ty (field_with bounds layout place ty words earlier) later ≡ field_with bounds layout place ty words (earlier ++ later)
-field_with-append bounds layout place ty words earlier later =
-    words_of-agree (volume bounds) (row_after bounds layout place ty (field_with bounds layout place ty words earlier) later) (row_after bounds layout place ty words (earlier ++ later))
+pub field_after-append : (bounds : Bounds) (layout place : ℕ) (ty : Ty) (words : List (ℕ × ℕ)) (earlier later : List Write) → field_after bounds layout place ty (field_after bounds layout place ty words earlier) later ≡ field_after bounds layout place ty words (earlier ++ later)
+field_after-append bounds layout place ty words earlier later =
+    words_of-agree (volume bounds) (row_after bounds layout place ty (field_after bounds layout place ty words earlier) later) (row_after bounds layout place ty words (earlier ++ later))
     (λ row below.
     ap (λ old. landed ty old (filter (is_to bounds layout place row) later)) (word_at-words_of (volume bounds) (row_after bounds layout place ty words earlier) row below)
     ∙ sym (fold-append (λ word (write : Write). land ty word write.way write.value) (word_at words row) (filter (is_to bounds layout place row) earlier) (filter (is_to bounds layout place row) later))
     ∙ ap (λ (ws : List Write). landed ty (word_at words row) ws) (sym (filter-append (is_to bounds layout place row) earlier later)))
 
-pub field_with-are_words : (bounds : Bounds) (layout place : ℕ) (ty : Ty) (words : List (ℕ × ℕ)) (writes : List Write) → AreWordsBelow (volume bounds) (field_with bounds layout place ty words writes)
-field_with-are_words bounds layout place ty words writes = are_words_of (volume bounds) (row_after bounds layout place ty words writes)
+pub field_after-are_words : (bounds : Bounds) (layout place : ℕ) (ty : Ty) (words : List (ℕ × ℕ)) (writes : List Write) → AreWordsBelow (volume bounds) (field_after bounds layout place ty words writes)
+field_after-are_words bounds layout place ty words writes = are_words_of (volume bounds) (row_after bounds layout place ty words writes)
 
 -- one write to a row, seen from any row
 one_write : (ty : Ty) (words : List (ℕ × ℕ)) (write : Write) (to row : ℕ) → cond (eqb to row) (land ty (word_at words to) write.way write.value) (word_at words row) ≡ landed ty (word_at words row) (cond (eqb to row) (write ∷ []) [])
@@ -53,8 +54,8 @@ one_write ty words write to row = elim (cases_eq to row) [
 ]
 
 -- a write to this field, which puts its word into its row
-pub field_with-one : (bounds : Bounds) (layout place : ℕ) (ty : Ty) (words new : List (ℕ × ℕ)) (write : Write) (row word : ℕ) → write.layout ≡ layout → write.place ≡ place → row ≡ row_of bounds write.at → word ≡ land ty (word_at words row) write.way write.value → new ≡ words_of (volume bounds) (put_word words row word) → new ≡ field_with bounds layout place ty words (write ∷ [])
-field_with-one bounds layout place ty words new write to word same_layout same_place is_row is_word puts =
+pub field_after-one : (bounds : Bounds) (layout place : ℕ) (ty : Ty) (words new : List (ℕ × ℕ)) (write : Write) (row word : ℕ) → write.layout ≡ layout → write.place ≡ place → row ≡ row_of bounds write.at → word ≡ land ty (word_at words row) write.way write.value → new ≡ words_of (volume bounds) (put_word words row word) → new ≡ field_after bounds layout place ty words (write ∷ [])
+field_after-one bounds layout place ty words new write to word same_layout same_place is_row is_word puts =
     puts
     ∙ words_of-agree (volume bounds) (put_word words to word) (row_after bounds layout place ty words (write ∷ []))
     (λ row _.
@@ -69,16 +70,16 @@ field_with-one bounds layout place ty words new write to word same_layout same_p
         ∙ ap (λ (found : Bool). found && (eqb write.place place && eqb (row_of bounds write.at) row)) (sym (eq-eqb write.layout layout same_layout))
 
 -- a field after some first writes, after one more and after all
-pub field_with-more : (bounds : Bounds) (layout place : ℕ) (ty : Ty) (words field new : List (ℕ × ℕ)) (writes : List Write) (i : ℕ) (d : Write) → i < length writes → field ≡ field_with bounds layout place ty words (take i writes) → new ≡ field_with bounds layout place ty field (get_or writes i d ∷ []) → new ≡ field_with bounds layout place ty words (take (i + 1) writes)
-field_with-more bounds layout place ty words field new writes i d below so_far step =
+pub field_after-more : (bounds : Bounds) (layout place : ℕ) (ty : Ty) (words field new : List (ℕ × ℕ)) (writes : List Write) (i : ℕ) (d : Write) → i < length writes → field ≡ field_after bounds layout place ty words (take i writes) → new ≡ field_after bounds layout place ty field (get_or writes i d ∷ []) → new ≡ field_after bounds layout place ty words (take (i + 1) writes)
+field_after-more bounds layout place ty words field new writes i d below so_far step =
     step
-    ∙ ap (λ (ws : List (ℕ × ℕ)). field_with bounds layout place ty ws (get_or writes i d ∷ [])) so_far
-    ∙ field_with-append bounds layout place ty words (take i writes) (get_or writes i d ∷ [])
-    ∙ ap (field_with bounds layout place ty words) (sym (take_more writes i d below))
+    ∙ ap (λ (ws : List (ℕ × ℕ)). field_after bounds layout place ty ws (get_or writes i d ∷ [])) so_far
+    ∙ field_after-append bounds layout place ty words (take i writes) (get_or writes i d ∷ [])
+    ∙ ap (field_after bounds layout place ty words) (sym (take_more writes i d below))
 
-pub field_with-all : (bounds : Bounds) (layout place : ℕ) (ty : Ty) (words field : List (ℕ × ℕ)) (items writes : List Write) (i : ℕ) → items ≡ writes → length items ≤ i → field ≡ field_with bounds layout place ty words (take i items) → field ≡ field_with bounds layout place ty words writes
-field_with-all bounds layout place ty words field items writes i same past so_far =
-    so_far ∙ ap (field_with bounds layout place ty words) (take_all i items past ∙ same)
+pub field_after-all : (bounds : Bounds) (layout place : ℕ) (ty : Ty) (words field : List (ℕ × ℕ)) (items writes : List Write) (i : ℕ) → items ≡ writes → length items ≤ i → field ≡ field_after bounds layout place ty words (take i items) → field ≡ field_after bounds layout place ty words writes
+field_after-all bounds layout place ty words field items writes i same past so_far =
+    so_far ∙ ap (field_after bounds layout place ty words) (take_all i items past ∙ same)
 
 -- the same over iterations
 pub writes_of-more : (turns : List Turn) (i : ℕ) (d : Turn) → i < length turns → writes_of (take (i + 1) turns) ≡ writes_of (take i turns) ++ (get_or turns i d).writes
@@ -87,17 +88,17 @@ writes_of-more turns i d below =
     ∙ flat_map-append (λ (turn : Turn). turn.writes) (take i turns) (get_or turns i d ∷ [])
     ∙ ap (λ (ws : List Write). writes_of (take i turns) ++ ws) (append-nil (get_or turns i d).writes)
 
-pub field_with-more_turns : (bounds : Bounds) (layout place : ℕ) (ty : Ty) (words field new : List (ℕ × ℕ)) (turns : List Turn) (i : ℕ) (turn : Turn) → i < length turns → turn ≡ get_or turns i turn → field ≡ field_with bounds layout place ty words (writes_of (take i turns)) → new ≡ field_with bounds layout place ty field turn.writes → new ≡ field_with bounds layout place ty words (writes_of (take (i + 1) turns))
-field_with-more_turns bounds layout place ty words field new turns i turn below is so_far step =
+pub field_after-more_turns : (bounds : Bounds) (layout place : ℕ) (ty : Ty) (words field new : List (ℕ × ℕ)) (turns : List Turn) (i : ℕ) (turn : Turn) → i < length turns → turn ≡ get_or turns i turn → field ≡ field_after bounds layout place ty words (writes_of (take i turns)) → new ≡ field_after bounds layout place ty field turn.writes → new ≡ field_after bounds layout place ty words (writes_of (take (i + 1) turns))
+field_after-more_turns bounds layout place ty words field new turns i turn below is so_far step =
     step
-    ∙ ap (λ (ws : List (ℕ × ℕ)). field_with bounds layout place ty ws turn.writes) so_far
-    ∙ field_with-append bounds layout place ty words (writes_of (take i turns)) turn.writes
-    ∙ ap (λ (t : Turn). field_with bounds layout place ty words (writes_of (take i turns) ++ t.writes)) is
-    ∙ ap (field_with bounds layout place ty words) (sym (writes_of-more turns i turn below))
+    ∙ ap (λ (ws : List (ℕ × ℕ)). field_after bounds layout place ty ws turn.writes) so_far
+    ∙ field_after-append bounds layout place ty words (writes_of (take i turns)) turn.writes
+    ∙ ap (λ (t : Turn). field_after bounds layout place ty words (writes_of (take i turns) ++ t.writes)) is
+    ∙ ap (field_after bounds layout place ty words) (sym (writes_of-more turns i turn below))
 
-pub field_with-all_turns : (bounds : Bounds) (layout place : ℕ) (ty : Ty) (words field : List (ℕ × ℕ)) (items turns : List Turn) (i : ℕ) → items ≡ turns → length items ≤ i → field ≡ field_with bounds layout place ty words (writes_of (take i items)) → field ≡ field_with bounds layout place ty words (writes_of turns)
-field_with-all_turns bounds layout place ty words field items turns i same past so_far =
-    so_far ∙ ap (λ (ts : List Turn). field_with bounds layout place ty words (writes_of ts)) (take_all i items past ∙ same)
+pub field_after-all_turns : (bounds : Bounds) (layout place : ℕ) (ty : Ty) (words field : List (ℕ × ℕ)) (items turns : List Turn) (i : ℕ) → items ≡ turns → length items ≤ i → field ≡ field_after bounds layout place ty words (writes_of (take i items)) → field ≡ field_after bounds layout place ty words (writes_of turns)
+field_after-all_turns bounds layout place ty words field items turns i same past so_far =
+    so_far ∙ ap (λ (ts : List Turn). field_after bounds layout place ty words (writes_of ts)) (take_all i items past ∙ same)
 
 -- a test that all writes pass is passed by the writes of each iteration
 list_all-turn : (test : Write → Bool) (turns : List Turn) (i : ℕ) (d : Turn) → i < length turns → list_all test (writes_of turns) ≡ true → list_all test (get_or turns i d).writes ≡ true

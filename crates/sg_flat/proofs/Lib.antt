@@ -1,3 +1,10 @@
+pub mod Accepted
+pub mod Cuts
+pub mod Overs
+pub mod Slotted
+pub mod Reaches
+pub mod Needs
+pub mod Actives
 pub mod FieldWords
 pub mod MapWords
 pub mod Landings

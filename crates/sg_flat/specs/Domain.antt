@@ -20,6 +20,7 @@ abbrev pub box_points : Coord → Coord → List Coord
 box_points lo hi =
     flat_map (λ a. flat_map (λ b. map (λ c. record { n = lo.n; a = a; b = b; c = c }) (parts_of (nat_le 3 lo.n) lo.c hi.c)) (parts_of (nat_le 2 lo.n) lo.b hi.b)) (parts_of (nat_le 1 lo.n) lo.a hi.a)
 
+-- the active coordinates of a layout that may be there; none where it isn't
 abbrev pub active_in : Option FlatLayout → List Coord
 active_in None = []
 active_in (Some layout) = layout.active

@@ -15,6 +15,7 @@ use Rattle.sg_flat.specs.declared.effects.Turn.{Turn}
 abbrev pub writes_of : List Turn → List Write
 writes_of turns = flat_map (λ turn. turn.writes) turns
 
+-- the write names a field of this layout, and a coordinate with its number of axes; none does where there is no layout
 abbrev pub names_place : Option Shape → Write → Bool
 names_place None write = false
 names_place (Some shape) write = nat_lt write.place (length shape.fields) && (write.at.n == shape.axes)
@@ -23,7 +24,7 @@ names_place (Some shape) write = nat_lt write.place (length shape.fields) && (wr
 abbrev pub names_field : List Shape → Write → Bool
 names_field shapes write = names_place (slice_get shapes write.layout) write
 
--- every write names what is there
+-- every write of these iterations names what is there
 abbrev pub name_fields : List Shape → List Turn → Bool
 name_fields shapes turns = list_all (names_field shapes) (writes_of turns)
 
@@ -31,10 +32,13 @@ name_fields shapes turns = list_all (names_field shapes) (writes_of turns)
 abbrev pub written_in : ℕ → List Turn → List Coord
 written_in layout turns = map (λ write. write.at) (filter (λ write. write.layout == layout) (writes_of turns))
 
--- the writes to one cell of a field, in order; for coordinates inside the bounds the row tells the cell
-abbrev pub writes_to : Bounds → ℕ → ℕ → ℕ → List Turn → List Write
-writes_to bounds layout place row turns =
-    filter (λ write. (write.layout == layout) && ((write.place == place) && (row_of bounds write.at == row))) (writes_of turns)
+-- the write is one to this cell of a field; for coordinates inside the bounds the row tells the cell
+abbrev pub is_to : Bounds → ℕ → ℕ → ℕ → Write → Bool
+is_to bounds layout place row write = (write.layout == layout) && ((write.place == place) && (row_of bounds write.at == row))
+
+-- those of a list of writes that are to one cell of a field, in order
+abbrev pub writes_to : Bounds → ℕ → ℕ → ℕ → List Write → List Write
+writes_to bounds layout place row writes = filter (is_to bounds layout place row) writes
 
 -- what one write makes of its cell's word
 abbrev pub land : Ty → ℕ → Way → ℕ → ℕ

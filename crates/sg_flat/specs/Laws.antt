@@ -11,6 +11,7 @@ use Rattle.sg_flat.specs.declared.effects.Write.{Write}
 use Rattle.sg_flat.specs.Domain.{box_points}
 use Rattle.sg_flat.specs.Effects.{landed}
 
+-- the values of writes, in order
 abbrev pub values_of : List Write → List ℕ
 values_of writes = map (λ write. write.value) writes
 

@@ -4,5 +4,6 @@ pub mod Domain
 pub mod Effects
 pub mod Landing
 pub mod Kernel
+pub mod Blocks
 pub mod Laws
 pub mod Examples

@@ -20,7 +20,8 @@ pub enum Way {
     Acc(AccOp),
 }
 
-/// A write of one iteration: to a field, named by its layout and its place there (both from 0), by a statement, at a coordinate.
+/// A write of one iteration: to a field, named by its layout and its place there (both from 0), by a statement, at a
+/// coordinate.
 #[derive(Clone, Copy, Debug, PartialEq, Eq)]
 pub struct Write {
     pub layout: u32,
@@ -38,7 +39,7 @@ pub struct Turn {
     pub writes: Items<Write>,
 }
 
-/// The effects of a kernel's iterations, in row order of their coordinates.
+/// The effects of iterations, in the order in which they run; a kernel makes them in row order of their coordinates.
 #[derive(Debug, Drop)]
 pub struct Effects {
     pub turns: Items<Turn>,

@@ -6,24 +6,18 @@ ghost use Rattle.sg_words.specs.declared.operators.AccOp.{AccOp};
 ghost use Rattle.sg_flat.specs.declared.effects.Write.{Write};
 ghost use Rattle.sg_flat.specs.Laws.{LastValueStays, ContributionsFold, BoxIsRanges, BoxIsInOrder};
 
-use crate::effects::Write;
-use sg_coord::Coord;
-use sg_words::{AccOp, Ty};
-
 /// Own writes to a cell leave the last value.
-pub fn last_value_stays(ty: Ty, old: u32, writes: &[Write])
-    ensures here { LastValueStays ty old writes.now }
-    ensures everywhere { (ty : Ty) (old : ℕ) (writes : List Write) → LastValueStays ty old writes }
+pub fn last_value_stays()
+    ensures { (ty : Ty) (old : ℕ) (writes : List Write) → LastValueStays ty old writes }
 {}
 
 /// Contributions to a cell by one operator leave its fold over the old word and their values.
-pub fn contributions_fold(op: AccOp, ty: Ty, old: u32, writes: &[Write])
-    ensures here { ContributionsFold op ty old writes.now }
-    ensures everywhere { (op : AccOp) (ty : Ty) (old : ℕ) (writes : List Write) → ContributionsFold op ty old writes }
+pub fn contributions_fold()
+    ensures { (op : AccOp) (ty : Ty) (old : ℕ) (writes : List Write) → ContributionsFold op ty old writes }
 {}
 
 /// The points of a box are the coordinates in its ranges, each once, in row order.
-pub fn box_in_order(lo: Coord, hi: Coord)
-    ensures points { BoxIsRanges lo hi }
-    ensures in_order { BoxIsInOrder lo hi }
+pub fn box_in_order()
+    ensures points { (lo hi : Coord) → BoxIsRanges lo hi }
+    ensures in_order { (lo hi : Coord) → BoxIsInOrder lo hi }
 {}

@@ -72,11 +72,11 @@ over_long nodes axis i extent part node below here is_part whole good long =
     omega arith
 
 -- what nodes without a fault keep
-passes : (good : Bool) (fault : LayoutFault) (rest : Option LayoutFault) → cond (not good) (Some fault) rest ≡ None → (good ≡ true) × (rest ≡ None)
+pub passes : (good : Bool) (fault : LayoutFault) (rest : Option LayoutFault) → cond (not good) (Some fault) rest ≡ None → (good ≡ true) × (rest ≡ None)
 passes true fault rest none = (refl, none)
 passes false fault rest none = cc
 
-neither : (first second : Option LayoutFault) → or_else first second ≡ None → (first ≡ None) × (second ≡ None)
+pub neither : (first second : Option LayoutFault) → or_else first second ≡ None → (first ≡ None) × (second ≡ None)
 neither None second none = (refl, none)
 neither (Some fault) second none = cc
 

@@ -13,13 +13,13 @@ use Rattle.sg_layout.specs.declared.shape.Shape.{Shape}
 use Rattle.sg_layout.specs.Axes.{bounds_of_shape, count_of}
 use Rattle.sg_layout.specs.Path.{path}
 use Rattle.sg_layout.specs.Live.{is_live}
-use Rattle.sg_layout.specs.Closure.{is_dense, last_sparse, is_closed_in, points}
+use Rattle.sg_layout.specs.Closure.{is_dense, last_sparse, is_in_closure, points}
 use Rattle.sg_layout.specs.Need.{need_by, need_of, first_full_from}
 use Rattle.sg_layout.specs.Rules.{all_dense}
 use Rattle.sg_layout.specs.ClosureLaws.{PointsAreInside, DenseIsFull}
 use Rattle.sg_layout.proofs.Lists.{filter_all}
 
-no_sparse : (nodes : List NodeShape) → all_dense nodes ≡ true → last_sparse nodes ≡ 0
+pub no_sparse : (nodes : List NodeShape) → all_dense nodes ≡ true → last_sparse nodes ≡ 0
 no_sparse [] dense = refl
 no_sparse (node ∷ later) dense =
     let parts = and_parts (is_dense node.kind) (all_dense later) dense in
@@ -41,15 +41,15 @@ none_full shape written number (node ∷ later) dense =
     ap (λ full. cond full (Some (record { node = number; cap = count_of node.cap })) (first_full_from shape written (suc number) later)) fits
     ∙ none_full shape written (suc number) later parts.1
 
-all_closed : (shape : Shape) (written : List Coord) (at : Coord) → all_dense shape.nodes ≡ true → is_inside (bounds_of_shape shape) at ≡ true → is_closed_in shape written at ≡ true
+all_closed : (shape : Shape) (written : List Coord) (at : Coord) → all_dense shape.nodes ≡ true → is_inside (bounds_of_shape shape) at ≡ true → is_in_closure shape written at ≡ true
 all_closed shape written at dense inside =
     and_from (is_inside (bounds_of_shape shape) at) (eqb (last_sparse shape.nodes) 0 || is_live shape written (last_sparse shape.nodes) (path shape at (last_sparse shape.nodes))) inside
     (or_left (eqb (last_sparse shape.nodes) 0) (is_live shape written (last_sparse shape.nodes) (path shape at (last_sparse shape.nodes))) (eq-eqb (last_sparse shape.nodes) 0 (no_sparse shape.nodes dense)))
 
 pub dense_is_full : (shape : Shape) → InsideTest → PointsAreInside (bounds_of_shape shape) → DenseIsFull shape
 dense_is_full shape test inside dense written = (
-  filter_all (is_closed_in shape written) (points (bounds_of_shape shape))
-      (All-weaker (Contains (points (bounds_of_shape shape))) (λ (at : Coord). is_closed_in shape written at ≡ true)
+  filter_all (is_in_closure shape written) (points (bounds_of_shape shape))
+      (All-weaker (Contains (points (bounds_of_shape shape))) (λ (at : Coord). is_in_closure shape written at ≡ true)
       (λ at point. all_closed shape written at dense ((test (bounds_of_shape shape) at).1 ((inside at).0 point)))
       (points (bounds_of_shape shape)) (All-contains_itself (points (bounds_of_shape shape)))),
   none_full shape written 1 shape.nodes dense,

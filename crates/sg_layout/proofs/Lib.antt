@@ -5,3 +5,14 @@ pub mod Closing
 pub mod Filled
 pub mod Powers
 pub mod Extending
+pub mod Faultless
+pub mod Caps
+pub mod Ruling
+pub mod Counting
+pub mod Tallies
+pub mod SlotNumbers
+pub mod Paths
+pub mod Distinct
+pub mod Deciding
+pub mod Needs
+pub mod Reached

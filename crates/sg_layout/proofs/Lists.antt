@@ -1,6 +1,6 @@
--- Filters of lists: what they contain, and that they keep an order.
+-- Filters of lists: what they contain.
 use Rattle.std.proofs.Common.{◌≡◌, zero, suc, Bool, true, false, cond, List, [], ◌∷◌, refl, sym, ap, ◌∙◌, subst, arith}
-use Rattle.std.specs.List.{Contains, All, AllPairs, filter}
+use Rattle.std.specs.List.{Contains, All, filter}
 use Rattle.std.proofs.lemmas.Bool.Decides.{same_from_decides}
 use Rattle.std.proofs.lemmas.List.Elements.{All-head, All-tail, All-filter, All-contains, All-contains_itself, filter_passes, Contains-append_right}
 
@@ -19,7 +19,7 @@ from_filter {X} p xs x h = (
 )
 
 -- an element at the head, or in the rest
-contains_head : {X : Type 0} (x y : X) (xs : List X) → y ≡ x → Contains (y ∷ xs) x
+pub contains_head : {X : Type 0} (x y : X) (xs : List X) → y ≡ x → Contains (y ∷ xs) x
 contains_head x y xs e = (zero, omega arith, e)
 
 pub contains_rest : {X : Type 0} (x y : X) (xs : List X) → Contains xs x → Contains (y ∷ xs) x
@@ -52,26 +52,3 @@ filter_all {X} p (x ∷ xs) all =
     let rest : filter p xs ≡ xs = filter_all p xs (All-tail P x xs all) in
     let first : p x ≡ true = All-head P x xs all in
     subst (λ b. cond b (x ∷ filter p xs) (filter p xs) ≡ x ∷ xs) (sym first) (ap (λ ys. x ∷ ys) rest)
-
--- pairs of a list, by its head and its rest
-pairs_head : {X : Type 0} (R : X → X → Type 0) (x : X) (xs : List X) → AllPairs R (x ∷ xs) → All (R x) xs
-pairs_head R x xs all k d below = all zero (suc k) d (omega arith) (omega arith)
-
-pairs_rest : {X : Type 0} (R : X → X → Type 0) (x : X) (xs : List X) → AllPairs R (x ∷ xs) → AllPairs R xs
-pairs_rest R x xs all i j d before below = all (suc i) (suc j) d (omega arith) (omega arith)
-
-pairs_cons : {X : Type 0} (R : X → X → Type 0) (x : X) (xs : List X) → All (R x) xs → AllPairs R xs → AllPairs R (x ∷ xs)
-pairs_cons R x xs first rest i zero d before below = absurd (omega arith)
-pairs_cons R x xs first rest zero (suc j) d before below = first j d (omega arith)
-pairs_cons R x xs first rest (suc i) (suc j) d before below = rest i j d (omega arith) (omega arith)
-
--- a filter keeps an order
-pub filter_pairs : {X : Type 0} (R : X → X → Type 0) (p : X → Bool) (xs : List X) → AllPairs R xs → AllPairs R (filter p xs)
-filter_pairs R p [] all = all
-filter_pairs R p (x ∷ xs) all =
-    let rest : AllPairs R (filter p xs) = filter_pairs R p xs (pairs_rest R x xs all) in
-    let first : All (R x) (filter p xs) = All-filter p (R x) xs (pairs_head R x xs all) in
-    elim (p x) as (λ b. AllPairs R (cond b (x ∷ filter p xs) (filter p xs))) [
-      | true ↦ pairs_cons R x (filter p xs) first rest
-      | false ↦ rest
-    ]

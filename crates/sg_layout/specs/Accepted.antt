@@ -4,12 +4,11 @@ use Rattle.sg_coord.specs.declared.extents.Extents.{Extents}
 use Rattle.sg_coord.specs.Bounds.{bounds_of}
 use Rattle.sg_layout.specs.declared.shape.Shape.{Shape}
 use Rattle.sg_layout.specs.Axes.{bounds_of_shape}
-use Rattle.sg_layout.specs.Rules.{is_declared, all_dense, checked}
+use Rattle.sg_layout.specs.Rules.{is_declared, checked}
 
--- a shape that layouts are built of: it was declared, it keeps all rules, and every node is dense
+-- a shape that layouts are built of: it was declared, and it keeps all rules
 pub record IsAccepted (shape : Shape) : Type 0 where
   pub declared : IsTrue (is_declared shape)
-  pub dense : IsTrue (all_dense shape.nodes)
   pub keeps_rules : checked shape ≡ Ok shape
 
 -- an accepted shape, with the extents of its axes

@@ -1,6 +1,8 @@
+-- The extents of nodes and of axes.
 use Rattle.std.specs.Prelude.{ℕ, ◌*◌, List, [], ◌∷◌, if◌then◌else◌, ◌==◌}
 use Rattle.sg_coord.specs.Bounds.{Bounds}
-pub use Rattle.sg_coord.specs.Coord.{offset_of as count_of}
+-- a number as a count: 0 where it is negative
+pub use Rattle.sg_coord.specs.Coord.{count_of}
 use Rattle.sg_layout.specs.declared.shape.Size.{Size}
 use Rattle.sg_layout.specs.declared.shape.NodeShape.{NodeShape}
 use Rattle.sg_layout.specs.declared.shape.Shape.{Shape}
@@ -15,7 +17,22 @@ abbrev pub extent_over : List NodeShape → ℕ → ℕ
 extent_over [] axis = 1
 extent_over (node ∷ nodes) axis = extent_in node.sizes axis * extent_over nodes axis
 
+-- the product of all extents of a node: how many slots it has under one slot of the node before
+abbrev pub size_of : List Size → ℕ
+size_of [] = 1
+size_of (size ∷ sizes) = count_of size.extent * size_of sizes
+
+-- the product of the sizes of nodes: how many slots the last of them has in all, under one slot of the node before
+-- the first
+abbrev pub slots_of : List NodeShape → ℕ
+slots_of [] = 1
+slots_of (node ∷ later) = size_of node.sizes * slots_of later
+
 -- the extents of a layout's axes; an axis that no node names has extent 1
 abbrev pub bounds_of_shape : Shape → Bounds
-bounds_of_shape shape =
-    record { n = shape.axes; a = extent_over shape.nodes 1; b = extent_over shape.nodes 2; c = extent_over shape.nodes 3 }
+bounds_of_shape shape = record {
+  n = shape.axes;
+  a = extent_over shape.nodes 1;
+  b = extent_over shape.nodes 2;
+  c = extent_over shape.nodes 3;
+}

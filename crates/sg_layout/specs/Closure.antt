@@ -1,3 +1,4 @@
+-- The closure of a list of coordinates: what is active once they are written.
 use Rattle.std.specs.Prelude.{ℕ, suc, Bool, true, false, ◌&&◌, ◌||◌, List, [], ◌∷◌, map, filter, if◌then◌else◌, ◌==◌, nat_lt}
 use Rattle.std.specs.List.{range_with_len}
 use Rattle.sg_coord.specs.declared.coord.Coord.{Coord}
@@ -22,12 +23,16 @@ is_dense Dynamic = false
 -- the number of the last node that isn't dense, counted from 1; 0 where all are
 abbrev pub last_sparse : List NodeShape → ℕ
 last_sparse [] = 0
-last_sparse (node ∷ later) = if nat_lt 0 (last_sparse later) then suc (last_sparse later) else (if is_dense node.kind then 0 else 1)
+last_sparse (node ∷ later) =
+    if nat_lt 0 (last_sparse later) then suc (last_sparse later) else (if is_dense node.kind then 0 else 1)
 
--- the coordinate is in the closure of the list: it is inside, and all nodes are dense or its slot at the last node that isn't dense is live
-abbrev pub is_closed_in : Shape → List Coord → Coord → Bool
-is_closed_in shape written at =
-    is_inside (bounds_of_shape shape) at && ((last_sparse shape.nodes == 0) || is_live shape written (last_sparse shape.nodes) (path shape at (last_sparse shape.nodes)))
+-- the coordinate is in the closure of the list: it is inside, and all nodes are dense or its slot at the last node
+-- that isn't dense is live
+abbrev pub is_in_closure : Shape → List Coord → Coord → Bool
+is_in_closure shape written at =
+    is_inside (bounds_of_shape shape) at
+    && ((last_sparse shape.nodes == 0)
+    || is_live shape written (last_sparse shape.nodes) (path shape at (last_sparse shape.nodes)))
 
 -- all points inside the extents, in row order
 abbrev pub points : Bounds → List Coord
@@ -35,4 +40,4 @@ points bounds = map (point_at bounds) (range_with_len 0 (volume bounds))
 
 -- the closure of a list of coordinates, in row order, each once
 abbrev pub closure : Shape → List Coord → List Coord
-closure shape written = filter (is_closed_in shape written) (points (bounds_of_shape shape))
+closure shape written = filter (is_in_closure shape written) (points (bounds_of_shape shape))

@@ -6,7 +6,7 @@ use Rattle.sg_coord.specs.Bounds.{Bounds, volume}
 use Rattle.sg_coord.specs.Coord.{Inside, point_at, ComesBefore}
 use Rattle.sg_layout.specs.declared.shape.Shape.{Shape}
 use Rattle.sg_layout.specs.Axes.{bounds_of_shape}
-use Rattle.sg_layout.specs.Closure.{is_closed_in, points, closure}
+use Rattle.sg_layout.specs.Closure.{is_in_closure, points, closure}
 use Rattle.sg_layout.specs.Need.{first_full}
 use Rattle.sg_layout.specs.Rules.{all_dense}
 
@@ -20,7 +20,8 @@ PointsFillVolume bounds = length (points bounds) ≡ volume bounds
 
 -- the point at each place is the one with this row number
 abbrev pub PointsAreNumbered : Bounds → Type 0
-PointsAreNumbered bounds = (k : ℕ) (default : Coord) → k < volume bounds → slice_index_or (points bounds) k default ≡ point_at bounds k
+PointsAreNumbered bounds =
+    (k : ℕ) (default : Coord) → k < volume bounds → slice_index_or (points bounds) k default ≡ point_at bounds k
 
 -- of two points the earlier comes before the later in row order, so each is there once
 abbrev pub PointsAreInOrder : Bounds → Type 0
@@ -28,11 +29,15 @@ PointsAreInOrder bounds = AllPairs ComesBefore (points bounds)
 
 -- a coordinate is in the closure exactly where the test says so
 abbrev pub ClosureIsTested : Shape → Type 0
-ClosureIsTested shape = (written : List Coord) (at : Coord) → Contains (closure shape written) at ↔ IsTrue (is_closed_in shape written at)
+ClosureIsTested shape =
+    (written : List Coord) (at : Coord) →
+    Contains (closure shape written) at ↔ IsTrue (is_in_closure shape written at)
 
 -- what is in a closure is a point, and inside
 abbrev pub ClosureIsInside : Shape → Type 0
-ClosureIsInside shape = (written : List Coord) (at : Coord) → Contains (closure shape written) at → Contains (points (bounds_of_shape shape)) at × Inside (bounds_of_shape shape) at
+ClosureIsInside shape =
+    (written : List Coord) (at : Coord) → Contains (closure shape written) at →
+    Contains (points (bounds_of_shape shape)) at × Inside (bounds_of_shape shape) at
 
 -- of two members of a closure the earlier comes before the later in row order, so each is there once
 abbrev pub ClosureIsInOrder : Shape → Type 0
@@ -40,16 +45,21 @@ ClosureIsInOrder shape = (written : List Coord) → AllPairs ComesBefore (closur
 
 -- a coordinate of the list that is inside is in its closure
 abbrev pub ClosureExtends : Shape → Type 0
-ClosureExtends shape = (written : List Coord) (at : Coord) → Contains written at → Inside (bounds_of_shape shape) at → Contains (closure shape written) at
+ClosureExtends shape =
+    (written : List Coord) (at : Coord) → Contains written at → Inside (bounds_of_shape shape) at →
+    Contains (closure shape written) at
 
 -- where one list has all that another has, so have their closures
 abbrev pub ClosureGrows : Shape → Type 0
 ClosureGrows shape =
-    (few more : List Coord) → ((at : Coord) → Contains few at → Contains more at) → (at : Coord) → Contains (closure shape few) at → Contains (closure shape more) at
+    (few more : List Coord) → ((at : Coord) → Contains few at → Contains more at) → (at : Coord) →
+    Contains (closure shape few) at → Contains (closure shape more) at
 
 -- lists with the same members have the same closure
 abbrev pub ClosureIsOfMembers : Shape → Type 0
-ClosureIsOfMembers shape = (left right : List Coord) → ((at : Coord) → Contains left at ↔ Contains right at) → closure shape left ≡ closure shape right
+ClosureIsOfMembers shape =
+    (left right : List Coord) → ((at : Coord) → Contains left at ↔ Contains right at) →
+    closure shape left ≡ closure shape right
 
 -- the closure of a closure is that closure
 abbrev pub ClosureIsClosed : Shape → Type 0
@@ -57,9 +67,11 @@ ClosureIsClosed shape = (written : List Coord) → closure shape (closure shape 
 
 -- closing a part of a list first changes nothing
 abbrev pub ClosureAbsorbs : Shape → Type 0
-ClosureAbsorbs shape = (written more : List Coord) → closure shape (closure shape written ++ more) ≡ closure shape (written ++ more)
+ClosureAbsorbs shape =
+    (written more : List Coord) → closure shape (closure shape written ++ more) ≡ closure shape (written ++ more)
 
 -- where all nodes are dense, every closure is all points, and no node is ever too full
 abbrev pub DenseIsFull : Shape → Type 0
 DenseIsFull shape =
-    IsTrue (all_dense shape.nodes) → (written : List Coord) → (closure shape written ≡ points (bounds_of_shape shape)) × (first_full shape written ≡ None)
+    IsTrue (all_dense shape.nodes) → (written : List Coord) →
+    (closure shape written ≡ points (bounds_of_shape shape)) × (first_full shape written ≡ None)

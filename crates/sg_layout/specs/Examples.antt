@@ -19,7 +19,12 @@ node1 kind i cap chunk = record { kind = kind; sizes = record { axis = 1; extent
 
 abbrev pub node2 : Kind → ℤ → ℤ → ℤ → NodeShape
 node2 kind i j cap =
-    record { kind = kind; sizes = record { axis = 1; extent = i } ∷ record { axis = 2; extent = j } ∷ []; cap = cap; chunk = pos 0 }
+    record {
+      kind = kind;
+      sizes = record { axis = 1; extent = i } ∷ record { axis = 2; extent = j } ∷ [];
+      cap = cap;
+      chunk = pos 0;
+    }
 
 abbrev pub shape_of : ℕ → List NodeShape → Shape
 shape_of axes nodes = record { axes = axes; nodes = nodes; fields = ty.I32 ∷ [] }
@@ -49,7 +54,8 @@ four = shape_of 1 (node1 Dense (pos 4) (pos 0) (pos 0) ∷ [])
 -- hash(i: 4, j: 4) cap 16; pointer(i: 2, j: 2) cap 64; bitmasked(i: 8, j: 8);
 abbrev pub grid : Shape
 grid =
-    shape_of 2 (node2 Hash (pos 4) (pos 4) (pos 16) ∷ node2 Pointer (pos 2) (pos 2) (pos 64) ∷ node2 Bitmasked (pos 8) (pos 8) (pos 0) ∷ [])
+    shape_of 2
+    (node2 Hash (pos 4) (pos 4) (pos 16) ∷ node2 Pointer (pos 2) (pos 2) (pos 64) ∷ node2 Bitmasked (pos 8) (pos 8) (pos 0) ∷ [])
 
 path_of_five : path blocks (at1 5) 2 ≡ 1 ∷ 1 ∷ []
 path_of_five = refl
@@ -87,13 +93,15 @@ third_block_is_too_many = refl
 three_is_no_extent : checked (shape_of 1 (node1 Dense (pos 3) (pos 0) (pos 0) ∷ [])) ≡ Err (BadExtent 1)
 three_is_no_extent = refl
 
-hash_stands_first : checked (shape_of 1 (node1 Dense (pos 4) (pos 0) (pos 0) ∷ node1 Hash (pos 4) (pos 2) (pos 0) ∷ [])) ≡ Err (BadOrder 2)
+hash_stands_first : checked (shape_of 1 (node1 Dense (pos 4) (pos 0) (pos 0) ∷ node1 Hash (pos 4) (pos 2) (pos 0) ∷ []))
+    ≡ Err (BadOrder 2)
 hash_stands_first = refl
 
 axis_not_there : checked (shape_of 1 (node2 Dense (pos 4) (pos 4) (pos 0) ∷ [])) ≡ Err (BadAxis 1)
 axis_not_there = refl
 
-two_long_nodes : checked (shape_of 1 (node1 Dense (pos 256) (pos 0) (pos 0) ∷ node1 Dense (pos 256) (pos 0) (pos 0) ∷ [])) ≡ Err TooLarge
+two_long_nodes : checked (shape_of 1 (node1 Dense (pos 256) (pos 0) (pos 0) ∷ node1 Dense (pos 256) (pos 0) (pos 0) ∷ []))
+    ≡ Err TooLarge
 two_long_nodes = refl
 
 no_cap : checked (shape_of 1 (node1 Pointer (pos 4) (pos 0) (pos 0) ∷ [])) ≡ Err (BadCap 1)

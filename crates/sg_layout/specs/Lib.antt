@@ -4,6 +4,14 @@ pub mod Live
 pub mod Closure
 pub mod Need
 pub mod ClosureLaws
+pub mod NeedLaws
+pub mod Slots
+pub mod PathLaws
 pub mod Rules
+pub mod RuleLaws
 pub mod Accepted
 pub mod Examples
+pub mod NeedExamples
+pub mod PathExamples
+pub mod StorageWords
+pub mod WordSteps

@@ -1,3 +1,4 @@
+-- What a node must have room for, and which node is too full first.
 use Rattle.std.specs.Prelude.{ℕ, ◌+◌, ◌-◌, ◌/◌, suc, max, List, [], ◌∷◌, map, filter, length, sum_by, if◌then◌else◌, nat_lt, slice_index, Option, Some, None}
 use Rattle.std.specs.List.{list_any, fold}
 use Rattle.std.specs.Str.{bytes_eq}
@@ -26,14 +27,16 @@ greatest_offset shape number under = fold max 0 (map (λ at. slice_index (offset
 abbrev pub under_slot : Shape → List Coord → ℕ → List ℕ → List Coord
 under_slot shape written number slot = filter (λ at. bytes_eq (path shape at number) slot) written
 
--- the chunks under one parent of a dynamic node: its greatest live index plus one, divided by the chunk and rounded up
+-- the chunks under one parent of a dynamic node: its greatest live index plus one, divided by the chunk and rounded
+-- up
 abbrev pub chunks_under : Shape → List Coord → ℕ → ℕ → List ℕ → ℕ
 chunks_under shape written number chunk parent =
     (greatest_offset shape number (under_slot shape written (number - 1) parent) + chunk) / chunk
 
 -- the need of a node of this kind and number for a list of coordinates: what it must have room for
 abbrev pub need_by : Kind → Shape → List Coord → ℕ → ℕ → ℕ
-need_by Dynamic shape written number chunk = sum_by (chunks_under shape written number chunk) (reached_slots shape written (number - 1))
+need_by Dynamic shape written number chunk =
+    sum_by (chunks_under shape written number chunk) (reached_slots shape written (number - 1))
 need_by Pointer shape written number chunk = length (reached_slots shape written number)
 need_by Hash shape written number chunk = length (reached_slots shape written number)
 need_by Dense shape written number chunk = 0
@@ -52,7 +55,9 @@ pub record FullNode : Type 0 where
 abbrev pub first_full_from : Shape → List Coord → ℕ → List NodeShape → Option FullNode
 first_full_from shape written number [] = None
 first_full_from shape written number (node ∷ later) =
-    if nat_lt (count_of node.cap) (need_of shape written number node) then Some (record { node = number; cap = count_of node.cap }) else first_full_from shape written (suc number) later
+    if nat_lt (count_of node.cap) (need_of shape written number node)
+    then Some (record { node = number; cap = count_of node.cap })
+    else first_full_from shape written (suc number) later
 
 -- the first node from the root whose need passes its cap
 abbrev pub first_full : Shape → List Coord → Option FullNode

@@ -1,4 +1,5 @@
-use Rattle.std.specs.Prelude.{ℕ, ◌*◌, ◌^◌, suc, ℤ, Bool, true, false, not, ◌&&◌, List, [], ◌∷◌, length, if◌then◌else◌, ◌==◌, nat_lt, nat_le, Option, Some, None, Result, Ok, Err}
+-- The rules of layouts, and the fault that is answered.
+use Rattle.std.specs.Prelude.{ℕ, ◌^◌, suc, ℤ, Bool, true, false, not, ◌&&◌, List, [], ◌∷◌, length, if◌then◌else◌, ◌==◌, nat_lt, nat_le, Option, Some, None, Result, Ok, Err}
 use Rattle.std.specs.List.{list_any, list_all, range_with_len}
 use Rattle.sg_coord.specs.Bounds.{Bounds, volume}
 use Rattle.sg_words.specs.declared.operators.Ty.{Ty}
@@ -10,10 +11,10 @@ use Rattle.sg_layout.specs.declared.shape.NodeShape.{NodeShape}
 use Rattle.sg_layout.specs.declared.shape.Shape.{Shape}
 use Rattle.sg_layout.specs.declared.layout.LayoutFault.{LayoutFault}
 use Rattle.sg_layout.specs.declared.layout.LayoutFault.TheVariants.{BadExtent, BadOrder, BadAxis, TooLarge, BadCap}
-use Rattle.sg_layout.specs.Axes.{count_of, bounds_of_shape}
+use Rattle.sg_layout.specs.Axes.{count_of, size_of, bounds_of_shape}
 use Rattle.sg_layout.specs.Closure.{is_dense}
 
--- an extent is a power of two from 1 to 2^15
+-- an extent is a power of two from 1 to 2^15; no other place says that it is a power of two
 abbrev pub is_extent : ℤ → Bool
 is_extent extent = list_any (λ k. 2 ^ k == count_of extent) (range_with_len 0 16)
 
@@ -34,7 +35,8 @@ stands_well Pointer number later = true
 abbrev pub names_axes_once : ℕ → List Size → Bool
 names_axes_once axes [] = true
 names_axes_once axes (size ∷ sizes) =
-    (nat_lt 0 size.axis && nat_le size.axis axes) && (not (list_any (λ other. other.axis == size.axis) sizes) && names_axes_once axes sizes)
+    (nat_lt 0 size.axis && nat_le size.axis axes)
+    && (not (list_any (λ other. other.axis == size.axis) sizes) && names_axes_once axes sizes)
 
 -- a dynamic node has at most one axis
 abbrev pub has_few_axes : Kind → List Size → Bool
@@ -52,18 +54,14 @@ has_good_axes axes node = names_axes_once axes node.sizes && has_few_axes node.k
 abbrev pub is_cap : ℤ → Bool
 is_cap cap = nat_lt 0 (count_of cap) && nat_le (count_of cap) (2 ^ 16)
 
--- the product of all extents of a node
-abbrev pub size_of : List Size → ℕ
-size_of [] = 1
-size_of (size ∷ sizes) = count_of size.extent * size_of sizes
-
 -- rule 5: the cap of a pointer, hash or dynamic node is one, and a dynamic node's chunk is from 1 to its extent
 abbrev pub has_good_caps : Kind → NodeShape → Bool
 has_good_caps Dense node = true
 has_good_caps Bitmasked node = true
 has_good_caps Pointer node = is_cap node.cap
 has_good_caps Hash node = is_cap node.cap
-has_good_caps Dynamic node = is_cap node.cap && (nat_lt 0 (count_of node.chunk) && nat_le (count_of node.chunk) (size_of node.sizes))
+has_good_caps Dynamic node =
+    is_cap node.cap && (nat_lt 0 (count_of node.chunk) && nat_le (count_of node.chunk) (size_of node.sizes))
 
 -- the fault of a node with this number, where `later` are the nodes after it: the smallest rule that it breaks
 abbrev pub node_fault : ℕ → ℕ → NodeShape → List NodeShape → Option LayoutFault
@@ -81,12 +79,14 @@ or_else None other = other
 -- the first fault of a list of nodes, numbered from the given number on
 abbrev pub first_node_fault : ℕ → ℕ → List NodeShape → Option LayoutFault
 first_node_fault axes number [] = None
-first_node_fault axes number (node ∷ later) = or_else (node_fault axes number node later) (first_node_fault axes (suc number) later)
+first_node_fault axes number (node ∷ later) =
+    or_else (node_fault axes number node later) (first_node_fault axes (suc number) later)
 
 -- rule 4: no axis is past 2^15, and the product of the axes not past 2^30
 abbrev pub is_small : Bounds → Bool
 is_small bounds =
-    nat_le bounds.a (2 ^ 15) && (nat_le bounds.b (2 ^ 15) && (nat_le bounds.c (2 ^ 15) && nat_le (volume bounds) (2 ^ 30)))
+    nat_le bounds.a (2 ^ 15)
+    && (nat_le bounds.b (2 ^ 15) && (nat_le bounds.c (2 ^ 15) && nat_le (volume bounds) (2 ^ 30)))
 
 -- the shape after its nodes: their first fault, else rule 4
 abbrev pub checked_by : Option LayoutFault → Shape → Result Shape LayoutFault
@@ -109,6 +109,6 @@ is_declared shape =
     (nat_lt 0 shape.axes && nat_le shape.axes 3) && ((nat_lt 0 (length shape.nodes) && nat_le (length shape.nodes) 6)
     && ((nat_lt 0 (length shape.fields) && nat_le (length shape.fields) 16) && list_all is_field shape.fields))
 
--- every node is dense: what the runtime stores today
+-- every node is dense
 abbrev pub all_dense : List NodeShape → Bool
 all_dense nodes = list_all (λ node. is_dense node.kind) nodes

@@ -1,7 +1,7 @@
 ghost use Rattle.std.specs.Prelude.{◌≡◌, IsTrue};
 ghost use Rattle.sg_coord.specs.Bounds.{IsBounds, bounds_of};
 ghost use Rattle.sg_layout.specs.Axes.{bounds_of_shape};
-ghost use Rattle.sg_layout.specs.Rules.{is_declared, all_dense, checked};
+ghost use Rattle.sg_layout.specs.Rules.{is_declared, checked};
 ghost use Rattle.sg_layout.specs.Accepted.{IsAccepted};
 ghost use Rattle.sg_words.specs.Answers.{Answers};
 
@@ -13,7 +13,7 @@ use sg_words::{Items, Stop};
 use std::alloc::Global;
 use std::marker::Model;
 
-/// Which rule a shape breaks, and at which node, counted from 1 at the root. `TooLarge` is about an axis over all nodes.
+/// Which rule a shape breaks, and at which node, counted from 1 at the root. `TooLarge` is about the whole layout.
 #[derive(Clone, Copy, Debug, PartialEq, Eq)]
 pub enum LayoutFault {
     /// An extent below 1, above 2^15, or no power of two.
@@ -49,7 +49,6 @@ impl Model for Layout {
 /// The layout of a shape, or the fault of the first node that has one, or after all nodes `TooLarge`.
 pub fn check_layout(alloc: Global, shape: &Shape) -> Result<Layout, Stop<LayoutFault>>
     requires declared { IsTrue (is_declared shape.now) }
-    requires dense { IsTrue (all_dense shape.now.nodes) }
     ensures { Answers result (checked shape.now) }
 {
     if let Some(fault) = first_fault(shape.axes, shape.nodes.as_slice()) {

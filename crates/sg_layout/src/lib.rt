@@ -2,13 +2,19 @@
 #![tactic(auto)]
 
 mod axes;
-pub mod closure;
+pub mod laws;
 pub mod layout;
 mod rules;
 pub mod shape;
+pub mod words;
 
+pub use laws::{
+    closure_closes, closure_members, dense_is_full, last_sparse_decides, need_absorbs,
+    need_counts_live, need_grows, paths_tell, points_in_order, rules_decide, slots_numbered,
+};
 pub use layout::{Layout, LayoutFault, Layouts, check_layout};
 pub use shape::{Kind, NodeShape, Shape, Size};
+pub use words::{TooLarge, check_total};
 
 #[cfg(test)]
 mod tests;

@@ -1,7 +1,7 @@
 ghost use Rattle.std.specs.Prelude.{◌≡◌, ◌≤◌, ◌==◌, ◌&&◌, nat_lt, nat_le, IsTrue, length, pos};
 ghost use Rattle.std.specs.List.{list_any};
-ghost use Rattle.sg_layout.specs.Axes.{count_of};
-ghost use Rattle.sg_layout.specs.Rules.{is_extent, has_good_extents, stands_well, names_axes_once, has_few_axes, has_good_axes, is_cap, size_of, has_good_caps, node_fault, first_node_fault};
+ghost use Rattle.sg_layout.specs.Axes.{count_of, size_of};
+ghost use Rattle.sg_layout.specs.Rules.{is_extent, has_good_extents, stands_well, names_axes_once, has_few_axes, has_good_axes, is_cap, has_good_caps, node_fault, first_node_fault};
 
 use crate::layout::LayoutFault;
 use crate::shape::{Kind, NodeShape, Size};

@@ -1,4 +1,4 @@
-use Rattle.std.specs.Prelude.{◌≡◌, ℕ, ◌≤◌, List, [], ◌∷◌, length, Option, Some, None, nat_le, if◌then◌else◌, refl}
+use Rattle.std.specs.Prelude.{◌≡◌, ℕ, ◌≤◌, List, [], ◌∷◌, ◌++◌, length, Option, Some, None, option_map, nat_le, if◌then◌else◌, refl}
 use Rattle.std.specs.Ordering.{nat_cmp}
 use Rattle.std.specs.Cmp.Lexicographic.{slice_cmp}
 use Rattle.std.specs.FinMap.{FinMap, get}
@@ -60,6 +60,13 @@ ReadCause got.All before now = now ≡ before
 ReadCause got.TooLong before now = now ≡ before
 ReadCause got.Failed before now = Rose before now
 ReadCause got.Memory before now = now ≡ before
+
+-- the names that were read so far, in order, with one more; where nothing is told, nothing is
+abbrev pub asked_too : Option (List (List ℕ)) → List ℕ → Option (List (List ℕ))
+asked_too asked name = option_map (λ names. names ++ name ∷ []) asked
+
+asked_a_second : asked_too (Some ((1 ∷ []) ∷ [])) (2 ∷ []) ≡ Some ((1 ∷ []) ∷ (2 ∷ []) ∷ [])
+asked_a_second = refl
 
 -- the count of faults after an answer, where each failure is counted once
 abbrev pub faults_after : Got → ℕ → ℕ

@@ -6,19 +6,19 @@ use Rattle.std.proofs.Common.{lit<}
 use Rattle.sg_outside.specs.Counts.{one_more, Rose}
 
 -- the told bytes with a piece after them; where nothing is told, nothing is
-abbrev pub and_then : Option (List ℕ) → List ℕ → Option (List ℕ)
-and_then told piece = option_map (λ bytes. bytes ++ piece) told
+abbrev pub followed_by : Option (List ℕ) → List ℕ → Option (List ℕ)
+followed_by told piece = option_map (λ bytes. bytes ++ piece) told
 
-and_then_told : and_then (Some (1 ∷ [])) (2 ∷ 3 ∷ []) ≡ Some (1 ∷ 2 ∷ 3 ∷ [])
-and_then_told = refl
+followed_by_told : followed_by (Some (1 ∷ [])) (2 ∷ 3 ∷ []) ≡ Some (1 ∷ 2 ∷ 3 ∷ [])
+followed_by_told = refl
 
-and_then_untold : and_then None (2 ∷ 3 ∷ []) ≡ None
-and_then_untold = refl
+followed_by_untold : followed_by None (2 ∷ 3 ∷ []) ≡ None
+followed_by_untold = refl
 
 -- what a put wrote: the whole piece, a part at its front that is not the whole, or nothing
 abbrev pub Puts : Put → Option (List ℕ) → Option (List ℕ) → List ℕ → Type 0
-Puts put.All old new piece = new ≡ and_then old piece
-Puts (put.Failed taken) old new piece = (taken < length piece) × (new ≡ and_then old (take taken piece))
+Puts put.All old new piece = new ≡ followed_by old piece
+Puts (put.Failed taken) old new piece = (taken < length piece) × (new ≡ followed_by old (take taken piece))
 Puts put.Memory old new piece = new ≡ old
 
 puts_all : Puts put.All (Some (1 ∷ [])) (Some (1 ∷ 2 ∷ 3 ∷ [])) (2 ∷ 3 ∷ [])

@@ -1,6 +1,6 @@
-ghost use Rattle.std.specs.Prelude.{◌≡◌, ℕ, ◌≤◌, Option, Some};
+ghost use Rattle.std.specs.Prelude.{◌≡◌, ℕ, ◌≤◌, List, Option, Some};
 ghost use Rattle.sg_outside.specs.Counts.{one_more};
-ghost use Rattle.sg_outside.specs.Files.{Held, reading, Reads, Fits, ReadCause, faults_after};
+ghost use Rattle.sg_outside.specs.Files.{Held, reading, Reads, Fits, ReadCause, asked_too, faults_after};
 
 /// How a read of a file ended.
 #[derive(Clone, Copy, Debug, PartialEq, Eq)]
@@ -30,10 +30,13 @@ impl Got {
 
 /// Files that are read whole, by name.
 ///
-/// `holds` is what the files hold, where that is told, `faults` counts the reads that failed, and
-/// `reads` counts all reads. Both counts stay at their last value, 2^64 - 1.
+/// `holds` is what the files hold, and `asked` the names that were read so far in order, where these
+/// are told; `faults` counts the reads that failed, and `reads` counts all reads. Both counts stay at
+/// their last value, 2^64 - 1.
 pub trait Files {
     ghost holds: { Self → Option Held };
+
+    ghost asked: { Self → Option (List (List ℕ)) };
 
     ghost faults: { Self → ℕ };
 
@@ -46,6 +49,7 @@ pub trait Files {
             Reads result into.new.items (reading held name.now limit) }
         ensures fits { Fits result into.new.items limit }
         ensures holds { holds self.new ≡ holds self.old }
+        ensures asked { asked self.new ≡ asked_too (asked self.old) name.now }
         ensures reads { reads self.new ≡ one_more (reads self.old) }
         ensures cause { ReadCause result (faults self.old) (faults self.new) }
         ensures never_falls { faults self.old ≤ faults self.new };

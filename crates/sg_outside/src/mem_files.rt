@@ -1,7 +1,7 @@
 ghost use Rattle.std.specs.Prelude.{◌≡◌, ℕ, ◌≤◌, ◌↔◌, ◌⊎◌, List, Option, Some, None, true, map, option_map, IfSome, vec_capacity};
 ghost use Rattle.std.specs.FinMap.{get};
 ghost use Rattle.sg_outside.specs.Counts.{one_more, is_listed};
-ghost use Rattle.sg_outside.specs.Files.{Held, Bytes, reading, reading_at, Reads, Fits, ReadCause};
+ghost use Rattle.sg_outside.specs.Files.{Held, Bytes, reading, reading_at, Reads, Fits, ReadCause, asked_too};
 ghost use Rattle.sg_outside.specs.MemFiles.{entry_of, bytes_named, held_of, next_reading, ReadsExactly, after_read};
 
 use super::files::{Files, Got};
@@ -72,6 +72,8 @@ impl MemFiles {
 impl Files for MemFiles {
     ghost holds = { λ files. Some (held_of files) };
 
+    ghost asked = { λ _. None };
+
     ghost faults = { λ files. files.faults };
 
     ghost reads = { λ files. files.reads };
@@ -81,6 +83,7 @@ impl Files for MemFiles {
             Reads result into.new.items (reading held name.now limit) }
         ensures fits { Fits result into.new.items limit }
         ensures holds { Some (held_of self.new) ≡ Some (held_of self.old) }
+        ensures asked { None ≡ asked_too None name.now }
         ensures reads { self.new.reads ≡ one_more self.old.reads }
         ensures cause { ReadCause result self.old.faults self.new.faults }
         ensures never_falls { self.old.faults ≤ self.new.faults }

@@ -65,6 +65,8 @@ impl<'a, R: rt::Files> RealFiles<'a, R> {
 impl<'a, R: rt::Files> Files for RealFiles<'a, R> {
     ghost holds = { λ _. None };
 
+    ghost asked = { λ _. None };
+
     ghost faults = { λ files. files.faults };
 
     ghost reads = { λ files. files.reads };

@@ -10,6 +10,7 @@ use Rattle.sg_words.specs.declared.operators.AccOp.{AccOp}
 use Rattle.sg_words.specs.declared.operators.AccOp.TheVariants as acc
 use Rattle.sg_words.specs.Words.{number, word_of, floor_over, quotient, applied, applied_un, mulq_of, rank_of, unrank_of, folded}
 
+-- a word of 32 bits
 abbrev pub IsWord : ℕ → Type 0
 IsWord w = w < 2 ^ 32
 

@@ -1,6 +1,12 @@
-pub mod ExtentLemmas
-pub mod ReadingLemmas
-pub mod SpellingLemmas
 pub mod Writing
 pub mod Following
-pub mod FirstRuns
+pub mod BoxPoints
+pub mod Boxes
+pub mod Going
+pub mod LatestWrites
+pub mod ReadSteps
+pub mod ValueSteps
+pub mod StmtSteps
+pub mod Compiling
+pub mod Running
+pub mod LineTexts

@@ -1,8 +1,11 @@
 pub mod Texts
-pub mod Form
-pub mod Reading
-pub mod FirstRun
 pub mod GridText
 pub mod Lines
+pub mod Built
+pub mod Compiled
+pub mod Commands
+pub mod Evaluation
+pub mod Written
 pub mod Meaning
 pub mod Outcome
+pub mod Examples

@@ -1,10 +1,8 @@
-ghost use Rattle.std.specs.Prelude.{◌≡◌, ◌<◌, ◌++◌, ℕ, length, IfOk, OnOk, string_bytes};
-ghost use Rattle.sg_flat.specs.State.{value_in};
-ghost use Rattle.sg_coord.specs.Bounds.{bounds_of};
-ghost use Rattle.sparsegrid.specs.GridText.{coordinate_text, row_text, grid_text};
+ghost use Rattle.std.specs.Prelude.{◌≡◌, ◌++◌, IfOk, OnOk, string_bytes, slice_get};
+ghost use Rattle.sparsegrid.specs.GridText.{type_or, coordinate_text, row_text, grid_text};
 
-use sg_coord::{Coord, Extents, inside, row};
-use sg_flat::{FlatField, FlatLayout};
+use sg_coord::Coord;
+use sg_flat::FlatLayout;
 use sg_layout::Layout;
 use sg_words::{Memory, Ty, number};
 use std::alloc::{AllocError, Global};
@@ -14,34 +12,28 @@ pub fn grid_text(
     alloc: Global,
     layout: &Layout,
     flat: &FlatLayout,
-    place: usize,
+    place: u32,
 ) -> Result<String, Memory>
-    requires typed { place < length layout.now.fields }
-    requires kept { place < length flat.now.fields }
     ensures { IfOk result (λ text. string_bytes text ≡ grid_text layout.now flat.now place) }
 {
-    let extents = layout.extents();
-    let shape = layout.shape();
-    let ty = shape.fields.as_slice()[place];
-    let field = &flat.fields.as_slice()[place];
+    let ty = field_type(layout, place);
     let active = flat.active.as_slice();
-    let axes = shape.axes;
+    let axes = layout.shape().axes;
     let count = active.len();
     let mut text = format!(in alloc; "grid {axes} {count}\n")?;
     for at in active {
-        push_row(&mut text, ty, *at, value(&extents, field, *at))?;
+        push_row(&mut text, ty, *at, flat.value(layout, place, *at))?;
     }
     Ok(text)
 }
 
-/// The word of a field at a coordinate, and 0 outside.
-fn value(extents: &Extents, field: &FlatField, at: Coord) -> u32
-    ensures { result ≡ value_in (bounds_of extents.now) field.now at }
+/// The type of a field of a layout.
+fn field_type(layout: &Layout, place: u32) -> Ty
+    ensures { result ≡ type_or (slice_get layout.now.fields place) }
 {
-    if inside(extents, at) {
-        field.word(row(extents, at))
-    } else {
-        0
+    match layout.shape().fields.get(place as usize) {
+        Some(ty) => *ty,
+        None => Ty::I32,
     }
 }
 
@@ -55,7 +47,7 @@ fn push_row(text: &mut String, ty: Ty, at: Coord, word: u32) -> Result<(), Alloc
 }
 
 /// Adds the parts of a coordinate, with a space between them.
-fn push_coordinate(text: &mut String, at: Coord) -> Result<(), AllocError>
+pub fn push_coordinate(text: &mut String, at: Coord) -> Result<(), AllocError>
     ensures { OnOk result (string_bytes text.new ≡ string_bytes text.old ++ coordinate_text at) }
 {
     let Coord { n, a, b, c } = at;

@@ -1,15 +1,26 @@
 //! Sparse grids: a file of layouts, kernels and commands is read and run, and its grids are written.
 #![tactic(auto)]
 
-mod first_run;
-mod form;
+mod built;
+mod command;
+mod compile;
+mod evaluate;
+#[cfg(test)]
+mod examples;
 mod grid_text;
+mod iteration;
+#[cfg(test)]
+mod language;
+mod last_line;
 mod output;
+mod points;
+mod refusal;
 mod session;
 #[cfg(test)]
 mod tests;
+mod written;
 
-pub use form::{FirstForm, Formula, Operator, Term};
+pub use refusal::Refusal;
 pub use session::{Done, Session, run};
 use sg_outside::{FreeGate, RealFiles, RealOut};
 use std::io::ErrorKind;

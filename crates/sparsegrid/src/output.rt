@@ -2,43 +2,15 @@ ghost use Rattle.std.specs.Prelude.{◌≡◌, ℕ, List, Option, ◌<◌};
 ghost use Rattle.sparsegrid.specs.Outcome.{Sends, SendCause};
 
 use sg_outside::{Put, Sink};
-use sg_words::Memory;
-use std::alloc::AllocError;
+use sg_words::Stop;
 
-/// Why a run ends before its last piece is written.
+/// A put failed.
 #[derive(Clone, Copy, Debug, PartialEq, Eq)]
-pub enum Cut {
-    /// A put failed.
-    Write,
-    /// Memory ran out.
-    Memory,
-}
-
-impl From<AllocError> for Cut {
-    ghost use Rattle.std.specs.Prelude.{◌≡◌};
-    ghost use Rattle.sparsegrid.specs.declared.output.Cut.TheVariants as cut;
-
-    ghost from_gives = { λ _ error. error ≡ cut.Memory };
-
-    fn from(_error: AllocError) -> Cut {
-        Cut::Memory
-    }
-}
-
-impl From<Memory> for Cut {
-    ghost use Rattle.std.specs.Prelude.{◌≡◌};
-    ghost use Rattle.sparsegrid.specs.declared.output.Cut.TheVariants as cut;
-
-    ghost from_gives = { λ _ error. error ≡ cut.Memory };
-
-    fn from(_memory: Memory) -> Cut {
-        Cut::Memory
-    }
-}
+pub struct PutFailed;
 
 /// Writes a text by one put; an empty text is not written.
-#[tactic(auto, using(crate::proofs::Writing::prefix_none, crate::proofs::Writing::prefix_taken))]
-pub fn send<S: Sink>(out: &mut S, text: &[u8]) -> Result<(), Cut>
+#[tactic(auto, using(crate::proofs::Writing::part_taken))]
+pub fn send<S: Sink>(out: &mut S, text: &[u8]) -> Result<(), Stop<PutFailed>>
     ensures bytes { Sends result (S.has out.old) (S.has out.new) text.now }
     ensures cause { SendCause result (S.faults out.old) (S.faults out.new) }
 {
@@ -47,7 +19,7 @@ pub fn send<S: Sink>(out: &mut S, text: &[u8]) -> Result<(), Cut>
     }
     match out.put(text) {
         Put::All => Ok(()),
-        Put::Failed { taken: _ } => Err(Cut::Write),
-        Put::Memory => Err(Cut::Memory),
+        Put::Failed { taken: _ } => Err(Stop::Refused(PutFailed)),
+        Put::Memory => Err(Stop::Memory),
     }
 }

@@ -1,20 +1,23 @@
-ghost use Rattle.std.specs.Prelude.{◌≡◌, ◌≢◌, ℕ, ◌-◌, ◌^◌, ◌<◌, ◌⊎◌, ◌↔◌, List, map, Option, Some, None, IsTrue, IsSome, IfOk, IfSome};
-ghost use Rattle.std.specs.Option.{option_copied};
+ghost use Rattle.std.specs.Prelude.{◌≡◌, ◌≢◌, ℕ, ◌-◌, ◌^◌, ◌<◌, ◌≤◌, ◌⊎◌, ◌↔◌, List, [], length, map, Option, Some, None, Ok, IsTrue, IsSome, IfOk, IfSome};
+ghost use Rattle.std.specs.Option.{option_copied, option_map};
 ghost use Rattle.sg_outside.specs.Counts.{Rose, one_more};
 ghost use Rattle.sg_outside.specs.Files.{Held};
+ghost use Rattle.sg_flat.specs.State.{IsFlat, opening};
 ghost use Rattle.sparsegrid.specs.Texts.{texts};
-ghost use Rattle.sparsegrid.specs.Reading.{form_of};
-ghost use Rattle.sparsegrid.specs.FirstRun.{run_of};
-ghost use Rattle.sparsegrid.specs.Form.{is_form};
-ghost use Rattle.sparsegrid.specs.Lines.{read_line};
-ghost use Rattle.sparsegrid.specs.Meaning.{meaning, meaning_of_form, meaning_of_run, file_of, refused};
-ghost use Rattle.sparsegrid.specs.Outcome.{WentAlong, Followed, SendCause, ReadFault, Wrote, IsWhole, WroteFront, EndsAs, IsEnd, IsEnding, ReadsIn, ReadsOnce};
+ghost use Rattle.sparsegrid.specs.Lines.{words_last, read_last, file_bytes_last, refusal_last};
+ghost use Rattle.sparsegrid.specs.Compiled.{IsSpelled, spelled, compiled};
+ghost use Rattle.sparsegrid.specs.Meaning.{meaning, meaning_of_bytes, meaning_of_compiled, meaning_of_items, file_of, refused, refused_with};
+ghost use Rattle.sparsegrid.specs.Outcome.{WentAlong, Followed, SendCause, ReadFault, Wrote, IsWhole, WroteFront, EndsAs, AskedFor, HasSession, IsEnd, IsEnding, ReadsIn, ReadsOnce, state_of};
 
-use crate::first_run::{dump, final_state, layouts_of};
-use crate::form::FirstForm;
-use crate::output::{Cut, send};
+use crate::command::run_item;
+use crate::compile::{Compiled, compile, spell};
+use crate::last_line::{LastLine, file_bytes_last, read_last, refusal_last, words_last};
+use crate::output::{PutFailed, send};
+use crate::refusal::Refusal;
+use sg_ast::{Item, Program};
 use sg_flat::FlatState;
 use sg_outside::{Files, Gate, Got, Sink};
+use sg_words::{Memory, Stop};
 use std::alloc::Global;
 use std::thread::Threads;
 
@@ -27,16 +30,18 @@ pub struct Session {
     pub flat: FlatState,
 }
 
-/// How a run ended: its status, and with status 0 the session.
+/// How a run ended: its status, and with status 0 or 7 the session. After status 7 that is the session before the refused
+/// command.
 #[derive(Drop)]
 pub struct Done {
     pub status: u8,
     pub session: Option<Session>,
 }
 
-/// Runs the program that the words name: reads its file, runs its kernel and writes its grid, or one last line that says
-/// why it was refused. Statuses: 0 all done, 1 bad words, 2 the read failed, 3 a put failed, 4 the file has not the first
-/// form, 9 want of memory.
+/// Runs the program that the words name: reads its file and performs its commands in order, or writes one last line that
+/// says why it was refused. Statuses: 0 all done, 1 bad words, 2 the read failed, 3 a put failed, 4 the bytes spell no
+/// program, 5 the program breaks a rule or has a form that is not built, 7 a kernel run was refused, 8 a limit was passed,
+/// 9 want of memory.
 pub fn run<R: Threads + Sync, F: Files, S: Sink, G: Gate + Sync>(
     _rt: &R,
     alloc: Global,
@@ -50,10 +55,12 @@ pub fn run<R: Threads + Sync, F: Files, S: Sink, G: Gate + Sync>(
         Wrote (meaning (texts words.now) held None) (S.has out.old) (S.has out.new) result.status }
     // With status 2 the read that failed was the last one, and the meaning is that of the run in which it fails.
     ensures stopped { result.status ≡ 2 → F.reads files.new < 2 ^ 64 - 1 → (held : Held) → F.holds files.old ≡ Some held →
-        Wrote (meaning (texts words.now) held (Some (F.reads files.new - F.reads files.old))) (S.has out.old) (S.has out.new) result.status }
-    // With status 3 or 9 a front of the text was written.
+        Wrote (meaning (texts words.now) held (Some (F.reads files.new - F.reads files.old)))
+        (S.has out.old) (S.has out.new) result.status }
+    // With status 3 or 9 a front of the text was written, and with 3 not the whole of it, nor with 9 the whole of a last line.
     ensures front { (result.status ≡ 3) ⊎ (result.status ≡ 9) → (held : Held) → F.holds files.old ≡ Some held →
-        WroteFront (meaning (texts words.now) held) (F.reads files.old) (F.reads files.new) (S.has out.old) (S.has out.new) (F.faults files.old) (F.faults files.new) }
+        WroteFront (meaning (texts words.now) held) (F.reads files.old) (F.reads files.new) (S.has out.old) (S.has out.new)
+        (F.faults files.old) (F.faults files.new) result.status }
 
     // Whatever the files and the sink tell, a run that came to its end ended in one of these ways.
     ensures ended { IsEnding result.status → EndsAs (file_of (texts words.now)) result.status (S.has out.old) (S.has out.new) }
@@ -64,23 +71,31 @@ pub fn run<R: Threads + Sync, F: Files, S: Sink, G: Gate + Sync>(
     ensures no_read_fault { IsWhole result.status → F.faults files.new ≡ F.faults files.old }
     ensures no_write_fault { result.status ≢ 3 → S.faults out.new ≡ S.faults out.old }
 
+    ensures read_faults_stay { F.faults files.old ≤ F.faults files.new }
+    ensures write_faults_stay { S.faults out.old ≤ S.faults out.new }
+
     // Where neither count of faults rose the run is that of the meaning, or wanted memory.
-    ensures complete { ¬ Rose (F.faults files.old) (F.faults files.new) → ¬ Rose (S.faults out.old) (S.faults out.new) → result.status ≢ 9 →
+    ensures complete { ¬ Rose (F.faults files.old) (F.faults files.new) → ¬ Rose (S.faults out.old) (S.faults out.new) →
+        result.status ≢ 9 →
         (held : Held) → F.holds files.old ≡ Some held →
         Wrote (meaning (texts words.now) held None) (S.has out.old) (S.has out.new) result.status }
 
-    // Files are read once, and never with bad words.
+    // The named file is read once, and no other, and none with bad words; the files stay as they are.
     ensures reads { IsEnding result.status → ReadsOnce result.status (F.reads files.old) (F.reads files.new) }
     ensures few_reads { (F.reads files.new ≡ F.reads files.old) ⊎ (F.reads files.new ≡ one_more (F.reads files.old)) }
 
-    ensures session { IsSome result.session ↔ (result.status ≡ 0) }
+    ensures asked { AskedFor (file_of (texts words.now)) (F.asked files.old) (F.asked files.new) }
+    ensures holds { F.holds files.new ≡ F.holds files.old }
+
+    // With status 0 and 7 there is a session, with the last state.
+    ensures session { IsSome result.session ↔ HasSession result.status }
     ensures last { IfSome result.session (λ session. (held : Held) → F.holds files.old ≡ Some held →
         (meaning (texts words.now) held None).last ≡ Some session.flat) }
 {
     match answer(alloc, words, files, out) {
         Ok(done) => done,
-        Err(Cut::Write) => cut_short(3),
-        Err(Cut::Memory) => cut_short(9),
+        Err(Stop::Refused(PutFailed)) => cut_short(3),
+        Err(Stop::Memory) => cut_short(9),
     }
 }
 
@@ -100,25 +115,28 @@ fn answer<F: Files, S: Sink>(
     words: &[String],
     files: &mut F,
     out: &mut S,
-) -> Result<Done, Cut>
+) -> Result<Done, Stop<PutFailed>>
     ensures followed { (held : Held) → F.holds files.old ≡ Some held →
         Followed (meaning (texts words.now) held) (F.reads files.old) (F.reads files.new) (S.has out.old) (S.has out.new)
         (F.faults files.old) (F.faults files.new) result }
     ensures reads { ReadsIn result (F.reads files.old) (F.reads files.new) }
+    ensures asked { AskedFor (file_of (texts words.now)) (F.asked files.old) (F.asked files.new) }
+    ensures holds { F.holds files.new ≡ F.holds files.old }
     ensures read_fault { ReadFault result (F.faults files.old) (F.faults files.new) }
+    ensures never_falls { F.faults files.old ≤ F.faults files.new }
     ensures cause { SendCause result (S.faults out.old) (S.faults out.new) }
     ensures end { IfOk result IsEnd }
     ensures ended { IfOk result (λ done. EndsAs (file_of (texts words.now)) done.status (S.has out.old) (S.has out.new)) }
 {
     match file_word(words) {
-        None => refuse(alloc, out, 1, "refused: words"),
+        None => refuse_words(alloc, out),
         Some(name) => {
             let mut bytes = Vec::new(alloc);
             match files.read(name, FILE_LIMIT, &mut bytes) {
                 Got::All => run_source(alloc, out, bytes.as_slice()),
-                Got::TooLong => refuse(alloc, out, 4, "refused: form"),
+                Got::TooLong => refuse_long(alloc, out),
                 Got::Failed => refuse_read(alloc, out, name),
-                Got::Memory => Err(Cut::Memory),
+                Got::Memory => Err(Stop::Memory),
             }
         }
     }
@@ -140,60 +158,147 @@ fn file_word(words: &[String]) -> Option<&str>
     }
 }
 
-/// Writes the last line of a refused run.
-#[tactic(auto, using(crate::proofs::Writing::went_nowhere))]
-fn refuse<S: Sink>(alloc: Global, out: &mut S, status: u8, line: &str) -> Result<Done, Cut>
-    requires { status ≢ 0 }
-    ensures along { WentAlong (refused status line.now) (S.has out.old) (S.has out.new) result }
+/// Writes the last line of a refused run, which leaves the session.
+fn refuse<S: Sink>(
+    alloc: Global,
+    out: &mut S,
+    last: &LastLine,
+    session: Option<Session>,
+) -> Result<Done, Stop<PutFailed>>
+    ensures along { WentAlong (refused_with (option_map (λ session. session.flat) session) last.now)
+        (S.has out.old) (S.has out.new) result }
     ensures cause { SendCause result (S.faults out.old) (S.faults out.new) }
-    ensures status { IfOk result (λ done. done.status ≡ status) }
+    ensures status { IfOk result (λ done. done.status ≡ last.now.status) }
+    ensures session { IfOk result (λ done. done.session ≡ session) }
+{
+    match last.text(alloc) {
+        Ok(text) => match send(out, text.as_slice()) {
+            Ok(()) => Ok(Done {
+                status: last.status,
+                session,
+            }),
+            Err(why) => Err(why),
+        },
+        Err(Memory) => Err(Stop::Memory),
+    }
+}
+
+/// Writes the last line of a run with bad words.
+fn refuse_words<S: Sink>(alloc: Global, out: &mut S) -> Result<Done, Stop<PutFailed>>
+    ensures along { WentAlong (refused words_last) (S.has out.old) (S.has out.new) result }
+    ensures cause { SendCause result (S.faults out.old) (S.faults out.new) }
+    ensures status { IfOk result (λ done. done.status ≡ 1) }
     ensures session { IfOk result (λ done. done.session ≡ None) }
 {
-    let text = format!(in alloc; "{line}\n")?;
-    send(out, text.as_bytes())?;
-    Ok(cut_short(status))
+    match words_last(alloc) {
+        Ok(last) => refuse(alloc, out, &last, None),
+        Err(Memory) => Err(Stop::Memory),
+    }
+}
+
+/// Writes the last line of a run whose file has too many bytes.
+fn refuse_long<S: Sink>(alloc: Global, out: &mut S) -> Result<Done, Stop<PutFailed>>
+    ensures along { WentAlong (refused file_bytes_last) (S.has out.old) (S.has out.new) result }
+    ensures cause { SendCause result (S.faults out.old) (S.faults out.new) }
+    ensures status { IfOk result (λ done. done.status ≡ 8) }
+    ensures session { IfOk result (λ done. done.session ≡ None) }
+{
+    match file_bytes_last(alloc) {
+        Ok(last) => refuse(alloc, out, &last, None),
+        Err(Memory) => Err(Stop::Memory),
+    }
 }
 
 /// Writes the last line of a run whose file could not be read.
-#[tactic(auto, using(crate::proofs::Writing::went_nowhere))]
-fn refuse_read<S: Sink>(alloc: Global, out: &mut S, name: &str) -> Result<Done, Cut>
-    ensures along { WentAlong (refused 2 (read_line name.now)) (S.has out.old) (S.has out.new) result }
+fn refuse_read<S: Sink>(alloc: Global, out: &mut S, name: &str) -> Result<Done, Stop<PutFailed>>
+    ensures along { WentAlong (refused (read_last name.now)) (S.has out.old) (S.has out.new) result }
     ensures cause { SendCause result (S.faults out.old) (S.faults out.new) }
     ensures status { IfOk result (λ done. done.status ≡ 2) }
     ensures session { IfOk result (λ done. done.session ≡ None) }
 {
-    let line = format!(in alloc; "refused: read {name}")?;
-    refuse(alloc, out, 2, line.as_str())
-}
-
-/// Runs the program that these bytes spell.
-#[tactic(auto, using(crate::proofs::Writing::went_nowhere))]
-fn run_source<S: Sink>(alloc: Global, out: &mut S, bytes: &[u8]) -> Result<Done, Cut>
-    ensures along { WentAlong (meaning_of_form (form_of bytes.now)) (S.has out.old) (S.has out.new) result }
-    ensures cause { SendCause result (S.faults out.old) (S.faults out.new) }
-    ensures end { IfOk result IsEnd }
-    ensures not_read { IfOk result (λ done. done.status ≢ 2) }
-    ensures status { IfOk result (λ done. (done.status ≡ 0) ⊎ (done.status ≡ 4)) }
-{
-    match FirstForm::read(bytes) {
-        None => refuse(alloc, out, 4, "refused: form"),
-        Some(form) => run_form(alloc, out, &form),
+    match read_last(alloc, name) {
+        Ok(last) => refuse(alloc, out, &last, None),
+        Err(Memory) => Err(Stop::Memory),
     }
 }
 
-/// Runs the kernel of a form and writes its grid.
-#[tactic(auto, using(crate::proofs::Writing::went_nowhere))]
-fn run_form<S: Sink>(alloc: Global, out: &mut S, form: &FirstForm) -> Result<Done, Cut>
-    requires { IsTrue (is_form form.now) }
-    ensures along { WentAlong (meaning_of_run form.now (run_of form.now)) (S.has out.old) (S.has out.new) result }
+/// Writes the last line of a run whose file is refused before its commands run.
+fn refuse_source<S: Sink>(
+    alloc: Global,
+    out: &mut S,
+    items: &[Item],
+    refusal: Refusal,
+) -> Result<Done, Stop<PutFailed>>
+    ensures along { WentAlong (refused (refusal_last items.now refusal)) (S.has out.old) (S.has out.new) result }
     ensures cause { SendCause result (S.faults out.old) (S.faults out.new) }
-    ensures status { IfOk result (λ done. done.status ≡ 0) }
-    ensures session { IfOk result (λ done. IsSome done.session) }
+    ensures status { IfOk result (λ done. done.status ≡ (refusal_last items.now refusal).status) }
+    ensures session { IfOk result (λ done. done.session ≡ None) }
 {
-    let layouts = layouts_of(alloc, form)?;
-    let flat = final_state(alloc, &layouts, form)?;
-    let text = dump(alloc, &layouts, form, &flat)?;
-    send(out, text.as_bytes())?;
+    match refusal_last(alloc, items, refusal) {
+        Ok(last) => refuse(alloc, out, &last, None),
+        Err(Memory) => Err(Stop::Memory),
+    }
+}
+
+/// Runs the program that these bytes spell.
+fn run_source<S: Sink>(alloc: Global, out: &mut S, bytes: &[u8]) -> Result<Done, Stop<PutFailed>>
+    requires { length bytes.now ≤ 65536 }
+    ensures along { WentAlong (meaning_of_bytes bytes.now) (S.has out.old) (S.has out.new) result }
+    ensures cause { SendCause result (S.faults out.old) (S.faults out.new) }
+    ensures end { IfOk result IsEnd }
+    ensures status { IfOk result (λ done. (done.status ≢ 1) × (done.status ≢ 2)) }
+{
+    match spell(alloc, bytes) {
+        Ok(program) => run_program(alloc, out, &program),
+        Err(Stop::Refused(refusal)) => refuse_source(alloc, out, &[], refusal),
+        Err(Stop::Memory) => Err(Stop::Memory),
+    }
+}
+
+/// Runs a program of the grammar.
+fn run_program<S: Sink>(
+    alloc: Global,
+    out: &mut S,
+    program: &Program,
+) -> Result<Done, Stop<PutFailed>>
+    requires { IsSpelled program.now }
+    ensures along { WentAlong (meaning_of_compiled program.now.items (compiled program.now)) (S.has out.old) (S.has out.new) result }
+    ensures cause { SendCause result (S.faults out.old) (S.faults out.new) }
+    ensures end { IfOk result IsEnd }
+    ensures status { IfOk result (λ done. (done.status ≢ 1) × (done.status ≢ 2)) }
+{
+    let items = program.items.as_slice();
+    match compile(alloc, program) {
+        Ok(compiled) => run_items(alloc, out, &compiled, items),
+        Err(Stop::Refused(refusal)) => refuse_source(alloc, out, items, refusal),
+        Err(Stop::Memory) => Err(Stop::Memory),
+    }
+}
+
+/// Runs the commands of a program from the opening state on.
+fn run_items<S: Sink>(
+    alloc: Global,
+    out: &mut S,
+    compiled: &Compiled,
+    items: &[Item],
+) -> Result<Done, Stop<PutFailed>>
+    ensures along { WentAlong (meaning_of_items compiled.now items.now (opening compiled.now.layouts.list) items.now)
+        (S.has out.old) (S.has out.new) result }
+    ensures cause { SendCause result (S.faults out.old) (S.faults out.new) }
+    ensures end { IfOk result IsEnd }
+    ensures status { IfOk result (λ done. HasSession done.status) }
+{
+    let mut flat = match FlatState::open(alloc, &compiled.layouts) {
+        Ok(flat) => flat,
+        Err(Memory) => return Err(Stop::Memory),
+    };
+    for item in items {
+        match run_item(alloc, out, compiled, items, &mut flat, item) {
+            Ok(None) => {}
+            Ok(Some(last)) => return refuse(alloc, out, &last, Some(Session { flat })),
+            Err(why) => return Err(why),
+        }
+    }
     Ok(Done {
         status: 0,
         session: Some(Session { flat }),

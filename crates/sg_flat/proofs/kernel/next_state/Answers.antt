@@ -1,11 +1,11 @@
 use Rattle.std.proofs.Common.{◌++◌, length, drop, take, sym, ap, ◌∙◌, subst}
 use Rattle.std.proofs.lemmas.List.{length_push}
 use Rattle.sg_flat.specs.State.{AreFlatLayouts}
-use Rattle.sg_flat.specs.Kernel.{layouts_after, first_full_layout}
+use Rattle.sg_flat.specs.Kernel.{layouts_after}
 use Rattle.sg_flat.proofs.Pairs.{pair_turn, pair_end}
 use Rattle.sg_flat.proofs.Insides.{stay_inside_each}
 use Rattle.sg_flat.proofs.FlatLayouts.{flat_layout_at, first_past, AreFlatLayouts-more, AreFlatLayouts-all}
-use Rattle.sg_flat.proofs.AfterRuns.{layouts_after-step, layouts_after-end, first_full_layout-step, first_full_layout-end}
+use Rattle.sg_flat.proofs.AfterRuns.{layouts_after-step, layouts_after-end}
 use Rattle.sg_flat.proofs.kernel.next_state.Goals as goal
 
 pub next_layout-requires-clause-flat : goal.next_layout-requires-clause-flat
@@ -48,8 +48,6 @@ loop-number-preserved c =
     record {
       meaning = ap (λ n. c.push.new.self ++ layouts_after n (drop n shapes) (drop n before) turns) one_more
           ∙ layouts_after-step shapes before c.loop-number.flats c.push.new.self _ turns i c.in-Some.number c.in-Some.layout.now c.in-Some.flat.now new stands c.loop-number.invariant.meaning clauses.meaning pushed;
-      room = ap (λ n. first_full_layout n (drop n shapes) (drop n before) turns) one_more
-          ∙ first_full_layout-step shapes before _ turns i c.in-Some.number c.in-Some.layout.now c.in-Some.flat.now stands c.loop-number.invariant.room clauses.room;
       flat = subst (λ n. AreFlatLayouts (take n shapes) c.push.new.self) (sym one_more)
           (AreFlatLayouts-more shapes c.loop-number.flats c.push.new.self i c.in-Some.layout.now new stands.in_first stands.first c.loop-number.invariant.flat clauses.flat pushed);
     }
@@ -64,17 +62,6 @@ returns-clause-meaning c =
     c.loop-number.yielded c.loop-number.number-iterator c.next.new.self c.loop-number.yielded_by
     c.next.result c.in-None.is c.next.ensures.steps in
     layouts_after-end shapes before c.loop-number.flats _ c.args.effects.now.turns (length c.loop-number.yielded) over c.loop-number.invariant.meaning
-
-pub returns-clause-room : goal.returns-clause-room
-returns-clause-room c =
-    let shapes = c.args.layouts.now.list in
-    let before = c.args.state.now.layouts in
-    let over = pair_end shapes before c.into_iter-number-iterator.result c.enumerate-number-items.result c.zip.result c.iter.result
-    c.into_iter-number-iterator.ensures.into_iter_gives c.enumerate-number-items.ensures.source c.enumerate-number-items.ensures.count c.zip.ensures.first
-    (c.iter.ensures.rest ∙ c.as_slice.ensures) (c.zip.ensures.second.0 ∙ c.as_slice-before.ensures)
-    c.loop-number.yielded c.loop-number.number-iterator c.next.new.self c.loop-number.yielded_by
-    c.next.result c.in-None.is c.next.ensures.steps in
-    first_full_layout-end shapes before _ c.args.effects.now.turns (length c.loop-number.yielded) over c.loop-number.invariant.room
 
 pub returns-clause-flat : goal.returns-clause-flat
 returns-clause-flat c =

@@ -1,0 +1,68 @@
+-- Worked examples of closures and needs, for each kind of node.
+use Rattle.std.specs.Prelude.{◌≡◌, [], ◌∷◌, map, Some, None, refl, pos}
+use Rattle.sg_layout.specs.declared.shape.Kind.TheVariants.{Dense, Bitmasked, Pointer, Hash, Dynamic}
+use Rattle.sg_layout.specs.declared.shape.NodeShape.{NodeShape}
+use Rattle.sg_layout.specs.declared.shape.Shape.{Shape}
+use Rattle.sg_layout.specs.Closure.{closure, last_sparse}
+use Rattle.sg_layout.specs.Need.{reached_slots, need_of, first_full}
+use Rattle.sg_layout.specs.Examples.{node1, shape_of, at1, blocks, masked_blocks}
+
+-- hash(i: 64) cap 3;
+abbrev pub keyed : Shape
+keyed = shape_of 1 (node1 Hash (pos 64) (pos 3) (pos 0) ∷ [])
+
+-- a chunk has 4 elements, and there are 3 of them
+abbrev pub row_node : NodeShape
+row_node = node1 Dynamic (pos 8) (pos 3) (pos 4)
+
+-- pointer(i: 2) cap 2; dynamic(i: 8) chunk 4 cap 3;
+abbrev pub rows : Shape
+rows = shape_of 1 (node1 Pointer (pos 2) (pos 2) (pos 0) ∷ row_node ∷ [])
+
+-- bitmasked(i: 4); dense(i: 2);
+abbrev pub pairs : Shape
+pairs = shape_of 1 (node1 Bitmasked (pos 4) (pos 0) (pos 0) ∷ node1 Dense (pos 2) (pos 0) (pos 0) ∷ [])
+
+one_key : closure keyed (at1 24 ∷ []) ≡ at1 24 ∷ []
+one_key = refl
+
+pair_of_five : closure pairs (at1 5 ∷ at1 0 ∷ []) ≡ map at1 (0 ∷ 1 ∷ 4 ∷ 5 ∷ [])
+pair_of_five = refl
+
+rows_fill_up : closure rows (at1 6 ∷ at1 9 ∷ []) ≡ map at1 (0 ∷ 1 ∷ 2 ∷ 3 ∷ 4 ∷ 5 ∷ 6 ∷ 8 ∷ 9 ∷ [])
+rows_fill_up = refl
+
+keys_once : reached_slots keyed (at1 24 ∷ at1 0 ∷ at1 24 ∷ []) 1 ≡ (0 ∷ []) ∷ (24 ∷ []) ∷ []
+keys_once = refl
+
+need_of_keys : need_of keyed (at1 24 ∷ at1 0 ∷ at1 24 ∷ []) 1 (node1 Hash (pos 64) (pos 3) (pos 0)) ≡ 2
+need_of_keys = refl
+
+-- seven elements in the first row and two in the second
+need_of_rows : need_of rows (at1 1 ∷ at1 6 ∷ at1 9 ∷ []) 2 row_node ≡ 3
+need_of_rows = refl
+
+-- four elements fill one chunk
+need_of_one_chunk : need_of rows (at1 3 ∷ []) 2 row_node ≡ 1
+need_of_one_chunk = refl
+
+masks_need_nothing : need_of pairs (at1 5 ∷ at1 0 ∷ []) 1 (node1 Bitmasked (pos 4) (pos 0) (pos 0)) ≡ 0
+masks_need_nothing = refl
+
+cells_need_nothing : need_of blocks (at1 5 ∷ at1 0 ∷ []) 2 (node1 Dense (pos 4) (pos 0) (pos 0)) ≡ 0
+cells_need_nothing = refl
+
+three_chunks_fit : first_full rows (at1 6 ∷ at1 9 ∷ []) ≡ None
+three_chunks_fit = refl
+
+fourth_chunk_is_too_many : first_full rows (at1 6 ∷ at1 12 ∷ []) ≡ Some (record { node = 2; cap = 3 })
+fourth_chunk_is_too_many = refl
+
+fourth_key_is_too_many : first_full keyed (map at1 (0 ∷ 8 ∷ 16 ∷ 24 ∷ [])) ≡ Some (record { node = 1; cap = 3 })
+fourth_key_is_too_many = refl
+
+blocks_decide : last_sparse blocks.nodes ≡ 1
+blocks_decide = refl
+
+masks_decide : last_sparse masked_blocks.nodes ≡ 2
+masks_decide = refl

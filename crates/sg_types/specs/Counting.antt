@@ -1,0 +1,48 @@
+-- How many statements there are, themselves and those in their blocks counted.
+use Rattle.std.specs.Prelude.{ℕ, ◌+◌, List, [], ◌∷◌, map, length, Option, Some, None}
+use Rattle.sg_ast.specs.declared.stmt.Stmt.{Stmt, fold-Stmt}
+use Rattle.sg_ast.specs.declared.stmt.Stmt.TheOpen as s
+use Rattle.sg_ast.specs.declared.kernel.KernelDecl.{KernelDecl}
+use Rattle.sg_ast.specs.declared.program.Item.{Item}
+use Rattle.sg_ast.specs.declared.program.Item.TheVariants as item
+use Rattle.sg_ast.specs.declared.stmt.Stmt.TheOpen.{Stmt-F}
+
+-- the sum of some numbers
+abbrev pub total : List ℕ → ℕ
+total [] = 0
+total (n ∷ ns) = n + total ns
+
+abbrev pub else_sum : Option (List ℕ) → ℕ
+else_sum None = 0
+else_sum (Some counts) = total counts
+
+-- one layer of a statement, where the numbers of statements in those in it are given
+abbrev pub count_step : Stmt-F ℕ → ℕ
+count_step (s.Let name value) = 1
+count_step (s.Assign name value) = 1
+count_step (s.Write field index how value) = 1
+count_step (s.If condition block otherwise) = 1 + (total block + else_sum otherwise)
+count_step (s.For name range body) = 1 + total body
+
+-- how many statements a statement is
+abbrev pub stmt_count : Stmt → ℕ
+stmt_count = fold-Stmt ℕ count_step
+
+-- how many a block has
+abbrev pub block_count : List Stmt → ℕ
+block_count block = total (map stmt_count block)
+
+abbrev pub else_count : Option (List Stmt) → ℕ
+else_count None = 0
+else_count (Some block) = block_count block
+
+-- the variables and statements of a kernel, its loop counted
+abbrev pub kernel_size : KernelDecl → ℕ
+kernel_size kernel = length kernel.vars + (1 + block_count kernel.body)
+
+-- the same of an item, 0 where it is no kernel
+abbrev pub item_size : Item → ℕ
+item_size (item.Const decl) = 0
+item_size (item.Layout decl) = 0
+item_size (item.Kernel kernel) = kernel_size kernel
+item_size (item.Command command) = 0

@@ -1,0 +1,15 @@
+pub mod Values
+pub mod Iterations
+pub mod TypeTable
+pub mod Scopes
+pub mod Expressions
+pub mod Statements
+pub mod Programs
+pub mod Counting
+pub mod Standing
+pub mod Views
+pub mod Taking
+pub mod WellTyped
+pub mod Written
+pub mod NamesBack
+pub mod Laws

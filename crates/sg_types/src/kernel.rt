@@ -1,0 +1,51 @@
+//! Kernels: the loop, and the statements of its body.
+
+ghost use Rattle.std.specs.Prelude.{◌≡◌, ◌<◌, ◌^◌, length, false, IfOk};
+ghost use Rattle.sg_words.specs.Answers.{Answers};
+ghost use Rattle.sg_types.specs.Programs as spec;
+ghost use Rattle.sg_types.specs.Counting.{kernel_size};
+ghost use Rattle.sg_types.specs.Views.{known_of, reached_of};
+
+use crate::fault::TypeFault;
+use crate::known::Context;
+use crate::progress::Progress;
+use crate::scope::Scope;
+use crate::typed::TypedKernel;
+use sg_ast::{KernelDecl, Name};
+use sg_words::{Items, Memory, Stop, Ty};
+
+impl<'a> Context<'a> {
+    /// The typed kernel, or its first fault.
+    pub fn kernel(&self, decl: &'a KernelDecl) -> Result<TypedKernel, Stop<TypeFault>>
+        requires { kernel_size decl.now < 2 ^ 32 }
+        ensures { Answers result (spec.typed_kernel (known_of self.now) decl.now) }
+    {
+        let domain = self.loop_part(decl)?;
+        let mut at = self.first_progress(decl.vars.as_slice())?;
+        let body = self.block(&mut at, decl.body.as_slice())?;
+        let Progress { types, .. } = at;
+        Ok(TypedKernel {
+            vars: decl.vars.len() as u32,
+            domain,
+            types,
+            body,
+        })
+    }
+
+    /// The start of a body, where the loop's variables are declared.
+    fn first_progress(&self, vars: &'a [Name]) -> Result<Progress<'a>, Memory>
+        requires once { spec.has_repeat vars.now ≡ false }
+        requires room { length vars.now < 2 ^ 32 }
+        ensures { IfOk result (λ at. reached_of at ≡ spec.first_reached vars.now) }
+    {
+        let mut at = Progress {
+            number: 1,
+            types: Items::new(self.alloc),
+            scope: Scope::new(self.alloc),
+        };
+        for name in vars {
+            at.declare(name, Ty::I32, true)?;
+        }
+        Ok(at)
+    }
+}

@@ -1,0 +1,305 @@
+ghost use Rattle.std.specs.Prelude.{◌≡◌, ◌<◌, ◌^◌, ◌+ℤ◌, pos, map, get_or, IfOk, OnOk};
+ghost use Rattle.sg_words.specs.declared.operators.Ty.TheVariants as ty;
+ghost use Rattle.sg_words.specs.Words.{number, word_of};
+ghost use Rattle.sg_types.specs.Values.{Moment, coord_of, read_value, value_of};
+ghost use Rattle.sg_types.specs.Iterations.{action_of, run_all, set_var, before_all};
+ghost use Rattle.sparsegrid.specs.Evaluation.{world_of, StandsFor, coord_from, run_turns};
+ghost use Rattle.sg_flat.specs.Domain.{numbers};
+
+use crate::built::count_between;
+use crate::written::Written;
+use sg_coord::Coord;
+use sg_flat::{FlatState, Write};
+use sg_layout::Layouts;
+use sg_types::{Form, TypedExpr, TypedKind, TypedRange, TypedStmt};
+use sg_words::{Memory, Ty, apply, apply_un, mulq, number};
+
+/// What all iterations of a kernel run see: the layouts, and the state at the start.
+#[derive(Clone, Copy)]
+pub struct Seen<'a> {
+    pub layouts: &'a Layouts,
+    pub state: &'a FlatState,
+}
+
+/// How far an iteration has come: the words of its variables by their numbers (0 for those past the end), and its writes.
+#[derive(Drop)]
+pub struct Progress {
+    pub words: Vec<u32>,
+    pub writes: Written,
+}
+
+impl Progress {
+    /// The word of a variable.
+    fn word(&self, var: u32) -> u32
+        ensures { result ≡ get_or self.now.words.items var 0 }
+    {
+        self.words.get(var as usize).copied().unwrap_or(0)
+    }
+
+    /// Gives a variable a word.
+    fn set(&mut self, var: u32, word: u32) -> Result<(), Memory>
+        ensures { OnOk result ((now : Moment) → StandsFor self.old.words.items self.old.writes now →
+            StandsFor self.new.words.items self.new.writes (set_var var word now)) }
+    {
+        let place = var as usize;
+        for _size in self.words.len()..place + 1 {
+            self.words.push(0)?;
+        }
+        self.words[place] = word;
+        Ok(())
+    }
+}
+
+impl<'a> Seen<'a> {
+    /// The word of an expression.
+    #[cycle(value)]
+    fn value(&self, at: &Progress, expr: &TypedExpr) -> Result<u32, Memory>
+        ensures { IfOk result (λ word. (now : Moment) → StandsFor at.now.words.items at.now.writes now →
+            word ≡ value_of (world_of self.now.layouts.now.list self.now.state.now) now expr.now) }
+    {
+        match &expr.form {
+            Form::Literal(word) | Form::Constant(word) => Ok(*word),
+            Form::Var(var) => Ok(at.word(*var)),
+            Form::Read {
+                layout,
+                place,
+                index,
+            } => {
+                let coord = self.coord(at, index.as_slice())?;
+                Ok(self.read(at, *layout, *place, coord))
+            }
+            Form::Paren(inner) => self.value(at, inner.get()),
+            Form::Convert(inner) => self.value(at, inner.get()),
+            Form::Un { op, of } => {
+                let word = self.value(at, of.get())?;
+                Ok(apply_un(*op, word))
+            }
+            Form::Bin { op, left, right } => {
+                let (left, right) = (left.get(), right.get());
+                let a = self.value(at, left)?;
+                let b = self.value(at, right)?;
+                Ok(apply(*op, left.ty, a, b))
+            }
+            Form::Mulq { a, b, s } => {
+                let a = self.value(at, a.get())?;
+                let b = self.value(at, b.get())?;
+                let s = self.value(at, s.get())?;
+                Ok(mulq(a, b, s))
+            }
+        }
+    }
+
+    /// The coordinate that indices give.
+    #[cycle(value)]
+    fn coord(&self, at: &Progress, index: &[TypedExpr]) -> Result<Coord, Memory>
+        ensures { IfOk result (λ coord. (now : Moment) → StandsFor at.now.words.items at.now.writes now →
+            coord ≡ coord_of (map (value_of (world_of self.now.layouts.now.list self.now.state.now) now) index.now)) }
+    {
+        let n = part_count(index.len())?;
+        let a = self.part(at, index, 0)?;
+        let b = self.part(at, index, 1)?;
+        let c = self.part(at, index, 2)?;
+        Ok(coord_from(n, a, b, c))
+    }
+
+    /// The word of the index at a place, and 0 past the last.
+    #[cycle(value)]
+    fn part(&self, at: &Progress, index: &[TypedExpr], place: usize) -> Result<u32, Memory>
+        ensures { IfOk result (λ word. (now : Moment) → StandsFor at.now.words.items at.now.writes now →
+            word ≡ get_or (map (value_of (world_of self.now.layouts.now.list self.now.state.now) now) index.now) place 0) }
+    {
+        if place < index.len() {
+            self.value(at, &index[place])
+        } else {
+            Ok(0)
+        }
+    }
+
+    /// What a read of a field at a coordinate gives: the last own value of this iteration, or else the state's value.
+    fn read(&self, at: &Progress, layout: u32, place: u32, coord: Coord) -> u32
+        ensures { (now : Moment) → at.now.writes ≡ now.writes →
+            result ≡ read_value (world_of self.now.layouts.now.list self.now.state.now) now layout place coord }
+    {
+        match at.writes.own_write(layout, place) {
+            Some(write) => write.value,
+            None => self.state.value(self.layouts, layout, place, coord),
+        }
+    }
+
+    /// The lower corner of the box of some ranges.
+    pub fn lower_corner(&self, at: &Progress, ranges: &[TypedRange]) -> Result<Coord, Memory>
+        ensures { IfOk result (λ coord. (now : Moment) → StandsFor at.now.words.items at.now.writes now →
+            coord ≡ coord_of (map (λ range. value_of (world_of self.now.layouts.now.list self.now.state.now) now range.lo) ranges.now)) }
+    {
+        let n = part_count(ranges.len())?;
+        let a = self.lower_bound(at, ranges, 0)?;
+        let b = self.lower_bound(at, ranges, 1)?;
+        let c = self.lower_bound(at, ranges, 2)?;
+        Ok(coord_from(n, a, b, c))
+    }
+
+    /// The word of the lower bound of the range at a place, and 0 past the last.
+    fn lower_bound(&self, at: &Progress, ranges: &[TypedRange], place: usize) -> Result<u32, Memory>
+        ensures { IfOk result (λ word. (now : Moment) → StandsFor at.now.words.items at.now.writes now →
+            word ≡ get_or (map (λ range. value_of (world_of self.now.layouts.now.list self.now.state.now) now range.lo) ranges.now) place 0) }
+    {
+        if place < ranges.len() {
+            self.value(at, &ranges[place].lo)
+        } else {
+            Ok(0)
+        }
+    }
+
+    /// The upper corner of the box of some ranges.
+    pub fn upper_corner(&self, at: &Progress, ranges: &[TypedRange]) -> Result<Coord, Memory>
+        ensures { IfOk result (λ coord. (now : Moment) → StandsFor at.now.words.items at.now.writes now →
+            coord ≡ coord_of (map (λ range. value_of (world_of self.now.layouts.now.list self.now.state.now) now range.hi) ranges.now)) }
+    {
+        let n = part_count(ranges.len())?;
+        let a = self.upper_bound(at, ranges, 0)?;
+        let b = self.upper_bound(at, ranges, 1)?;
+        let c = self.upper_bound(at, ranges, 2)?;
+        Ok(coord_from(n, a, b, c))
+    }
+
+    /// The word of the upper bound of the range at a place, and 0 past the last.
+    fn upper_bound(&self, at: &Progress, ranges: &[TypedRange], place: usize) -> Result<u32, Memory>
+        ensures { IfOk result (λ word. (now : Moment) → StandsFor at.now.words.items at.now.writes now →
+            word ≡ get_or (map (λ range. value_of (world_of self.now.layouts.now.list self.now.state.now) now range.hi) ranges.now) place 0) }
+    {
+        if place < ranges.len() {
+            self.value(at, &ranges[place].hi)
+        } else {
+            Ok(0)
+        }
+    }
+
+    /// Runs statements one after the other.
+    #[cycle(statements)]
+    pub fn run_all(&self, at: &mut Progress, stmts: &[TypedStmt]) -> Result<(), Memory>
+        ensures { OnOk result ((now : Moment) → StandsFor at.old.words.items at.old.writes now →
+            StandsFor at.new.words.items at.new.writes
+            (run_all (map (action_of (world_of self.now.layouts.now.list self.now.state.now)) stmts.now) now)) }
+    {
+        for stmt in stmts {
+            self.run(at, stmt)?;
+        }
+        Ok(())
+    }
+
+    /// Runs a statement.
+    #[cycle(statements)]
+    fn run(&self, at: &mut Progress, stmt: &TypedStmt) -> Result<(), Memory>
+        ensures { OnOk result ((now : Moment) → StandsFor at.old.words.items at.old.writes now →
+            StandsFor at.new.words.items at.new.writes
+            (action_of (world_of self.now.layouts.now.list self.now.state.now) stmt.now now)) }
+    {
+        match &stmt.kind {
+            TypedKind::Let { var, value } => {
+                let word = self.value(at, value)?;
+                at.set(*var, word)
+            }
+            TypedKind::Assign { var, value } => {
+                let word = self.value(at, value)?;
+                at.set(*var, word)
+            }
+            TypedKind::Write {
+                layout,
+                place,
+                index,
+                way,
+                value,
+            } => {
+                let coord = self.coord(at, index.as_slice())?;
+                let value = self.value(at, value)?;
+                at.writes.push(Write {
+                    layout: *layout,
+                    place: *place,
+                    stmt: stmt.number,
+                    at: coord,
+                    way: *way,
+                    value,
+                })?;
+                Ok(())
+            }
+            TypedKind::If {
+                cond,
+                yes,
+                no,
+                has_else: _has_else,
+            } => {
+                let word = self.value(at, cond)?;
+                if word == 0 {
+                    self.run_all(at, no.as_slice())
+                } else {
+                    self.run_all(at, yes.as_slice())
+                }
+            }
+            TypedKind::For { var, range, body } => {
+                let lo = self.value(at, &range.lo)?;
+                let hi = self.value(at, &range.hi)?;
+                self.run_turns(at, *var, lo, hi, body.as_slice())
+            }
+        }
+    }
+
+    /// Runs the body of an inner loop, with its variable at each of the numbers from one word up to below another.
+    #[cycle(statements)]
+    fn run_turns(
+        &self,
+        at: &mut Progress,
+        var: u32,
+        lo: u32,
+        hi: u32,
+        body: &[TypedStmt],
+    ) -> Result<(), Memory>
+        ensures { OnOk result ((now : Moment) → StandsFor at.old.words.items at.old.writes now →
+            StandsFor at.new.words.items at.new.writes
+            (run_turns var (map (action_of (world_of self.now.layouts.now.list self.now.state.now)) body.now) now
+            (numbers (number ty.I32 lo) (number ty.I32 hi)))) }
+    {
+        for k in 0..count_between(lo, hi) {
+            let turn = turn_word(lo, k);
+            at.set(var, turn)?;
+            self.run_all(at, body)?;
+        }
+        Ok(())
+    }
+}
+
+/// How many parts a coordinate has. There are never 2^32, which no memory has room for.
+fn part_count(parts: usize) -> Result<u32, Memory>
+    ensures { IfOk result (λ n. n ≡ parts) }
+{
+    match u32::try_from(parts) {
+        Ok(n) => Ok(n),
+        Err(_) => Err(Memory),
+    }
+}
+
+/// The coordinate with these words as its parts.
+fn coord_from(n: u32, a: u32, b: u32, c: u32) -> Coord
+    ensures { result ≡ coord_from n a b c }
+{
+    Coord {
+        n,
+        a: a.cast_signed(),
+        b: b.cast_signed(),
+        c: c.cast_signed(),
+    }
+}
+
+/// The word of a number, modulo 2^32.
+pub fn word_of(number: i64) -> u32
+    ensures { result ≡ word_of number }
+{
+    number.rem_euclid(0x1_0000_0000) as u32
+}
+
+/// The word of the number that is `k` past a word read as `I32`.
+fn turn_word(lo: u32, k: u64) -> u32
+    requires { k < 2 ^ 33 }
+    ensures { result ≡ word_of (number ty.I32 lo +ℤ pos k) }
+{
+    word_of(number(Ty::I32, lo) + k as i64)
+}
