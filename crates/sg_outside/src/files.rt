@@ -16,7 +16,7 @@ pub enum Got {
 }
 
 impl Got {
-    // The count of faults after this answer.
+    /// The count of faults after this answer.
     pub(crate) fn faults_after(self, faults: u64) -> u64
         ensures value { result ≡ faults_after self faults }
         ensures never_falls { faults ≤ result }

@@ -105,7 +105,7 @@ impl Files for MemFiles {
     }
 }
 
-// The first file of this name.
+/// The first file of this name.
 fn find_file<'a>(files: &'a [NamedBytes], name: &str) -> Option<&'a NamedBytes>
     ensures { option_map (λ file. file.now.bytes.items) result ≡ bytes_named (map entry_of files.now) name.now }
 {
@@ -117,7 +117,7 @@ fn find_file<'a>(files: &'a [NamedBytes], name: &str) -> Option<&'a NamedBytes>
     None
 }
 
-// Reads the first file of this name, under the limit.
+/// Reads the first file of this name, under the limit.
 fn read_named(files: &[NamedBytes], name: &str, limit: u64, into: &mut Vec<u8>) -> Got
     ensures { ReadsExactly result into.new.items (vec_capacity into.old)
         (reading_at (bytes_named (map entry_of files.now) name.now) limit) }
@@ -129,7 +129,7 @@ fn read_named(files: &[NamedBytes], name: &str, limit: u64, into: &mut Vec<u8>) 
     }
 }
 
-// Puts the bytes into the buffer, in place of what it has.
+/// Puts the bytes into the buffer, in place of what it has.
 fn copy_into(bytes: &[u8], into: &mut Vec<u8>) -> Got
     ensures { ReadsExactly result into.new.items (vec_capacity into.old) (Bytes bytes.now) }
 {

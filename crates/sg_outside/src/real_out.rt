@@ -40,8 +40,8 @@ impl<'a, R: Print> Sink for RealOut<'a, R> {
     }
 }
 
-// Writes the piece, as often as the writer takes a part of it. The turns are counted, since a writer may be interrupted
-// forever and this call has to return.
+/// Writes the piece, as often as the writer takes a part of it. The turns are counted, since a writer may be interrupted
+/// forever and this call has to return.
 fn write_piece<W: Write>(out: &mut W, piece: &[u8]) -> Put
     requires { 0 < length piece.now }
     ensures told { (written : List ℕ) → W.contents out.old ≡ Some written →

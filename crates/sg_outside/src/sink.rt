@@ -13,7 +13,7 @@ pub enum Put {
 }
 
 impl Put {
-    // The count of faults after this answer.
+    /// The count of faults after this answer.
     pub(crate) fn faults_after(self, faults: u64) -> u64
         ensures value { result ≡ faults_after self faults }
         ensures never_falls { faults ≤ result }

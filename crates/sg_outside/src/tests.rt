@@ -9,7 +9,7 @@ use std::io::{Error, ErrorKind};
 use std::test::Fail;
 use std::{fs, io};
 
-// An output that is closed.
+/// An output that is closed.
 #[derive(Drop)]
 struct Closed;
 

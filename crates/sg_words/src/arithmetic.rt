@@ -19,7 +19,7 @@ pub fn apply(op: BinOp, ty: Ty, a: u32, b: u32) -> u32
         BinOp::LAnd => word_of_truth(a != 0 && b != 0),
         BinOp::LOr => word_of_truth(a != 0 || b != 0),
         BinOp::Shl => a.wrapping_shl(b),
-        BinOp::Shr => word(number(ty, a) >> (b % 32)),
+        BinOp::Shr => word_of(number(ty, a) >> (b % 32)),
         BinOp::Min => smaller(ty, a, b),
         BinOp::Max => greater(ty, a, b),
         BinOp::Eq => word_of_truth(a == b),
@@ -47,7 +47,7 @@ pub fn mulq(a: u32, b: u32, s: u32) -> u32
     ensures { result ≡ mulq_of a b s }
 {
     let product = number(Ty::I32, a) * number(Ty::I32, b);
-    word(product >> (s % 32))
+    word_of(product >> (s % 32))
 }
 
 /// An old word `a` joined with a contribution `b`: their sum, or the smaller or greater in the type's order.
@@ -101,14 +101,14 @@ pub fn number(ty: Ty, w: u32) -> i64
     }
 }
 
-// A whole number modulo 2^32.
-fn word(z: i64) -> u32
+/// The word of a whole number: the number modulo 2^32.
+pub fn word_of(z: i64) -> u32
     ensures { result ≡ word_of z }
 {
     z.rem_euclid(0x1_0000_0000) as u32
 }
 
-// 1 or 0.
+/// 1 or 0.
 fn word_of_truth(truth: bool) -> u32
     ensures { result ≡ flag truth }
 {
@@ -121,7 +121,7 @@ fn divided(ty: Ty, a: u32, b: u32) -> u32
     if b == 0 {
         0
     } else {
-        word(number(ty, a) / number(ty, b))
+        word_of(number(ty, a) / number(ty, b))
     }
 }
 
@@ -131,7 +131,7 @@ fn remainder(ty: Ty, a: u32, b: u32) -> u32
     if b == 0 {
         a
     } else {
-        word(number(ty, a) % number(ty, b))
+        word_of(number(ty, a) % number(ty, b))
     }
 }
 

@@ -7,7 +7,7 @@ pub mod memory;
 pub mod operators;
 pub mod text;
 
-pub use arithmetic::{apply, apply_un, fold, mulq, number, rank, unrank};
+pub use arithmetic::{apply, apply_un, fold, mulq, number, rank, unrank, word_of};
 pub use memory::{Memory, Stop};
 pub use operators::{AccOp, BinOp, Ty, UnOp};
 pub use sqlite_items::{Boxed, Items};

@@ -13,6 +13,6 @@ returns-else-b-eq0 c =
     let y = c.number-else-b-eq0.result in
     let f : FitsSigned w64 x = search rules in
     let g : FitsSigned w64 y = search rules in
-    c.word.ensures ∙ ap word_of (computed_rem x y f g ∙ int_rem-is x y
+    c.word_of.ensures ∙ ap word_of (computed_rem x y f g ∙ int_rem-is x y
     ∙ ap₂ (λ (u v : ℤ). u -ℤ (int_div u v *ℤ v)) c.number.ensures.value c.number-else-b-eq0.ensures.value
     ∙ ap (λ (q : ℤ). number t a -ℤ (q *ℤ number t b)) (int_div-quotient t a b c.if-b-eq0.false))

@@ -2,4 +2,4 @@ use Rattle.sg_words.proofs.WordLemmas.{folds_alike}
 use Rattle.sg_words.proofs.laws.contributions_exchange.Goals as goal
 
 pub returns : goal.returns
-returns c = folds_alike c.args.op c.args.ty c.args.old c.args.some.now c.args.others.now
+returns c = folds_alike

@@ -2,4 +2,4 @@ use Rattle.sg_words.proofs.WordLemmas.{folded_is_applied}
 use Rattle.sg_words.proofs.laws.folding_is_applying.Goals as goal
 
 pub returns : goal.returns
-returns c = folded_is_applied c.args.op c.args.ty c.args.a c.args.b
+returns c = folded_is_applied

@@ -2,10 +2,10 @@ use Rattle.sg_words.proofs.WordLemmas.{rank_keeps_order, rank_is_inverted, unran
 use Rattle.sg_words.proofs.laws.ranks_keep_order.Goals as goal
 
 pub returns-clause-order : goal.returns-clause-order
-returns-clause-order c = rank_keeps_order c.args.ty c.args.a c.args.b
+returns-clause-order c = rank_keeps_order
 
 pub returns-clause-rank : goal.returns-clause-rank
-returns-clause-rank c = rank_is_inverted c.args.ty c.args.a
+returns-clause-rank c = rank_is_inverted
 
 pub returns-clause-unrank : goal.returns-clause-unrank
-returns-clause-unrank c = unrank_is_inverted c.args.ty c.args.k
+returns-clause-unrank c = unrank_is_inverted
