@@ -18,7 +18,7 @@ use Rattle.sg_layout.specs.Axes.{count_of, size_of, slots_of}
 use Rattle.sg_layout.specs.Rules.{stands_well, first_node_fault}
 use Rattle.sg_layout.specs.StorageWords.{ends_segment, put_before, segments, last_node, copies_after, mask_by, mask_words, power_for, end_by, end_words, copy_words, segment_words, chunks_by, words_of_shape}
 use Rattle.sg_layout.specs.WordSteps.{own_words, copies_next, slots_next, counted}
-use Rattle.sg_layout.proofs.Faultless.{faultless_head, faultless_tail}
+use Rattle.sg_layout.proofs.Keeping.{faultless_head, faultless_tail}
 
 -- the least power of two
 power_place : (n k : ℕ) → k ≤ 17 → n ≤ 2 ^ k → 2 ^ k / 2 < max 1 n → 1 ≤ n → position_or_len (λ j. leb n (2 ^ j)) (range_with_len 0 18) ≡ k
@@ -205,7 +205,7 @@ counted_from axes number fields copies front [] none cells = counted_end fields 
 counted_from axes number fields copies front (node ∷ later) none cells =
     let rest = faultless_tail axes number node later none in
     ap (λ w. segment_words fields copies (glue front (segments (node ∷ later))) + w) (sum_by-cons (λ (node : NodeShape). chunks_by node.kind node fields) node later)
-    ∙ counted_kind node.kind number fields copies front node later refl (faultless_head axes number node later none).stands
+    ∙ counted_kind node.kind number fields copies front node later refl (faultless_head axes number node later none).order
     (λ has. counted_from axes (suc number) fields copies (front ++ node ∷ []) later rest has)
     (counted_from axes (suc number) fields (count_of node.cap + 17) [] later rest refl)
 

@@ -1,5 +1,5 @@
 -- Extents that keep rule 1: each is from 1 to 2 ^ 15, and so a product of them only grows.
-use Rattle.std.proofs.Common.{◌≡◌, ℕ, suc, ◌+◌, ◌*◌, ◌^◌, ◌<◌, ◌≤◌, Bool, true, false, not, ◌&&◌, ltb, leb, Option, Some, None, List, [], ◌∷◌, eqb, cond, length, get_or, drop, refl, sym, ap, ◌∙◌, arith, ℤ, pos, negsuc}
+use Rattle.std.proofs.Common.{◌≡◌, ℕ, suc, ◌+◌, ◌*◌, ◌^◌, ◌<◌, ◌≤◌, true, not, ◌&&◌, ltb, leb, None, List, [], ◌∷◌, eqb, length, get_or, drop, refl, sym, ap, ◌∙◌, arith, ℤ, pos, negsuc}
 use Rattle.std.specs.List.{list_any, list_all, range_with_len}
 use Rattle.std.proofs.Math.Nat.{mul_assoc}
 use Rattle.std.proofs.Math.Pow.{pow_mono}
@@ -12,9 +12,8 @@ use Rattle.sg_layout.specs.declared.shape.Size.{Size}
 use Rattle.sg_layout.specs.declared.shape.NodeShape.{NodeShape}
 use Rattle.sg_layout.specs.Axes.{count_of, extent_in, extent_over}
 use Rattle.sg_layout.specs.declared.shape.Shape.{Shape}
-use Rattle.sg_layout.specs.declared.layout.LayoutFault.{LayoutFault}
-use Rattle.sg_layout.specs.declared.layout.LayoutFault.TheVariants.{BadExtent, BadOrder, BadAxis}
-use Rattle.sg_layout.specs.Rules.{is_extent, has_good_extents, stands_well, names_axes_once, has_few_axes, has_good_axes, or_else, node_fault, first_node_fault, is_declared}
+use Rattle.sg_layout.specs.Rules.{is_extent, has_good_extents, names_axes_once, first_node_fault, is_declared}
+use Rattle.sg_layout.proofs.Keeping.{names_once, faultless_head, faultless_tail}
 
 -- what an extent is that keeps the rule
 pub record IsExtent (z : ℤ) : Type 0 where
@@ -72,27 +71,11 @@ over_long nodes axis i extent part node below here is_part whole good long =
     omega arith
 
 -- what nodes without a fault keep
-pub passes : (good : Bool) (fault : LayoutFault) (rest : Option LayoutFault) → cond (not good) (Some fault) rest ≡ None → (good ≡ true) × (rest ≡ None)
-passes true fault rest none = (refl, none)
-passes false fault rest none = cc
-
-pub neither : (first second : Option LayoutFault) → or_else first second ≡ None → (first ≡ None) × (second ≡ None)
-neither None second none = (refl, none)
-neither (Some fault) second none = cc
-
 pub good_extents : (axes number : ℕ) (nodes : List NodeShape) → first_node_fault axes number nodes ≡ None → list_all has_good_extents nodes ≡ true
 good_extents axes number [] none = refl
 good_extents axes number (node ∷ later) none =
-    let parts = neither (node_fault axes number node later) (first_node_fault axes (suc number) later) none in
-    let first = passes (has_good_extents node) (BadExtent number) _ parts.0 in
-    and_from (has_good_extents node) (list_all has_good_extents later) first.0 (good_extents axes (suc number) later parts.1)
-
-good_axes : (axes number : ℕ) (node : NodeShape) (later : List NodeShape) → node_fault axes number node later ≡ None → names_axes_once axes node.sizes ≡ true
-good_axes axes number node later none =
-    let first = passes (has_good_extents node) (BadExtent number) _ none in
-    let second = passes (stands_well node.kind number later) (BadOrder number) _ first.1 in
-    let third = passes (has_good_axes axes node) (BadAxis number) _ second.1 in
-    (and_parts (names_axes_once axes node.sizes) (has_few_axes node.kind node.sizes) third.0).0
+    and_from (has_good_extents node) (list_all has_good_extents later) (faultless_head axes number node later none).extents
+    (good_extents axes (suc number) later (faultless_tail axes number node later none))
 
 -- an axis that the layout doesn't have has extent 1
 unnamed_in : (axes axis : ℕ) (sizes : List Size) → axes < axis → names_axes_once axes sizes ≡ true → extent_in sizes axis ≡ 1
@@ -107,9 +90,9 @@ unnamed_in axes axis (size ∷ sizes) past good =
 pub unnamed_over : (axes axis number : ℕ) (nodes : List NodeShape) → axes < axis → first_node_fault axes number nodes ≡ None → extent_over nodes axis ≡ 1
 unnamed_over axes axis number [] past none = refl
 unnamed_over axes axis number (node ∷ later) past none =
-    let parts = neither (node_fault axes number node later) (first_node_fault axes (suc number) later) none in
-    let here : extent_in node.sizes axis ≡ 1 = unnamed_in axes axis node.sizes past (good_axes axes number node later parts.0) in
-    let rest : extent_over later axis ≡ 1 = unnamed_over axes axis (suc number) later past parts.1 in
+    let once = names_once axes number node later (faultless_head axes number node later none) in
+    let here : extent_in node.sizes axis ≡ 1 = unnamed_in axes axis node.sizes past once in
+    let rest : extent_over later axis ≡ 1 = unnamed_over axes axis (suc number) later past (faultless_tail axes number node later none) in
     ap (λ n. n * extent_over later axis) here ∙ ap (λ n. 1 * n) rest
 
 -- how many axes a declared shape has

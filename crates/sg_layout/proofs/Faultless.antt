@@ -1,4 +1,4 @@
--- What shapes without a fault keep: of each node, and of the product of all sizes.
+-- What shapes without a fault keep of the product of all sizes.
 use Rattle.std.proofs.Common.{◌≡◌, ℕ, suc, ◌+◌, ◌*◌, ◌^◌, ◌<◌, ◌≤◌, Bool, true, false, not, ◌&&◌, ltb, leb, Option, Some, None, List, [], ◌∷◌, eqb, cond, length, get_or, drop, refl, sym, ap, ◌∙◌, subst, arith, inl, inr, ℤ, pos, to_z, of_z, w32, SFits}
 use Rattle.std.specs.Prelude.{Ok, Err}
 use Rattle.std.specs.List.{list_any, list_all}
@@ -11,39 +11,12 @@ use Rattle.sg_layout.specs.declared.shape.Size.{Size}
 use Rattle.sg_layout.specs.declared.shape.NodeShape.{NodeShape}
 use Rattle.sg_layout.specs.declared.shape.Shape.{Shape}
 use Rattle.sg_layout.specs.declared.layout.LayoutFault.{LayoutFault}
-use Rattle.sg_layout.specs.declared.layout.LayoutFault.TheVariants.{BadExtent, BadOrder, BadAxis, BadCap, TooLarge}
+use Rattle.sg_layout.specs.declared.layout.LayoutFault.TheVariants.{TooLarge}
 use Rattle.sg_layout.specs.Axes.{count_of, size_of, slots_of, extent_in, extent_over, bounds_of_shape}
 use Rattle.sg_layout.specs.Accepted.{IsAccepted}
-use Rattle.sg_layout.specs.Rules.{is_extent, has_good_extents, stands_well, names_axes_once, has_few_axes, has_good_axes, has_good_caps, node_fault, first_node_fault, is_small, is_declared, checked_by}
-use Rattle.sg_layout.proofs.Extending.{extent_is, passes, neither, axes_declared}
-
--- what a node keeps that has no fault
-pub record IsGoodNode (axes number : ℕ) (node : NodeShape) (later : List NodeShape) : Type 0 where
-  pub extents : has_good_extents node ≡ true
-  pub stands : stands_well node.kind number later ≡ true
-  pub names : names_axes_once axes node.sizes ≡ true
-  pub caps : has_good_caps node.kind node ≡ true
-
-good_node : (axes number : ℕ) (node : NodeShape) (later : List NodeShape) → node_fault axes number node later ≡ None → IsGoodNode axes number node later
-good_node axes number node later none =
-    let first = passes (has_good_extents node) (BadExtent number) _ none in
-    let second = passes (stands_well node.kind number later) (BadOrder number) _ first.1 in
-    let third = passes (has_good_axes axes node) (BadAxis number) _ second.1 in
-    let fourth = passes (has_good_caps node.kind node) (BadCap number) None third.1 in
-    record {
-      extents = first.0;
-      stands = second.0;
-      names = (and_parts (names_axes_once axes node.sizes) (has_few_axes node.kind node.sizes) third.0).0;
-      caps = fourth.0;
-    }
-
-pub faultless_head : (axes number : ℕ) (node : NodeShape) (later : List NodeShape) → first_node_fault axes number (node ∷ later) ≡ None → IsGoodNode axes number node later
-faultless_head axes number node later none =
-    good_node axes number node later (neither (node_fault axes number node later) (first_node_fault axes (suc number) later) none).0
-
-pub faultless_tail : (axes number : ℕ) (node : NodeShape) (later : List NodeShape) → first_node_fault axes number (node ∷ later) ≡ None → first_node_fault axes (suc number) later ≡ None
-faultless_tail axes number node later none =
-    (neither (node_fault axes number node later) (first_node_fault axes (suc number) later) none).1
+use Rattle.sg_layout.specs.Rules.{is_extent, names_axes_once, first_node_fault, is_small, is_declared, checked_by}
+use Rattle.sg_layout.proofs.Extending.{extent_is, axes_declared}
+use Rattle.sg_layout.proofs.Keeping.{names_once, faultless_head, faultless_tail}
 
 -- sizes are 1 at least
 pub size_some : (sizes : List Size) → list_all (λ size. is_extent size.extent) sizes ≡ true → 1 ≤ size_of sizes
@@ -117,7 +90,7 @@ size_axes axes (size ∷ sizes) few good =
 pub slots_axes : (axes number : ℕ) (nodes : List NodeShape) → axes ≤ 3 → first_node_fault axes number nodes ≡ None → slots_of nodes ≡ extent_over nodes 1 * extent_over nodes 2 * extent_over nodes 3
 slots_axes axes number [] few none = refl
 slots_axes axes number (node ∷ later) few none =
-    let here = size_axes axes node.sizes few (faultless_head axes number node later none).names in
+    let here = size_axes axes node.sizes few (names_once axes number node later (faultless_head axes number node later none)) in
     let rest = slots_axes axes (suc number) later few (faultless_tail axes number node later none) in
     let a : ℕ = extent_in node.sizes 1 in
     let b : ℕ = extent_in node.sizes 2 in

@@ -4,6 +4,7 @@ pub mod Points
 pub mod Closing
 pub mod Filled
 pub mod Powers
+pub mod Keeping
 pub mod Extending
 pub mod Faultless
 pub mod Caps

@@ -17,7 +17,8 @@ use Rattle.sg_layout.specs.Rules.{first_node_fault}
 use Rattle.sg_layout.specs.Slots.{IsSlot, node_bounds, number_on, coordinate_of}
 use Rattle.sg_layout.specs.PathLaws.{WholePathIsOffsets, CoordinateOfPath, PathTellsCoordinate, PathIsSlot, SlotIsPath, SlotIsReached, SlotsFillVolume}
 use Rattle.sg_layout.proofs.Extending.{axes_declared}
-use Rattle.sg_layout.proofs.Faultless.{faultless_head, faultless_tail, size_some, size_axes, no_fault, volume_slots}
+use Rattle.sg_layout.proofs.Keeping.{names_once, faultless_head, faultless_tail}
+use Rattle.sg_layout.proofs.Faultless.{size_some, size_axes, no_fault, volume_slots}
 use Rattle.sg_layout.proofs.SlotNumbers.{same_cons, slot_through}
 
 -- numbers: a factor of a product that isn't 0, and the digits of a number
@@ -184,7 +185,7 @@ node_points : (axes number : ℕ) (node : NodeShape) (later : List NodeShape) �
 node_points axes number node later few none =
     let good = faultless_head axes number node later none in
     let some : 1 ≤ size_of node.sizes = size_some node.sizes good.extents in
-    let product : 0 < extent_in node.sizes 1 * extent_in node.sizes 2 * extent_in node.sizes 3 = omega (arith, size_axes axes node.sizes few good.names) in
+    let product : 0 < extent_in node.sizes 1 * extent_in node.sizes 2 * extent_in node.sizes 3 = omega (arith, size_axes axes node.sizes few (names_once axes number node later good)) in
     let last = factors (extent_in node.sizes 1 * extent_in node.sizes 2) (extent_in node.sizes 3) product in
     let others = factors (extent_in node.sizes 1) (extent_in node.sizes 2) last.0 in
     record {
@@ -197,7 +198,7 @@ offsets_slot : RowBelow → (axes number : ℕ) (nodes : List NodeShape) → axe
 offsets_slot law axes number [] few none at = tt
 offsets_slot law axes number (node ∷ later) few none at =
     let good = faultless_head axes number node later none in
-    let size = size_axes axes node.sizes few good.names in
+    let size = size_axes axes node.sizes few (names_once axes number node later good) in
     let below = law (node_bounds node) (parts node later at) (parts_inside node later at (node_points axes number node later few none)) in
     (subst (λ n. offset_at node later at < n) (sym size) below, offsets_slot law axes (suc number) later few (faultless_tail axes number node later none) at)
 
@@ -211,7 +212,7 @@ number_below law part axis extent is axes number [] few none slot slots = omega 
 number_below law part axis extent is axes number (node ∷ later) few none [] slots = absurd slots
 number_below law part axis extent is axes number (node ∷ later) few none (offset ∷ slot) slots =
     let good = faultless_head axes number node later none in
-    let size = size_axes axes node.sizes few good.names in
+    let size = size_axes axes node.sizes few (names_once axes number node later good) in
     let there = law (node_bounds node) offset (subst (λ n. offset < n) size slots.0) in
     let digit : count_of (part (point_at (node_bounds node) offset)) < extent_in node.sizes axis = subst (λ n. count_of (part (point_at (node_bounds node) offset)) < n) (is.of_node node) (is.below (node_bounds node) (point_at (node_bounds node) offset) there) in
     let rest = number_below law part axis extent is axes (suc number) later few (faultless_tail axes number node later none) slot slots.1 in
@@ -230,7 +231,7 @@ read_path inside law axes number (node ∷ later) few none [] at slots reads = a
 read_path inside law axes number (node ∷ later) few none (offset ∷ slot) at slots reads =
     let rest = faultless_tail axes number node later none in
     let e : Bounds = node_bounds node in
-    let below : offset < volume e = subst (λ n. offset < n) (size_axes axes node.sizes few (faultless_head axes number node later none).names) slots.0 in
+    let below : offset < volume e = subst (λ n. offset < n) (size_axes axes node.sizes few (names_once axes number node later (faultless_head axes number node later none))) slots.0 in
     let has = node_points axes number node later few none in
     let a_rest = number_below inside (λ (x : Coord). x.a) 1 (λ (x : Bounds). x.a) first_axis axes (suc number) later few rest slot slots.1 in
     let b_rest = number_below inside (λ (x : Coord). x.b) 2 (λ (x : Bounds). x.b) second_axis axes (suc number) later few rest slot slots.1 in

@@ -9,18 +9,11 @@ use Rattle.sg_layout.specs.declared.layout.LayoutFault.TheVariants.{BadExtent, B
 use Rattle.sg_layout.specs.Axes.{bounds_of_shape}
 use Rattle.sg_layout.specs.Rules.{has_good_extents, stands_well, has_good_axes, has_good_caps, or_else, node_fault, first_node_fault, is_small, checked_by}
 use Rattle.sg_layout.specs.RuleLaws.{KeepsRules, AllKeep, AcceptedKeepsRules, FailsFirst, HasFault, FaultIsFirst}
-use Rattle.sg_layout.proofs.Extending.{passes, neither}
+use Rattle.std.proofs.lemmas.Option.{same_Some}
+use Rattle.sg_layout.proofs.Keeping.{keeps, faultless_head, faultless_tail}
 use Rattle.sg_layout.proofs.Faultless.{from_checked}
 
--- a node without a fault keeps the rules, and the other way round
-keeps : (axes number : ℕ) (node : NodeShape) (later : List NodeShape) → node_fault axes number node later ≡ None → KeepsRules axes number node later
-keeps axes number node later none =
-    let first = passes (has_good_extents node) (BadExtent number) _ none in
-    let second = passes (stands_well node.kind number later) (BadOrder number) _ first.1 in
-    let third = passes (has_good_axes axes node) (BadAxis number) _ second.1 in
-    let fourth = passes (has_good_caps node.kind node) (BadCap number) None third.1 in
-    record { extents = first.0; order = second.0; names = third.0; caps = fourth.0 }
-
+-- a node that keeps the rules has no fault
 passed : (good : Bool) (fault : LayoutFault) (rest : Option LayoutFault) → good ≡ true → rest ≡ None → cond (not good) (Some fault) rest ≡ None
 passed true fault rest good none = none
 passed false fault rest good none = cc
@@ -49,12 +42,10 @@ first_number axes number first node later there keep =
 keep_all : (axes number : ℕ) (nodes : List NodeShape) → first_node_fault axes number nodes ≡ None → KeepAll axes number nodes
 keep_all axes number [] none k node there = cc
 keep_all axes number (first ∷ later) none zero node there =
-    let parts = neither (node_fault axes number first later) (first_node_fault axes (suc number) later) none in
-    first_number axes number first node later there (keeps axes number first later parts.0)
+    first_number axes number first node later there (faultless_head axes number first later none)
 keep_all axes number (first ∷ later) none (suc k) node there =
-    let parts = neither (node_fault axes number first later) (first_node_fault axes (suc number) later) none in
     let place : suc number + k ≡ number + suc k = omega arith in
-    subst (λ n. KeepsRules axes n node (drop (suc k) later)) place (keep_all axes (suc number) later parts.1 k node there)
+    subst (λ n. KeepsRules axes n node (drop (suc k) later)) place (keep_all axes (suc number) later (faultless_tail axes number first later none) k node there)
 
 joined : (first rest : Option LayoutFault) → first ≡ None → rest ≡ None → or_else first rest ≡ None
 joined first rest here there = ap (λ f. or_else f rest) here ∙ there
@@ -100,18 +91,15 @@ abbrev fault_by : (extents order names caps : Bool) → ℕ → Option LayoutFau
 fault_by extents order names caps number =
     cond (not extents) (Some (BadExtent number)) (cond (not order) (Some (BadOrder number)) (cond (not names) (Some (BadAxis number)) (cond (not caps) (Some (BadCap number)) None)))
 
-some_same : (x y : LayoutFault) → Some x ≡ Some y → x ≡ y
-some_same x y e = cc
-
 fails_first : (extents order names caps : Bool) (number : ℕ) (fault : LayoutFault) → fault_by extents order names caps number ≡ Some fault → FailsFirst extents order names caps number fault
 fails_first false order names caps number fault e =
-    subst (λ f. FailsFirst false order names caps number f) (some_same (BadExtent number) fault e) (refl, refl)
+    subst (λ f. FailsFirst false order names caps number f) (same_Some (BadExtent number) fault e) (refl, refl)
 fails_first true false names caps number fault e =
-    subst (λ f. FailsFirst true false names caps number f) (some_same (BadOrder number) fault e) (refl, refl, refl)
+    subst (λ f. FailsFirst true false names caps number f) (same_Some (BadOrder number) fault e) (refl, refl, refl)
 fails_first true true false caps number fault e =
-    subst (λ f. FailsFirst true true false caps number f) (some_same (BadAxis number) fault e) (refl, refl, refl, refl)
+    subst (λ f. FailsFirst true true false caps number f) (same_Some (BadAxis number) fault e) (refl, refl, refl, refl)
 fails_first true true true false number fault e =
-    subst (λ f. FailsFirst true true true false number f) (some_same (BadCap number) fault e) (refl, refl, refl, refl, refl)
+    subst (λ f. FailsFirst true true true false number f) (same_Some (BadCap number) fault e) (refl, refl, refl, refl, refl)
 fails_first true true true true number fault e = cc
 
 either : (first rest : Option LayoutFault) (fault : LayoutFault) → or_else first rest ≡ Some fault → (first ≡ Some fault) ⊎ ((first ≡ None) × (rest ≡ Some fault))

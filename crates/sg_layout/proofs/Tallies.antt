@@ -11,7 +11,8 @@ use Rattle.sg_layout.specs.Rules.{has_good_extents, has_good_caps, first_node_fa
 use Rattle.sg_layout.specs.StorageWords.{chunks_by}
 use Rattle.sg_layout.specs.WordSteps.{own_words, copies_next, slots_next, counted}
 use Rattle.sg_layout.proofs.Caps.{cap_range, dynamic_cap, dynamic_chunk}
-use Rattle.sg_layout.proofs.Faultless.{faultless_head, faultless_tail, size_some, slots_some, no_fault, slots_few, counts_declared}
+use Rattle.sg_layout.proofs.Keeping.{faultless_head, faultless_tail}
+use Rattle.sg_layout.proofs.Faultless.{size_some, slots_some, no_fault, slots_few, counts_declared}
 use Rattle.sg_layout.specs.Accepted.{IsAccepted}
 use Rattle.sg_layout.proofs.Counting.{power_most}
 

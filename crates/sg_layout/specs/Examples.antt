@@ -107,5 +107,17 @@ two_long_nodes = refl
 no_cap : checked (shape_of 1 (node1 Pointer (pos 4) (pos 0) (pos 0) ∷ [])) ≡ Err (BadCap 1)
 no_cap = refl
 
+-- the smallest rule of a node, the first node, and the whole layout last
+extent_before_cap : checked (shape_of 1 (node1 Pointer (pos 3) (pos 0) (pos 0) ∷ [])) ≡ Err (BadExtent 1)
+extent_before_cap = refl
+
+first_node_first : checked (shape_of 1 (node1 Pointer (pos 4) (pos 0) (pos 0) ∷ node1 Dense (pos 3) (pos 0) (pos 0) ∷ []))
+    ≡ Err (BadCap 1)
+first_node_first = refl
+
+nodes_before_the_layout : checked (shape_of 1 (node1 Dense (pos 32768) (pos 0) (pos 0) ∷ node1 Pointer (pos 2) (pos 0) (pos 0) ∷ []))
+    ≡ Err (BadCap 2)
+nodes_before_the_layout = refl
+
 grid_is_well_formed : checked grid ≡ Ok grid
 grid_is_well_formed = refl

@@ -146,5 +146,16 @@ two_masks = refl
 three_keys : words_of_shape (shape_of 1 (node1 Hash (pos 64) (pos 3) (pos 0) ∷ [])) ≡ 36
 three_keys = refl
 
+-- 64 bits are one word
+full_mask : words_of_shape (shape_of 1 (node1 Bitmasked (pos 64) (pos 0) (pos 0) ∷ [])) ≡ 65
+full_mask = refl
+
+-- pointer(i: 2) cap 2; dense(i: 4); dynamic(i: 8) chunk 4 cap 3; has 2 links, 19 copies of 4 lengths and heads, and
+-- 3 chunks of 4 values and a link
+dynamic_below : words_of_shape
+    (shape_of 1 (node1 Pointer (pos 2) (pos 2) (pos 0) ∷ node1 Dense (pos 4) (pos 0) (pos 0) ∷ node1 Dynamic (pos 8) (pos 3) (pos 4) ∷ []))
+    ≡ 169
+dynamic_below = refl
+
 segments_of_grid : length (segments grid.nodes) ≡ 3
 segments_of_grid = refl

@@ -10,7 +10,7 @@ use crate::shape::{Kind, NodeShape, Size};
 pub const MOST_EXTENT: u32 = 1 << 15;
 
 /// The greatest number of child containers of a node, or of its chunks.
-pub const MOST_CAP: i32 = 1 << 16;
+const MOST_CAP: i32 = 1 << 16;
 
 /// The first fault of the nodes, from the root on.
 pub fn first_fault(axes: u32, nodes: &[NodeShape]) -> Option<LayoutFault>

@@ -40,8 +40,7 @@ pub struct Shape {
 }
 
 impl NodeShape {
-    /// A copy of the node.
-    pub fn copy(&self, alloc: Global) -> Result<NodeShape, Memory>
+    fn copy(&self, alloc: Global) -> Result<NodeShape, Memory>
         ensures { IfOk result (λ copy. copy ≡ self.now) }
     {
         Ok(NodeShape {

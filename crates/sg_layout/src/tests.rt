@@ -1,4 +1,6 @@
 use super::*;
+use crate::layout::LayoutFault::{BadAxis, BadCap, BadExtent, BadOrder};
+use crate::shape::Kind::{Bitmasked, Dense, Dynamic, Hash, Pointer};
 use sg_words::{Items, Stop, Ty};
 use std::alloc::Global;
 use std::process::Abort;
@@ -6,6 +8,157 @@ use std::test::Fail;
 
 // A node: its kind, its axes with their extents, its cap and its chunk.
 type Node = (Kind, &'static [(u32, i32)], i32, i32);
+
+const ONE: Node = (Dense, &[], 0, 0);
+
+const FOUR: Node = (Dense, &[(1, 4)], 0, 0);
+
+const LONG: Node = (Dense, &[(1, 32768)], 0, 0);
+
+const WIDE: Node = (Dense, &[(1, 32768), (2, 32768)], 0, 0);
+
+const BLOCKS: Node = (Pointer, &[(1, 4)], 2, 0);
+
+// Nodes that break one rule each: an extent, the order unless it is the first, the order unless it is the last, an
+// axis, and a cap.
+const THREE: Node = (Dense, &[(1, 3)], 0, 0);
+
+const KEYS: Node = (Hash, &[(1, 4)], 2, 0);
+
+const ROW: Node = (Dynamic, &[(1, 4)], 2, 2);
+
+const OTHER: Node = (Dense, &[(3, 4)], 0, 0);
+
+const EMPTY: Node = (Pointer, &[(1, 4)], 0, 0);
+
+// Layouts that are accepted: the number of axes, the nodes, the number of fields, the extents and the storage words.
+static ACCEPTED: [(u32, &[Node], u32, [u32; 4], u64); 12] = [
+    (1, &[BLOCKS, FOUR], 1, [1, 16, 1, 1], 80),
+    (1, &[(Dynamic, &[(1, 8)], 2, 4)], 1, [1, 8, 1, 1], 12),
+    (
+        2,
+        &[
+            (Hash, &[(1, 4), (2, 4)], 16, 0),
+            (Pointer, &[(1, 2), (2, 2)], 64, 0),
+            (Bitmasked, &[(1, 8), (2, 8)], 0, 0),
+        ],
+        1,
+        [2, 64, 64, 1],
+        5461,
+    ),
+    (
+        2,
+        &[
+            (Hash, &[(1, 32), (2, 32)], 256, 0),
+            (Pointer, &[(1, 4), (2, 4)], 4096, 0),
+            (Bitmasked, &[(1, 16), (2, 16)], 0, 0),
+        ],
+        2,
+        [2, 2048, 2048, 1],
+        2127700,
+    ),
+    (1, &[FOUR], 1, [1, 4, 1, 1], 4),
+    (2, &[(Dense, &[(2, 8), (1, 4)], 0, 0)], 3, [2, 4, 8, 1], 96),
+    (
+        3,
+        &[
+            (Dense, &[(1, 2), (2, 4)], 0, 0),
+            (Bitmasked, &[(2, 8), (3, 16)], 0, 0),
+        ],
+        1,
+        [3, 2, 32, 16],
+        1040,
+    ),
+    (1, &[ONE, (Dynamic, &[], 1, 1)], 2, [1, 1, 1, 1], 5),
+    (1, &[(Hash, &[(1, 64)], 3, 0)], 1, [1, 64, 1, 1], 36),
+    (
+        1,
+        &[(Dense, &[(1, 128)], -7, 9), (Dense, &[(1, 256)], 0, 0)],
+        1,
+        [1, 32768, 1, 1],
+        32768,
+    ),
+    (2, &[WIDE], 16, [2, 32768, 32768, 1], 17179869184),
+    (
+        3,
+        &[
+            (Pointer, &[], 65536, 0),
+            (Pointer, &[], 65536, 0),
+            (Pointer, &[(1, 32768), (2, 32768)], 65536, 0),
+        ],
+        16,
+        [3, 32768, 32768, 1],
+        70386998903074,
+    ),
+];
+
+// Each rule alone, pairs of rules at one node, and at two nodes, of which the first counts.
+static REFUSED: [(u32, &[Node], LayoutFault); 34] = [
+    (1, &[THREE], BadExtent { node: 1 }),
+    (1, &[(Dense, &[(1, 0)], 0, 0)], BadExtent { node: 1 }),
+    (1, &[(Dense, &[(1, -4)], 0, 0)], BadExtent { node: 1 }),
+    (1, &[(Dense, &[(1, 65536)], 0, 0)], BadExtent { node: 1 }),
+    (1, &[FOUR, THREE], BadExtent { node: 2 }),
+    (1, &[FOUR, KEYS], BadOrder { node: 2 }),
+    (1, &[ROW, FOUR], BadOrder { node: 1 }),
+    (1, &[(Dense, &[(0, 4)], 0, 0)], BadAxis { node: 1 }),
+    (1, &[(Dense, &[(2, 4)], 0, 0)], BadAxis { node: 1 }),
+    (
+        2,
+        &[(Dense, &[(1, 4), (2, 2), (1, 4)], 0, 0)],
+        BadAxis { node: 1 },
+    ),
+    (
+        2,
+        &[(Dynamic, &[(1, 4), (2, 4)], 2, 2)],
+        BadAxis { node: 1 },
+    ),
+    (1, &[EMPTY], BadCap { node: 1 }),
+    (1, &[(Hash, &[(1, 4)], 65537, 0)], BadCap { node: 1 }),
+    (1, &[(Dynamic, &[(1, 4)], 2, 0)], BadCap { node: 1 }),
+    (1, &[(Dynamic, &[(1, 4)], 2, 5)], BadCap { node: 1 }),
+    (1, &[(Dynamic, &[(1, 4)], -1, 4)], BadCap { node: 1 }),
+    (
+        1,
+        &[(Dense, &[(1, 256)], 0, 0), (Dense, &[(1, 256)], 0, 0)],
+        LayoutFault::TooLarge,
+    ),
+    (3, &[WIDE, (Dense, &[(3, 2)], 0, 0)], LayoutFault::TooLarge),
+    (
+        3,
+        &[(Dense, &[(1, 32768), (2, 32768), (3, 32768)], 0, 0)],
+        LayoutFault::TooLarge,
+    ),
+    (1, &[LONG, LONG, LONG], LayoutFault::TooLarge),
+    // at one node
+    (1, &[(Dynamic, &[(1, 3)], 2, 2), ONE], BadExtent { node: 1 }),
+    (1, &[(Dense, &[(2, 3)], 0, 0)], BadExtent { node: 1 }),
+    (1, &[(Pointer, &[(1, 3)], 0, 0)], BadExtent { node: 1 }),
+    (1, &[ONE, (Hash, &[(2, 4)], 2, 0)], BadOrder { node: 2 }),
+    (1, &[ONE, (Hash, &[(1, 4)], 0, 0)], BadOrder { node: 2 }),
+    (
+        2,
+        &[(Dynamic, &[(1, 4), (2, 4)], 0, 0)],
+        BadAxis { node: 1 },
+    ),
+    // at two nodes
+    (1, &[EMPTY, THREE], BadCap { node: 1 }),
+    (1, &[EMPTY, KEYS], BadCap { node: 1 }),
+    (1, &[EMPTY, (Dense, &[(2, 4)], 0, 0)], BadCap { node: 1 }),
+    (2, &[OTHER, THREE], BadAxis { node: 1 }),
+    (2, &[OTHER, KEYS], BadAxis { node: 1 }),
+    (1, &[ROW, THREE], BadOrder { node: 1 }),
+    (
+        2,
+        &[
+            (Dense, &[(1, 65536), (2, 4)], 0, 0),
+            (Pointer, &[(2, 4)], 0, 0),
+        ],
+        BadExtent { node: 1 },
+    ),
+    // the whole layout comes last
+    (1, &[LONG, (Pointer, &[(1, 2)], 0, 0)], BadCap { node: 2 }),
+];
 
 // A shape of these nodes with so many fields.
 fn shape_of(alloc: Global, axes: u32, nodes: &[Node], fields: u32) -> Result<Shape, Fail> {
@@ -26,8 +179,8 @@ fn shape_of(alloc: Global, axes: u32, nodes: &[Node], fields: u32) -> Result<Sha
         })?;
     }
     let mut types = Items::new(alloc);
-    for _ in 0..fields {
-        types.push(Ty::I32)?;
+    for field in 0..fields {
+        types.push(if field % 2 == 0 { Ty::I32 } else { Ty::U32 })?;
     }
     Ok(Shape {
         axes,
@@ -53,320 +206,13 @@ fn answer(
     }
 }
 
-// Layouts that are accepted: the number of axes, the nodes, the number of fields, the extents and the storage words.
-static ACCEPTED: [(u32, &[Node], u32, [u32; 4], u64); 12] = [
-    (
-        1,
-        &[
-            (Kind::Pointer, &[(1, 4)], 2, 0),
-            (Kind::Dense, &[(1, 4)], 0, 0),
-        ],
-        1,
-        [1, 16, 1, 1],
-        80,
-    ),
-    (1, &[(Kind::Dynamic, &[(1, 8)], 2, 4)], 1, [1, 8, 1, 1], 12),
-    (
-        2,
-        &[
-            (Kind::Hash, &[(1, 4), (2, 4)], 16, 0),
-            (Kind::Pointer, &[(1, 2), (2, 2)], 64, 0),
-            (Kind::Bitmasked, &[(1, 8), (2, 8)], 0, 0),
-        ],
-        1,
-        [2, 64, 64, 1],
-        5461,
-    ),
-    (
-        2,
-        &[
-            (Kind::Hash, &[(1, 32), (2, 32)], 256, 0),
-            (Kind::Pointer, &[(1, 4), (2, 4)], 4096, 0),
-            (Kind::Bitmasked, &[(1, 16), (2, 16)], 0, 0),
-        ],
-        2,
-        [2, 2048, 2048, 1],
-        2127700,
-    ),
-    (1, &[(Kind::Dense, &[(1, 4)], 0, 0)], 1, [1, 4, 1, 1], 4),
-    (
-        2,
-        &[(Kind::Dense, &[(2, 8), (1, 4)], 0, 0)],
-        3,
-        [2, 4, 8, 1],
-        96,
-    ),
-    (
-        3,
-        &[
-            (Kind::Dense, &[(1, 2), (2, 4)], 0, 0),
-            (Kind::Bitmasked, &[(2, 8), (3, 16)], 0, 0),
-        ],
-        1,
-        [3, 2, 32, 16],
-        1040,
-    ),
-    (
-        1,
-        &[(Kind::Dense, &[], 0, 0), (Kind::Dynamic, &[], 1, 1)],
-        2,
-        [1, 1, 1, 1],
-        5,
-    ),
-    (1, &[(Kind::Hash, &[(1, 64)], 3, 0)], 1, [1, 64, 1, 1], 36),
-    (
-        1,
-        &[
-            (Kind::Dense, &[(1, 128)], -7, 9),
-            (Kind::Dense, &[(1, 256)], 0, 0),
-        ],
-        1,
-        [1, 32768, 1, 1],
-        32768,
-    ),
-    (
-        2,
-        &[(Kind::Dense, &[(1, 32768), (2, 32768)], 0, 0)],
-        16,
-        [2, 32768, 32768, 1],
-        17179869184,
-    ),
-    (
-        3,
-        &[
-            (Kind::Pointer, &[], 65536, 0),
-            (Kind::Pointer, &[], 65536, 0),
-            (Kind::Pointer, &[(1, 32768), (2, 32768)], 65536, 0),
-        ],
-        16,
-        [3, 32768, 32768, 1],
-        70386998903074,
-    ),
-];
-
-// Each rule alone, pairs of rules at one node, and at two nodes, of which the first has the greater one.
-static REFUSED: [(u32, &[Node], LayoutFault); 34] = [
-    (
-        1,
-        &[(Kind::Dense, &[(1, 3)], 0, 0)],
-        LayoutFault::BadExtent { node: 1 },
-    ),
-    (
-        1,
-        &[(Kind::Dense, &[(1, 0)], 0, 0)],
-        LayoutFault::BadExtent { node: 1 },
-    ),
-    (
-        1,
-        &[(Kind::Dense, &[(1, -4)], 0, 0)],
-        LayoutFault::BadExtent { node: 1 },
-    ),
-    (
-        1,
-        &[(Kind::Dense, &[(1, 65536)], 0, 0)],
-        LayoutFault::BadExtent { node: 1 },
-    ),
-    (
-        1,
-        &[
-            (Kind::Dense, &[(1, 4)], 0, 0),
-            (Kind::Dense, &[(1, 3)], 0, 0),
-        ],
-        LayoutFault::BadExtent { node: 2 },
-    ),
-    (
-        1,
-        &[
-            (Kind::Dense, &[(1, 4)], 0, 0),
-            (Kind::Hash, &[(1, 4)], 2, 0),
-        ],
-        LayoutFault::BadOrder { node: 2 },
-    ),
-    (
-        1,
-        &[
-            (Kind::Dynamic, &[(1, 4)], 2, 2),
-            (Kind::Dense, &[(1, 4)], 0, 0),
-        ],
-        LayoutFault::BadOrder { node: 1 },
-    ),
-    (
-        1,
-        &[(Kind::Dense, &[(0, 4)], 0, 0)],
-        LayoutFault::BadAxis { node: 1 },
-    ),
-    (
-        1,
-        &[(Kind::Dense, &[(2, 4)], 0, 0)],
-        LayoutFault::BadAxis { node: 1 },
-    ),
-    (
-        2,
-        &[(Kind::Dense, &[(1, 4), (2, 2), (1, 4)], 0, 0)],
-        LayoutFault::BadAxis { node: 1 },
-    ),
-    (
-        2,
-        &[(Kind::Dynamic, &[(1, 4), (2, 4)], 2, 2)],
-        LayoutFault::BadAxis { node: 1 },
-    ),
-    (
-        1,
-        &[(Kind::Pointer, &[(1, 4)], 0, 0)],
-        LayoutFault::BadCap { node: 1 },
-    ),
-    (
-        1,
-        &[(Kind::Hash, &[(1, 4)], 65537, 0)],
-        LayoutFault::BadCap { node: 1 },
-    ),
-    (
-        1,
-        &[(Kind::Dynamic, &[(1, 4)], 2, 0)],
-        LayoutFault::BadCap { node: 1 },
-    ),
-    (
-        1,
-        &[(Kind::Dynamic, &[(1, 4)], 2, 5)],
-        LayoutFault::BadCap { node: 1 },
-    ),
-    (
-        1,
-        &[(Kind::Dynamic, &[(1, 4)], -1, 4)],
-        LayoutFault::BadCap { node: 1 },
-    ),
-    (
-        1,
-        &[
-            (Kind::Dense, &[(1, 256)], 0, 0),
-            (Kind::Dense, &[(1, 256)], 0, 0),
-        ],
-        LayoutFault::TooLarge,
-    ),
-    (
-        3,
-        &[(Kind::Dense, &[(1, 32768), (2, 32768), (3, 2)], 0, 0)],
-        LayoutFault::TooLarge,
-    ),
-    (
-        3,
-        &[(Kind::Dense, &[(1, 32768), (2, 32768), (3, 32768)], 0, 0)],
-        LayoutFault::TooLarge,
-    ),
-    (
-        1,
-        &[
-            (Kind::Dense, &[(1, 32768)], 0, 0),
-            (Kind::Dense, &[(1, 32768)], 0, 0),
-            (Kind::Dense, &[(1, 32768)], 0, 0),
-        ],
-        LayoutFault::TooLarge,
-    ),
-    // at one node
-    (
-        1,
-        &[(Kind::Dynamic, &[(1, 3)], 2, 2), (Kind::Dense, &[], 0, 0)],
-        LayoutFault::BadExtent { node: 1 },
-    ),
-    (
-        1,
-        &[(Kind::Dense, &[(2, 3)], 0, 0)],
-        LayoutFault::BadExtent { node: 1 },
-    ),
-    (
-        1,
-        &[(Kind::Pointer, &[(1, 3)], 0, 0)],
-        LayoutFault::BadExtent { node: 1 },
-    ),
-    (
-        1,
-        &[(Kind::Dense, &[], 0, 0), (Kind::Hash, &[(2, 4)], 2, 0)],
-        LayoutFault::BadOrder { node: 2 },
-    ),
-    (
-        1,
-        &[(Kind::Dense, &[], 0, 0), (Kind::Hash, &[(1, 4)], 0, 0)],
-        LayoutFault::BadOrder { node: 2 },
-    ),
-    (
-        2,
-        &[(Kind::Dynamic, &[(1, 4), (2, 4)], 0, 0)],
-        LayoutFault::BadAxis { node: 1 },
-    ),
-    // at two nodes
-    (
-        1,
-        &[
-            (Kind::Pointer, &[(1, 4)], 0, 0),
-            (Kind::Dense, &[(1, 3)], 0, 0),
-        ],
-        LayoutFault::BadCap { node: 1 },
-    ),
-    (
-        1,
-        &[
-            (Kind::Pointer, &[(1, 4)], 0, 0),
-            (Kind::Hash, &[(1, 4)], 2, 0),
-        ],
-        LayoutFault::BadCap { node: 1 },
-    ),
-    (
-        1,
-        &[
-            (Kind::Pointer, &[(1, 4)], 0, 0),
-            (Kind::Dense, &[(2, 4)], 0, 0),
-        ],
-        LayoutFault::BadCap { node: 1 },
-    ),
-    (
-        2,
-        &[
-            (Kind::Dense, &[(3, 4)], 0, 0),
-            (Kind::Dense, &[(1, 3)], 0, 0),
-        ],
-        LayoutFault::BadAxis { node: 1 },
-    ),
-    (
-        2,
-        &[
-            (Kind::Dense, &[(3, 4)], 0, 0),
-            (Kind::Hash, &[(1, 4)], 2, 0),
-        ],
-        LayoutFault::BadAxis { node: 1 },
-    ),
-    (
-        1,
-        &[
-            (Kind::Dynamic, &[(1, 4)], 2, 2),
-            (Kind::Dense, &[(1, 3)], 0, 0),
-        ],
-        LayoutFault::BadOrder { node: 1 },
-    ),
-    (
-        2,
-        &[
-            (Kind::Dense, &[(1, 65536), (2, 4)], 0, 0),
-            (Kind::Pointer, &[(2, 4)], 0, 0),
-        ],
-        LayoutFault::BadExtent { node: 1 },
-    ),
-    // the whole layout comes last
-    (
-        1,
-        &[
-            (Kind::Dense, &[(1, 32768)], 0, 0),
-            (Kind::Pointer, &[(1, 2)], 0, 0),
-        ],
-        LayoutFault::BadCap { node: 2 },
-    ),
-];
-
 #[test]
 fn accepts_layouts_and_counts_their_words(rt: HostRuntime) -> Result<(), Fail> {
     for (index, (axes, nodes, fields, extents, words)) in ACCEPTED.iter().enumerate() {
         let shape = shape_of(rt.alloc(), *axes, *nodes, *fields)?;
+        let copy = shape.copy(rt.alloc())?;
         assert_eq!(rt;
-            answer(&rt, rt.alloc(), &shape)?,
+            answer(&rt, rt.alloc(), &copy)?,
             Ok((*extents, *words)),
             "at {index}"
         );
@@ -383,34 +229,17 @@ fn names_the_first_fault(rt: HostRuntime) -> Result<(), Fail> {
     Ok(())
 }
 
-// The layout of one dense node over two axes, pushed to a list.
-fn push_dense(
+// The layout of one node over two axes, pushed to a list.
+fn push_layout(
     rt: &impl Abort,
     alloc: Global,
-    list: &mut Items<Layout>,
-    i: i32,
-    j: i32,
+    layouts: &mut Layouts,
+    node: Node,
 ) -> Result<(), Fail> {
-    let mut sizes = Items::new(alloc);
-    sizes.push(Size { axis: 1, extent: i })?;
-    sizes.push(Size { axis: 2, extent: j })?;
-    let mut nodes = Items::new(alloc);
-    nodes.push(NodeShape {
-        kind: Kind::Dense,
-        sizes,
-        cap: 0,
-        chunk: 0,
-    })?;
-    let shape = Shape {
-        axes: 2,
-        nodes,
-        fields: Items::from_slice(alloc, &[Ty::U32])?,
-    };
+    let shape = shape_of(alloc, 2, &[node], 1)?;
     assert!(rt; shape.is_declared());
-    match check_layout(alloc, &shape) {
-        Ok(layout) => Ok(list.push(layout)?),
-        Err(_) => Err(Fail::from("no layout")),
-    }
+    layouts.list.push(check_layout(alloc, &shape)?)?;
+    Ok(())
 }
 
 #[test]
@@ -420,13 +249,23 @@ fn totals_up_to_the_limit(rt: HostRuntime) -> Result<(), Fail> {
         list: Items::new(alloc),
     };
     assert_eq!(rt; check_total(&layouts), Ok(()));
-    push_dense(&rt, alloc, &mut layouts.list, 32768, 64)?;
-    push_dense(&rt, alloc, &mut layouts.list, 1024, 2048)?;
+    push_layout(
+        &rt,
+        alloc,
+        &mut layouts,
+        (Dense, &[(1, 32768), (2, 64)], 0, 0),
+    )?;
+    push_layout(
+        &rt,
+        alloc,
+        &mut layouts,
+        (Dense, &[(1, 1024), (2, 2048)], 0, 0),
+    )?;
     assert_eq!(rt; check_total(&layouts), Ok(()));
-    push_dense(&rt, alloc, &mut layouts.list, 1, 1)?;
+    push_layout(&rt, alloc, &mut layouts, ONE)?;
     assert_eq!(rt; check_total(&layouts), Err(TooLarge));
     for _ in 0..20 {
-        push_dense(&rt, alloc, &mut layouts.list, 32768, 32768)?;
+        push_layout(&rt, alloc, &mut layouts, WIDE)?;
     }
     assert_eq!(rt; check_total(&layouts), Err(TooLarge));
     Ok(())
