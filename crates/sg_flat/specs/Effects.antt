@@ -1,11 +1,10 @@
-use Rattle.std.specs.Prelude.{ℕ, Bool, false, ◌&&◌, List, map, filter, length, ◌==◌, nat_lt, Option, Some, None, slice_get}
-use Rattle.std.specs.List.{flat_map, list_all, fold}
+use Rattle.std.specs.Prelude.{ℕ, Bool, ◌&&◌, List, map, filter, ◌==◌}
+use Rattle.std.specs.List.{flat_map, fold}
 use Rattle.sg_coord.specs.declared.coord.Coord.{Coord}
 use Rattle.sg_coord.specs.Bounds.{Bounds}
 use Rattle.sg_coord.specs.Coord.{row_of}
 use Rattle.sg_words.specs.declared.operators.Ty.{Ty}
 use Rattle.sg_words.specs.Words.{folded}
-use Rattle.sg_layout.specs.declared.shape.Shape.{Shape}
 use Rattle.sg_flat.specs.declared.effects.Way.{Way}
 use Rattle.sg_flat.specs.declared.effects.Way.TheVariants.{Own, Acc}
 use Rattle.sg_flat.specs.declared.effects.Write.{Write}
@@ -14,19 +13,6 @@ use Rattle.sg_flat.specs.declared.effects.Turn.{Turn}
 -- all writes, iteration by iteration, in order of execution
 abbrev pub writes_of : List Turn → List Write
 writes_of turns = flat_map (λ turn. turn.writes) turns
-
--- the write names a field of this layout, and a coordinate with its number of axes; none does where there is no layout
-abbrev pub names_place : Option Shape → Write → Bool
-names_place None write = false
-names_place (Some shape) write = nat_lt write.place (length shape.fields) && (write.at.n == shape.axes)
-
--- the write names a layout and a field that are there, and a coordinate with the layout's number of axes
-abbrev pub names_field : List Shape → Write → Bool
-names_field shapes write = names_place (slice_get shapes write.layout) write
-
--- every write of these iterations names what is there
-abbrev pub name_fields : List Shape → List Turn → Bool
-name_fields shapes turns = list_all (names_field shapes) (writes_of turns)
 
 -- the coordinates that the writes into a layout have
 abbrev pub written_in : ℕ → List Turn → List Coord

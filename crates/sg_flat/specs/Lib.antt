@@ -7,3 +7,4 @@ pub mod Kernel
 pub mod Blocks
 pub mod Laws
 pub mod Examples
+pub mod RunExamples

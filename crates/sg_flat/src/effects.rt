@@ -1,8 +1,4 @@
-ghost use Rattle.std.specs.Prelude.{◌≡◌, slice_get};
-ghost use Rattle.std.specs.List.{list_all};
-
 use sg_coord::Coord;
-use sg_layout::Layouts;
 use sg_words::{AccOp, Items};
 
 /// The points that a kernel's loop visits: the active coordinates of a layout, or the box from `lo` up to below `hi`,
@@ -51,51 +47,4 @@ pub struct Effects {
 pub enum RunFault {
     WriteOutside { stmt: u32, at: Coord },
     PoolFull { layout: u32, node: u32, cap: u32 },
-}
-
-impl Effects {
-    ghost use Rattle.sg_flat.specs.Effects.{name_fields};
-
-    /// Whether every write names a layout and a field that are there, and a coordinate with the layout's number of axes.
-    pub fn name_fields(&self, layouts: &Layouts) -> bool
-        ensures { result ≡ name_fields layouts.now.list self.now.turns }
-    {
-        for turn in self.turns.as_slice() {
-            if !turn.names_fields(layouts) {
-                return false;
-            }
-        }
-        true
-    }
-}
-
-impl Turn {
-    ghost use Rattle.sg_flat.specs.Effects.{names_field};
-
-    fn names_fields(&self, layouts: &Layouts) -> bool
-        ensures { result ≡ list_all (names_field layouts.now.list) self.now.writes }
-    {
-        for write in self.writes.as_slice() {
-            if !write.names_field(layouts) {
-                return false;
-            }
-        }
-        true
-    }
-}
-
-impl Write {
-    ghost use Rattle.sg_flat.specs.Effects.{names_field};
-
-    fn names_field(&self, layouts: &Layouts) -> bool
-        ensures { result ≡ names_field layouts.now.list self.now }
-    {
-        match layouts.list.get(self.layout as usize) {
-            Some(layout) => {
-                let shape = layout.shape();
-                (self.place as usize) < shape.fields.len() && self.at.n == shape.axes
-            }
-            None => false,
-        }
-    }
 }

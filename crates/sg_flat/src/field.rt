@@ -26,7 +26,7 @@ impl FlatField {
     ghost use Rattle.sg_flat.specs.Landing.{AreWordsBelow, put_word};
 
     /// A field whose words are all 0.
-    pub fn new(alloc: Global) -> FlatField
+    pub(crate) fn new(alloc: Global) -> FlatField
         ensures { result ≡ [] }
     {
         FlatField {
@@ -42,7 +42,7 @@ impl FlatField {
     }
 
     /// What every field keeps: its entries are words, and none is 0.
-    pub fn keeps_words(&self)
+    pub(crate) fn keeps_words(&self)
         ensures no_zero { IsTrue (has_no_zero self.now) }
         ensures in_range { IsTrue (are_words self.now) }
     {

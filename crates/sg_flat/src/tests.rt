@@ -139,7 +139,6 @@ fn are_active(state: &FlatState, points: &[(i32, i32)]) -> bool {
 
 /// The fault of a run of these effects, where it is refused.
 fn fault_of(
-    rt: &impl Abort,
     alloc: Global,
     layouts: &Layouts,
     state: &mut FlatState,
@@ -148,7 +147,6 @@ fn fault_of(
     requires { IsFlat layouts.now.list state.old }
     ensures { IsFlat layouts.now.list state.new }
 {
-    assert!(rt; effects.name_fields(layouts));
     match state.apply(alloc, layouts, effects) {
         Ok(()) => Ok(None),
         Err(Stop::Refused(fault)) => Ok(Some(fault)),
@@ -158,7 +156,6 @@ fn fault_of(
 
 /// The fault of a run that writes 7 at these points of the only layout.
 fn run_sevens(
-    rt: &impl Abort,
     alloc: Global,
     layouts: &Layouts,
     state: &mut FlatState,
@@ -169,7 +166,7 @@ fn run_sevens(
     ensures { IsFlat layouts.now.list state.new }
 {
     let effects = sevens(alloc, 0, axes, points)?;
-    fault_of(rt, alloc, layouts, state, &effects)
+    fault_of(alloc, layouts, state, &effects)
 }
 
 /// A layout, points that are written, and the points that are active then.
@@ -259,7 +256,6 @@ fn own_values(rt: HostRuntime) -> Result<(), Fail> {
         turns.push(turn(alloc, i, &[own(i, square)])?)?;
     }
     let squares = Effects { turns };
-    assert!(rt; squares.name_fields(&layouts));
     state.apply(alloc, &layouts, &squares)?;
     assert_eq!(rt; words(&state, 0), [0, 1, 4, 9]);
     assert_eq!(rt; words(&state, 1), [0, 0, 0, 0]);
@@ -268,7 +264,6 @@ fn own_values(rt: HostRuntime) -> Result<(), Fail> {
     let nothing = Effects {
         turns: Items::new(alloc),
     };
-    assert!(rt; nothing.name_fields(&layouts));
     state.apply(alloc, &layouts, &nothing)?;
     assert_eq!(rt; words(&state, 0), [0, 1, 4, 9]);
 
@@ -277,7 +272,6 @@ fn own_values(rt: HostRuntime) -> Result<(), Fail> {
     turns.push(turn(alloc, 1, &[own(1, 5), own(1, 7)])?)?;
     turns.push(turn(alloc, 2, &[own(2, 5), own(2, 0)])?)?;
     let twice = Effects { turns };
-    assert!(rt; twice.name_fields(&layouts));
     state.apply(alloc, &layouts, &twice)?;
     assert_eq!(rt; words(&state, 0), [0, 7, 0, 9]);
     Ok(())
@@ -303,7 +297,6 @@ fn outside_writes(rt: HostRuntime) -> Result<(), Fail> {
     )?)?;
     turns.push(turn(alloc, -1, &[own(-1, 8)])?)?;
     let outside = Effects { turns };
-    assert!(rt; outside.name_fields(&layouts));
     match state.apply(alloc, &layouts, &outside) {
         Err(Stop::Refused(fault)) => {
             assert_eq!(rt;
@@ -330,7 +323,6 @@ fn contributions(rt: HostRuntime) -> Result<(), Fail> {
         turns.push(turn(alloc, i, &[contribution(0, AccOp::Add, 1)])?)?;
     }
     let counted = Effects { turns };
-    assert!(rt; counted.name_fields(&layouts));
     state.apply(alloc, &layouts, &counted)?;
     assert_eq!(rt; words(&state, 0), [4096, 0, 0, 0]);
 
@@ -348,7 +340,6 @@ fn contributions(rt: HostRuntime) -> Result<(), Fail> {
     ];
     turns.push(turn(alloc, 1, &less)?)?;
     let least = Effects { turns };
-    assert!(rt; least.name_fields(&layouts));
     state.apply(alloc, &layouts, &least)?;
     assert_eq!(rt; words(&state, 0), [minus_three, 0, 0, 0]);
     assert_eq!(rt; words(&state, 1), [5, 0, 0, 0]);
@@ -477,7 +468,7 @@ fn activity_of_each_kind(rt: HostRuntime) -> Result<(), Fail> {
         let layouts = alone(alloc, layout_of(&rt, alloc, row.axes, row.nodes)?)?;
         let mut state = FlatState::open(alloc, &layouts)?;
         assert!(rt; are_active(&state, &[]));
-        let fault = run_sevens(&rt, alloc, &layouts, &mut state, row.axes, row.written)?;
+        let fault = run_sevens(alloc, &layouts, &mut state, row.axes, row.written)?;
         assert_eq!(rt; fault, None);
         assert!(rt; are_active(&state, row.active));
         for (i, j) in row.written {
@@ -500,7 +491,7 @@ fn full_pools(rt: HostRuntime) -> Result<(), Fail> {
     let mut state = FlatState::open(alloc, &layouts)?;
     // two blocks fit exactly, a third doesn't
     assert_eq!(rt;
-        run_sevens(&rt, alloc, &layouts, &mut state, 1, &[(0, 0), (5, 0)])?,
+        run_sevens(alloc, &layouts, &mut state, 1, &[(0, 0), (5, 0)])?,
         None
     );
     let full = RunFault::PoolFull {
@@ -509,7 +500,7 @@ fn full_pools(rt: HostRuntime) -> Result<(), Fail> {
         cap: 2,
     };
     assert_eq!(rt;
-        run_sevens(&rt, alloc, &layouts, &mut state, 1, &[(15, 0)])?,
+        run_sevens(alloc, &layouts, &mut state, 1, &[(15, 0)])?,
         Some(full)
     );
     assert!(rt;
@@ -530,7 +521,7 @@ fn full_pools(rt: HostRuntime) -> Result<(), Fail> {
     assert_eq!(rt; state.value(&layouts, 0, 0, point(15)), 0);
     // a block that is there takes more
     assert_eq!(rt;
-        run_sevens(&rt, alloc, &layouts, &mut state, 1, &[(3, 0), (7, 0)])?,
+        run_sevens(alloc, &layouts, &mut state, 1, &[(3, 0), (7, 0)])?,
         None
     );
     // outside comes first
@@ -539,7 +530,7 @@ fn full_pools(rt: HostRuntime) -> Result<(), Fail> {
         at: point(16),
     };
     assert_eq!(rt;
-        run_sevens(&rt, alloc, &layouts, &mut state, 1, &[(12, 0), (16, 0)])?,
+        run_sevens(alloc, &layouts, &mut state, 1, &[(12, 0), (16, 0)])?,
         Some(outside)
     );
 
@@ -553,7 +544,7 @@ fn full_pools(rt: HostRuntime) -> Result<(), Fail> {
     };
     let many = [(0, 0), (1, 3), (4, 1), (15, 7)];
     assert_eq!(rt;
-        run_sevens(&rt, alloc, &layouts, &mut state, 2, &many)?,
+        run_sevens(alloc, &layouts, &mut state, 2, &many)?,
         Some(first)
     );
     let second = RunFault::PoolFull {
@@ -563,18 +554,11 @@ fn full_pools(rt: HostRuntime) -> Result<(), Fail> {
     };
     let few = [(0, 0), (0, 1), (2, 0), (2, 1)];
     assert_eq!(rt;
-        run_sevens(&rt, alloc, &layouts, &mut state, 2, &few)?,
+        run_sevens(alloc, &layouts, &mut state, 2, &few)?,
         Some(second)
     );
     assert_eq!(rt;
-        run_sevens(
-            &rt,
-            alloc,
-            &layouts,
-            &mut state,
-            2,
-            &[(0, 0), (0, 1), (2, 0)]
-        )?,
+        run_sevens(alloc, &layouts, &mut state, 2, &[(0, 0), (0, 1), (2, 0)])?,
         None
     );
 
@@ -587,11 +571,11 @@ fn full_pools(rt: HostRuntime) -> Result<(), Fail> {
         cap: 3,
     };
     assert_eq!(rt;
-        run_sevens(&rt, alloc, &layouts, &mut state, 2, &[(3, 0), (1, 1)])?,
+        run_sevens(alloc, &layouts, &mut state, 2, &[(3, 0), (1, 1)])?,
         None
     );
     assert_eq!(rt;
-        run_sevens(&rt, alloc, &layouts, &mut state, 2, &[(2, 1)])?,
+        run_sevens(alloc, &layouts, &mut state, 2, &[(2, 1)])?,
         Some(chunks)
     );
     Ok(())
@@ -613,7 +597,7 @@ fn first_full_layout(rt: HostRuntime) -> Result<(), Fail> {
         cap: 2,
     };
     assert_eq!(rt;
-        fault_of(&rt, alloc, &layouts, &mut state, &effects)?,
+        fault_of(alloc, &layouts, &mut state, &effects)?,
         Some(second)
     );
     let Effects { turns } = sevens(alloc, 0, 1, &three)?;
@@ -624,7 +608,7 @@ fn first_full_layout(rt: HostRuntime) -> Result<(), Fail> {
         cap: 2,
     };
     assert_eq!(rt;
-        fault_of(&rt, alloc, &layouts, &mut state, &effects)?,
+        fault_of(alloc, &layouts, &mut state, &effects)?,
         Some(first)
     );
     assert!(rt; are_active(&state, &[]));
@@ -642,14 +626,7 @@ fn a_large_sparse_layout(rt: HostRuntime) -> Result<(), Fail> {
     let mut state = FlatState::open(alloc, &layouts)?;
     assert!(rt; are_active(&state, &[]));
     assert_eq!(rt;
-        run_sevens(
-            &rt,
-            alloc,
-            &layouts,
-            &mut state,
-            2,
-            &[(32767, 32767), (0, 0)]
-        )?,
+        run_sevens(alloc, &layouts, &mut state, 2, &[(32767, 32767), (0, 0)])?,
         None
     );
     let at = Coord {
@@ -663,7 +640,7 @@ fn a_large_sparse_layout(rt: HostRuntime) -> Result<(), Fail> {
     let layouts = alone(alloc, layout_of(&rt, alloc, 1, &nodes)?)?;
     let mut state = FlatState::open(alloc, &layouts)?;
     assert_eq!(rt;
-        run_sevens(&rt, alloc, &layouts, &mut state, 1, &[(32767, 0)])?,
+        run_sevens(alloc, &layouts, &mut state, 1, &[(32767, 0)])?,
         None
     );
     assert_eq!(rt; state.value(&layouts, 0, 0, point(32767)), 7);
