@@ -15,6 +15,7 @@ use Rattle.sg_lexer.specs.declared.fault.LexFault.TheVariants as fault
 use Rattle.sg_lexer.specs.Alphabet.{is_space, is_inner, sign_text, sign_at, text_of}
 use Rattle.sg_lexer.specs.Lexing.{◌>>=◌, Piece, run_token, if_room, run_piece, sign_piece, is_in_line, piece}
 use Rattle.sg_lexer.specs.Laws.{Blank, none, space, comment, IsLexeme}
+use Rattle.sg_lexer.proofs.Prefixes.{prefix_some}
 use Rattle.sg_lexer.proofs.Tables.{chosen, sign_outer, sign_some, sign_found, sign_longest}
 use Rattle.sg_lexer.proofs.Texts.{all_at, run_found}
 
@@ -45,10 +46,6 @@ starts_within bytes text e = omega (arith, ap length (starts_take bytes text e),
 
 pub first_of_take : (bytes : List ℕ) (n : ℕ) → 0 < n → slice_index (take n bytes) 0 ≡ slice_index bytes 0
 first_of_take bytes n some = get_or-take n bytes 0 0 some
-
-pub prefix_some : (p : ℕ → Bool) (bytes : List ℕ) → 0 < length bytes → p (slice_index bytes 0) ≡ true → 0 < prefix_len p bytes
-prefix_some p [] some e = absurd (omega arith)
-prefix_some p (b ∷ bytes) some e = omega (arith, cond-true (p b) (1 + prefix_len p bytes) 0 e)
 
 -- the bytes of a longest run pass
 pub run_inner : (bytes : List ℕ) → list_all is_inner (take (prefix_len is_inner bytes) bytes) ≡ true

@@ -1,4 +1,5 @@
 mod Numbers
+pub mod Prefixes
 mod Passing
 mod Tables
 mod Texts

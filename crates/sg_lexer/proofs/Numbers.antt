@@ -1,9 +1,13 @@
 -- Digits and the number that they spell.
-use Rattle.std.proofs.Common.{◌≡◌, ℕ, ◌+◌, ◌-◌, ◌*◌, ◌<◌, ◌≤◌, Bool, false, nat_le, List, [], ◌∷◌, length, get_or, drop, fold, Err, sym, ◌∙◌, arith}
+use Rattle.std.proofs.Common.{◌≡◌, ℕ, ◌+◌, ◌-◌, ◌*◌, ◌<◌, ◌≤◌, Bool, false, nat_le, if◌then◌else◌, List, [], ◌∷◌, length, get_or, drop, fold, Err, sym, ◌∙◌, arith}
 use Rattle.std.proofs.lemmas.Bool.{lt-leb, and_right, cond-false}
 use Rattle.std.proofs.lemmas.List.{at_drop_more}
 use Rattle.sg_lexer.specs.declared.fault.LexFault.TheVariants as fault
-use Rattle.sg_lexer.specs.Lexing.{value_of, limit, number_as}
+use Rattle.sg_lexer.specs.Lexing.{value_of, number_as}
+
+-- the greatest number that may stand with a `u`, and without one
+abbrev pub limit : Bool → ℕ
+limit unsigned = if unsigned then 4294967295 else 2147483648
 
 -- further digits only raise a number
 pub grows : (digits : List ℕ) (v : ℕ) → v ≤ fold (λ v d. 10 * v + (d - 48)) v digits

@@ -15,9 +15,10 @@ use Rattle.sg_lexer.specs.declared.fault.LexFault.TheVariants as fault
 use Rattle.sg_lexer.specs.Alphabet.{is_space, is_inner, sign_text, sign_at, text_of}
 use Rattle.sg_lexer.specs.Lexing.{◌>>=◌, Piece, run_token, if_room, run_piece, sign_piece, piece}
 use Rattle.sg_lexer.specs.Laws.{run_at, IsNoBlank, IsFault, bad_byte, bad_number, long_name, too_many_runs, too_many_signs}
+use Rattle.sg_lexer.proofs.Prefixes.{prefix_some}
 use Rattle.sg_lexer.proofs.Tables.{chosen, sign_some, sign_no_space, sign_found, sign_longest, no_sign_found, same_sign}
 use Rattle.sg_lexer.proofs.Texts.{all_at, digit_inner, run_fault, run_long, run_bad, IsRun, run_or_sign}
-use Rattle.sg_lexer.proofs.Fronts.{Takes, starts_take, take_starts, first_of_take, prefix_some, run_inner, first_inner, first_outer, roomy, piece_space, piece_comment, piece_run, piece_sign}
+use Rattle.sg_lexer.proofs.Fronts.{Takes, starts_take, take_starts, first_of_take, run_inner, first_inner, first_outer, roomy, piece_space, piece_comment, piece_run, piece_sign}
 
 -- ---- faults
 

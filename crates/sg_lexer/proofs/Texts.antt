@@ -18,7 +18,8 @@ use Rattle.sg_ast.specs.Token.{begins_name, is_name_form, is_reserved, is_name, 
 use Rattle.sg_lexer.specs.declared.fault.LexFault.{LexFault}
 use Rattle.sg_lexer.specs.declared.fault.LexFault.TheVariants as fault
 use Rattle.sg_lexer.specs.Alphabet.{is_inner, word_text, word_of, sign_text, suffix, text_of}
-use Rattle.sg_lexer.specs.Lexing.{word_or_name, name, value_of, is_decimal, limit, number_as, number, run_token}
+use Rattle.sg_lexer.specs.Lexing.{word_or_name, name, value_of, is_decimal, number_as, number, run_token}
+use Rattle.sg_lexer.proofs.Numbers.{limit}
 use Rattle.sg_lexer.proofs.Tables.{chosen, for_word, word_again, word_found, no_word_found, reserved_word, no_reserved_word, sign_outer}
 
 -- what an element of a list that passes does

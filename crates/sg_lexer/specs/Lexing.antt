@@ -1,5 +1,5 @@
 -- The tokens of a list of bytes, or the first fault in it.
-use Rattle.std.specs.Prelude.{◌≡◌, refl, ℕ, zero, suc, ◌+◌, ◌-◌, ◌*◌, Bool, true, false, not, ◌&&◌, ◌||◌, ◌==◌, nat_eq, nat_lt, nat_le, if◌then◌else◌, List, [], ◌∷◌, ◌++◌, length, take, slice_index, Option, Some, None, Result, Ok, Err, codes, fold, count_by}
+use Rattle.std.specs.Prelude.{◌≡◌, refl, ℕ, zero, suc, ◌+◌, ◌-◌, ◌*◌, Bool, true, false, not, ◌&&◌, ◌||◌, ◌==◌, nat_eq, nat_lt, if◌then◌else◌, List, [], ◌∷◌, ◌++◌, length, take, slice_index, Option, Some, None, Result, Ok, Err, codes, fold, count_by}
 use Rattle.std.specs.Char.{is_ascii_digit}
 use Rattle.std.specs.List.{starts_with, ends_with, list_all, prefix_len}
 use Rattle.sg_ast.specs.declared.token.Word.{Word}
@@ -10,6 +10,7 @@ use Rattle.sg_ast.specs.declared.token.Token.{Token}
 use Rattle.sg_ast.specs.declared.token.Token.TheVariants as token
 use Rattle.sg_ast.specs.declared.token.Spanned.{Spanned}
 use Rattle.sg_ast.specs.declared.token.Tokens.{Tokens}
+use Rattle.sg_ast.specs.Token.{is_number}
 use Rattle.sg_lexer.specs.declared.fault.LexFault.{LexFault}
 use Rattle.sg_lexer.specs.declared.fault.LexFault.TheVariants as fault
 use Rattle.sg_lexer.specs.Alphabet.{is_space, is_inner, word_of, sign_text, sign_at}
@@ -39,14 +40,10 @@ value_of digits = fold (λ v d. 10 * v + (d - 48)) 0 digits
 abbrev pub is_decimal : List ℕ → Bool
 is_decimal digits = nat_lt 0 (length digits) && list_all is_ascii_digit digits && (length digits == 1 || not (slice_index digits 0 == 48))
 
--- the greatest number that may stand with a `u`, and without one
-abbrev pub limit : Bool → ℕ
-limit unsigned = if unsigned then 4294967295 else 2147483648
-
 -- the number of these digits
 unfoldable pub number_as : ℕ → Bool → List ℕ → Result Token LexFault
 number_as line unsigned digits =
-    if is_decimal digits && nat_le (value_of digits) (limit unsigned) then Ok (token.Number (value_of digits) unsigned) else Err (fault.BadNumber line)
+    if is_decimal digits && is_number (value_of digits) unsigned then Ok (token.Number (value_of digits) unsigned) else Err (fault.BadNumber line)
 
 -- what a run is that begins with a digit: a number, where a `u` may stand behind the digits
 unfoldable pub number : ℕ → List ℕ → Result Token LexFault
@@ -66,9 +63,11 @@ Piece = ℕ × Option Token
 abbrev pub if_room : ℕ → Result Piece LexFault → Result Piece LexFault
 if_room count answer = if nat_lt count 16384 then answer else Err fault.TooManyTokens
 
+-- the piece of a run
 abbrev pub run_piece : ℕ → ℕ → List ℕ → Result Piece LexFault
 run_piece line count run = if_room count (run_token line run >>= (λ t. Ok (length run, Some t)))
 
+-- the piece of the sign that stands there; no sign is a bad byte, however many tokens came before
 abbrev pub sign_piece : ℕ → ℕ → Option Sign → Result Piece LexFault
 sign_piece line count None = Err (fault.BadByte line)
 sign_piece line count (Some s) = if_room count (Ok (length (sign_text s), Some (token.Sign s)))
@@ -143,3 +142,30 @@ past_signed = refl
 past_unsigned : lexed (codes "4294967296u") ≡ Err (fault.BadNumber 1)
 unfolding lexed piece run_token name number number_as word_of sign_at
 past_unsigned = refl
+
+-- a run that begins with a digit is no name, however long it is
+many_digits : lexed (codes "123456789012345678901234567890123") ≡ Err (fault.BadNumber 1)
+unfolding lexed piece run_token name number number_as word_of sign_at
+many_digits = refl
+
+a_long_name : lexed (codes "//\nabcdefghijklmnopqrstuvwxyz_234567") ≡ Err (fault.LongName 2)
+unfolding lexed piece run_token name number number_as word_of sign_at
+a_long_name = refl
+
+-- behind the last token that there is room for, a run is one too many even if it is bad
+bad_number_behind : piece 3 16384 (codes "07") ≡ Err fault.TooManyTokens
+unfolding piece run_token number number_as
+bad_number_behind = refl
+
+-- but a byte that begins nothing is bad there as everywhere
+bad_byte_behind : piece 3 16384 (codes ".;") ≡ Err (fault.BadByte 3)
+unfolding piece sign_at
+bad_byte_behind = refl
+
+comment_behind : piece 3 16384 (codes "//@\n") ≡ Ok (3, None)
+unfolding piece
+comment_behind = refl
+
+last_in_room : piece 3 16383 (codes "..7") ≡ Ok (2, Some (token.Sign sign.DotDot))
+unfolding piece sign_at
+last_in_room = refl

@@ -29,33 +29,25 @@ fn is_inner(b: u8) -> bool
 }
 
 /// The bytes of the run at the front.
+#[tactic(auto, using(crate::proofs::Prefixes::prefix_some))]
 fn run_len(bytes: &[u8]) -> usize
     requires { 0 < length bytes.now }
     ensures value { result ≡ prefix_len alphabet.is_inner bytes.now }
     ensures within { result ≤ length bytes.now }
     ensures some { alphabet.is_inner (slice_index bytes.now 0) ≡ true → 0 < result }
 {
-    for (i, b) in bytes.iter().enumerate() {
-        if !is_inner(*b) {
-            return i;
-        }
-    }
-    bytes.len()
+    bytes.iter().take_while(|b| is_inner(**b)).count()
 }
 
 /// The bytes before the first newline.
+#[tactic(auto, using(crate::proofs::Prefixes::prefix_some))]
 fn line_len(bytes: &[u8]) -> usize
     requires { 0 < length bytes.now }
     ensures value { result ≡ prefix_len spec.is_in_line bytes.now }
     ensures within { result ≤ length bytes.now }
     ensures some { spec.is_in_line (slice_index bytes.now 0) ≡ true → 0 < result }
 {
-    for (i, b) in bytes.iter().enumerate() {
-        if *b == b'\n' {
-            return i;
-        }
-    }
-    bytes.len()
+    bytes.iter().take_while(|b| **b != b'\n').count()
 }
 
 /// How many newlines there are.

@@ -1,6 +1,6 @@
 //! Runs of letters, digits and `_`: names, reserved words and numbers.
 
-ghost use Rattle.std.specs.Prelude.{◌≡◌, ◌<◌, length};
+ghost use Rattle.std.specs.Prelude.{◌≡◌, ◌<◌, if◌then◌else◌, length};
 ghost use Rattle.sg_words.specs.Answers.{Answers};
 ghost use Rattle.sg_lexer.specs.Lexing as spec;
 
@@ -28,8 +28,9 @@ fn name(alloc: Global, line: u32, run: &[u8]) -> Result<Token, Stop<LexFault>>
     }
 }
 
+/// The greatest number, by whether a `u` stands behind it.
 fn limit(unsigned: bool) -> u64
-    ensures { result ≡ spec.limit unsigned }
+    ensures { result ≡ (if unsigned then 4294967295 else 2147483648) }
 {
     if unsigned {
         4_294_967_295

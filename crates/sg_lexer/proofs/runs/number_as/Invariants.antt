@@ -1,7 +1,8 @@
 use Rattle.std.proofs.Common.{◌≡◌, ◌+◌, ◌-◌, ◌*◌, ◌≤◌, true, not, ◌||◌, ◌==◌, nat_lt, length, drop, slice_index, fold}
 use Rattle.std.specs.Char.{is_ascii_digit}
 use Rattle.std.specs.List.{list_all}
-use Rattle.sg_lexer.specs.Lexing.{value_of, limit}
+use Rattle.sg_lexer.specs.Lexing.{value_of}
+use Rattle.sg_lexer.proofs.Numbers.{limit}
 use Rattle.sg_lexer.proofs.runs.number_as.Given as goal
 
 abbrev pub invariant-loop-digit : goal.invariant-loop-digit
