@@ -6,9 +6,10 @@ use Rattle.std.proofs.lemmas.Bool.{false_from_ne_true, or_parts, or_from}
 use Rattle.sg_words.specs.declared.operators.Ty.TheVariants as ty
 use Rattle.sg_ast.specs.declared.token.Name.{Name}
 use Rattle.sg_names.specs.Tables.{same_name}
+use Rattle.sg_names.specs.Names.{has_repeat}
 use Rattle.sg_types.specs.Scopes.{NamedLocal, local_named}
 use Rattle.sg_types.specs.Statements.{Reached, declared}
-use Rattle.sg_types.specs.Programs.{has_repeat, first_reached}
+use Rattle.sg_types.specs.Programs.{first_reached}
 
 -- a variable of the loop is declared
 abbrev pub one : Reached → Name → Reached

@@ -1,5 +1,5 @@
 -- Typed expressions are well typed.
-use Rattle.std.proofs.Common.{◌≡◌, ℕ, zero, suc, Bool, true, false, ◌&&◌, ◌==◌, take, find, slice_get, List, [], ◌∷◌, map, length, Option, Some, None, option_map, refl, sym, ap, ◌∙◌}
+use Rattle.std.proofs.Common.{◌≡◌, ℕ, zero, suc, Bool, true, false, ◌&&◌, ◌||◌, ◌==◌, nat_lt, take, find, slice_get, List, [], ◌∷◌, map, length, Option, Some, None, option_map, refl, sym, ap, ◌∙◌}
 use Rattle.std.specs.Option.{option_and_then}
 use Rattle.std.specs.List.{list_all, AllByRecursion}
 use Rattle.std.proofs.lemmas.Bool.{and_parts, and_from}
@@ -25,7 +25,7 @@ use Rattle.sg_types.specs.declared.typed.Form.TheVariants as form
 use Rattle.sg_types.specs.TypeTable.{is_numeric, is_signed, same_ty, bin_ty, un_ty}
 use Rattle.sg_types.specs.Scopes.{Known, NamedLocal, local_named, earlier, named_expr}
 use Rattle.sg_types.specs.Expressions.{typed_expr, counts, field_axes, is_number, number_ty, all_some, un_expr, bin_expr, mulq_expr, convert_expr, call_expr, read_expr, on_one, on_two, on_three, is_signed_expr}
-use Rattle.sg_types.specs.WellTyped.{Visible, Setting, setting, is_well_typed, is_ty, is_count, field_in, axes_in, is_visible, is_local}
+use Rattle.sg_types.specs.WellTyped.{Visible, Setting, setting, is_well_typed, is_ty, field_in, axes_in, is_visible, is_local}
 use Rattle.sg_types.specs.Laws.{TablesFit}
 use Rattle.sg_types.proofs.Standing.{find_good}
 use Rattle.sg_types.proofs.Outcomes.{some_same, option_and_then_some, option_map_some, if_some}
@@ -37,6 +37,14 @@ pub same_ty-same : (given : Ty) → same_ty given given ≡ true
 same_ty-same ty.I32 = refl
 same_ty-same ty.U32 = refl
 same_ty-same ty.Bool = refl
+
+number_fits : (unsigned : Bool) (value : ℕ) → (is_numeric (number_ty unsigned) || nat_lt value 2) ≡ true
+number_fits true value = refl
+number_fits false value = refl
+
+truth_fits : (truth : Bool) → (is_numeric ty.Bool || nat_lt (flag truth) 2) ≡ true
+truth_fits true = refl
+truth_fits false = refl
 
 pub is_ty-some : (found : Option Ty) (given : Ty) → found ≡ Some given → is_ty found given ≡ true
 is_ty-some found given h = ap (λ (o : Option Ty). is_ty o given) h ∙ same_ty-same given
@@ -93,13 +101,13 @@ module _ (known : Known) (shapes : List Shape) (fit : TablesFit known.tables sha
       ∙ find_good (λ named. same_name name named.name) (λ named. is_numeric named.constant.ty) (take known.constants known.tables.constants) found.0
       (list_all-take (λ named. is_numeric named.constant.ty) known.constants known.tables.constants fit.constants) found.1
 
-  pub axes_fit : (layout n : ℕ) → is_number (axes_of known.tables layout) n ≡ true → is_count (axes_in shapes layout) n ≡ true
+  pub axes_fit : (layout n : ℕ) → is_number (axes_of known.tables layout) n ≡ true → is_number (axes_in shapes layout) n ≡ true
   axes_fit layout n h =
       let found = number_of_axes (axes_of known.tables layout) n h in
-      ap (λ (o : Option ℕ). is_count o n) (fit.axes layout found.0 found.1) ∙ found.2
+      ap (λ (o : Option ℕ). is_number o n) (fit.axes layout found.0 found.1) ∙ found.2
 
   -- the layout of a field has as many axes
-  pub field_axes_fit : (field : Name) (at : FieldAt) (n : ℕ) → field_named known.tables field ≡ Some at → is_number (field_axes known.tables field) n ≡ true → is_count (axes_in shapes at.layout) n ≡ true
+  pub field_axes_fit : (field : Name) (at : FieldAt) (n : ℕ) → field_named known.tables field ≡ Some at → is_number (field_axes known.tables field) n ≡ true → is_number (axes_in shapes at.layout) n ≡ true
   field_axes_fit field at n is h =
       axes_fit at.layout n (ap (λ (o : Option FieldAt). is_number (option_and_then (λ at. axes_of known.tables at.layout) o) n) (sym is) ∙ h)
 
@@ -140,9 +148,9 @@ module _ (known : Known) (shapes : List Shape) (fit : TablesFit known.tables sha
     -- indices of I32 that are well typed, as many as the layout has axes
     pub index_fits : (field : Name) (place : FieldAt) (index : List Expr) (typed : List TypedExpr) → field_named known.tables field ≡ Some place
         → is_number (field_axes known.tables field) (length index) ≡ true → list_all is_signed_expr typed ≡ true → list_all (is_well_typed at) typed ≡ true → length typed ≡ length index
-        → (is_count (axes_in shapes place.layout) (length typed) && list_all (λ part. is_signed part.ty && is_well_typed at part) typed) ≡ true
+        → (is_number (axes_in shapes place.layout) (length typed) && list_all (λ part. is_signed part.ty && is_well_typed at part) typed) ≡ true
     index_fits field place index typed is n signed well same_length =
-        and_from (is_count (axes_in shapes place.layout) (length typed)) (list_all (λ part. is_signed part.ty && is_well_typed at part) typed)
+        and_from (is_number (axes_in shapes place.layout) (length typed)) (list_all (λ part. is_signed part.ty && is_well_typed at part) typed)
         (field_axes_fit field place (length typed) is (ap (is_number (field_axes known.tables field)) same_length ∙ n))
         (both_all is_signed_expr (is_well_typed at) typed signed well)
 
@@ -156,7 +164,7 @@ module _ (known : Known) (shapes : List Shape) (fit : TablesFit known.tables sha
         let well = all_fit index all parts.0 parts.1 counted.1 in
         ap (is_well_typed at) (sym signed.1)
         ∙ (fits-Read at place.ty place.layout place.place parts.0
-        ∙ and_from (is_ty (field_in shapes place.layout place.place) place.ty) (is_count (axes_in shapes place.layout) (length parts.0) && list_all (λ part. is_signed part.ty && is_well_typed at part) parts.0)
+        ∙ and_from (is_ty (field_in shapes place.layout place.place) place.ty) (is_number (axes_in shapes place.layout) (length parts.0) && list_all (λ part. is_signed part.ty && is_well_typed at part) parts.0)
         (is_ty-some (field_in shapes place.layout place.place) place.ty (fit.fields field place found.1))
         (index_fits field place index parts.0 found.1 counted.0 signed.0 well.0 well.1))
 
@@ -243,8 +251,8 @@ module _ (known : Known) (shapes : List Shape) (fit : TablesFit known.tables sha
     -- a typed expression is well typed
     pub expr_fits : (expr : Expr) → FitsWell expr
     expr_fits = by_exprs FitsWell
-        (λ value unsigned typed h g. same (record { ty = number_ty unsigned; form = form.Literal value }) typed (sym (typed-Number known scope value unsigned) ∙ h) (fits-Literal at (number_ty unsigned) value))
-        (λ truth typed h g. same (record { ty = ty.Bool; form = form.Literal (flag truth) }) typed (sym (typed-Truth known scope truth) ∙ h) (fits-Literal at ty.Bool (flag truth)))
+        (λ value unsigned typed h g. same (record { ty = number_ty unsigned; form = form.Literal value }) typed (sym (typed-Number known scope value unsigned) ∙ h) (fits-Literal at (number_ty unsigned) value ∙ number_fits unsigned value))
+        (λ truth typed h g. same (record { ty = ty.Bool; form = form.Literal (flag truth) }) typed (sym (typed-Truth known scope truth) ∙ h) (fits-Literal at ty.Bool (flag truth) ∙ truth_fits truth))
         name_fits read_fits paren_fits un_fits bin_fits call_fits
 
     all_exprs : (exprs : List Expr) → AllByRecursion FitsWell exprs

@@ -24,7 +24,7 @@ use Rattle.sg_types.specs.declared.typed.Typed.{Typed}
 use Rattle.sg_types.specs.Scopes.{Known}
 use Rattle.sg_types.specs.Expressions.{is_number, all_some}
 use Rattle.sg_types.specs.Statements.{Reached, and_then, fault_at, counts_range, typed_range, in_turn, typed_stmt, typed_block}
-use Rattle.sg_types.specs.Programs.{counts_domain, typed_domain, loop_wrongs, loop_part, first_reached, typed_kernel, before_all, typed_items}
+use Rattle.sg_types.specs.Programs.{counts_domain, typed_domain, loop_wrongs, loop_part, first_reached, typed_kernel, with_first, typed_items}
 use Rattle.sg_types.specs.WellTyped.{Visible, setting, is_ty, is_visible, all_fit, fitting, is_well_typed_range, is_well_typed_domain, loop_scope, is_well_typed_kernel}
 use Rattle.sg_types.specs.Laws.{TablesFit, TypedIsWellTyped}
 use Rattle.sg_types.proofs.Outcomes.{and_then_ok, fault_at_ok, judged_ok, ok_same, option_and_then_some, option_map_some, some_same}
@@ -137,9 +137,9 @@ module _ (known : Known) (shapes : List Shape) (fit : TablesFit known.tables sha
       (domain_fits decl.domain n loop says.is (not_false (counts_domain known n decl.domain) says.counted))
       (all_from (λ var. is_ty (slice_get after.types var) ty.I32) 0 n (λ k below. is_ty-some (slice_get after.types (0 + k)) ty.I32 (each k below)))) body_fits
 
-before_all_ok : (kernel : TypedKernel) (r : Result (List TypedKernel) TypeFault) (kernels : List TypedKernel) → before_all kernel r ≡ Ok kernels → (more : List TypedKernel) × (r ≡ Ok more) × (kernel ∷ more ≡ kernels)
-before_all_ok kernel (Ok more) kernels h = (more, refl, ok_same (kernel ∷ more) kernels h)
-before_all_ok kernel (Err fault) kernels h = let no_such : ◌≡◌ {A = Result (List TypedKernel) TypeFault} (Err fault) (Ok kernels) = h in absurd (cc)
+with_first_ok : (kernel : TypedKernel) (r : Result (List TypedKernel) TypeFault) (kernels : List TypedKernel) → with_first kernel r ≡ Ok kernels → (more : List TypedKernel) × (r ≡ Ok more) × (kernel ∷ more ≡ kernels)
+with_first_ok kernel (Ok more) kernels h = (more, refl, ok_same (kernel ∷ more) kernels h)
+with_first_ok kernel (Err fault) kernels h = let no_such : ◌≡◌ {A = Result (List TypedKernel) TypeFault} (Err fault) (Ok kernels) = h in absurd (cc)
 
 items_fit : (tables : Tables) (shapes : List Shape) → TablesFit tables shapes → (number constants : ℕ) (items : List Item) (kernels : List TypedKernel) → typed_items tables number constants items ≡ Ok kernels → list_all (is_well_typed_kernel shapes) kernels ≡ true
 items_fit tables shapes fit number constants [] kernels h = ap (list_all (is_well_typed_kernel shapes)) (sym (ok_same [] kernels h))
@@ -147,8 +147,8 @@ items_fit tables shapes fit number constants (item.Const decl ∷ items) kernels
 items_fit tables shapes fit number constants (item.Layout decl ∷ items) kernels h = items_fit tables shapes fit number constants items kernels h
 items_fit tables shapes fit number constants (item.Kernel decl ∷ items) kernels h =
     let known : Known = record { kernel = number; tables = tables; constants = constants } in
-    let one = and_then_ok (typed_kernel known decl) (λ kernel. before_all kernel (typed_items tables (suc number) constants items)) kernels h in
-    let rest = before_all_ok one.0 (typed_items tables (suc number) constants items) kernels one.2 in
+    let one = and_then_ok (typed_kernel known decl) (λ kernel. with_first kernel (typed_items tables (suc number) constants items)) kernels h in
+    let rest = with_first_ok one.0 (typed_items tables (suc number) constants items) kernels one.2 in
     ap (list_all (is_well_typed_kernel shapes)) (sym rest.2)
     ∙ and_from (is_well_typed_kernel shapes one.0) (list_all (is_well_typed_kernel shapes) rest.0) (kernel_fits known shapes fit decl one.0 one.1) (items_fit tables shapes fit (suc number) constants items rest.0 rest.1)
 items_fit tables shapes fit number constants (item.Command command ∷ items) kernels h = items_fit tables shapes fit number constants items kernels h

@@ -25,7 +25,7 @@ use Rattle.sg_types.specs.Scopes.{Known, NamedLocal, local_named}
 use Rattle.sg_types.specs.Expressions.{typed_expr, counts, field_axes, is_number, all_some, is_signed_expr}
 use Rattle.sg_types.specs.Statements.{Reached, Step, past, declared, and_then, fault_at, let_wrongs, assign_wrongs, write_wrongs, if_wrongs, for_wrongs, let_part, assign_part, write_part, if_part, for_part, may_not_assign, assigned, written, way_of, only_if, typed_range, counts_range, in_turn, in_block, in_else, typed_stmt, plain_step}
 use Rattle.sg_types.specs.Counting.{block_count, else_count}
-use Rattle.sg_types.specs.WellTyped.{Visible, setting, is_well_typed, is_ty, is_count, field_in, axes_in, is_visible, is_local, Fitting, all_fit, fitting, is_well_typed_range}
+use Rattle.sg_types.specs.WellTyped.{Visible, setting, is_well_typed, is_ty, field_in, axes_in, is_visible, is_local, Fitting, all_fit, fitting, is_well_typed_range}
 use Rattle.sg_types.specs.Laws.{TablesFit}
 use Rattle.sg_types.proofs.Outcomes.{and_then_ok, fault_at_ok, judged_ok, option_and_then_some, option_map_some, if_some, only_if_some, ok_same}
 use Rattle.sg_types.proofs.StmtWords.{typed-Let, typed-Assign, typed-Write, typed-If, typed-For, AllInElse, by_statements}
@@ -193,10 +193,10 @@ module _ (known : Known) (shapes : List Shape) (fit : TablesFit known.tables sha
       subst (λ (k : TypedKind). Passes (fitting shapes types (record { number = at.number; kind = k })) visible (past at)) made.2
       (passes_by (fitting shapes types (record { number = at.number; kind = kind.Write place.layout place.place is (way_of how) it })) visible visible
       ((is_ty (field_in shapes place.layout place.place) it.ty && is_well_typed (setting shapes types visible) it)
-      && (is_count (axes_in shapes place.layout) (length is) && list_all (λ part. is_signed part.ty && is_well_typed (setting shapes types visible) part) is)) (past at)
+      && (is_number (axes_in shapes place.layout) (length is) && list_all (λ part. is_signed part.ty && is_well_typed (setting shapes types visible) part) is)) (past at)
       (fitting-Write shapes types at.number place.layout place.place is (way_of how) it visible)
       (and_from (is_ty (field_in shapes place.layout place.place) it.ty && is_well_typed (setting shapes types visible) it)
-      (is_count (axes_in shapes place.layout) (length is) && list_all (λ part. is_signed part.ty && is_well_typed (setting shapes types visible) part) is)
+      (is_number (axes_in shapes place.layout) (length is) && list_all (λ part. is_signed part.ty && is_well_typed (setting shapes types visible) part) is)
       (and_from (is_ty (field_in shapes place.layout place.place) it.ty) (is_well_typed (setting shapes types visible) it)
       (is_ty-some (field_in shapes place.layout place.place) it.ty (fit.fields field place found ∙ ap Some (sym (same_ty-equal it.ty place.ty passed.1))))
       (expr_fits known shapes fit types at.scope visible all value it passed.0 parts.1))

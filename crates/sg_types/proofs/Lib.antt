@@ -22,3 +22,6 @@ pub mod Texts
 pub mod WorkedEffects
 pub mod NameWords
 pub mod NamesKept
+pub mod Numbered
+pub mod DeclaredFit
+pub mod VarNumbers

@@ -26,6 +26,7 @@ use Rattle.sg_ast.specs.declared.kernel.DomainDecl.TheVariants as domain
 use Rattle.sg_names.specs.declared.tables.Constant.{Constant}
 use Rattle.sg_names.specs.declared.tables.FieldAt.{FieldAt}
 use Rattle.sg_names.specs.Tables.{same_name, field_named, layout_named}
+use Rattle.sg_names.specs.Names.{has_repeat}
 use Rattle.sg_types.specs.declared.scope.Local.{Local}
 use Rattle.sg_types.specs.declared.typed.TypedExpr.{TypedExpr}
 use Rattle.sg_types.specs.declared.typed.Form.TheVariants as form
@@ -40,7 +41,7 @@ use Rattle.sg_types.specs.TypeTable.{is_numeric, is_truth, same_ty, bin_ty, un_t
 use Rattle.sg_types.specs.Scopes.{Known, NamedLocal, local_named, earlier, is_taken, named_expr}
 use Rattle.sg_types.specs.Expressions.{typed_expr, number_ty, all_some, un_expr, bin_expr, mulq_expr, convert_expr, call_expr, read_expr, on_one, on_two, on_three, is_signed_expr}
 use Rattle.sg_types.specs.Statements.{Reached, Step, past, declared, and_then, fault_at, let_wrongs, assign_wrongs, write_wrongs, if_wrongs, for_wrongs, let_part, assign_part, write_part, if_part, for_part, assigned, written, way_of, only_if, typed_range, in_turn, in_block, in_else, typed_stmt, typed_block, plain_step}
-use Rattle.sg_types.specs.Programs.{has_repeat, any_earlier, typed_domain, loop_wrongs, loop_part, first_reached}
+use Rattle.sg_types.specs.Programs.{any_earlier, typed_domain, loop_wrongs, loop_part, first_reached}
 use Rattle.sg_types.specs.NamesBack.{no_name, field_mark, marked_constant, marked_field, marked_layout, called, marked, marked_range, marked_stmt, marked_domain, stmt_names, block_names, else_names, variable_names, literal_expr, named, named_range, way_back, named_stmt, named_domain, named_kernel}
 use Rattle.sg_types.specs.Laws.{NamesComeBack}
 use Rattle.sg_types.proofs.Outcomes.{and_then_ok, fault_at_ok, judged_ok, some_same, option_and_then_some, option_map_some, if_some, only_if_some, ok_same}

@@ -43,6 +43,7 @@ knows known scope = fold-Expr Bool (knows_step known scope)
 abbrev pub field_axes : Tables → Name → Option ℕ
 field_axes tables field = option_and_then (λ at. axes_of tables at.layout) (field_named tables field)
 
+-- a number is there, and is this one
 abbrev pub is_number : Option ℕ → ℕ → Bool
 is_number None n = false
 is_number (Some m) n = m == n

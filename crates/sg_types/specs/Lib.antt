@@ -12,4 +12,5 @@ pub mod Taking
 pub mod WellTyped
 pub mod Written
 pub mod NamesBack
+pub mod Numbers
 pub mod Laws

@@ -9,7 +9,8 @@ use Rattle.sg_ast.specs.declared.kernel.KernelDecl.{KernelDecl}
 use Rattle.sg_ast.specs.declared.program.Item.{Item}
 use Rattle.sg_ast.specs.declared.program.Item.TheVariants as item
 use Rattle.sg_ast.specs.declared.program.Program.{Program}
-use Rattle.sg_names.specs.Tables.{Tables, same_name, layout_named, axes_of}
+use Rattle.sg_names.specs.Tables.{Tables, layout_named, axes_of}
+use Rattle.sg_names.specs.Names.{has_repeat}
 use Rattle.sg_types.specs.declared.fault.TypeFault.{TypeFault}
 use Rattle.sg_types.specs.declared.typed.TypedDomain.{TypedDomain}
 use Rattle.sg_types.specs.declared.typed.TypedDomain.TheVariants as typed
@@ -22,11 +23,7 @@ use Rattle.sg_types.specs.Statements.{judged, knows_range, counts_range, typed_r
 
 -- ---- the loop of a kernel
 
--- a name stands twice in a list
-abbrev pub has_repeat : List Name → Bool
-has_repeat [] = false
-has_repeat (name ∷ names) = list_any (same_name name) names || has_repeat names
-
+-- a name is that of an earlier constant
 abbrev pub any_earlier : Known → List Name → Bool
 any_earlier known names = list_any (λ name. is_some (earlier known name)) names
 
@@ -74,9 +71,9 @@ typed_kernel known kernel =
 -- ---- programs
 
 -- one more typed kernel before others
-abbrev pub before_all : TypedKernel → Result (List TypedKernel) TypeFault → Result (List TypedKernel) TypeFault
-before_all kernel (Err fault) = Err fault
-before_all kernel (Ok kernels) = Ok (kernel ∷ kernels)
+abbrev pub with_first : TypedKernel → Result (List TypedKernel) TypeFault → Result (List TypedKernel) TypeFault
+with_first kernel (Err fault) = Err fault
+with_first kernel (Ok kernels) = Ok (kernel ∷ kernels)
 
 -- the kernels among items, where the number of the next kernel and of the constants so far are given
 abbrev pub typed_items : Tables → ℕ → ℕ → List Item → Result (List TypedKernel) TypeFault
@@ -85,7 +82,7 @@ typed_items tables kernels constants (item.Const decl ∷ items) = typed_items t
 typed_items tables kernels constants (item.Layout decl ∷ items) = typed_items tables kernels constants items
 typed_items tables kernels constants (item.Kernel decl ∷ items) =
     and_then (typed_kernel (record { kernel = kernels; tables = tables; constants = constants }) decl)
-    (λ kernel. before_all kernel (typed_items tables (suc kernels) constants items))
+    (λ kernel. with_first kernel (typed_items tables (suc kernels) constants items))
 typed_items tables kernels constants (item.Command command ∷ items) = typed_items tables kernels constants items
 
 -- the typed program, or the first fault of its first kernel that has one

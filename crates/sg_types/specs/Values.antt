@@ -1,5 +1,5 @@
 -- The value of an expression in an iteration.
-use Rattle.std.specs.Prelude.{ℕ, Bool, true, false, ◌&&◌, ◌==◌, List, map, reverse, length, find, get_or, slice_get, Option, Some, None}
+use Rattle.std.specs.Prelude.{ℕ, Bool, true, false, ◌&&◌, ◌==◌, List, map, reverse, length, find, get_or, Option, Some, None}
 use Rattle.sg_words.specs.declared.operators.Ty.{Ty}
 use Rattle.sg_words.specs.declared.operators.Ty.TheVariants as ty
 use Rattle.sg_words.specs.Words.{number, applied, applied_un, mulq_of}
@@ -8,9 +8,8 @@ use Rattle.sg_layout.specs.declared.shape.Shape.{Shape}
 use Rattle.sg_flat.specs.declared.effects.Way.{Way}
 use Rattle.sg_flat.specs.declared.effects.Way.TheVariants.{Own, Acc}
 use Rattle.sg_flat.specs.declared.effects.Write.{Write}
-use Rattle.sg_flat.specs.declared.state.FlatLayout.{FlatLayout}
 use Rattle.sg_flat.specs.declared.state.FlatState.{FlatState}
-use Rattle.sg_flat.specs.State.{value_at}
+use Rattle.sg_flat.specs.State as flat
 use Rattle.sg_types.specs.declared.typed.TypedExpr.{TypedExpr, fold-TypedExpr}
 use Rattle.sg_types.specs.declared.typed.Form.TheOpen as f
 use Rattle.sg_types.specs.declared.typed.Form.TheOpen.{Form-F, TypedExpr-F}
@@ -43,23 +42,13 @@ abbrev pub own_write : ℕ → ℕ → List Write → Option Write
 own_write layout place writes =
     find (λ write. is_own write.way && ((write.layout == layout) && (write.place == place))) (reverse writes)
 
--- the value of a field at a coordinate in the state; 0 where there is no such layout
-abbrev pub value_in_layout : Option Shape → Option FlatLayout → ℕ → Coord → ℕ
-value_in_layout None flat place at = 0
-value_in_layout (Some shape) None place at = 0
-value_in_layout (Some shape) (Some flat) place at = value_at shape flat place at
-
-abbrev pub state_value : World → ℕ → ℕ → Coord → ℕ
-state_value world layout place at =
-    value_in_layout (slice_get world.shapes layout) (slice_get world.state.layouts layout) place at
-
 -- what a read gives: the last own value where this iteration has own-written the field, else the state's value
 abbrev pub value_or_own : Option Write → ℕ → ℕ
 value_or_own None value = value
 value_or_own (Some write) value = write.value
 
 abbrev pub read_value : World → Moment → ℕ → ℕ → Coord → ℕ
-read_value world now layout place at = value_or_own (own_write layout place now.writes) (state_value world layout place at)
+read_value world now layout place at = value_or_own (own_write layout place now.writes) (flat.value_of world.shapes world.state layout place at)
 
 -- the type of an expression beside its word
 abbrev pub TypedWord : Type 0

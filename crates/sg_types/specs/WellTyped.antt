@@ -1,6 +1,6 @@
 -- Which typed kernels are well typed, over given layouts: each expression has the type that the table of types gives it, and each
 -- variable is in scope where it stands.
-use Rattle.std.specs.Prelude.{ℕ, zero, suc, Bool, true, false, not, ◌&&◌, ◌==◌, List, [], ◌∷◌, map, length, slice_get, Option, Some, None, option_map, option_and_then}
+use Rattle.std.specs.Prelude.{ℕ, zero, suc, Bool, true, false, not, ◌&&◌, ◌||◌, ◌==◌, nat_lt, List, [], ◌∷◌, map, length, slice_get, Option, Some, None, option_map, option_and_then}
 use Rattle.std.specs.List.{list_all, list_any, range_with_len}
 use Rattle.sg_words.specs.declared.operators.Ty.{Ty}
 use Rattle.sg_words.specs.declared.operators.Ty.TheVariants as ty
@@ -15,6 +15,7 @@ use Rattle.sg_types.specs.declared.typed.TypedStmt.{TypedStmt, fold-TypedStmt}
 use Rattle.sg_types.specs.declared.typed.TypedDomain.{TypedDomain}
 use Rattle.sg_types.specs.declared.typed.TypedDomain.TheVariants as domain
 use Rattle.sg_types.specs.declared.typed.TypedKernel.{TypedKernel}
+use Rattle.sg_types.specs.Expressions.{is_number}
 use Rattle.sg_types.specs.TypeTable.{is_numeric, is_signed, is_truth, same_ty, bin_ty, un_ty}
 
 -- a variable in scope, and whether it is a loop's
@@ -39,10 +40,6 @@ abbrev pub is_ty : Option Ty → Ty → Bool
 is_ty None given = false
 is_ty (Some it) given = same_ty it given
 
-abbrev pub is_count : Option ℕ → ℕ → Bool
-is_count None n = false
-is_count (Some m) n = m == n
-
 -- a variable is in scope
 abbrev pub is_visible : List Visible → ℕ → Bool
 is_visible scope var = list_any (λ seen. seen.var == var) scope
@@ -60,13 +57,13 @@ Judged = Ty × Bool
 abbrev pub is_index : Judged → Bool
 is_index part = is_signed part.0 && part.1
 
--- one layer of an expression, where its parts are judged: whether it has the given type
+-- one layer of an expression, where its parts are judged: whether it has the given type; a truth value is 0 or 1
 abbrev pub form_step : Setting → Form-F (Ty → Bool) Judged → Ty → Bool
-form_step at (f.Literal word) given = true
+form_step at (f.Literal word) given = is_numeric given || nat_lt word 2
 form_step at (f.Constant word) given = is_numeric given
 form_step at (f.Var var) given = is_visible at.scope var && is_ty (slice_get at.types var) given
 form_step at (f.Read layout place index) given =
-    is_ty (field_in at.shapes layout place) given && (is_count (axes_in at.shapes layout) (length index) && list_all is_index index)
+    is_ty (field_in at.shapes layout place) given && (is_number (axes_in at.shapes layout) (length index) && list_all is_index index)
 form_step at (f.Paren inner) given = same_ty inner.0 given && inner.1
 form_step at (f.Un op operand) given = is_ty (un_ty op operand.0) given && operand.1
 form_step at (f.Bin op left right) given = is_ty (bin_ty op left.0 right.0) given && (left.1 && right.1)
@@ -108,7 +105,7 @@ kind_fits shapes types (k.Assign var value) scope =
     (is_local scope var && (is_well_typed (setting shapes types scope) value && is_ty (slice_get types var) value.ty), scope)
 kind_fits shapes types (k.Write layout place index way value) scope = (
   (is_ty (field_in shapes layout place) value.ty && is_well_typed (setting shapes types scope) value)
-      && (is_count (axes_in shapes layout) (length index) && list_all (λ part. is_signed part.ty && is_well_typed (setting shapes types scope) part) index),
+      && (is_number (axes_in shapes layout) (length index) && list_all (λ part. is_signed part.ty && is_well_typed (setting shapes types scope) part) index),
   scope,
 )
 kind_fits shapes types (k.If condition block otherwise has_else) scope =
@@ -125,7 +122,7 @@ fitting shapes types = fold-TypedStmt Fitting Fitting (kind_fits shapes types) (
 -- ---- kernels
 
 abbrev pub is_well_typed_domain : List Shape → ℕ → TypedDomain → Bool
-is_well_typed_domain shapes vars (domain.Walk layout) = is_count (axes_in shapes layout) vars
+is_well_typed_domain shapes vars (domain.Walk layout) = is_number (axes_in shapes layout) vars
 is_well_typed_domain shapes vars (domain.Ranges ranges) = (length ranges == vars) && list_all (is_well_typed_range (setting shapes [] [])) ranges
 
 -- the variables of a loop, the first with the given number

@@ -4,6 +4,7 @@ ghost use Rattle.std.specs.Prelude.{◌≡◌, map, IfOk};
 ghost use Rattle.std.specs.List.{list_all, list_any};
 ghost use Rattle.sg_words.specs.Answers.{Answers};
 ghost use Rattle.sg_names.specs.Tables as tables;
+ghost use Rattle.sg_names.specs.Names as repeats;
 ghost use Rattle.sg_types.specs.Expressions.{all_some, is_number};
 ghost use Rattle.sg_types.specs.Statements as stmts;
 ghost use Rattle.sg_types.specs.Programs as spec;
@@ -136,7 +137,7 @@ impl<'a> Context<'a> {
 
 /// Whether a name stands twice in a list.
 fn has_repeat(names: &[Name]) -> bool
-    ensures { result ≡ spec.has_repeat names.now }
+    ensures { result ≡ repeats.has_repeat names.now }
 {
     match names {
         [] => false,

@@ -2,6 +2,7 @@
 
 ghost use Rattle.std.specs.Prelude.{◌≡◌, ◌<◌, ◌^◌, length, false, IfOk};
 ghost use Rattle.sg_words.specs.Answers.{Answers};
+ghost use Rattle.sg_names.specs.Names.{has_repeat};
 ghost use Rattle.sg_types.specs.Programs as spec;
 ghost use Rattle.sg_types.specs.Counting.{kernel_size};
 ghost use Rattle.sg_types.specs.Views.{known_of, reached_of};
@@ -34,7 +35,7 @@ impl<'a> Context<'a> {
 
     /// The start of a body, where the loop's variables are declared.
     fn first_progress(&self, vars: &'a [Name]) -> Result<Progress<'a>, Memory>
-        requires once { spec.has_repeat vars.now ≡ false }
+        requires once { has_repeat vars.now ≡ false }
         requires room { length vars.now < 2 ^ 32 }
         ensures { IfOk result (λ at. reached_of at ≡ spec.first_reached vars.now) }
     {

@@ -1,11 +1,27 @@
 //! What typing and effects keep, each as the contract of a function that does nothing.
 
-ghost use Rattle.sg_types.specs.Laws.{TypedIsWellTyped, EffectsAreWritten, NamesComeBack};
+ghost use Rattle.sg_types.specs.Laws.{DeclaredLayoutsFit, TypedIsWellTyped, StatementsAreNumbered, VariablesAreNumbered, EffectsAreWritten, NamesComeBack};
+
+/// The layouts that a program declares fit its tables: they have the fields with their types, and as many axes.
+pub fn declared_layouts_fit()
+    ensures { DeclaredLayoutsFit }
+{}
 
 /// Over layouts that fit the tables, the kernels of a typed program are well typed: each expression has the type that the table
 /// of types gives it, and stands where its variables are in scope.
 pub fn typed_is_well_typed()
     ensures { TypedIsWellTyped }
+{}
+
+/// The statements of a typed kernel are numbered 1, 2, 3 and so on in the order of their first tokens, those in blocks counted.
+pub fn statements_are_numbered()
+    ensures { StatementsAreNumbered }
+{}
+
+/// The variables of a typed kernel are numbered from 0: those of its loop, then its locals and the variables of its inner loops in
+/// the order of their first tokens.
+pub fn variables_are_numbered()
+    ensures { VariablesAreNumbered }
 {}
 
 /// Each write of an iteration is one of a statement of its kernel that writes: of its number, to its field, with as many parts as

@@ -1,0 +1,5 @@
+use Rattle.sg_types.proofs.DeclaredFit.{declared_layouts_fit}
+use Rattle.sg_types.proofs.laws.declared_layouts_fit.Goals as goal
+
+pub returns : goal.returns
+returns c = declared_layouts_fit
