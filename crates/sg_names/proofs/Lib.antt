@@ -8,3 +8,4 @@ pub mod LawLemmasFault
 pub mod LawLemmasDeclared
 pub mod LawLemmasDistinct
 pub mod LawLemmasLookup
+mod Worked

@@ -1,5 +1,5 @@
 -- Worked examples of the definitions on names.
-use Rattle.std.specs.Prelude.{◌≡◌, refl, ℕ, pos, negsuc, true, false, List, [], ◌∷◌, map, replicate, Some, None, Ok, Err, codes}
+use Rattle.std.specs.Prelude.{◌≡◌, refl, ℕ, Bool, pos, negsuc, true, false, List, [], ◌∷◌, map, replicate, Some, None, Ok, Err, codes}
 use Rattle.sg_words.specs.declared.operators.Ty.TheVariants as ty
 use Rattle.sg_ast.specs.declared.token.Name.{Name}
 use Rattle.sg_ast.specs.declared.layout.SizeDecl.{SizeDecl}
@@ -13,12 +13,13 @@ use Rattle.sg_ast.specs.declared.program.Item.{Item}
 use Rattle.sg_ast.specs.declared.program.Item.TheVariants as item
 use Rattle.sg_ast.specs.declared.program.Program.{Program}
 use Rattle.sg_layout.specs.declared.shape.Kind.TheVariants.{Dense, Dynamic}
-use Rattle.sg_names.specs.declared.fault.Which.TheVariants.{Layouts}
+use Rattle.sg_names.specs.declared.fault.Which.TheVariants.{Layouts, Fields, Kernels, Commands}
 use Rattle.sg_names.specs.declared.fault.NameFault.TheVariants.{Unknown, Twice, TooMany}
 use Rattle.sg_names.specs.Tables.{Tables, field_named, layout_named, layout_name_of}
+use Rattle.sg_names.specs.Uses.{sizes_used}
 use Rattle.sg_names.specs.Declares.{constant_of}
-use Rattle.sg_names.specs.Names.{tables_of}
-use Rattle.sg_names.specs.Shapes.{shape_of}
+use Rattle.sg_names.specs.Names.{first_past, tables_of}
+use Rattle.sg_names.specs.Shapes.{size_number, shape_of}
 
 abbrev pub n : Name
 n = record { text = codes "N" }
@@ -79,6 +80,19 @@ word_of_minus_seven = refl
 word_of_unsigned_seven : constant_of (unsigned_seven n) ≡ record { word = 7; ty = ty.U32 }
 word_of_unsigned_seven = refl
 
+-- -7u, and the numbers 2147483648 and -2147483648, which have one word
+minus_seven_unsigned : constant_of (record { name = n; minus = true; value = 7; unsigned = true }) ≡ record { word = 4294967289; ty = ty.U32 }
+minus_seven_unsigned = refl
+
+abbrev pub least : Bool → ConstDecl
+least minus = record { name = n; minus = minus; value = 2147483648; unsigned = false }
+
+word_of_least : constant_of (least false) ≡ record { word = 2147483648; ty = ty.I32 }
+word_of_least = refl
+
+least_is_its_negative : constant_of (least true) ≡ constant_of (least false)
+least_is_its_negative = refl
+
 -- const N = 7; layout A(i) { dense(i: N); field f: i32; } kernel k { for i in A { } } layout B(i, j) { dense(i: 4); field g: i32; }
 abbrev pub whole : Program
 whole = program (item.Const (seven n) ∷ item.Layout (layout a (i ∷ []) (size.Name n) (f ∷ [])) ∷ walk k a ∷ item.Layout (layout b (i ∷ j ∷ []) four (g ∷ [])) ∷ [])
@@ -116,6 +130,16 @@ unsigned_size = refl
 kernel_over_a_field : tables_of (program (item.Layout (layout a (i ∷ []) four (f ∷ [])) ∷ walk k f ∷ [])) ≡ Err (Unknown 2)
 kernel_over_a_field = refl
 
+-- a name is not known in the item that declares it
+own_layout_as_size : tables_of (program (item.Layout (layout a (i ∷ []) (size.Name a) (f ∷ [])) ∷ [])) ≡ Err (Unknown 1)
+own_layout_as_size = refl
+
+own_field_as_size : tables_of (program (item.Layout (layout a (i ∷ []) (size.Name f) (f ∷ [])) ∷ [])) ≡ Err (Unknown 1)
+own_field_as_size = refl
+
+kernel_over_itself : tables_of (program (walk k k ∷ [])) ≡ Err (Unknown 1)
+kernel_over_itself = refl
+
 unknown_comes_first : tables_of (program (item.Layout (layout a (i ∷ []) four (f ∷ [])) ∷ item.Layout (layout a (i ∷ []) (size.Name n) (f ∷ [])) ∷ [])) ≡ Err (Unknown 2)
 unknown_comes_first = refl
 
@@ -143,6 +167,28 @@ long_name length = record { text = replicate length 65 }
 
 nine_layouts : tables_of (program (map (λ m. item.Layout (layout (long_name m) [] four [])) (1 ∷ 2 ∷ 3 ∷ 4 ∷ 5 ∷ 6 ∷ 7 ∷ 8 ∷ 9 ∷ []))) ≡ Err (TooMany Layouts)
 nine_layouts = refl
+
+twice_comes_before_too_many : tables_of (program (map (λ m. item.Layout (layout (long_name m) [] four [])) (1 ∷ 2 ∷ 3 ∷ 4 ∷ 5 ∷ 6 ∷ 7 ∷ 8 ∷ 3 ∷ []))) ≡ Err (Twice 9)
+twice_comes_before_too_many = refl
+
+seventeen_fields : tables_of (program (item.Layout (layout a (i ∷ []) four (map long_name (2 ∷ 3 ∷ 4 ∷ 5 ∷ 6 ∷ 7 ∷ 8 ∷ 9 ∷ 10 ∷ 11 ∷ 12 ∷ 13 ∷ 14 ∷ 15 ∷ 16 ∷ 17 ∷ 18 ∷ []))) ∷ [])) ≡ Err (TooMany Fields)
+seventeen_fields = refl
+
+-- the limits, and the order in which they are tested
+up_to_the_limits : first_past 8 16 16 64 ≡ None
+up_to_the_limits = refl
+
+past_all_limits : first_past 9 17 17 65 ≡ Some Layouts
+past_all_limits = refl
+
+past_the_last_three : first_past 8 17 17 65 ≡ Some Fields
+past_the_last_three = refl
+
+past_the_last_two : first_past 8 16 17 65 ≡ Some Kernels
+past_the_last_two = refl
+
+past_the_last : first_past 8 16 16 65 ≡ Some Commands
+past_the_last = refl
 
 -- dynamic(k: 2147483648, j: N) chunk N cap 2; in layout A(i, j), where N is -7
 abbrev pub odd : LayoutDecl
@@ -172,3 +218,13 @@ odd_shape : shape_of with_minus_seven odd ≡ record {
   fields = ty.U32 ∷ [];
 }
 odd_shape = refl
+
+abbrev pub with_least : Tables
+with_least = record { constants = record { name = n; constant = constant_of (least true) } ∷ []; layouts = []; fields = []; kernels = [] }
+
+size_of_least : size_number with_least (size.Name n) ≡ negsuc 2147483647
+size_of_least = refl
+
+-- the constants that its sizes name: by an extent, and by its chunk
+sizes_of_odd : sizes_used (item.Layout odd) ≡ n ∷ n ∷ []
+sizes_of_odd = refl
