@@ -44,13 +44,14 @@ use Rattle.sg_ast.proofs.CommandVariants.{by_command_variant, command_tokens-Loa
 use Rattle.sg_parser.specs.Steps.{◌>>=◌, after_sign, after_word, next_name}
 use Rattle.sg_parser.specs.ReadExpr.{read_expr}
 use Rattle.sg_parser.specs.ReadStmt.{read_range, read_block}
-use Rattle.sg_parser.specs.ReadItem.{read_value, read_const, next_size, read_axis, next_kind, has_chunk, has_cap, next_bound, read_node, next_ty, read_field, before_field, read_layout, lone_name, read_domain, read_kernel, is_marked, next_magnitude, next_whole, read_named, read_image, about, read_simple, read_times, read_item}
+use Rattle.sg_parser.specs.ReadItem.{read_value, read_const, next_size, read_axis, next_kind, has_chunk, has_cap, next_bound, node_head, node_bounds, read_node, next_ty, read_field, before_field, layout_head, layout_body, read_layout, lone_name, read_domain, kernel_head, kernel_loop, read_kernel, is_marked, next_magnitude, next_whole, read_named, read_image, about, read_simple, read_times, read_item}
 use Rattle.sg_parser.proofs.StepLemmas.{bind_some, only_if_true, after_sign_is, next_name_is}
 use Rattle.sg_parser.proofs.Lists.{listed_complete, repeated_complete}
 use Rattle.sg_parser.proofs.ExprComplete.{Ends, ends_sign, ends_comma, ends_brace}
 use Rattle.sg_parser.proofs.StmtSound.{GoodExpr, GoodRange, range_parts, block_parts}
 use Rattle.sg_parser.proofs.StmtComplete.{expr_complete, range_complete, block_at_complete}
-use Rattle.sg_parser.proofs.ItemSound.{IsGood, name_token, minus_front, const_parts, node_parts, layout_parts, kernel_parts, image_parts, times_parts, fits_bound}
+use Rattle.sg_parser.proofs.ItemParts.{IsGood, name_token, minus_front, const_parts, node_parts, layout_parts, kernel_parts, image_parts, times_parts}
+use Rattle.sg_parser.proofs.LayoutSound.{fits_bound}
 
 pub each_pass : {A : Type 0} (test : A → Bool) (items : List A) → list_all test items ≡ true → AllByRecursion (IsGood test) items
 each_pass test [] h = tt
@@ -107,7 +108,7 @@ bounds_to kind.Dynamic (Some chunk) (Some cap) h = and_parts (is_size chunk) (is
 bounds_to _ _ _ h = absurd (cc)
 
 node_complete : (a : NodeDecl) (rest : List Token) → IsGood is_node a → Anything rest → read_node (node_tokens a ++ rest) ≡ Some (a, rest)
-unfolding read_node
+unfolding read_node node_head node_bounds
 node_complete a rest good any =
     let p = and_parts (one_to 3 is_axis a.axes) (has_bounds a.kind a.chunk a.cap) good in
     let q = and_parts (nat_le 1 (length a.axes) && nat_le (length a.axes) 3) (list_all is_axis a.axes) p.0 in
@@ -149,7 +150,7 @@ fields_begin [] more some = absurd (omega arith)
 fields_begin (a ∷ fields) more some = refl
 
 layout_complete : (a : LayoutDecl) (rest : List Token) → is_layout a ≡ true → read_item (layout_tokens a ++ rest) ≡ Some (item.Layout a, rest)
-unfolding read_item read_layout
+unfolding read_item read_layout layout_head layout_body
 layout_complete a rest good =
     let p = and_parts (is_name a.name && one_to 3 is_name a.axes) (one_to 6 is_node a.nodes && one_or_more is_field a.fields) good in
     let q = and_parts (is_name a.name) (one_to 3 is_name a.axes) p.0 in
@@ -219,7 +220,7 @@ domain_complete (domain.Ranges ranges) rest good =
     ) refl
 
 kernel_complete : (a : KernelDecl) (rest : List Token) → is_kernel a ≡ true → read_item (kernel_tokens a ++ rest) ≡ Some (item.Kernel a, rest)
-unfolding read_item read_kernel
+unfolding read_item read_kernel kernel_head kernel_loop
 kernel_complete a rest good =
     let p = and_parts (is_name a.name && one_to 3 is_name a.vars) (is_domain a.domain && (list_all is_stmt a.body && nat_le (nesting a.body) max_nesting)) good in
     let q = and_parts (is_name a.name) (one_to 3 is_name a.vars) p.0 in

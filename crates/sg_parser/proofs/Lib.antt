@@ -5,6 +5,10 @@ pub mod ExprComplete
 pub mod Turns
 pub mod StmtSound
 pub mod StmtComplete
+pub mod ItemParts
+pub mod LayoutSound
+pub mod KernelSound
+pub mod CommandSound
 pub mod ItemSound
 pub mod ItemComplete
 pub mod ParsedLemmas

@@ -22,7 +22,7 @@ use Rattle.sg_ast.specs.Grammar.{is_expr, one_or_more, is_range, is_stmt, max_de
 use Rattle.sg_ast.proofs.StmtVariants.{by_stmt_variant, stmt_tokens-Let, stmt_tokens-Assign, stmt_tokens-Write, stmt_tokens-If, stmt_tokens-For, stmt_nesting-If, stmt_nesting-For, is_stmt-Let, is_stmt-Assign, is_stmt-Write, is_stmt-If, is_stmt-For}
 use Rattle.sg_parser.specs.Steps.{Reader, after_sign, after_word}
 use Rattle.sg_parser.specs.ReadExpr.{expr_at, read_expr}
-use Rattle.sg_parser.specs.ReadStmt.{read_range, ended, next_way, assigned, read_let, read_write, placed, read_if, read_for, statement, block_at}
+use Rattle.sg_parser.specs.ReadStmt.{read_range, ended, next_way, assigned, read_let, read_write, placed, read_if, for_head, read_for, statement, block_at}
 use Rattle.sg_parser.proofs.ExprSound.{Fit}
 use Rattle.sg_parser.proofs.ExprComplete.{Ends, expr_at_complete, indices_complete, fit_of_expr, ends_semicolon, ends_dots, ends_brace}
 use Rattle.sg_parser.proofs.Lists.{repeated_complete}
@@ -109,7 +109,7 @@ module _ (d : ℕ) (block : Reader (List Stmt)) (complete : (body : List Stmt) (
       rw (if_parts condition chosen (Some other) rest, expr_complete condition (block_tokens chosen ++ more) p.0 (block_begins chosen more), complete chosen more good, complete other rest good_other) refl
 
   for_complete : (name : Name) (range : RangeDecl) (body : List Stmt) (rest : List Token) → GoodStmt d (stmt.For name range body) → statement block (stmt_tokens (stmt.For name range body) ++ rest) ≡ Some (stmt.For name range body, rest)
-  unfolding statement read_for
+  unfolding statement read_for for_head
   for_complete name range body rest fit =
       let p = and_parts (is_name name) _ (sym (is_stmt-For name range body) ∙ fit.good) in
       let q = and_parts (is_range range) (list_all is_stmt body) p.1 in

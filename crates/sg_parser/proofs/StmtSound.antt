@@ -24,7 +24,7 @@ use Rattle.sg_ast.specs.Grammar.{is_expr, one_or_more, is_range, is_stmt, max_de
 use Rattle.sg_ast.proofs.StmtVariants.{stmt_tokens-Let, stmt_tokens-Assign, stmt_tokens-Write, stmt_tokens-If, stmt_tokens-For, stmt_nesting-Let, stmt_nesting-Assign, stmt_nesting-Write, stmt_nesting-If, stmt_nesting-For, is_stmt-Let, is_stmt-Assign, is_stmt-Write, is_stmt-If, is_stmt-For}
 use Rattle.sg_parser.specs.Steps.{Reader, ◌>>=◌, after_sign, after_word, next_name, repeated}
 use Rattle.sg_parser.specs.ReadExpr.{expr_at, read_expr, indices}
-use Rattle.sg_parser.specs.ReadStmt.{read_range, ended, behind_equal, next_way, assigned, read_let, read_write, placed_on, placed, else_on, read_if, read_for, stmt_worded, statement, block_at}
+use Rattle.sg_parser.specs.ReadStmt.{read_range, ended, behind_equal, next_way, assigned, read_let, read_write, placed_on, placed, else_on, read_if, for_head, read_for, stmt_worded, statement, block_at}
 use Rattle.sg_parser.proofs.StepLemmas.{bind_some, only_if_some, after_sign_is, after_word_is, next_name_is}
 use Rattle.sg_parser.proofs.ExprSound.{Fit, expr_at_sound, indices_sound, expr_of_fit}
 use Rattle.sg_parser.proofs.Lists.{IsSoundReader, repeated_sound}
@@ -48,6 +48,11 @@ pub record GoodBlock (limit : ℕ) (body : List Stmt) : Type 0 where
 -- what is read is what it was said to be
 pub made_is : {A : Type 0} (P : A → List Token → Type 0) (made a : A) (left rest : List Token) → P made left → ◌≡◌ {A = Option (A × List Token)} (Some (made, left)) (Some (a, rest)) → P a rest
 made_is {A} P made a left rest p h = subst (λ (q : A × List Token). P q.0 q.1) (same_Some {A = A × List Token} (made, left) (a, rest) h) p
+
+-- the same of two values
+pub made_two : {A B : Type 0} (P : A → B → List Token → Type 0) (x a : A) (y b : B) (left rest : List Token) → P x y left
+    → ◌≡◌ {A = Option (A × B × List Token)} (Some (x, y, left)) (Some (a, b, rest)) → P a b rest
+made_two {A} {B} P x a y b left rest p h = subst (λ (q : A × B × List Token). P q.0 q.1 q.2) (same_Some {A = A × B × List Token} (x, y, left) (a, b, rest) h) p
 
 pub range_parts : (range : RangeDecl) (rest : List Token) → range_tokens range ++ rest ≡ tokens_of range.lo ++ t.Sign s.DotDot ∷ (tokens_of range.hi ++ rest)
 range_parts range rest = append_assoc (tokens_of range.lo) (t.Sign s.DotDot ∷ tokens_of range.hi) rest
@@ -193,6 +198,22 @@ placed_sound d name tokens a rest h =
           let taken = write_sound d name behind a rest good h in
           (taken.0, cc (bracket, taken.1))
 
+-- `NAME in LO..HI`, and what is behind it
+abbrev IsForHead : List Token → Name → RangeDecl → List Token → Type 0
+IsForHead tokens name range rest = (is_name name ≡ true) × GoodRange range × (tokens ≡ t.Name name ∷ t.Word w.In ∷ (range_tokens range ++ rest))
+
+for_head_sound : (tokens : List Token) (name : Name) (range : RangeDecl) (rest : List Token) → for_head tokens ≡ Some (name, range, rest) → IsForHead tokens name range rest
+unfolding for_head
+for_head_sound tokens name range rest h =
+    let p = bind_some (next_name tokens) _ (name, range, rest) h in
+    let q = bind_some (after_word w.In p.0.1) _ (name, range, rest) p.2 in
+    let r = bind_some (read_range q.0) _ (name, range, rest) q.2 in
+    let first = next_name_is tokens p.0.1 p.0.0 p.1 in
+    let word = after_word_is w.In p.0.1 q.0 q.1 in
+    let bounds = range_sound q.0 r.0.0 r.0.1 r.1 in
+    made_two (IsForHead tokens) p.0.0 name r.0.0 range r.0.1 rest
+    (first.1, bounds.0, first.0 ∙ ap (λ k. t.Name p.0.0 ∷ k) (word ∙ ap (λ k. t.Word w.In ∷ k) bounds.1)) r.2
+
 -- one layer, where the reader of blocks is sound
 module _ (d : ℕ) (block : Reader (List Stmt)) (sound : IsSoundReader block_tokens (GoodBlock d) block) where
   if_sound : (tokens : List Token) (a : Stmt) (rest : List Token) → read_if block tokens ≡ Some (a, rest) → GoodStmt d a × (t.Word w.If ∷ tokens ≡ stmt_tokens a ++ rest)
@@ -231,22 +252,18 @@ module _ (d : ℕ) (block : Reader (List Stmt)) (sound : IsSoundReader block_tok
   for_sound : (tokens : List Token) (a : Stmt) (rest : List Token) → read_for block tokens ≡ Some (a, rest) → GoodStmt d a × (t.Word w.For ∷ tokens ≡ stmt_tokens a ++ rest)
   unfolding read_for
   for_sound tokens a rest h =
-      let p = bind_some (next_name tokens) _ (a, rest) h in
-      let q = bind_some (after_word w.In p.0.1) _ (a, rest) p.2 in
-      let r = bind_some (read_range q.0) _ (a, rest) q.2 in
-      let o = bind_some (block r.0.1) _ (a, rest) r.2 in
-      let name = next_name_is tokens p.0.1 p.0.0 p.1 in
-      let word = after_word_is w.In p.0.1 q.0 q.1 in
-      let range = range_sound q.0 r.0.0 r.0.1 r.1 in
-      let body = sound r.0.1 o.0.0 o.0.1 o.1 in
+      let p = bind_some (for_head tokens) _ (a, rest) h in
+      let q = bind_some (block p.0.2) _ (a, rest) p.2 in
+      let head = for_head_sound tokens p.0.0 p.0.1 p.0.2 p.1 in
+      let body = sound p.0.2 q.0.0 q.0.1 q.1 in
       let shallow = body.0.shallow in
-      made_is (λ (a : Stmt) (rest : List Token). GoodStmt d a × (t.Word w.For ∷ tokens ≡ stmt_tokens a ++ rest)) (stmt.For p.0.0 r.0.0 o.0.0) a o.0.1 rest (
+      made_is (λ (a : Stmt) (rest : List Token). GoodStmt d a × (t.Word w.For ∷ tokens ≡ stmt_tokens a ++ rest)) (stmt.For p.0.0 p.0.1 q.0.0) a q.0.1 rest (
         record {
-          good = is_stmt-For p.0.0 r.0.0 o.0.0 ∙ and_from (is_name p.0.0) _ name.1 (and_from (is_range r.0.0) (list_all is_stmt o.0.0) range.0 body.0.good);
-          shallow = omega (arith, stmt_nesting-For p.0.0 r.0.0 o.0.0);
+          good = is_stmt-For p.0.0 p.0.1 q.0.0 ∙ and_from (is_name p.0.0) _ head.0 (and_from (is_range p.0.1) (list_all is_stmt q.0.0) head.1 body.0.good);
+          shallow = omega (arith, stmt_nesting-For p.0.0 p.0.1 q.0.0);
         },
-        rw (for_parts p.0.0 r.0.0 o.0.0 o.0.1) (cc (name.0, word, range.1, body.1)),
-      ) o.2
+        rw (for_parts p.0.0 p.0.1 q.0.0 q.0.1) (ap (λ r. t.Word w.For ∷ r) (head.2 ∙ ap (λ r. t.Name p.0.0 ∷ t.Word w.In ∷ (range_tokens p.0.1 ++ r)) body.1)),
+      ) q.2
 
   worded_stmt_sound : (word : Word) (tokens : List Token) (a : Stmt) (rest : List Token) → stmt_worded block word tokens ≡ Some (a, rest) → GoodStmt d a × (t.Word word ∷ tokens ≡ stmt_tokens a ++ rest)
   worded_stmt_sound w.Let tokens a rest h = let_sound d tokens a rest h

@@ -15,6 +15,7 @@ use Rattle.sg_ast.specs.declared.layout.NodeKind.{NodeKind}
 use Rattle.sg_ast.specs.declared.layout.NodeKind.TheVariants as kind
 use Rattle.sg_ast.specs.declared.layout.NodeDecl.{NodeDecl}
 use Rattle.sg_ast.specs.declared.layout.FieldDecl.{FieldDecl}
+use Rattle.sg_ast.specs.declared.stmt.Stmt.{Stmt}
 use Rattle.sg_ast.specs.declared.kernel.DomainDecl.{DomainDecl}
 use Rattle.sg_ast.specs.declared.kernel.DomainDecl.TheVariants as domain
 use Rattle.sg_ast.specs.declared.command.Command.{Command}
@@ -106,17 +107,29 @@ next_bound word true tokens = do
   size ← next_size behind
   Some (Some size.0, size.1)
 
--- `KIND(AXES) chunk SIZE cap SIZE;`
-unfoldable pub read_node : Reader NodeDecl
-read_node tokens = do
+-- `KIND(AXES)`
+unfoldable pub node_head : List Token → Option (NodeKind × List AxisDecl × List Token)
+node_head tokens = do
   kind ← next_kind tokens
   behind ← after_sign s.OpenParen kind.1
   axes ← listed read_axis behind
   close ← after_sign s.CloseParen axes.1
-  chunk ← next_bound w.Chunk (has_chunk kind.0) close
-  cap ← next_bound w.Cap (has_cap kind.0) chunk.1
+  Some (kind.0, axes.0, close)
+
+-- `chunk SIZE cap SIZE;`, as the kind has them
+unfoldable pub node_bounds : NodeKind → List Token → Option (Option SizeDecl × Option SizeDecl × List Token)
+node_bounds kind tokens = do
+  chunk ← next_bound w.Chunk (has_chunk kind) tokens
+  cap ← next_bound w.Cap (has_cap kind) chunk.1
   rest ← after_sign s.Semicolon cap.1
-  only_if (nat_le (length axes.0) 3) (Some (record { kind = kind.0; axes = axes.0; chunk = chunk.0; cap = cap.0 }, rest))
+  Some (chunk.0, cap.0, rest)
+
+-- `KIND(AXES) chunk SIZE cap SIZE;`
+unfoldable pub read_node : Reader NodeDecl
+read_node tokens = do
+  head ← node_head tokens
+  bounds ← node_bounds head.0 head.2
+  only_if (nat_le (length head.1) 3) (Some (record { kind = head.0; axes = head.1; chunk = bounds.0; cap = bounds.1 }, bounds.2))
 
 -- the type of a field
 abbrev pub next_ty : Reader Ty
@@ -137,18 +150,30 @@ read_field tokens = do
 abbrev pub before_field : List Token → Option (List Token)
 before_field tokens = option_map (λ behind. tokens) (after_word w.Field tokens)
 
--- `layout NAME(AXES) { NODES FIELDS }`, behind its word
-unfoldable pub read_layout : Reader Item
-read_layout tokens = do
+-- `NAME(AXES) {`, behind the word `layout`
+unfoldable pub layout_head : List Token → Option (Name × List Name × List Token)
+layout_head tokens = do
   name ← next_name tokens
   behind ← after_sign s.OpenParen name.1
   axes ← listed next_name behind
   close ← after_sign s.CloseParen axes.1
   brace ← after_sign s.OpenBrace close
-  nodes ← repeated before_field read_node brace
+  Some (name.0, axes.0, brace)
+
+-- `NODES FIELDS }`
+unfoldable pub layout_body : List Token → Option (List NodeDecl × List FieldDecl × List Token)
+layout_body tokens = do
+  nodes ← repeated before_field read_node tokens
   fields ← repeated (after_sign s.CloseBrace) read_field nodes.1
-  only_if (nat_le (length axes.0) 3 && ((nat_le 1 (length nodes.0) && nat_le (length nodes.0) 6) && nat_le 1 (length fields.0)))
-      (Some (item.Layout (record { name = name.0; axes = axes.0; nodes = nodes.0; fields = fields.0 }), fields.1))
+  Some (nodes.0, fields.0, fields.1)
+
+-- `layout NAME(AXES) { NODES FIELDS }`, behind its word
+unfoldable pub read_layout : Reader Item
+read_layout tokens = do
+  head ← layout_head tokens
+  body ← layout_body head.2
+  only_if (nat_le (length head.1) 3 && ((nat_le 1 (length body.0) && nat_le (length body.0) 6) && nat_le 1 (length body.1)))
+      (Some (item.Layout (record { name = head.0; axes = head.1; nodes = body.0; fields = body.1 }), body.2))
 
 -- a name behind which a block begins
 abbrev pub lone_name : Reader Name
@@ -168,18 +193,30 @@ domain_on tokens (Some name) = Some (domain.Layout name.0, name.1)
 unfoldable pub read_domain : Reader DomainDecl
 read_domain tokens = domain_on tokens (lone_name tokens)
 
--- `kernel NAME { for VARIABLES in DOMAIN BLOCK }`, behind its word
-unfoldable pub read_kernel : Reader Item
-read_kernel tokens = do
+-- `NAME { for VARIABLES in`, behind the word `kernel`
+unfoldable pub kernel_head : List Token → Option (Name × List Name × List Token)
+kernel_head tokens = do
   name ← next_name tokens
   brace ← after_sign s.OpenBrace name.1
   behind ← after_word w.For brace
   vars ← listed next_name behind
   over ← after_word w.In vars.1
-  domain ← read_domain over
+  Some (name.0, vars.0, over)
+
+-- `DOMAIN BLOCK }`
+unfoldable pub kernel_loop : List Token → Option (DomainDecl × List Stmt × List Token)
+kernel_loop tokens = do
+  domain ← read_domain tokens
   body ← read_block domain.1
   rest ← after_sign s.CloseBrace body.1
-  only_if (nat_le (length vars.0) 3) (Some (item.Kernel (record { name = name.0; vars = vars.0; domain = domain.0; body = body.0 }), rest))
+  Some (domain.0, body.0, rest)
+
+-- `kernel NAME { for VARIABLES in DOMAIN BLOCK }`, behind its word
+unfoldable pub read_kernel : Reader Item
+read_kernel tokens = do
+  head ← kernel_head tokens
+  loop ← kernel_loop head.2
+  only_if (nat_le (length head.1) 3) (Some (item.Kernel (record { name = head.0; vars = head.1; domain = loop.0; body = loop.1 }), loop.2))
 
 -- whether a number of a bound has a `u` exactly where it is past 2147483648
 abbrev pub is_marked : Bool → ℕ → Bool

@@ -79,6 +79,14 @@ placed_on name tokens (Some behind) = read_write name behind
 unfoldable pub placed : Name → Reader Stmt
 placed name tokens = only_if (is_name name) (placed_on name tokens (after_sign s.OpenBracket tokens))
 
+-- `NAME in LO..HI`, behind the word `for`
+unfoldable pub for_head : List Token → Option (Name × RangeDecl × List Token)
+for_head tokens = do
+  name ← next_name tokens
+  behind ← after_word w.In name.1
+  range ← read_range behind
+  Some (name.0, range.0, range.1)
+
 -- one layer of a statement, where a reader of its blocks is given
 module _ (block : Reader (List Stmt)) where
   -- the end of an `if`, where what follows an `else` is given
@@ -98,11 +106,9 @@ module _ (block : Reader (List Stmt)) where
   -- `for NAME in LO..HI BLOCK`, behind its word
   unfoldable pub read_for : Reader Stmt
   read_for tokens = do
-    name ← next_name tokens
-    behind ← after_word w.In name.1
-    range ← read_range behind
-    body ← block range.1
-    Some (stmt.For name.0 range.0 body.0, body.1)
+    head ← for_head tokens
+    body ← block head.2
+    Some (stmt.For head.0 head.1 body.0, body.1)
 
   -- what a word begins
   abbrev pub stmt_worded : Word → Reader Stmt

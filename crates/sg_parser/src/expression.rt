@@ -1,6 +1,7 @@
 //! Expressions, read by the levels of their operators.
 
 ghost use Rattle.std.specs.Prelude.{◌≡◌, ◌+◌, ◌<◌, ◌≤◌, map, IfOk};
+ghost use Rattle.sg_ast.specs.declared.expr.Expr.TheVariants as e;
 ghost use Rattle.sg_ast.specs.Expr as spell;
 ghost use Rattle.sg_ast.specs.Grammar as grammar;
 ghost use Rattle.sg_parser.specs.Steps.{listed, kinds, Gives};
@@ -10,7 +11,7 @@ use crate::names;
 use crate::take::{Unread, after_sign, is_number, next_op};
 use sg_ast::{Callee, Expr, Name, Sign, Spanned, Token, Word};
 use sg_words::{BinOp, Boxed, Items, Stop, UnOp};
-use std::alloc::Global;
+use std::alloc::{AllocError, Global};
 
 /// An expression with its depth, and the tokens behind it.
 #[derive(Drop)]
@@ -50,6 +51,9 @@ fn op_level(op: BinOp) -> u8
 /// The level of an operator before its operand.
 const UN_LEVEL: u8 = 10;
 
+/// The level of an expression that no operator can take apart.
+const PRIMARY_LEVEL: u8 = 11;
+
 /// The least level of a left operand: comparisons do not chain.
 fn left_needs(op: BinOp) -> u8
     ensures { result ≡ spell.left_needs op }
@@ -64,7 +68,7 @@ fn level(tree: &Expr) -> u8
     match tree {
         Expr::Un { .. } => UN_LEVEL,
         Expr::Bin { op, .. } => op_level(*op),
-        _ => 11,
+        _ => PRIMARY_LEVEL,
     }
 }
 
@@ -73,6 +77,17 @@ fn goes_on(least: u8, left: &Expr, op: BinOp) -> bool
     ensures { result ≡ read.goes_on least left.now op }
 {
     least <= op_level(op) && left_needs(op) <= level(left)
+}
+
+/// Two expressions with an operator between them. Fails where memory runs out.
+fn joined(alloc: Global, op: BinOp, left: Expr, right: Expr) -> Result<Expr, AllocError>
+    ensures { IfOk result (λ tree. tree ≡ e.Bin op left right) }
+{
+    Ok(Expr::Bin {
+        op,
+        left: Boxed::new(alloc, left)?,
+        right: Boxed::new(alloc, right)?,
+    })
 }
 
 fn arity(callee: Callee) -> usize
@@ -213,13 +228,13 @@ fn paren(alloc: Global, inner: usize, tokens: &[Spanned]) -> Result<Reading<'_>,
     ensures depth { IfOk result (λ x. x.depth ≡ spell.depth x.tree) }
     ensures within { IfOk result (λ x. x.depth ≤ inner + 1) }
 {
-    let within = expr(alloc, inner, 1, tokens)?;
-    let Some(rest) = after_sign(within.rest, Sign::CloseParen) else {
+    let Reading { tree, depth, rest } = expr(alloc, inner, 1, tokens)?;
+    let Some(rest) = after_sign(rest, Sign::CloseParen) else {
         return Err(Stop::Refused(Unread));
     };
     Ok(Reading {
-        tree: Expr::Paren(Boxed::new(alloc, within.tree)?),
-        depth: within.depth + 1,
+        tree: Expr::Paren(Boxed::new(alloc, tree)?),
+        depth: depth + 1,
         rest,
     })
 }
@@ -370,11 +385,7 @@ fn climb(
         }
         let right = expr(alloc, inner, op_level(op) + 1, behind)?;
         depth = depth.max(right.depth) + 1;
-        tree = Expr::Bin {
-            op,
-            left: Boxed::new(alloc, tree)?,
-            right: Boxed::new(alloc, right.tree)?,
-        };
+        tree = joined(alloc, op, tree, right.tree)?;
         rest = right.rest;
     }
     Err(Stop::Refused(Unread))

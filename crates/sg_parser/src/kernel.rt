@@ -7,7 +7,7 @@ ghost use Rattle.sg_parser.specs.ReadItem as read;
 
 use crate::statement::{MAX_NESTING, block, read_range};
 use crate::take::{Unread, after_sign, after_word, next_name, read_names};
-use sg_ast::{DomainDecl, Item, KernelDecl, Name, RangeDecl, Sign, Spanned, Word};
+use sg_ast::{DomainDecl, Item, KernelDecl, Name, RangeDecl, Sign, Spanned, Stmt, Word};
 use sg_words::{Items, Stop};
 use std::alloc::Global;
 
@@ -62,10 +62,13 @@ fn read_domain(alloc: Global, tokens: &[Spanned]) -> Result<(DomainDecl, &[Spann
     }
 }
 
-/// `kernel NAME { for VARIABLES in DOMAIN BLOCK }`, behind its word.
-#[tactic(auto, unfolding(crate::specs::ReadItem::read_kernel))]
-pub fn read_kernel(alloc: Global, tokens: &[Spanned]) -> Result<(Item, &[Spanned]), Stop<Unread>>
-    ensures { Gives (λ x. (x.0, kinds x.1.now)) result (read.read_kernel (kinds tokens.now)) }
+/// `NAME { for VARIABLES in`, behind the word `kernel`.
+#[tactic(auto, unfolding(crate::specs::ReadItem::kernel_head))]
+fn kernel_head(
+    alloc: Global,
+    tokens: &[Spanned],
+) -> Result<(Name, Items<Name>, &[Spanned]), Stop<Unread>>
+    ensures { Gives (λ x. (x.0, x.1, kinds x.2.now)) result (read.kernel_head (kinds tokens.now)) }
 {
     let (name, start) = next_name(alloc, tokens)?;
     let Some(brace) = after_sign(start, Sign::OpenBrace) else {
@@ -75,14 +78,35 @@ pub fn read_kernel(alloc: Global, tokens: &[Spanned]) -> Result<(Item, &[Spanned
         return Err(Stop::Refused(Unread));
     };
     let (vars, end) = read_names(alloc, behind)?;
-    let Some(over) = after_word(end, Word::In) else {
+    let Some(rest) = after_word(end, Word::In) else {
         return Err(Stop::Refused(Unread));
     };
-    let (domain, inside) = read_domain(alloc, over)?;
-    let (body, last) = block(alloc, MAX_NESTING, inside)?;
-    let Some(rest) = after_sign(last, Sign::CloseBrace) else {
+    Ok((name, vars, rest))
+}
+
+/// `DOMAIN BLOCK }`.
+#[tactic(auto, unfolding(crate::specs::ReadItem::kernel_loop))]
+fn kernel_loop(
+    alloc: Global,
+    tokens: &[Spanned],
+) -> Result<(DomainDecl, Items<Stmt>, &[Spanned]), Stop<Unread>>
+    ensures { Gives (λ x. (x.0, x.1, kinds x.2.now)) result (read.kernel_loop (kinds tokens.now)) }
+{
+    let (domain, behind) = read_domain(alloc, tokens)?;
+    let (body, end) = block(alloc, MAX_NESTING, behind)?;
+    let Some(rest) = after_sign(end, Sign::CloseBrace) else {
         return Err(Stop::Refused(Unread));
     };
+    Ok((domain, body, rest))
+}
+
+/// `kernel NAME { for VARIABLES in DOMAIN BLOCK }`, behind its word.
+#[tactic(auto, unfolding(crate::specs::ReadItem::read_kernel))]
+pub fn read_kernel(alloc: Global, tokens: &[Spanned]) -> Result<(Item, &[Spanned]), Stop<Unread>>
+    ensures { Gives (λ x. (x.0, kinds x.1.now)) result (read.read_kernel (kinds tokens.now)) }
+{
+    let (name, vars, behind) = kernel_head(alloc, tokens)?;
+    let (domain, body, rest) = kernel_loop(alloc, behind)?;
     if vars.len() > 3 {
         return Err(Stop::Refused(Unread));
     }

@@ -9,7 +9,8 @@ ghost use Rattle.sg_parser.specs.ReadItem as read;
 use crate::names;
 use crate::take::{Unread, after_sign, after_word, is_number, next_name, read_names};
 use sg_ast::{
-    AxisDecl, FieldDecl, Item, LayoutDecl, NodeDecl, NodeKind, Sign, SizeDecl, Spanned, Token, Word,
+    AxisDecl, FieldDecl, Item, LayoutDecl, Name, NodeDecl, NodeKind, Sign, SizeDecl, Spanned,
+    Token, Word,
 };
 use sg_words::{Items, Stop, Ty};
 use std::alloc::Global;
@@ -136,38 +137,61 @@ fn next_bound(
     Ok((Some(size), rest))
 }
 
+/// `KIND(AXES)`.
+#[tactic(auto, unfolding(crate::specs::ReadItem::node_head))]
+fn node_head(
+    alloc: Global,
+    tokens: &[Spanned],
+) -> Result<(NodeKind, Items<AxisDecl>, &[Spanned]), Stop<Unread>>
+    ensures { Gives (λ x. (x.0, x.1, kinds x.2.now)) result (read.node_head (kinds tokens.now)) }
+{
+    let Some((kind, start)) = next_kind(tokens) else {
+        return Err(Stop::Refused(Unread));
+    };
+    let Some(behind) = after_sign(start, Sign::OpenParen) else {
+        return Err(Stop::Refused(Unread));
+    };
+    let (axes, end) = read_axes(alloc, behind)?;
+    let Some(rest) = after_sign(end, Sign::CloseParen) else {
+        return Err(Stop::Refused(Unread));
+    };
+    Ok((kind, axes, rest))
+}
+
+/// `chunk SIZE cap SIZE;`, as the kind has them.
+#[tactic(auto, unfolding(crate::specs::ReadItem::node_bounds))]
+fn node_bounds(
+    alloc: Global,
+    kind: NodeKind,
+    tokens: &[Spanned],
+) -> Result<(Option<SizeDecl>, Option<SizeDecl>, &[Spanned]), Stop<Unread>>
+    ensures { Gives (λ x. (x.0, x.1, kinds x.2.now)) result (read.node_bounds kind (kinds tokens.now)) }
+{
+    let (chunk, behind) = next_bound(alloc, Word::Chunk, has_chunk(kind), tokens)?;
+    let (cap, end) = next_bound(alloc, Word::Cap, has_cap(kind), behind)?;
+    let Some(rest) = after_sign(end, Sign::Semicolon) else {
+        return Err(Stop::Refused(Unread));
+    };
+    Ok((chunk, cap, rest))
+}
+
 /// `KIND(AXES) chunk SIZE cap SIZE;`.
 #[tactic(auto, unfolding(crate::specs::ReadItem::read_node))]
 fn read_node(alloc: Global, tokens: &[Spanned]) -> Result<(NodeDecl, &[Spanned]), Stop<Unread>>
     ensures { Gives (λ x. (x.0, kinds x.1.now)) result (read.read_node (kinds tokens.now)) }
 {
-    let Some((kind, name)) = next_kind(tokens) else {
-        return Err(Stop::Refused(Unread));
-    };
-    let Some(behind) = after_sign(name, Sign::OpenParen) else {
-        return Err(Stop::Refused(Unread));
-    };
-    let (axes, end) = read_axes(alloc, behind)?;
-    let Some(close) = after_sign(end, Sign::CloseParen) else {
-        return Err(Stop::Refused(Unread));
-    };
-    let (chunk, bounds) = next_bound(alloc, Word::Chunk, has_chunk(kind), close)?;
-    let (cap, last) = next_bound(alloc, Word::Cap, has_cap(kind), bounds)?;
-    let Some(rest) = after_sign(last, Sign::Semicolon) else {
-        return Err(Stop::Refused(Unread));
-    };
+    let (kind, axes, behind) = node_head(alloc, tokens)?;
+    let (chunk, cap, rest) = node_bounds(alloc, kind, behind)?;
     if axes.len() > 3 {
         return Err(Stop::Refused(Unread));
     }
-    Ok((
-        NodeDecl {
-            kind,
-            axes,
-            chunk,
-            cap,
-        },
-        rest,
-    ))
+    let node = NodeDecl {
+        kind,
+        axes,
+        chunk,
+        cap,
+    };
+    Ok((node, rest))
 }
 
 /// The type of a field, and what follows it.
@@ -248,10 +272,13 @@ fn read_fields(
     Err(Stop::Refused(Unread))
 }
 
-/// `layout NAME(AXES) { NODES FIELDS }`, behind its word.
-#[tactic(auto, unfolding(crate::specs::ReadItem::read_layout))]
-pub fn read_layout(alloc: Global, tokens: &[Spanned]) -> Result<(Item, &[Spanned]), Stop<Unread>>
-    ensures { Gives (λ x. (x.0, kinds x.1.now)) result (read.read_layout (kinds tokens.now)) }
+/// `NAME(AXES) {`, behind the word `layout`.
+#[tactic(auto, unfolding(crate::specs::ReadItem::layout_head))]
+fn layout_head(
+    alloc: Global,
+    tokens: &[Spanned],
+) -> Result<(Name, Items<Name>, &[Spanned]), Stop<Unread>>
+    ensures { Gives (λ x. (x.0, x.1, kinds x.2.now)) result (read.layout_head (kinds tokens.now)) }
 {
     let (name, start) = next_name(alloc, tokens)?;
     let Some(behind) = after_sign(start, Sign::OpenParen) else {
@@ -261,11 +288,32 @@ pub fn read_layout(alloc: Global, tokens: &[Spanned]) -> Result<(Item, &[Spanned
     let Some(close) = after_sign(end, Sign::CloseParen) else {
         return Err(Stop::Refused(Unread));
     };
-    let Some(brace) = after_sign(close, Sign::OpenBrace) else {
+    let Some(rest) = after_sign(close, Sign::OpenBrace) else {
         return Err(Stop::Refused(Unread));
     };
-    let (nodes, left) = read_nodes(alloc, brace)?;
-    let (fields, rest) = read_fields(alloc, left)?;
+    Ok((name, axes, rest))
+}
+
+/// `NODES FIELDS }`.
+#[tactic(auto, unfolding(crate::specs::ReadItem::layout_body))]
+fn layout_body(
+    alloc: Global,
+    tokens: &[Spanned],
+) -> Result<(Items<NodeDecl>, Items<FieldDecl>, &[Spanned]), Stop<Unread>>
+    ensures { Gives (λ x. (x.0, x.1, kinds x.2.now)) result (read.layout_body (kinds tokens.now)) }
+{
+    let (nodes, behind) = read_nodes(alloc, tokens)?;
+    let (fields, rest) = read_fields(alloc, behind)?;
+    Ok((nodes, fields, rest))
+}
+
+/// `layout NAME(AXES) { NODES FIELDS }`, behind its word.
+#[tactic(auto, unfolding(crate::specs::ReadItem::read_layout))]
+pub fn read_layout(alloc: Global, tokens: &[Spanned]) -> Result<(Item, &[Spanned]), Stop<Unread>>
+    ensures { Gives (λ x. (x.0, kinds x.1.now)) result (read.read_layout (kinds tokens.now)) }
+{
+    let (name, axes, behind) = layout_head(alloc, tokens)?;
+    let (nodes, fields, rest) = layout_body(alloc, behind)?;
     if !counts_hold(axes.len(), nodes.len(), fields.len()) {
         return Err(Stop::Refused(Unread));
     }

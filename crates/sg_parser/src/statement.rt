@@ -148,6 +148,22 @@ fn placed<'a>(
     read_write(alloc, own, behind)
 }
 
+/// `NAME in LO..HI`, behind the word `for`.
+#[tactic(auto, unfolding(crate::specs::ReadStmt::for_head))]
+fn for_head(
+    alloc: Global,
+    tokens: &[Spanned],
+) -> Result<(Name, RangeDecl, &[Spanned]), Stop<Unread>>
+    ensures { Gives (λ x. (x.0, x.1, kinds x.2.now)) result (read.for_head (kinds tokens.now)) }
+{
+    let (name, behind) = next_name(alloc, tokens)?;
+    let Some(bounds) = after_word(behind, Word::In) else {
+        return Err(Stop::Refused(Unread));
+    };
+    let (range, rest) = read_range(alloc, bounds)?;
+    Ok((name, range, rest))
+}
+
 /// `if CONDITION BLOCK else BLOCK`, behind its word.
 #[cycle(blocks)]
 #[tactic(auto, unfolding(crate::specs::ReadStmt::read_if))]
@@ -191,12 +207,8 @@ fn read_for(
 ) -> Result<(Stmt, &[Spanned]), Stop<Unread>>
     ensures { Gives (λ x. (x.0, kinds x.1.now)) result (read.read_for (read.block_at inner) (kinds tokens.now)) }
 {
-    let (name, behind) = next_name(alloc, tokens)?;
-    let Some(bounds) = after_word(behind, Word::In) else {
-        return Err(Stop::Refused(Unread));
-    };
-    let (range, open) = read_range(alloc, bounds)?;
-    let (body, rest) = block(alloc, inner, open)?;
+    let (name, range, behind) = for_head(alloc, tokens)?;
+    let (body, rest) = block(alloc, inner, behind)?;
     Ok((Stmt::For { name, range, body }, rest))
 }
 

@@ -7,8 +7,7 @@ use Rattle.sg_parser.proofs.expression.+reading.Goals as goal
 
 pub climb-loop-turn-preserved : goal.climb-loop-turn-preserved
 climb-loop-turn-preserved t c =
-    let left_is = c.in_ok-new.ensures in
-    let right_is = c.in_ok-new-2.ensures in
+    let made = c.in_ok-tree.ensures in
     let below = c.in_ok-right.ensures.within in
     let deep = c.in_ok-right.ensures.depth in
     let on : read.goes_on c.args.least c.loop-turn.tree c.in-Some.op ≡ true = cc in
@@ -16,8 +15,8 @@ climb-loop-turn-preserved t c =
     c.loop-turn.tree c.in_ok-right.right.tree c.in-Some.op (kinds c.loop-turn.rest.now) (kinds c.in-Some.behind.now) (kinds c.in_ok-right.right.rest.now)
     (omega arith) (sym c.in-Some.ensures) on (omega arith) (rw c.op_level.ensures.value at c.in_ok-right.ensures.value) in
     record {
-      value = rw (left_is, right_is) (sym turn ∙ c.loop-turn.invariant.value);
-      depth = rw (left_is, right_is) (omega (arith, depth-Bin c.in-Some.op c.loop-turn.tree c.in_ok-right.right.tree));
+      value = rw made (sym turn ∙ c.loop-turn.invariant.value);
+      depth = rw made (omega (arith, depth-Bin c.in-Some.op c.loop-turn.tree c.in_ok-right.right.tree));
       within = omega arith;
     }
 
