@@ -213,8 +213,8 @@ impl<'a> Accesses<'a> {
         }
     }
 
-    #[cycle(reads)]
     /// Whether an expression reads the fields that the kernel writes with the loop's variables in order.
+    #[cycle(reads)]
     fn has_built_reads(&self, expr: &Expr) -> bool
         ensures { result ≡ has_built_reads self.now.vars.now (fields_written self.now.body.now) expr.now }
     {
