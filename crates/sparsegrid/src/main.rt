@@ -9,8 +9,6 @@ mod evaluate;
 mod examples;
 mod grid_text;
 mod iteration;
-#[cfg(test)]
-mod language;
 mod last_line;
 mod output;
 mod points;

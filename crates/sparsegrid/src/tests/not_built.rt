@@ -1,0 +1,113 @@
+use super::setting::Setting;
+use std::test::Fail;
+
+/// Items of forms that are not built, each after the layout and the kernel that it may name.
+static NOT_BUILT: &[&str] = &[
+    "layout B(i) { pointer(i: 4) cap 2; dense(i: 4); field y: i32; }",
+    "layout B(i) { bitmasked(i: 4); field y: i32; }",
+    "layout B(i) { hash(i: 4) cap 2; field y: i32; }",
+    "layout B(i) { dynamic(i: 8) chunk 4 cap 2; field y: i32; }",
+    "layout B(i) { dense(i: 4); dense(i: 4); field y: i32; }",
+    "layout B(i, j) { dense(i: 4); field y: i32; }",
+    "layout B(i) { dense(i: 4, i: 2); field y: i32; }",
+    "layout B(i) { dense(j: 4); field y: i32; }",
+    "layout B(i) { dense(i: 3); field y: i32; }",
+    "layout B(i) { dense(i: 0); field y: i32; }",
+    "layout B(i) { dense(i: 65536); field y: i32; }",
+    "layout B(i, j) { dense(i: 1024, j: 512); field y: i32; }",
+    "kernel m { for i, j in A { x[i, j] = 1; } }",
+    "kernel m { for i, j in 0..1, 0..1 { if true { x[i, j] = 1; } } }",
+    "kernel m { for i, j in 0..1, 0..1 { for k in 0..1 { let a = k; } } }",
+    "kernel m { for i, j in 0..1, 0..1 { x[i, j] += 1; } }",
+    "kernel m { for i, j in 0..1, 0..1 { x[i, j] min= 1; } }",
+    "kernel m { for i, j in 0..1, 0..1 { x[i, j] max= 1; } }",
+    "kernel m { for i, j in (0)..1, 0..1 { x[i, j] = 1; } }",
+    "kernel m { for i, j in 0..1, 0..1 + 0 { x[i, j] = 1; } }",
+    "kernel m { for i, j in - -0..1, 0..1 { x[i, j] = 1; } }",
+    "kernel m { for i, j in ~0..1, 0..1 { x[i, j] = 1; } }",
+    "kernel m { for i, j in 0..1, 0..x[0, 0] { x[i, j] = 1; } }",
+    "kernel m { for i, j in 0..1024, 0..1025 { let a = i + j; } }",
+    "kernel m { for i, j in -2147483648..2147483647, -2147483648..2147483647 { let a = i + j; } }",
+    "kernel m { for i, j in 0..1, 0..1 { x[j, i] = 1; } }",
+    "kernel m { for i, j in 0..1, 0..1 { x[i, 0] = 1; } }",
+    "kernel m { for i, j in 0..1, 0..1 { x[i, (j)] = 1; } }",
+    "kernel m { for i in 0..1 { x[i, i] = 1; } }",
+    "kernel m { for i, j in 0..1, 0..1 { let a = x[i, j + 0]; x[i, j] = a; } }",
+    "kernel m { for i, j in 0..1, 0..1 { x[i, j] = w[x[j, i], 0]; } }",
+    "load x;",
+    "times 2 { run k; }",
+    "image x 0 9;",
+    "stats A;",
+    "prune A;",
+    "clear A;",
+];
+
+static BUILT: &[&str] = &[
+    "layout B(i, j, k) { dense(k: 2, i: 4, j: 8); field y: i32; }",
+    "layout B(i, j) { dense(i: 512, j: 512); field y: u32; }",
+    "layout B(i) { dense(i: 32768); field y: u32; }",
+    "kernel m { for i, j in -N..N, -1..1 { let a = x[j, i]; } }",
+    "kernel m { for i, j in 0..1024, 0..1024 { let a = i + j; } }",
+    "kernel m { for i, j in 0..1, 0..1 { let a = w[j, w[i + 1, 0]]; x[i, j] = a; a = x[i, j]; } }",
+    "run k;",
+    "dump x;",
+];
+
+/// A kernel that writes outside, and its run.
+static OUTSIDE: &str = " kernel bad { for i, j in 9..10, 9..10 { x[i, j] = 1; } } run bad; ";
+
+/// A kernel whose types do not fit.
+static UNTYPED: &str = " kernel bad { for i, j in 0..1, 0..1 { x[i, j] = 1u; } } ";
+
+#[test]
+fn what_is_not_built(rt: HostRuntime) -> Result<(), Fail> {
+    let alloc = rt.alloc();
+    let front =
+        "const N = 2; layout A(i, j) { dense(i: 2, j: 2); field x: i32; field w: i32; } kernel k { for i, j in 0..1, 0..1 { x[i, j] = 1; } } ";
+    for item in NOT_BUILT {
+        for (before, behind, status, text) in [
+            ("", "", 5, "refused: not built: item 4\n"),
+            // the first one is named, and no command runs
+            ("", " stats A;", 5, "refused: not built: item 4\n"),
+            ("stats A; ", "", 5, "refused: not built: item 4\n"),
+            ("", " dump x;", 5, "refused: not built: item 4\n"),
+            ("run k; dump x; ", "", 5, "refused: not built: item 6\n"),
+            ("", OUTSIDE, 5, "refused: not built: item 4\n"),
+            (OUTSIDE, "", 5, "refused: not built: item 6\n"),
+            // the earlier steps come first
+            ("", " @", 4, "refused: bad byte: line 1\n"),
+            ("@ ", "", 4, "refused: bad byte: line 1\n"),
+            ("", " dump;", 4, "refused: syntax: item 5 line 1\n"),
+            ("dump; ", "", 4, "refused: syntax: item 4 line 1\n"),
+            ("", " dump k;", 5, "refused: unknown name: item 5\n"),
+            ("dump k; ", "", 5, "refused: unknown name: item 4\n"),
+            (
+                "",
+                UNTYPED,
+                5,
+                "refused: type: kernel bad statement 1 code 1\n",
+            ),
+            (
+                UNTYPED,
+                "",
+                5,
+                "refused: type: kernel bad statement 1 code 1\n",
+            ),
+        ] {
+            let source = format!(in alloc; "{front}{before}{item}{behind}")?;
+            let left = Setting::of(source.as_str()).run(&rt, alloc)?;
+            assert_eq!(rt; left.status, status, "{source}");
+            assert_eq!(rt; left.text.as_slice(), text.as_bytes(), "{source}");
+            assert!(rt; !left.session, "{source}");
+        }
+    }
+    for item in BUILT {
+        let source = format!(in alloc; "{front}{item}")?;
+        assert_eq!(rt;
+            Setting::of(source.as_str()).run(&rt, alloc)?.status,
+            0,
+            "{source}"
+        );
+    }
+    Ok(())
+}

@@ -1,0 +1,92 @@
+use crate::{Done, run};
+use sg_outside::{FreeGate, MemFiles, MemSink, NamedBytes, Sink};
+use std::alloc::{AllocError, Global};
+use std::process::Abort;
+use std::test::Fail;
+use std::thread::Threads;
+
+/// A run over the file `p.sg` in memory: its words, the reads and puts that fail, and how many bytes a failed put takes.
+#[derive(Clone, Copy)]
+pub struct Setting<'a> {
+    pub words: &'a [&'a str],
+    pub source: &'a [u8],
+    pub failing_reads: &'a [u64],
+    pub failing_puts: &'a [u64],
+    pub take: usize,
+}
+
+/// What a run left: its status, whether there is a session, and the bytes that the sink took.
+#[derive(Debug, PartialEq, Eq, Drop)]
+pub struct Left {
+    pub status: u8,
+    pub session: bool,
+    pub text: Vec<u8>,
+}
+
+impl<'a> Setting<'a> {
+    pub fn of(source: &'a str) -> Setting<'a> {
+        Setting {
+            words: &["p.sg"],
+            source: source.as_bytes(),
+            failing_reads: &[],
+            failing_puts: &[],
+            take: 0,
+        }
+    }
+
+    /// Runs over a sink.
+    pub fn run_into<R: Threads + Sync, S: Sink>(
+        &self,
+        rt: &R,
+        alloc: Global,
+        out: &mut S,
+    ) -> Result<Done, AllocError> {
+        let mut words = Vec::new(alloc);
+        for word in self.words {
+            words.push(String::from_str(alloc, word)?)?;
+        }
+        let file = NamedBytes {
+            name: String::from_str(alloc, "p.sg")?,
+            bytes: Vec::from_slice(alloc, self.source)?,
+        };
+        let mut files = MemFiles::new(
+            vec![in alloc; file]?,
+            Vec::from_slice(alloc, self.failing_reads)?,
+        );
+        Ok(run(rt, alloc, words.as_slice(), &mut files, out, &FreeGate))
+    }
+
+    pub fn run<R: Threads + Sync>(&self, rt: &R, alloc: Global) -> Result<Left, AllocError> {
+        let mut out = MemSink::new(alloc, Vec::from_slice(alloc, self.failing_puts)?, self.take);
+        let done = self.run_into(rt, alloc, &mut out)?;
+        Ok(Left {
+            status: done.status,
+            session: done.session.is_some(),
+            text: Vec::from_slice(alloc, out.bytes())?,
+        })
+    }
+}
+
+/// Each source with the status and the text of its run. There is a session exactly with status 0 and 7.
+pub fn compare<R: Threads + Sync + Abort>(
+    rt: &R,
+    alloc: Global,
+    rows: &[(&str, u8, &str)],
+) -> Result<(), Fail> {
+    for (source, status, text) in rows {
+        let left = Setting::of(source).run(rt, alloc)?;
+        assert_eq!(rt; left.status, *status, "{source}");
+        assert_eq!(rt; left.session, *status == 0 || *status == 7, "{source}");
+        assert_eq!(rt; left.text.as_slice(), text.as_bytes(), "{source}");
+    }
+    Ok(())
+}
+
+/// A text that is this piece so many times.
+pub fn repeated(alloc: Global, piece: &str, count: u32) -> Result<String, AllocError> {
+    let mut text = String::new(alloc);
+    for _ in 0..count {
+        text.push_str(piece)?;
+    }
+    Ok(text)
+}
