@@ -3,7 +3,10 @@ ghost use Rattle.std.specs.Prelude.{None};
 use super::setting::Setting;
 use crate::Done;
 use sg_outside::{MemSink, Put, Sink};
+use std::alloc::Global;
+use std::process::Abort;
 use std::test::Fail;
+use std::thread::Threads;
 
 /// The words of the first field of the first layout in a session's state.
 fn words(done: &Done) -> [u32; 2] {
@@ -90,36 +93,46 @@ static TWO_DUMPS: &str =
 static DUMP_AND_REFUSAL: &str =
     "layout A(i) { dense(i: 1); field x: i32; } kernel bad { for i in 0..2 { x[i] = 7; } } dump x; run bad; dump x;";
 
+/// Puts that fail, how many bytes they take, the status, and the text after the first dump.
+static PUTS_OF_TWO_DUMPS: &[(u64, usize, u8, &str)] = &[
+    (2, 3, 3, "gri"),
+    (2, 99, 3, "grid 1 1\n0 7"),
+    (3, 3, 0, "grid 1 1\n0 7\n"),
+];
+
+static PUTS_OF_DUMP_AND_REFUSAL: &[(u64, usize, u8, &str)] = &[
+    (2, 4, 3, "refu"),
+    (
+        3,
+        4,
+        7,
+        "refused: write outside: kernel bad statement 1 at 1\n",
+    ),
+];
+
+fn compare_puts<R: Threads + Sync + Abort>(
+    rt: &R,
+    alloc: Global,
+    source: &str,
+    rows: &[(u64, usize, u8, &str)],
+) -> Result<(), Fail> {
+    for (failing_put, take, status, behind) in rows {
+        let mut out = MemSink::new(alloc, vec![in alloc; *failing_put]?, *take);
+        let done = Setting::of(source).run_into(rt, alloc, &mut out)?;
+        let text = format!(in alloc; "grid 1 1\n0 0\n{behind}")?;
+        assert_eq!(rt; done.status, *status, "{behind}");
+        assert_eq!(rt; done.session.is_some(), *status != 3, "{behind}");
+        assert_eq!(rt; out.bytes(), text.as_bytes(), "{behind}");
+    }
+    Ok(())
+}
+
 /// Each text goes out by one put, and after a put that failed there is none.
 #[test]
 fn puts_one_after_the_other(rt: HostRuntime) -> Result<(), Fail> {
     let alloc = rt.alloc();
-    let zeros = "grid 1 1\n0 0\n";
-    for (source, failing_put, take, status, behind) in [
-        (TWO_DUMPS, 2, 3, 3, "gri"),
-        (TWO_DUMPS, 2, 99, 3, "grid 1 1\n0 7"),
-        (TWO_DUMPS, 3, 3, 0, "grid 1 1\n0 7\n"),
-        (DUMP_AND_REFUSAL, 2, 4, 3, "refu"),
-        (
-            DUMP_AND_REFUSAL,
-            3,
-            4,
-            7,
-            "refused: write outside: kernel bad statement 1 at 1\n",
-        ),
-    ] {
-        let setting = Setting {
-            failing_puts: &[failing_put],
-            take,
-            ..Setting::of(source)
-        };
-        let left = setting.run(&rt, alloc)?;
-        let text = format!(in alloc; "{zeros}{behind}")?;
-        assert_eq!(rt; left.status, status, "{behind}");
-        assert_eq!(rt; left.session, status != 3, "{behind}");
-        assert_eq!(rt; left.text.as_slice(), text.as_bytes(), "{behind}");
-    }
-    Ok(())
+    compare_puts(&rt, alloc, TWO_DUMPS, PUTS_OF_TWO_DUMPS)?;
+    compare_puts(&rt, alloc, DUMP_AND_REFUSAL, PUTS_OF_DUMP_AND_REFUSAL)
 }
 
 /// A sink that has room for a few puts.
@@ -142,19 +155,25 @@ impl Sink for NarrowSink {
     }
 }
 
+fn ends_with_room_for<R: Threads + Sync + Abort>(
+    rt: &R,
+    alloc: Global,
+    left: u32,
+    source: &str,
+    status: u8,
+) -> Result<(), Fail> {
+    let done = Setting::of(source).run_into(rt, alloc, &mut NarrowSink { left })?;
+    assert_eq!(rt; done.status, status, "{source}");
+    assert_eq!(rt; done.session.is_some(), status != 9, "{source}");
+    Ok(())
+}
+
 #[test]
 fn a_sink_with_no_room(rt: HostRuntime) -> Result<(), Fail> {
     let alloc = rt.alloc();
-    for (source, left, status) in [
-        (TWO_DUMPS, 0, 9),
-        (TWO_DUMPS, 1, 9),
-        (TWO_DUMPS, 2, 0),
-        (DUMP_AND_REFUSAL, 1, 9),
-        (DUMP_AND_REFUSAL, 2, 7),
-    ] {
-        let done = Setting::of(source).run_into(&rt, alloc, &mut NarrowSink { left })?;
-        assert_eq!(rt; done.status, status, "{source}");
-        assert_eq!(rt; done.session.is_some(), status != 9, "{source}");
-    }
-    Ok(())
+    ends_with_room_for(&rt, alloc, 0, TWO_DUMPS, 9)?;
+    ends_with_room_for(&rt, alloc, 1, TWO_DUMPS, 9)?;
+    ends_with_room_for(&rt, alloc, 2, TWO_DUMPS, 0)?;
+    ends_with_room_for(&rt, alloc, 1, DUMP_AND_REFUSAL, 9)?;
+    ends_with_room_for(&rt, alloc, 2, DUMP_AND_REFUSAL, 7)
 }

@@ -1,4 +1,4 @@
-use super::setting::Setting;
+use super::setting::{Setting, ends};
 use std::test::Fail;
 
 /// Items of forms that are not built, each after the layout and the kernel that it may name.
@@ -53,56 +53,85 @@ static BUILT: &[&str] = &[
     "dump x;",
 ];
 
-/// A kernel that writes outside, and its run.
-static OUTSIDE: &str = " kernel bad { for i, j in 9..10, 9..10 { x[i, j] = 1; } } run bad; ";
+/// Items beside one that is not built, the status, and the lines with them before it and behind it. A later step of the order
+/// yields to it, and no command runs; an earlier step comes first.
+static OTHERS: &[(&str, u8, &str, &str)] = &[
+    (
+        "stats A;",
+        5,
+        "refused: not built: item 4\n",
+        "refused: not built: item 4\n",
+    ),
+    (
+        "run k; dump x;",
+        5,
+        "refused: not built: item 6\n",
+        "refused: not built: item 4\n",
+    ),
+    (
+        "kernel bad { for i, j in 9..10, 9..10 { x[i, j] = 1; } } run bad;",
+        5,
+        "refused: not built: item 6\n",
+        "refused: not built: item 4\n",
+    ),
+    (
+        "@",
+        4,
+        "refused: bad byte: line 1\n",
+        "refused: bad byte: line 1\n",
+    ),
+    (
+        "dump;",
+        4,
+        "refused: syntax: item 4 line 1\n",
+        "refused: syntax: item 5 line 1\n",
+    ),
+    (
+        "dump k;",
+        5,
+        "refused: unknown name: item 4\n",
+        "refused: unknown name: item 5\n",
+    ),
+    (
+        "kernel bad { for i, j in 0..1, 0..1 { x[i, j] = 1u; } }",
+        5,
+        "refused: type: kernel bad statement 1 code 1\n",
+        "refused: type: kernel bad statement 1 code 1\n",
+    ),
+];
 
-/// A kernel whose types do not fit.
-static UNTYPED: &str = " kernel bad { for i, j in 0..1, 0..1 { x[i, j] = 1u; } } ";
+static FRONT: &str =
+    "const N = 2; layout A(i, j) { dense(i: 2, j: 2); field x: i32; field w: i32; } kernel k { for i, j in 0..1, 0..1 { x[i, j] = 1; } }";
 
 #[test]
 fn what_is_not_built(rt: HostRuntime) -> Result<(), Fail> {
     let alloc = rt.alloc();
-    let front =
-        "const N = 2; layout A(i, j) { dense(i: 2, j: 2); field x: i32; field w: i32; } kernel k { for i, j in 0..1, 0..1 { x[i, j] = 1; } } ";
+    let front = FRONT;
     for item in NOT_BUILT {
-        for (before, behind, status, text) in [
-            ("", "", 5, "refused: not built: item 4\n"),
-            // the first one is named, and no command runs
-            ("", " stats A;", 5, "refused: not built: item 4\n"),
-            ("stats A; ", "", 5, "refused: not built: item 4\n"),
-            ("", " dump x;", 5, "refused: not built: item 4\n"),
-            ("run k; dump x; ", "", 5, "refused: not built: item 6\n"),
-            ("", OUTSIDE, 5, "refused: not built: item 4\n"),
-            (OUTSIDE, "", 5, "refused: not built: item 6\n"),
-            // the earlier steps come first
-            ("", " @", 4, "refused: bad byte: line 1\n"),
-            ("@ ", "", 4, "refused: bad byte: line 1\n"),
-            ("", " dump;", 4, "refused: syntax: item 5 line 1\n"),
-            ("dump; ", "", 4, "refused: syntax: item 4 line 1\n"),
-            ("", " dump k;", 5, "refused: unknown name: item 5\n"),
-            ("dump k; ", "", 5, "refused: unknown name: item 4\n"),
-            (
-                "",
-                UNTYPED,
-                5,
-                "refused: type: kernel bad statement 1 code 1\n",
-            ),
-            (
-                UNTYPED,
-                "",
-                5,
-                "refused: type: kernel bad statement 1 code 1\n",
-            ),
-        ] {
-            let source = format!(in alloc; "{front}{before}{item}{behind}")?;
-            let left = Setting::of(source.as_str()).run(&rt, alloc)?;
-            assert_eq!(rt; left.status, status, "{source}");
-            assert_eq!(rt; left.text.as_slice(), text.as_bytes(), "{source}");
-            assert!(rt; !left.session, "{source}");
+        let alone = format!(in alloc; "{front} {item}")?;
+        ends(
+            &rt,
+            alloc,
+            alone.as_str(),
+            5,
+            "refused: not built: item 4\n",
+        )?;
+        for (other, status, before, behind) in OTHERS {
+            let first = format!(in alloc; "{front} {other} {item}")?;
+            ends(&rt, alloc, first.as_str(), *status, before)?;
+            let last = format!(in alloc; "{front} {item} {other}")?;
+            ends(&rt, alloc, last.as_str(), *status, behind)?;
         }
     }
+    Ok(())
+}
+
+#[test]
+fn what_is_built(rt: HostRuntime) -> Result<(), Fail> {
+    let alloc = rt.alloc();
+    let front = FRONT;
     for item in BUILT {
-        let source = format!(in alloc; "{front}{item}")?;
+        let source = format!(in alloc; "{front} {item}")?;
         assert_eq!(rt;
             Setting::of(source.as_str()).run(&rt, alloc)?.status,
             0,

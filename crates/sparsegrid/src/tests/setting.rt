@@ -67,17 +67,29 @@ impl<'a> Setting<'a> {
     }
 }
 
-/// Each source with the status and the text of its run. There is a session exactly with status 0 and 7.
+/// The run of a source has this status and text, and a session exactly with status 0 and 7.
+pub fn ends<R: Threads + Sync + Abort>(
+    rt: &R,
+    alloc: Global,
+    source: &str,
+    status: u8,
+    text: &str,
+) -> Result<(), Fail> {
+    let left = Setting::of(source).run(rt, alloc)?;
+    assert_eq!(rt; left.status, status, "{source}");
+    assert_eq!(rt; left.session, status == 0 || status == 7, "{source}");
+    assert_eq!(rt; left.text.as_slice(), text.as_bytes(), "{source}");
+    Ok(())
+}
+
+/// Each source with the status and the text of its run.
 pub fn compare<R: Threads + Sync + Abort>(
     rt: &R,
     alloc: Global,
     rows: &[(&str, u8, &str)],
 ) -> Result<(), Fail> {
     for (source, status, text) in rows {
-        let left = Setting::of(source).run(rt, alloc)?;
-        assert_eq!(rt; left.status, *status, "{source}");
-        assert_eq!(rt; left.session, *status == 0 || *status == 7, "{source}");
-        assert_eq!(rt; left.text.as_slice(), text.as_bytes(), "{source}");
+        ends(rt, alloc, source, *status, text)?;
     }
     Ok(())
 }
