@@ -7,12 +7,11 @@ use Rattle.std.specs.Ordering.{nat_cmp}
 use Rattle.std.specs.Cmp.{nat_cmp_total}
 use Rattle.std.specs.BTreeMap.{is_at}
 use Rattle.std.specs.BTreeSet.{BTreeSet, contains}
-use Rattle.std.proofs.Math.Bool.{and_comm}
-use Rattle.std.proofs.lemmas.Bool.{eqb-true, eq-eqb, ne_eqb, lt-ltb, ltb-true}
+use Rattle.std.proofs.lemmas.Bool.{eqb-true, eq-eqb, ne_eqb, cond-true, lt-ltb, ltb-true}
 use Rattle.std.proofs.lemmas.List.{get_or-drop}
 use Rattle.std.proofs.Common.{length-drop}
 use Rattle.std.proofs.lemmas.Option.{slice_get_read}
-use Rattle.std.proofs.lemmas.List.Elements.{All-map}
+use Rattle.std.proofs.lemmas.List.Elements.{All-map, All-head, All-tail}
 use Rattle.std.proofs.lemmas.List.Folds.{Any-from_list_any, list_any-from_Any}
 use Rattle.std.proofs.lemmas.List.FromFn.{length-range_with_len, get_or-range_with_len}
 use Rattle.std.proofs.lemmas.List.Kept.{IsStrictlySortedBy-filter}
@@ -33,10 +32,9 @@ use Rattle.sg_layout.specs.Path.{path}
 use Rattle.sg_layout.specs.Live.{kind_or, kind_at, makes_live, is_live}
 use Rattle.sg_layout.specs.Closure.{last_sparse, is_in_closure, points, closure}
 use Rattle.sg_flat.specs.Blocks.{bounds_over, nodes_above, is_whole, block_of, place_of, reach_of, is_reached, is_row_reached}
-use Rattle.sg_layout.proofs.Lists.{same_tests, filter_all}
 use Rattle.sg_flat.proofs.MapWords.{is_eq-nat_cmp}
 use Rattle.sg_flat.proofs.Accepted.{good_at, last_where_dynamic}
-use Rattle.sg_flat.proofs.Slotted.{slot_test}
+use Rattle.sg_flat.proofs.Slotted.{same_tests, slot_test}
 use Rattle.sg_flat.proofs.Reaches.{is_reached-any, list_any-agree, filter-agree}
 
 -- ---- rows in order
@@ -71,6 +69,12 @@ keys_are size test rows sorted has =
     btree_set_from_contains nat_cmp_total rows passing sorted (IsStrictlySortedBy-filter nat_cmp test (range_with_len 0 size) (rows_in_order size))
     (λ r. has r ∙ sym (kept r)) exact_unsigned
   where
+    and_comm : (a b : Bool) → (a && b) ≡ (b && a)
+    and_comm true true = refl
+    and_comm true false = refl
+    and_comm false true = refl
+    and_comm false false = refl
+
     kept : (r : ℕ) → list_any (is_at (nat_cmp r)) (filter test (range_with_len 0 size)) ≡ (ltb r size && test r)
     kept r =
         any-filter_same (is_at (nat_cmp r)) test (test r) (λ k same. ap test (sym (eqb-true r k (sym (is_eq-nat_cmp r k) ∙ same)))) (range_with_len 0 size)
@@ -85,6 +89,12 @@ filter-map {X} {Y} f test (x ∷ xs) =
       | true ↦ ap (λ (ys : List Y). f x ∷ ys) rest
       | false ↦ rest
     ]
+
+filter-all : {X : Type 0} (test : X → Bool) (xs : List X) → All (λ x. test x ≡ true) xs → filter test xs ≡ xs
+filter-all test [] all = refl
+filter-all {X} test (x ∷ xs) all =
+    cond-true (test x) (x ∷ filter test xs) (filter test xs) (All-head (λ y. test y ≡ true) x xs all)
+    ∙ ap (λ (ys : List X). x ∷ ys) (filter-all test xs (All-tail (λ y. test y ≡ true) x xs all))
 
 pub rows_below : (size : ℕ) → All (λ r. r < size) (range_with_len 0 size)
 rows_below size k d below =
@@ -123,7 +133,7 @@ live_is_reached shape i node later coords at point_of_row row_below accepted spl
 pub closure_of_dense : (shape : Shape) (coords : List Coord) → InsideTest → PointInside → last_sparse shape.nodes ≡ 0 → closure shape coords ≡ points (bounds_of_shape shape)
 closure_of_dense shape coords inside_test point_inside dense =
     let all = bounds_of_shape shape in
-    filter_all (is_in_closure shape coords) (points all)
+    filter-all (is_in_closure shape coords) (points all)
     (All-map (λ (at : Coord). is_in_closure shape coords at ≡ true) (point_at all) (range_with_len 0 (volume all))
     (λ k d below.
     let r = get_or (range_with_len 0 (volume all)) k d in

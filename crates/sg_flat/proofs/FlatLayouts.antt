@@ -25,8 +25,7 @@ use Rattle.sg_flat.specs.Kernel.{field_after, fields_after, layout_after}
 use Rattle.sg_flat.specs.Landing.{AreWordsBelow, stay_inside}
 use Rattle.sg_flat.proofs.FieldWords.{are_words_of, are_words_from_rows}
 use Rattle.sg_flat.proofs.Actives.{rows_below}
-use Rattle.sg_layout.proofs.Distinct.{into_map}
-use Rattle.sg_layout.proofs.Lists.{contains_head, into_filter, from_filter}
+use Rattle.sg_flat.proofs.Boxes.{Contains-here, Contains-map, into_filter, from_filter}
 use Rattle.sg_flat.proofs.Pairs.{StandsAt}
 
 -- the words of a field of a flat layout
@@ -61,7 +60,7 @@ pub record RunLaws (shape : Shape) : Type 0 where
 
 -- the coordinates of the writes into a layout, where these stay inside
 written_at : (layout : ℕ) (turns : List Turn) (write : Write) → Contains (writes_of turns) write → eqb write.layout layout ≡ true → Contains (written_in layout turns) write.at
-written_at layout turns write there same = into_map (λ (w : Write). w.at) (filter (λ (w : Write). eqb w.layout layout) (writes_of turns)) write (into_filter (λ (w : Write). eqb w.layout layout) (writes_of turns) write there same)
+written_at layout turns write there same = Contains-map (λ (w : Write). w.at) (filter (λ (w : Write). eqb w.layout layout) (writes_of turns)) write (into_filter (λ (w : Write). eqb w.layout layout) (writes_of turns) write there same)
 
 written_inside : (bounds : Bounds) (layout : ℕ) (turns : List Turn) (write : Write) → InsideTest → stay_inside bounds layout (writes_of turns) ≡ true → Contains (writes_of turns) write → eqb write.layout layout ≡ true → Inside bounds write.at
 written_inside bounds layout turns write inside_test inside there same =
@@ -97,7 +96,7 @@ row_is_active shape flat layout place ty words turns row laws inside fits below 
         (word_is_active flat.active (bounds_of_shape shape) words row fits.active_rows (λ zero. some (ap (landed ty (word_at words row)) none ∙ zero))))
     by_writes (write ∷ writes) is =
         let test : Write → Bool = is_to (bounds_of_shape shape) layout place row in
-        let found = from_filter test (writes_of turns) write (subst (λ (ws : List Write). Contains ws write) (sym is) (contains_head write write writes refl)) in
+        let found = from_filter test (writes_of turns) write (subst (λ (ws : List Write). Contains ws write) (sym is) (Contains-here write writes)) in
         let parts = and_parts (eqb write.layout layout) (eqb write.place place && eqb (row_of (bounds_of_shape shape) write.at) row) found.1 in
         let same_row = eqb-true (row_of (bounds_of_shape shape) write.at) row (and_parts (eqb write.place place) (eqb (row_of (bounds_of_shape shape) write.at) row) parts.1).1 in
         let at_inside = written_inside (bounds_of_shape shape) layout turns write laws.inside_test inside found.0 parts.0 in

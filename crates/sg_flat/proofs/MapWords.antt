@@ -23,7 +23,7 @@ is_eq-nat_cmp a b = elim (cases_order a b) [
   | inr (inr above) ↦ ap is_eq (sym (nat_cmp_is a b Greater above)) ∙ sym (ne_eqb a b (λ same. omega arith))
 ]
 
-pub eqb_comm : (a b : ℕ) → eqb a b ≡ eqb b a
+eqb_comm : (a b : ℕ) → eqb a b ≡ eqb b a
 eqb_comm a b = elim (cases_eq a b) [
   | inl same ↦ eq-eqb a b same ∙ sym (eq-eqb b a (sym same))
   | inr apart ↦ ne_eqb a b apart ∙ sym (ne_eqb b a (λ same. apart (sym same)))

@@ -10,7 +10,6 @@ use Rattle.std.specs.Map.{keys_of, values_of}
 use Rattle.std.specs.Option.{is_some}
 use Rattle.std.specs.Set.{is_member, unique_keys, remove_key}
 use Rattle.std.specs.BTreeMap.{BTreeMap, get, values, keys, btree_map_len, IsOrdered, is_at}
-use Rattle.std.proofs.Math.Bool.{and-false}
 use Rattle.std.proofs.lemmas.Bool.{cases_Bool, cases_eq, cases_lt, cond-true, cond-false, cond_both, eq-eqb, ne_eqb, both_ways, ltb-true}
 use Rattle.std.proofs.lemmas.Nat.{div-mul-add, mod-mul-add, mod_below, div-add-mod'}
 use Rattle.std.proofs.lemmas.List.{get_or-drop, length-map}
@@ -35,7 +34,7 @@ use Rattle.sg_layout.specs.Path.{offset_at, offsets, path}
 use Rattle.sg_layout.specs.Need.{distinct, reached_slots, greatest_offset, under_slot, chunks_under, need_by, need_of}
 use Rattle.sg_flat.specs.Blocks.{bounds_over, nodes_above, is_whole, block_of, place_of, reach_of, longer, length_at}
 use Rattle.sg_flat.proofs.Accepted.{good_at, last_where_dynamic, has_cap}
-use Rattle.sg_flat.proofs.MapWords.{is_eq-nat_cmp, eqb_comm}
+use Rattle.sg_flat.proofs.MapWords.{is_eq-nat_cmp}
 use Rattle.sg_flat.proofs.Slotted.{paths_tell, place_is_offset}
 use Rattle.sg_flat.proofs.Reaches.{filter-agree}
 
@@ -107,7 +106,11 @@ removed_distinct n (y ∷ ys) apart =
 
 -- after the removal of a number each other one is there as before, and it isn't
 removed_member : (n : ℕ) (ys : List ℕ) (q : ℕ) → IsDistinct eqb ys → is_member eqb (remove_key (eqb n) ys) q ≡ (not (eqb n q) && is_member eqb ys q)
-removed_member n [] q apart = sym (and-false (not (eqb n q)))
+removed_member n [] q apart = sym (and_false (not (eqb n q)))
+  where
+    and_false : (b : Bool) → (b && false) ≡ false
+    and_false true = refl
+    and_false false = refl
 removed_member n (y ∷ ys) q apart = elim (cases_eq n y) [
   | inl same ↦ ap (λ (b : Bool). is_member eqb (cond b ys (y ∷ remove_key (eqb n) ys)) q) (eq-eqb n y same) ∙ elim (cases_eq n q) [
     | inl is ↦ ap (is_member eqb ys) (sym is ∙ same) ∙ member_from_none y ys (IsDistinct-head eqb y ys apart)
@@ -182,6 +185,12 @@ has_length {X} reach test (x ∷ xs) = elim (cases_Bool (test x)) [
 member_of_blocks : {X : Type 0} (g : X → ℕ) (xs : List X) (q : ℕ) → list_any (λ x. eqb (g x) q) xs ≡ is_member eqb (map g xs) q
 member_of_blocks g [] q = refl
 member_of_blocks g (x ∷ xs) q = ap (λ (b : Bool). b || list_any (λ y. eqb (g y) q) xs) (eqb_comm (g x) q) ∙ ap (λ (b : Bool). eqb q (g x) || b) (member_of_blocks g xs q)
+  where
+    eqb_comm : (a b : ℕ) → eqb a b ≡ eqb b a
+    eqb_comm a b = elim (cases_eq a b) [
+      | inl same ↦ eq-eqb a b same ∙ sym (eq-eqb b a (sym same))
+      | inr apart ↦ ne_eqb a b apart ∙ sym (ne_eqb b a (λ same. apart (sym same)))
+    ]
 
 -- the keys of a map of lengths are the numbers of the blocks with a coordinate in them
 keys_found : (lengths : BTreeMap ℕ ℕ) (q : ℕ) → is_some (get nat_cmp lengths q) ≡ is_member eqb (keys lengths) q

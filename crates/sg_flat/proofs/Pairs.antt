@@ -28,8 +28,7 @@ stands_at {A} {B} xs ys i n x y turn =
     let in_first : i < length xs = omega (arith, length-zip xs ys) in
     let in_second : i < length ys = omega (arith, length-zip xs ys) in
     let item : (n, (x, y)) ≡ (0 + i, get_or (zip xs ys) i (x, y)) = turn.1 ∙ get_or-enumerate_from 0 (zip xs ys) i (n, (x, y)) below in
-    let both : (x, y) ≡ get_or (zip xs ys) i (x, y) = ap (λ (p : ℕ × (A × B)). p.1) item in
-    let pair : (x, y) ≡ (get_or xs i x, get_or ys i y) = both ∙ get_or-zip xs ys i (x, y) in_first in_second in
+    let pair : (x, y) ≡ (get_or xs i x, get_or ys i y) = ap (λ (p : ℕ × (A × B)). p.1) item ∙ get_or-zip xs ys i (x, y) in_first in_second in
     record {
       index = ap (λ (p : ℕ × (A × B)). p.0) item ∙ zero-add i;
       in_first = in_first;

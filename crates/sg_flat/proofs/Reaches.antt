@@ -4,25 +4,27 @@ use Rattle.std.specs.Prelude.{filter, unwrap_or, All}
 use Rattle.std.specs.List.{fold, list_any}
 use Rattle.std.specs.Ordering.{nat_cmp}
 use Rattle.std.specs.BTreeMap.{is_at}
-use Rattle.std.proofs.Math.Bool.{or-false, or-true, or_assoc}
 use Rattle.std.proofs.lemmas.Bool.{cases_eq, cases_lt, cases_Bool, eq-eqb, ne_eqb, cond-true, cond-false, lt-ltb, le-ltb, ltb-true, le-leb}
 use Rattle.std.proofs.lemmas.List.Elements.{filter_more, All-head, All-tail}
 use Rattle.std.proofs.lemmas.List.Sums.{fold_push}
-use Rattle.std.proofs.lemmas.List.{append-nil, map_push}
+use Rattle.std.proofs.lemmas.List.{append-nil}
 use Rattle.sg_coord.specs.declared.coord.Coord.{Coord}
 use Rattle.sg_coord.specs.Bounds.{Bounds, volume}
 use Rattle.sg_coord.specs.Coord.{Inside, count_of, row_of, point_at}
 use Rattle.sg_coord.specs.Laws.{PointOfRow, RowOfPoint, PointInside}
 use Rattle.sg_flat.specs.Blocks.{within, block_of, place_of, reach_of, longer, length_at, is_reached}
-use Rattle.sg_coord.proofs.RowLaws.{part_is, same_parts}
-use Rattle.sg_layout.proofs.Lists.{same_tests}
-use Rattle.sg_flat.proofs.Cuts.{IsCut, same_runs_from_block, within_inside}
+use Rattle.sg_flat.proofs.Cuts.{IsCut, same_runs_from_block, within_inside, same_coord, part_is}
 use Rattle.sg_flat.proofs.MapWords.{is_eq-nat_cmp}
+use Rattle.sg_flat.proofs.Slotted.{same_tests}
 use Rattle.std.proofs.lemmas.Nat.{div-add-mod'}
 
 -- ---- one more coordinate
 length_by : (number : ℕ) (all block : Bounds) (whole : Bool) (front : List Coord) (at : Coord) (here : Bool) → fold longer None (map (reach_of whole block) (front ++ cond here (at ∷ []) [])) ≡ cond here (longer (fold longer None (map (reach_of whole block) front)) (reach_of whole block at)) (fold longer None (map (reach_of whole block) front))
-length_by number all block whole front at true = ap (fold longer None) (map_push (reach_of whole block) front at) ∙ fold_push longer None (map (reach_of whole block) front) (reach_of whole block at)
+length_by number all block whole front at true = ap (fold longer None) (map-push front) ∙ fold_push longer None (map (reach_of whole block) front) (reach_of whole block at)
+  where
+    map-push : (xs : List Coord) → map (reach_of whole block) (xs ++ at ∷ []) ≡ map (reach_of whole block) xs ++ (reach_of whole block at ∷ [])
+    map-push [] = refl
+    map-push (x ∷ xs) = ap (λ rest. reach_of whole block x ∷ rest) (map-push xs)
 length_by number all block whole front at false = ap (λ (xs : List Coord). fold longer None (map (reach_of whole block) xs)) (append-nil front)
 
 pub length_at-more : (all block : Bounds) (whole : Bool) (coords : List Coord) (i : ℕ) (at : Coord) (number : ℕ) → i < length coords → at ≡ get_or coords i at → length_at all block whole (take (i + 1) coords) number ≡ cond (eqb (block_of all block at) number) (longer (length_at all block whole (take i coords) number) (reach_of whole block at)) (length_at all block whole (take i coords) number)
@@ -59,10 +61,14 @@ rows_gain contained contained' true number other length other_length reach from 
       after
       ∙ ap (λ (b : Bool). b || (eqb number other && (leb from p && ltb p to))) before
       ∙ ap (λ (b : Bool). ltb p (unwrap_or other_length 0) || (b && (leb from p && ltb p to))) elsewhere
-      ∙ or-false (ltb p (unwrap_or other_length 0))
+      ∙ or_false (ltb p (unwrap_or other_length 0))
       ∙ sym (ap (λ (b : Bool). ltb p (unwrap_or (cond b (longer other_length reach) other_length) 0)) elsewhere)
       )
 ]
+  where
+    or_false : (b : Bool) → (b || false) ≡ b
+    or_false true = refl
+    or_false false = refl
 
 -- one more row of a block, where no other row is that of this place
 pub row_more : (contained contained' old inside same : Bool) (r n from p place : ℕ) → contained' ≡ cond (is_at (nat_cmp n) r) true contained → contained ≡ (old || (inside && (same && (leb from place && ltb place p)))) → from ≤ p → (r ≡ n → (inside ≡ true) × (same ≡ true) × (place ≡ p)) → (inside ≡ true → same ≡ true → place ≡ p → r ≡ n) → contained' ≡ (old || (inside && (same && (leb from place && ltb place (p + 1)))))
@@ -79,7 +85,7 @@ row_more contained contained' old inside same r n from p place after before rise
       ∙ ap (λ (b : Bool). old || (b && (leb from place && ltb place (p + 1)))) facts.1
       ∙ ap (λ (b : Bool). old || (b && ltb place (p + 1))) low
       ∙ ap (λ (b : Bool). old || b) high
-      ∙ or-true old)
+      ∙ or_true old)
       )
   | inr apart ↦ (
       let test : is_at (nat_cmp n) r ≡ false = is_eq-nat_cmp n r ∙ ne_eqb n r (λ e. apart (sym e)) in
@@ -88,6 +94,10 @@ row_more contained contained' old inside same r n from p place after before rise
       )
 ]
   where
+    or_true : (b : Bool) → (b || true) ≡ true
+    or_true true = refl
+    or_true false = refl
+
     further : (place ≡ p → ⊥) → ltb place p ≡ ltb place (p + 1)
     further other = same_tests (ltb place p) (ltb place (p + 1))
         (λ lt. lt-ltb place (p + 1) (let h = ltb-true place p lt in omega arith))
@@ -111,7 +121,7 @@ same_place all block x y point_of_row cut x_in y_in same_block same =
     let runs = same_runs_from_block all block x y point_of_row cut x_in y_in same_block in
     let rests : within block x ≡ within block y =
     sym (point_of_row block (within block x) (within_inside all block x cut x_in)) ∙ ap (point_at block) same ∙ point_of_row block (within block y) (within_inside all block y cut y_in) in
-    same_parts x y (x_in.same_axes ∙ sym y_in.same_axes)
+    same_coord x y (x_in.same_axes ∙ sym y_in.same_axes)
     (part_is x.a x_in.a_low ∙ ap pos (same_part (count_of x.a) (count_of y.a) block.a runs.a_run (ap (λ (p : Coord). count_of p.a) rests)) ∙ sym (part_is y.a y_in.a_low))
     (part_is x.b x_in.b_low ∙ ap pos (same_part (count_of x.b) (count_of y.b) block.b runs.b_run (ap (λ (p : Coord). count_of p.b) rests)) ∙ sym (part_is y.b y_in.b_low))
     (part_is x.c x_in.c_low ∙ ap pos (same_part (count_of x.c) (count_of y.c) block.c runs.c_run (ap (λ (p : Coord). count_of p.c) rests)) ∙ sym (part_is y.c y_in.c_low))
@@ -130,8 +140,16 @@ ltb-max p a b = elim (cases_lt p a) [
       ∙ same_tests (ltb p b) (ltb p (max a b)) (λ t. lt-ltb p (max a b) (let h = ltb-true p b t in omega arith)) (λ t. lt-ltb p b (let h = ltb-true p (max a b) t in omega arith)))
 ]
 
+or_assoc : (a b c : Bool) → ((a || b) || c) ≡ (a || (b || c))
+or_assoc true b c = refl
+or_assoc false b c = refl
+
 reached_by : {X : Type 0} (test : X → Bool) (reach : X → ℕ) (p : ℕ) (length : Option ℕ) (xs : List X) → ltb p (unwrap_or (fold longer length (map reach (filter test xs))) 0) ≡ (ltb p (unwrap_or length 0) || list_any (λ x. test x && ltb p (reach x)) xs)
-reached_by test reach p length [] = sym (or-false (ltb p (unwrap_or length 0)))
+reached_by test reach p length [] = sym (or_false (ltb p (unwrap_or length 0)))
+  where
+    or_false : (b : Bool) → (b || false) ≡ b
+    or_false true = refl
+    or_false false = refl
 reached_by {X} test reach p length (x ∷ xs) =
     elim (test x) as (λ (t : Bool). ltb p (unwrap_or (fold longer length (map reach (cond t (x ∷ filter test xs) (filter test xs)))) 0) ≡ (ltb p (unwrap_or length 0) || ((t && ltb p (reach x)) || list_any (λ (y : X). test y && ltb p (reach y)) xs))) [
       | true ↦ reached_by test reach p (longer length (reach x)) xs

@@ -1,13 +1,13 @@
 -- Slots of a node against blocks of points: the paths of two coordinates go through one slot where they are in one block.
-use Rattle.std.proofs.Common.{◌≡◌, ◌↔◌, ℕ, zero, suc, ◌+◌, ◌*◌, ◌/◌, ◌%◌, ◌<◌, ◌≤◌, Bool, true, ◌&&◌, ltb, leb, eqb, List, [], ◌∷◌, get_or, take, drop, refl, sym, ap, ◌∙◌, arith, subst}
+use Rattle.std.proofs.Common.{◌≡◌, ◌↔◌, ℕ, zero, suc, ◌+◌, ◌*◌, ◌/◌, ◌%◌, ◌<◌, ◌≤◌, Bool, true, false, ◌&&◌, ltb, leb, eqb, List, [], ◌∷◌, get_or, take, drop, refl, sym, ap, ◌∙◌, arith, subst}
 use Rattle.std.specs.List.{list_all}
 use Rattle.std.specs.Str.{bytes_eq}
 use Rattle.std.specs.Cmp.Lexicographic.{bytes_decides}
 use Rattle.std.proofs.Math.Arith.{mod-mul}
 use Rattle.std.proofs.Math.Nat.{mul_comm, div-div-eq-div-mul, mod-eq_of_lt, div-one, mod-one, mul-one}
-use Rattle.std.proofs.Math.Bool.{and-true, and_assoc}
 use Rattle.std.proofs.lemmas.Nat.{same_from_place, mod_below, div_below}
 use Rattle.std.proofs.lemmas.Bool.{and_parts, and_from, eqb-true, eq-eqb, ltb-true, leb-true, lt-ltb, le-leb}
+use Rattle.std.proofs.lemmas.Bool.Decides.{same_from_decides}
 use Rattle.sg_coord.specs.declared.coord.Coord.{Coord}
 use Rattle.sg_coord.specs.Bounds.{Bounds, volume}
 use Rattle.sg_coord.specs.Coord.{Inside, count_of}
@@ -22,12 +22,12 @@ use Rattle.sg_layout.specs.Path.{offset_at, offsets, path}
 use Rattle.sg_layout.specs.Live.{is_at_or_below, makes_live}
 use Rattle.sg_layout.specs.Rules.{has_good_extents}
 use Rattle.sg_flat.specs.Blocks.{bounds_over, nodes_above, is_whole, block_of, within, place_of, reach_of}
-use Rattle.sg_layout.proofs.Extending.{over_some}
-use Rattle.sg_layout.proofs.Lists.{same_tests}
-use Rattle.sg_coord.proofs.RowLaws.{offset_below}
-use Rattle.sg_flat.proofs.Accepted.{good_extents, good_below, extent_in_some}
-use Rattle.sg_flat.proofs.Cuts.{IsCut, same_runs_from_block, same_block_from_runs, within_inside}
+use Rattle.sg_flat.proofs.Accepted.{good_extents, good_below, extent_in_some, extent_over_some}
+use Rattle.sg_flat.proofs.Cuts.{IsCut, same_runs_from_block, same_block_from_runs, within_inside, count_below}
 use Rattle.sg_flat.proofs.Overs.{over_split, over_cut}
+
+pub same_tests : (a b : Bool) → (a ≡ true → b ≡ true) → (b ≡ true → a ≡ true) → a ≡ b
+same_tests a b there back = same_from_decides a b (there, back) ((λ e. e), (λ e. e))
 
 -- ---- one axis: the digits of a number to two bases
 axis_step : (x y e f rest later : ℕ) → later ≡ f * rest → 1 ≤ e → 1 ≤ f → (x / rest % (e * f) ≡ y / rest % (e * f)) ↔ ((x / later % e ≡ y / later % e) × (x / rest % f ≡ y / rest % f))
@@ -109,11 +109,11 @@ parts_from_path (node ∷ later) (suc k) x y good same =
     let front = good_front later k goods.1 in
     record {
       a = (axis_step (count_of x.a) (count_of y.a) (extent_in node.sizes 1) (extent_over (take k later) 1) (extent_over (drop k later) 1) (extent_over later 1)
-          (over_split later k 1) (extent_in_some node 1 goods.0) (over_some (take k later) 1 front)).1 (here.a, rest.a);
+          (over_split later k 1) (extent_in_some node 1 goods.0) (extent_over_some (take k later) 1 front)).1 (here.a, rest.a);
       b = (axis_step (count_of x.b) (count_of y.b) (extent_in node.sizes 2) (extent_over (take k later) 2) (extent_over (drop k later) 2) (extent_over later 2)
-          (over_split later k 2) (extent_in_some node 2 goods.0) (over_some (take k later) 2 front)).1 (here.b, rest.b);
+          (over_split later k 2) (extent_in_some node 2 goods.0) (extent_over_some (take k later) 2 front)).1 (here.b, rest.b);
       c = (axis_step (count_of x.c) (count_of y.c) (extent_in node.sizes 3) (extent_over (take k later) 3) (extent_over (drop k later) 3) (extent_over later 3)
-          (over_split later k 3) (extent_in_some node 3 goods.0) (over_some (take k later) 3 front)).1 (here.c, rest.c);
+          (over_split later k 3) (extent_in_some node 3 goods.0) (extent_over_some (take k later) 3 front)).1 (here.c, rest.c);
     }
 
 path_from_parts : (nodes : List NodeShape) (through : ℕ) (x y : Coord) → list_all has_good_extents nodes ≡ true → SameParts nodes through x y → take through (offsets nodes x) ≡ take through (offsets nodes y)
@@ -123,18 +123,18 @@ path_from_parts (node ∷ later) (suc k) x y good same =
     let goods = and_parts (has_good_extents node) (list_all has_good_extents later) good in
     let front = good_front later k goods.1 in
     let a = (axis_step (count_of x.a) (count_of y.a) (extent_in node.sizes 1) (extent_over (take k later) 1) (extent_over (drop k later) 1) (extent_over later 1)
-    (over_split later k 1) (extent_in_some node 1 goods.0) (over_some (take k later) 1 front)).0 same.a in
+    (over_split later k 1) (extent_in_some node 1 goods.0) (extent_over_some (take k later) 1 front)).0 same.a in
     let b = (axis_step (count_of x.b) (count_of y.b) (extent_in node.sizes 2) (extent_over (take k later) 2) (extent_over (drop k later) 2) (extent_over later 2)
-    (over_split later k 2) (extent_in_some node 2 goods.0) (over_some (take k later) 2 front)).0 same.b in
+    (over_split later k 2) (extent_in_some node 2 goods.0) (extent_over_some (take k later) 2 front)).0 same.b in
     let c = (axis_step (count_of x.c) (count_of y.c) (extent_in node.sizes 3) (extent_over (take k later) 3) (extent_over (drop k later) 3) (extent_over later 3)
-    (over_split later k 3) (extent_in_some node 3 goods.0) (over_some (take k later) 3 front)).0 same.c in
+    (over_split later k 3) (extent_in_some node 3 goods.0) (extent_over_some (take k later) 3 front)).0 same.c in
     ap (λ first. first ∷ take k (offsets later x)) (offset_from_same_node node later x y (record { a = a.0; b = b.0; c = c.0 }))
     ∙ ap (λ rest. offset_at node later y ∷ rest) (path_from_parts later k x y goods.1 (record { a = a.1; b = b.1; c = c.1 }))
 
 -- a part inside is below the extents over the first nodes, once divided by those over the others
 in_front : (nodes : List NodeShape) (k axis n : ℕ) → list_all has_good_extents nodes ≡ true → n < extent_over nodes axis → n / extent_over (drop k nodes) axis % extent_over (take k nodes) axis ≡ n / extent_over (drop k nodes) axis
 in_front nodes k axis n good below =
-    let some = over_some (drop k nodes) axis (good_below nodes k good) in
+    let some = extent_over_some (drop k nodes) axis (good_below nodes k good) in
     mod-eq_of_lt (div_below n (extent_over (drop k nodes) axis) (extent_over (take k nodes) axis) some (omega (arith, over_split nodes k axis)))
 
 pub cut_over : (shape : Shape) (k : ℕ) → IsAccepted shape → IsCut (bounds_of_shape shape) (bounds_over shape.axes (drop k shape.nodes))
@@ -142,9 +142,9 @@ cut_over shape k accepted =
     let below = good_below shape.nodes k (good_extents shape accepted) in
     record {
       same_axes = refl;
-      a_some = over_some (drop k shape.nodes) 1 below;
-      b_some = over_some (drop k shape.nodes) 2 below;
-      c_some = over_some (drop k shape.nodes) 3 below;
+      a_some = extent_over_some (drop k shape.nodes) 1 below;
+      b_some = extent_over_some (drop k shape.nodes) 2 below;
+      c_some = extent_over_some (drop k shape.nodes) 3 below;
       a_cut = over_cut shape.nodes k 1 below;
       b_cut = over_cut shape.nodes k 2 below;
       c_cut = over_cut shape.nodes k 3 below;
@@ -167,22 +167,22 @@ paths_tell shape k x y point_of_row accepted x_in y_in = same_tests _ _ there ba
     front axis n below = in_front shape.nodes k axis n good below
 
     xa : count_of x.a < extent_over shape.nodes 1
-    xa = offset_below x.a (extent_over shape.nodes 1) x_in.a_low x_in.a_high
+    xa = count_below x.a (extent_over shape.nodes 1) x_in.a_low x_in.a_high
 
     xb : count_of x.b < extent_over shape.nodes 2
-    xb = offset_below x.b (extent_over shape.nodes 2) x_in.b_low x_in.b_high
+    xb = count_below x.b (extent_over shape.nodes 2) x_in.b_low x_in.b_high
 
     xc : count_of x.c < extent_over shape.nodes 3
-    xc = offset_below x.c (extent_over shape.nodes 3) x_in.c_low x_in.c_high
+    xc = count_below x.c (extent_over shape.nodes 3) x_in.c_low x_in.c_high
 
     ya : count_of y.a < extent_over shape.nodes 1
-    ya = offset_below y.a (extent_over shape.nodes 1) y_in.a_low y_in.a_high
+    ya = count_below y.a (extent_over shape.nodes 1) y_in.a_low y_in.a_high
 
     yb : count_of y.b < extent_over shape.nodes 2
-    yb = offset_below y.b (extent_over shape.nodes 2) y_in.b_low y_in.b_high
+    yb = count_below y.b (extent_over shape.nodes 2) y_in.b_low y_in.b_high
 
     yc : count_of y.c < extent_over shape.nodes 3
-    yc = offset_below y.c (extent_over shape.nodes 3) y_in.c_low y_in.c_high
+    yc = count_below y.c (extent_over shape.nodes 3) y_in.c_low y_in.c_high
 
     there : bytes_eq (path shape x k) (path shape y k) ≡ true → eqb (block_of (bounds_of_shape shape) (bounds_over shape.axes (drop k shape.nodes)) x) (block_of (bounds_of_shape shape) (bounds_over shape.axes (drop k shape.nodes)) y) ≡ true
     there same =
@@ -210,7 +210,11 @@ whole_test shape i w at point_of_row row_below accepted w_in at_in =
     let below : ltb (place_of block at) (volume block) ≡ true =
     lt-ltb _ _ (row_below block (within block at) (within_inside (bounds_of_shape shape) block at (cut_over shape (suc i) accepted) at_in)) in
     paths_tell shape (suc i) w at point_of_row accepted w_in at_in
-    ∙ sym (ap (λ (inside : Bool). eqb (block_of (bounds_of_shape shape) block w) (block_of (bounds_of_shape shape) block at) && inside) below ∙ and-true _)
+    ∙ sym (ap (λ (inside : Bool). eqb (block_of (bounds_of_shape shape) block w) (block_of (bounds_of_shape shape) block at) && inside) below ∙ and_true _)
+  where
+    and_true : (a : Bool) → (a && true) ≡ a
+    and_true true = refl
+    and_true false = refl
 
 -- a dynamic node, which is the last: the offsets at it are places in a block of its parent
 pub place_is_offset : (axes : ℕ) (node : NodeShape) (at : Coord) → offset_at node [] at ≡ place_of (bounds_over axes (node ∷ [])) at
@@ -225,6 +229,10 @@ place_is_offset axes node at =
     ∙ ap (λ k. (count_of at.a % (e 1 * 1) * (e 2 * 1) + count_of at.b % (e 2 * 1)) * k + count_of at.c / 1 % e 3) (sym (mul-one (e 3)))
     ∙ ap (λ k. (count_of at.a % (e 1 * 1) * (e 2 * 1) + count_of at.b % (e 2 * 1)) * (e 3 * 1) + k) c
 
+and_assoc : (a b c : Bool) → (a && (b && c)) ≡ ((a && b) && c)
+and_assoc true b c = refl
+and_assoc false b c = refl
+
 below_test : (nodes : List NodeShape) (i : ℕ) (node : NodeShape) (w at : Coord) → drop i nodes ≡ node ∷ [] → is_at_or_below (take (suc i) (offsets nodes w)) (take (suc i) (offsets nodes at)) ≡ (bytes_eq (take i (offsets nodes w)) (take i (offsets nodes at)) && leb (offset_at node [] at) (offset_at node [] w))
 below_test [] zero node w at split = cc
 below_test [] (suc i) node w at split = cc
@@ -237,7 +245,7 @@ below_test (first ∷ []) (suc i) node w at split = absurd (no_node i split)
     no_node (suc j) none = cc
 below_test (first ∷ second ∷ later) (suc i) node w at split =
     ap (λ (rest : Bool). eqb (offset_at first (second ∷ later) w) (offset_at first (second ∷ later) at) && rest) (below_test (second ∷ later) i node w at split)
-    ∙ sym (and_assoc (eqb (offset_at first (second ∷ later) w) (offset_at first (second ∷ later) at)) _ _)
+    ∙ and_assoc (eqb (offset_at first (second ∷ later) w) (offset_at first (second ∷ later) at)) _ _
 
 leb-ltb_suc : (a b : ℕ) → leb a b ≡ ltb a (suc b)
 leb-ltb_suc a b = same_tests (leb a b) (ltb a (suc b)) (λ le. lt-ltb a (suc b) (let h = leb-true a b le in omega arith)) (λ lt. le-leb a b (let h = ltb-true a (suc b) lt in omega arith))

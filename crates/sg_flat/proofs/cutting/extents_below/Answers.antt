@@ -26,7 +26,7 @@ turns shape nodes above i node accepted same enough turn is =
     let split = split_at shape.nodes i node inside here in
     record {
       split = split;
-      good = (good_at shape i node (drop (i + 1) shape.nodes) accepted split).1.extents;
+      good = (good_at shape i node (drop (i + 1) shape.nodes) accepted split).extents;
       below = good_below shape.nodes (i + 1) (good_extents shape accepted);
     }
 
