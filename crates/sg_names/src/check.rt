@@ -16,7 +16,7 @@ use sg_ast::{FieldDecl, Item, LayoutDecl, Name};
 use sg_words::Memory;
 use std::alloc::Global;
 
-// The fault of the item with this number: `Unknown`, then `Twice`, then `TooMany`. `commands` is how many commands stand before it.
+/// The fault of the item with this number: `Unknown`, then `Twice`, then `TooMany`. `commands` is how many commands stand before it.
 pub fn fault_of(
     alloc: Global,
     names: &Names,
@@ -39,7 +39,7 @@ pub fn fault_of(
     }
 }
 
-// How many commands an item has; at most the greatest u32.
+/// How many commands an item has; at most the greatest u32.
 pub fn commands_in(item: &Item) -> u32
     ensures { result ≡ min (commands_in item.now) (2 ^ 32 - 1) }
 {
@@ -49,7 +49,7 @@ pub fn commands_in(item: &Item) -> u32
     }
 }
 
-// Whether a name that the item declares is known or stands twice in it, or an axis stands twice in its list.
+/// Whether a name that the item declares is known or stands twice in it, or an axis stands twice in its list.
 fn declares_twice(alloc: Global, names: &Names, item: &Item) -> Result<bool, Memory>
     ensures { IfOk result (λ twice. twice ≡ declares_twice names.now item.now) }
 {
@@ -70,7 +70,7 @@ fn layout_twice(alloc: Global, names: &Names, decl: &LayoutDecl) -> Result<bool,
     Ok(has_repeat(alloc, decl.fields.as_slice())? || has_repeat(alloc, decl.axes.as_slice())?)
 }
 
-// Whether the layout's name or a field's is known, or the layout's name is that of a field.
+/// Whether the layout's name or a field's is known, or the layout's name is that of a field.
 fn names_twice(names: &Names, decl: &LayoutDecl) -> bool
     ensures { result ≡ (is_known names.now decl.now.name || (list_any (λ field. is_known names.now field.name) decl.now.fields
         || list_any (λ field. same_name decl.now.name field.name) decl.now.fields)) }

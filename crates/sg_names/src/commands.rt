@@ -9,7 +9,7 @@ ghost use Rattle.sg_names.specs.Names.{uses_unknown};
 use crate::names::Names;
 use sg_ast::Command;
 
-// Whether a command names nothing of the kind that it needs.
+/// Whether a command names nothing of the kind that it needs.
 #[cycle(needs)]
 pub fn needs_unknown(names: &Names, command: &Command) -> bool
     ensures { result ≡ uses_unknown names.now (item.Command command.now) }
@@ -38,7 +38,7 @@ fn any_needs_unknown(names: &Names, body: &[Command]) -> bool
     false
 }
 
-// How many commands a command is, those inside counted; at most the greatest u32.
+/// How many commands a command is, those inside counted; at most the greatest u32.
 #[cycle(counts)]
 pub fn command_count(command: &Command) -> u32
     ensures { result ≡ min (command_count command.now) (2 ^ 32 - 1) }

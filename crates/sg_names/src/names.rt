@@ -129,7 +129,7 @@ impl Names {
         }
     }
 
-    // Whether the name is declared, as whatever.
+    /// Whether the name is declared, as whatever.
     pub(crate) fn knows(&self, name: &Name) -> bool
         ensures { result ≡ is_known self.now name.now }
     {
@@ -139,7 +139,7 @@ impl Names {
             || self.kernel(name).is_some()
     }
 
-    // Whether the name is no constant that serves as a size: one of type `I32`.
+    /// Whether the name is no constant that serves as a size: one of type `I32`.
     pub(crate) fn lacks_size(&self, name: &Name) -> bool
         ensures { result ≡ is_no_size self.now name.now }
     {
@@ -149,28 +149,28 @@ impl Names {
         }
     }
 
-    // Whether the name is no layout.
+    /// Whether the name is no layout.
     pub(crate) fn lacks_layout(&self, name: &Name) -> bool
         ensures { result ≡ is_no_layout self.now name.now }
     {
         self.layout(name).is_none()
     }
 
-    // Whether the name is no field.
+    /// Whether the name is no field.
     pub(crate) fn lacks_field(&self, name: &Name) -> bool
         ensures { result ≡ is_no_field self.now name.now }
     {
         self.field(name).is_none()
     }
 
-    // Whether the name is no kernel.
+    /// Whether the name is no kernel.
     pub(crate) fn lacks_kernel(&self, name: &Name) -> bool
         ensures { result ≡ is_no_kernel self.now name.now }
     {
         self.kernel(name).is_none()
     }
 
-    // What there is too much of once the item is declared, where so many commands stand up to its end.
+    /// What there is too much of once the item is declared, where so many commands stand up to its end.
     pub(crate) fn too_many(&self, item: &Item, commands: u32) -> Option<Which>
         ensures { result ≡ too_many (declare self.now item.now) commands }
     {
@@ -187,7 +187,7 @@ impl Names {
         }
     }
 
-    // Puts what the item declares at the ends of the tables.
+    /// Puts what the item declares at the ends of the tables.
     fn declare(&mut self, alloc: Global, item: &Item) -> Result<(), Memory>
         requires once { declares_twice self.old item.now ≡ false }
         requires few { AreFew (declare self.old item.now) }
@@ -226,7 +226,7 @@ impl Names {
     }
 }
 
-// The first of the four numbers that passes its limit.
+/// The first of the four numbers that passes its limit.
 fn first_past(layouts: usize, fields: usize, kernels: usize, commands: u32) -> Option<Which>
     ensures { result ≡ first_past layouts fields kernels commands }
 {
@@ -243,7 +243,7 @@ fn first_past(layouts: usize, fields: usize, kernels: usize, commands: u32) -> O
     }
 }
 
-// What a constant stands for.
+/// What a constant stands for.
 fn constant_of(decl: &ConstDecl) -> Constant
     ensures { result ≡ constant_of decl.now }
 {
@@ -256,7 +256,7 @@ fn constant_of(decl: &ConstDecl) -> Constant
     Constant { word, ty }
 }
 
-// Puts the fields of the layout with this number at the end of the table.
+/// Puts the fields of the layout with this number at the end of the table.
 fn push_fields(
     fields: &mut Table<NamedField>,
     alloc: Global,

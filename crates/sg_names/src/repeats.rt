@@ -6,7 +6,7 @@ use indexmap::IndexSet;
 use sg_words::Memory;
 use std::alloc::Global;
 
-// Whether two of the things have the same name.
+/// Whether two of the things have the same name.
 pub fn has_repeat<T: Named>(alloc: Global, things: &[T]) -> Result<bool, Memory>
     ensures { IfOk result (λ repeat. repeat ≡ has_repeat (map T.name_of things.now)) }
 {

@@ -8,7 +8,7 @@ ghost use Rattle.sg_names.specs.Names.{is_no_size};
 use crate::names::Names;
 use sg_ast::{AxisDecl, NodeDecl, SizeDecl};
 
-// Whether a size names no constant of type `I32`.
+/// Whether a size names no constant of type `I32`.
 pub fn sizes_unknown(names: &Names, nodes: &[NodeDecl]) -> bool
     ensures { result ≡ list_any (λ node. list_any (is_no_size names.now) (node_sizes node)) nodes.now }
 {

@@ -11,7 +11,7 @@ use crate::names::Names;
 use crate::sizes::sizes_unknown;
 use sg_ast::{DomainDecl, Expr, Item, KernelDecl, RangeDecl, Stmt};
 
-// Whether one of the names is not in the tables.
+/// Whether one of the names is not in the tables.
 pub fn uses_unknown(names: &Names, item: &Item) -> bool
     ensures { result ≡ uses_unknown names.now item.now }
 {
