@@ -8,14 +8,13 @@ use Rattle.sg_layout.specs.declared.shape.Shape.{Shape}
 use Rattle.sg_ast.specs.declared.layout.FieldDecl.{FieldDecl}
 use Rattle.sg_ast.specs.declared.layout.LayoutDecl.{LayoutDecl}
 use Rattle.sg_ast.specs.declared.program.ConstDecl.{ConstDecl}
+use Rattle.sg_ast.specs.declared.program.Program.{Program}
 use Rattle.sg_names.specs.declared.tables.NamedConstant.{NamedConstant}
 use Rattle.sg_names.specs.declared.tables.NamedLayout.{NamedLayout}
 use Rattle.sg_names.specs.Tables.{Tables}
 use Rattle.sg_names.specs.Declares.{constant_of}
 use Rattle.sg_names.specs.Shapes.{shape_of}
-use Rattle.sg_names.specs.Laws.{const_decls, layout_decls}
-use Rattle.sg_names.proofs.LawLemmasDeclared.{constants_are_declared, layouts_are_declared, fields_are_placed}
-use Rattle.sg_names.proofs.LawLemmasLookup.{fields_are_found}
+use Rattle.sg_names.specs.Laws.{const_decls, layout_decls, ConstantsAreDeclared, LayoutsAreDeclared, FieldsArePlaced, FieldsAreFound}
 use Rattle.sg_types.specs.TypeTable.{is_numeric}
 use Rattle.sg_types.specs.Laws.{DeclaredLayoutsFit}
 
@@ -44,8 +43,10 @@ all_numeric [] = refl
 all_numeric (decl ∷ decls) =
     and_from (is_numeric (constant_of decl).ty) (list_all (λ (named : NamedConstant). is_numeric named.constant.ty) (map named_constant decls)) (declared_numeric decl) (all_numeric decls)
 
-pub declared_layouts_fit : DeclaredLayoutsFit
-declared_layouts_fit program tables is =
+-- by what the tables of a program are, and where a field is found
+pub declared_layouts_fit : ((program : Program) → ConstantsAreDeclared program) → ((program : Program) → LayoutsAreDeclared program)
+    → ((program : Program) → FieldsArePlaced program) → ((program : Program) → FieldsAreFound program) → DeclaredLayoutsFit
+declared_layouts_fit constants_are_declared layouts_are_declared fields_are_placed fields_are_found program tables is =
     let decls = layout_decls program.items in
     record {
       fields = λ name at found.

@@ -2,10 +2,16 @@
 
 ghost use Rattle.sg_types.specs.Laws.{DeclaredLayoutsFit, TypedIsWellTyped, StatementsAreNumbered, VariablesAreNumbered, EffectsAreWritten, NamesComeBack};
 
+use sg_names::laws::{look_ups_invert, tables_declared};
+
 /// The layouts that a program declares fit its tables: they have the fields with their types, and as many axes.
 pub fn declared_layouts_fit()
     ensures { DeclaredLayoutsFit }
-{}
+{
+    // for the laws that they ensure
+    tables_declared();
+    look_ups_invert();
+}
 
 /// Over layouts that fit the tables, the kernels of a typed program are well typed: each expression has the type that the table
 /// of types gives it, and stands where its variables are in scope.
