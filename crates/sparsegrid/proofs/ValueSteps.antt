@@ -93,9 +93,6 @@ module _ {X : Type 0} (value : X → ℕ) where
   pub part_at : (xs : List X) (place : ℕ) (x : X) → place < length xs → x ≡ get_or xs place x → value x ≡ get_or (map value xs) place 0
   part_at xs place x below at = ap value at ∙ sym (get_or-map value xs place x 0 below)
 
-  pub part_get : (xs : List X) (place : ℕ) (x : X) → place < length xs → value (get_or xs place x) ≡ get_or (map value xs) place 0
-  part_get xs place x below = sym (get_or-map value xs place x 0 below)
-
   pub part_past : (xs : List X) (place : ℕ) → length xs ≤ place → 0 ≡ get_or (map value xs) place 0
   part_past xs place past = sym (get_or_past (map value xs) place 0 (omega (arith, count_map xs)))
 

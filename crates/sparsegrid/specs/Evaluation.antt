@@ -9,6 +9,10 @@ use Rattle.sg_layout.specs.declared.shape.Shape.{Shape}
 use Rattle.sg_flat.specs.declared.effects.Write.{Write}
 use Rattle.sg_flat.specs.declared.state.FlatState.{FlatState}
 use Rattle.sparsegrid.specs.declared.points.Side.{Side}
+use Rattle.sparsegrid.specs.declared.iteration.End.{End}
+use Rattle.sparsegrid.specs.declared.iteration.End.TheVariants.{Lower, Upper}
+use Rattle.sg_types.specs.declared.typed.TypedExpr.{TypedExpr}
+use Rattle.sg_types.specs.declared.typed.TypedRange.{TypedRange}
 use Rattle.sg_types.specs.Values.{World, Moment}
 use Rattle.sg_flat.specs.declared.effects.Turn.{Turn}
 use Rattle.sg_types.specs.declared.typed.TypedKernel.{TypedKernel}
@@ -22,6 +26,11 @@ world_of shapes state = record { shapes = shapes; state = state }
 pub record StandsFor (words : List ℕ) (writes : List Write) (now : Moment) : Type 0 where
   pub words_are : (var : ℕ) → get_or words var 0 ≡ now.words var
   pub writes_are : writes ≡ now.writes
+
+-- the bound of a range at one of its ends
+abbrev pub bound_at : End → TypedRange → TypedExpr
+bound_at Lower range = range.lo
+bound_at Upper range = range.hi
 
 -- the coordinate of these words, each read as I32
 abbrev pub coord_from : ℕ → ℕ → ℕ → ℕ → Coord

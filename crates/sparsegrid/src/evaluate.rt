@@ -2,14 +2,14 @@ ghost use Rattle.std.specs.Prelude.{◌≡◌, IfOk};
 ghost use Rattle.sg_types.specs.Iterations.{part_words, writes_at, domain_of, kernel_effects};
 ghost use Rattle.sparsegrid.specs.Evaluation.{world_of};
 
-use crate::iteration::{Progress, Seen, word_of};
+use crate::iteration::{End, Progress, Seen};
 use crate::points::domain_points;
 use crate::written::Written;
 use sg_coord::Coord;
 use sg_flat::{Domain, Effects, FlatState, Turn, Write};
 use sg_layout::Layouts;
 use sg_types::{TypedDomain, TypedKernel};
-use sg_words::{Items, Memory};
+use sg_words::{Items, Memory, word_of};
 use std::alloc::Global;
 
 /// The effects of a kernel's iterations, all taken at the given state.
@@ -78,8 +78,8 @@ fn domain_of(alloc: Global, seen: Seen<'_>, domain: &TypedDomain) -> Result<Doma
                 words: Vec::new(alloc),
                 writes: Written::new(alloc),
             };
-            let lo = seen.lower_corner(&before, ranges.as_slice())?;
-            let hi = seen.upper_corner(&before, ranges.as_slice())?;
+            let lo = seen.corner(&before, ranges.as_slice(), End::Lower)?;
+            let hi = seen.corner(&before, ranges.as_slice(), End::Upper)?;
             Ok(Domain::Range { lo, hi })
         }
     }

@@ -3,7 +3,7 @@ ghost use Rattle.sg_words.specs.declared.operators.Ty.TheVariants as ty;
 ghost use Rattle.sg_words.specs.Words.{number, word_of};
 ghost use Rattle.sg_types.specs.Values.{Moment, coord_of, read_value, value_of};
 ghost use Rattle.sg_types.specs.Iterations.{action_of, run_all, set_var, before_all};
-ghost use Rattle.sparsegrid.specs.Evaluation.{world_of, StandsFor, coord_from, run_turns};
+ghost use Rattle.sparsegrid.specs.Evaluation.{world_of, StandsFor, bound_at, coord_from, run_turns};
 ghost use Rattle.sg_flat.specs.Domain.{numbers};
 
 use crate::built::count_between;
@@ -12,7 +12,14 @@ use sg_coord::Coord;
 use sg_flat::{FlatState, Write};
 use sg_layout::Layouts;
 use sg_types::{Form, TypedExpr, TypedKind, TypedRange, TypedStmt};
-use sg_words::{Memory, Ty, apply, apply_un, mulq, number};
+use sg_words::{Memory, Ty, apply, apply_un, mulq, number, word_of};
+
+/// An end of a range.
+#[derive(Clone, Copy)]
+pub enum End {
+    Lower,
+    Upper,
+}
 
 /// What all iterations of a kernel run see: the layouts, and the state at the start.
 #[derive(Clone, Copy)]
@@ -126,49 +133,31 @@ impl<'a> Seen<'a> {
         }
     }
 
-    /// The lower corner of the box of some ranges.
-    pub fn lower_corner(&self, at: &Progress, ranges: &[TypedRange]) -> Result<Coord, Memory>
+    /// The corner of the box of some ranges at one of their ends.
+    pub fn corner(&self, at: &Progress, ranges: &[TypedRange], end: End) -> Result<Coord, Memory>
         ensures { IfOk result (λ coord. (now : Moment) → StandsFor at.now.words.items at.now.writes now →
-            coord ≡ coord_of (map (λ range. value_of (world_of self.now.layouts.now.list self.now.state.now) now range.lo) ranges.now)) }
+            coord ≡ coord_of (map (λ range. value_of (world_of self.now.layouts.now.list self.now.state.now) now (bound_at end range)) ranges.now)) }
     {
         let n = part_count(ranges.len())?;
-        let a = self.lower_bound(at, ranges, 0)?;
-        let b = self.lower_bound(at, ranges, 1)?;
-        let c = self.lower_bound(at, ranges, 2)?;
+        let a = self.bound(at, ranges, end, 0)?;
+        let b = self.bound(at, ranges, end, 1)?;
+        let c = self.bound(at, ranges, end, 2)?;
         Ok(coord_from(n, a, b, c))
     }
 
-    /// The word of the lower bound of the range at a place, and 0 past the last.
-    fn lower_bound(&self, at: &Progress, ranges: &[TypedRange], place: usize) -> Result<u32, Memory>
+    /// The word of the bound of the range at a place, and 0 past the last.
+    fn bound(
+        &self,
+        at: &Progress,
+        ranges: &[TypedRange],
+        end: End,
+        place: usize,
+    ) -> Result<u32, Memory>
         ensures { IfOk result (λ word. (now : Moment) → StandsFor at.now.words.items at.now.writes now →
-            word ≡ get_or (map (λ range. value_of (world_of self.now.layouts.now.list self.now.state.now) now range.lo) ranges.now) place 0) }
+            word ≡ get_or (map (λ range. value_of (world_of self.now.layouts.now.list self.now.state.now) now (bound_at end range)) ranges.now) place 0) }
     {
         if place < ranges.len() {
-            self.value(at, &ranges[place].lo)
-        } else {
-            Ok(0)
-        }
-    }
-
-    /// The upper corner of the box of some ranges.
-    pub fn upper_corner(&self, at: &Progress, ranges: &[TypedRange]) -> Result<Coord, Memory>
-        ensures { IfOk result (λ coord. (now : Moment) → StandsFor at.now.words.items at.now.writes now →
-            coord ≡ coord_of (map (λ range. value_of (world_of self.now.layouts.now.list self.now.state.now) now range.hi) ranges.now)) }
-    {
-        let n = part_count(ranges.len())?;
-        let a = self.upper_bound(at, ranges, 0)?;
-        let b = self.upper_bound(at, ranges, 1)?;
-        let c = self.upper_bound(at, ranges, 2)?;
-        Ok(coord_from(n, a, b, c))
-    }
-
-    /// The word of the upper bound of the range at a place, and 0 past the last.
-    fn upper_bound(&self, at: &Progress, ranges: &[TypedRange], place: usize) -> Result<u32, Memory>
-        ensures { IfOk result (λ word. (now : Moment) → StandsFor at.now.words.items at.now.writes now →
-            word ≡ get_or (map (λ range. value_of (world_of self.now.layouts.now.list self.now.state.now) now range.hi) ranges.now) place 0) }
-    {
-        if place < ranges.len() {
-            self.value(at, &ranges[place].hi)
+            self.value(at, bound_at(&ranges[place], end))
         } else {
             Ok(0)
         }
@@ -267,6 +256,16 @@ impl<'a> Seen<'a> {
     }
 }
 
+/// The bound of a range at one of its ends.
+fn bound_at(range: &TypedRange, end: End) -> &TypedExpr
+    ensures { result.now ≡ bound_at end range.now }
+{
+    match end {
+        End::Lower => &range.lo,
+        End::Upper => &range.hi,
+    }
+}
+
 /// How many parts a coordinate has. There are never 2^32, which no memory has room for.
 fn part_count(parts: usize) -> Result<u32, Memory>
     ensures { IfOk result (λ n. n ≡ parts) }
@@ -287,13 +286,6 @@ fn coord_from(n: u32, a: u32, b: u32, c: u32) -> Coord
         b: b.cast_signed(),
         c: c.cast_signed(),
     }
-}
-
-/// The word of a number, modulo 2^32.
-pub fn word_of(number: i64) -> u32
-    ensures { result ≡ word_of number }
-{
-    number.rem_euclid(0x1_0000_0000) as u32
 }
 
 /// The word of the number that is `k` past a word read as `I32`.
