@@ -1,5 +1,6 @@
 -- Statements: the one token list of each, and how deep their blocks nest.
 use Rattle.std.specs.Prelude.{ℕ, ◌+◌, max, List, [], ◌∷◌, ◌++◌, map, Option, Some, None}
+use Rattle.std.specs.List.{flat_map}
 use Rattle.sg_words.specs.declared.operators.AccOp.TheVariants as acc
 use Rattle.sg_ast.specs.declared.token.Word.TheVariants as w
 use Rattle.sg_ast.specs.declared.token.Sign.TheVariants as s
@@ -13,10 +14,9 @@ use Rattle.sg_ast.specs.declared.stmt.Stmt.TheOpen as f
 use Rattle.sg_ast.specs.declared.stmt.Stmt.TheOpen.{Stmt-F}
 use Rattle.sg_ast.specs.Expr.{tokens_of, access_tokens, largest}
 
--- lists of tokens, one after the other
-abbrev pub joined : List (List Token) → List Token
-joined [] = []
-joined (x ∷ xs) = x ++ joined xs
+-- lists, one after the other
+abbrev pub joined : {A : Type 0} → List (List A) → List A
+joined lists = flat_map (λ list. list) lists
 
 -- a block, where the tokens of each statement are given
 abbrev pub braced : List (List Token) → List Token

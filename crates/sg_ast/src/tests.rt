@@ -63,3 +63,14 @@ fn builds_a_tree(rt: HostRuntime) -> Result<(), Fail> {
     assert_eq!(rt; text.as_str(), wanted.as_str());
     Ok(())
 }
+
+#[test]
+fn copies_a_name(rt: HostRuntime) -> Result<(), Fail> {
+    let alloc = rt.alloc();
+    let name = Name {
+        text: Items::from_slice(alloc, b"heat")?,
+    };
+    let copy = name.copy(alloc)?;
+    assert_eq!(rt; copy.text.as_slice(), b"heat".as_slice());
+    Ok(())
+}

@@ -1,9 +1,23 @@
-use sg_words::Items;
+ghost use Rattle.std.specs.Prelude.{◌≡◌, IfOk};
+
+use sg_words::{Items, Memory};
+use std::alloc::Global;
 
 /// A name: ASCII letters, digits and `_`, not beginning with a digit, at most 32 bytes, and no reserved word.
 #[derive(Debug, Drop)]
 pub struct Name {
     pub text: Items<u8>,
+}
+
+impl Name {
+    /// A name of its own with the same bytes. Fails where memory runs out.
+    pub fn copy(&self, alloc: Global) -> Result<Name, Memory>
+        ensures { IfOk result (λ copy. copy ≡ self.now) }
+    {
+        Ok(Name {
+            text: Items::from_slice(alloc, self.text.as_slice())?,
+        })
+    }
 }
 
 /// A reserved word.

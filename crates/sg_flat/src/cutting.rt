@@ -8,7 +8,7 @@ ghost use Rattle.sg_flat.specs.Blocks.{bounds_over, nodes_above, is_whole, corne
 
 use crate::blocks::Blocks;
 use sg_coord::{Coord, Extents, coord_at, row};
-use sg_layout::{Kind, Layout, NodeShape, Size};
+use sg_layout::{Kind, Layout, NodeShape, extent_in};
 
 impl Blocks {
     /// The blocks of the node with this index, from 0, which is of this kind.
@@ -154,18 +154,4 @@ fn extents_without(extents: Extents, node: &NodeShape) -> Extents
         b: extents.b / extent_in(sizes, 2),
         c: extents.c / extent_in(sizes, 3),
     }
-}
-
-/// The extent that a node's sizes give an axis: 1 where they do not name it.
-fn extent_in(sizes: &[Size], axis: u32) -> u32
-    requires { IsTrue (list_all (λ size. is_extent size.extent) sizes.now) }
-    ensures value { result ≡ extent_in sizes.now axis }
-    ensures some { 1 ≤ result }
-{
-    for size in sizes {
-        if size.axis == axis {
-            return size.extent as u32;
-        }
-    }
-    1
 }

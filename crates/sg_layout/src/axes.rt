@@ -50,8 +50,8 @@ fn extent_over(nodes: &[NodeShape], axis: u32) -> Option<u32>
     Some(extent)
 }
 
-/// The extent that sizes give an axis: 1 where they do not name it.
-fn extent_in(sizes: &[Size], axis: u32) -> u32
+/// The extent that a node's sizes give an axis, from 1: 1 where they do not name it.
+pub fn extent_in(sizes: &[Size], axis: u32) -> u32
     requires { IsTrue (list_all (λ size. is_extent size.extent) sizes.now) }
     ensures value { result ≡ extent_in sizes.now axis }
     ensures some { 1 ≤ result }

@@ -8,6 +8,7 @@ mod rules;
 pub mod shape;
 pub mod words;
 
+pub use axes::extent_in;
 pub use laws::{
     closure_closes, closure_members, dense_is_full, last_sparse_decides, need_absorbs,
     need_counts_live, need_grows, paths_tell, points_in_order, rules_decide, slots_numbered,

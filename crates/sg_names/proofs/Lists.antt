@@ -4,7 +4,7 @@ use Rattle.std.proofs.Common.{sym, ap, ◌∙◌}
 use Rattle.std.specs.List.{list_any, flat_map}
 use Rattle.std.proofs.lemmas.List.Folds.{list_any-append}
 use Rattle.sg_ast.specs.declared.token.Name.{Name}
-use Rattle.sg_names.specs.Uses.{joined}
+use Rattle.sg_ast.specs.Stmt.{joined}
 
 -- an element of a list of lists passes where one of a list in it does
 pub list_any-joined : {X : Type 0} (test : Name → Bool) (f : X → List Name) (xs : List X) → list_any test (joined (map f xs)) ≡ list_any (λ x. list_any test (f x)) xs

@@ -21,7 +21,8 @@ use Rattle.sg_ast.specs.declared.command.Command.{Command, fold-roll-Command}
 use Rattle.sg_ast.specs.declared.command.Command.TheVariants as c
 use Rattle.sg_ast.specs.declared.command.Command.TheVariants.{rolls-Times}
 use Rattle.sg_ast.specs.declared.command.Command.TheOpen as h
-use Rattle.sg_names.specs.Uses.{joined, reads_of, reads_step, range_reads, else_fields, stmt_fields, fields_step, command_layouts, command_layouts_step, command_fields, command_fields_step, command_kernels, command_kernels_step, size_names, optional_size_names, node_sizes, domain_layouts, domain_fields}
+use Rattle.sg_ast.specs.Stmt.{joined}
+use Rattle.sg_names.specs.Uses.{reads_of, reads_step, range_reads, else_fields, stmt_fields, fields_step, command_layouts, command_layouts_step, command_fields, command_fields_step, command_kernels, command_kernels_step, size_names, optional_size_names, node_sizes, domain_layouts, domain_fields}
 use Rattle.sg_ast.specs.declared.layout.NodeDecl.{NodeDecl}
 use Rattle.sg_ast.specs.declared.layout.LayoutDecl.{LayoutDecl}
 use Rattle.sg_ast.specs.declared.kernel.DomainDecl.{DomainDecl}

@@ -12,6 +12,7 @@ use Rattle.sg_ast.specs.declared.stmt.Stmt.TheOpen.{Stmt-F}
 use Rattle.sg_ast.specs.declared.layout.SizeDecl.{SizeDecl}
 use Rattle.sg_ast.specs.declared.layout.SizeDecl.TheVariants as size
 use Rattle.sg_ast.specs.declared.layout.NodeDecl.{NodeDecl}
+use Rattle.sg_ast.specs.Stmt.{joined}
 use Rattle.sg_ast.specs.declared.kernel.DomainDecl.{DomainDecl}
 use Rattle.sg_ast.specs.declared.kernel.DomainDecl.TheVariants as domain
 use Rattle.sg_ast.specs.declared.command.Command.{Command, fold-Command}
@@ -19,11 +20,6 @@ use Rattle.sg_ast.specs.declared.command.Command.TheOpen as c
 use Rattle.sg_ast.specs.declared.command.Command.TheOpen.{Command-F}
 use Rattle.sg_ast.specs.declared.program.Item.{Item}
 use Rattle.sg_ast.specs.declared.program.Item.TheVariants as item
-
--- lists of names, one after the other
-abbrev pub joined : List (List Name) → List Name
-joined [] = []
-joined (names ∷ more) = names ++ joined more
 
 -- one layer of an expression, where the fields that its parts read are given
 abbrev pub reads_step : Expr-F (List Name) → List Name

@@ -196,7 +196,7 @@ impl Names {
         match item {
             Item::Const(decl) => self.declare_constant(alloc, decl),
             Item::Layout(decl) => self.declare_layout(alloc, decl),
-            Item::Kernel(decl) => self.kernels.push(alloc, copy(alloc, &decl.name)?),
+            Item::Kernel(decl) => self.kernels.push(alloc, decl.name.copy(alloc)?),
             Item::Command(_) => Ok(()),
         }
     }
@@ -206,7 +206,7 @@ impl Names {
         requires few { AreFew (declare self.old (item.Const decl.now)) }
         ensures { OnOk result (self.new ≡ declare self.old (item.Const decl.now)) }
     {
-        let name = copy(alloc, &decl.name)?;
+        let name = decl.name.copy(alloc)?;
         let constant = constant_of(decl);
         self.constants.push(alloc, NamedConstant { name, constant })
     }
@@ -220,7 +220,7 @@ impl Names {
         let Ok(axes) = u32::try_from(decl.axes.len()) else {
             return Err(Memory);
         };
-        let name = copy(alloc, &decl.name)?;
+        let name = decl.name.copy(alloc)?;
         self.layouts.push(alloc, NamedLayout { name, axes })?;
         push_fields(&mut self.fields, alloc, layout, decl.fields.as_slice())
     }
@@ -275,16 +275,8 @@ fn push_fields(
             place: place as u32,
             ty: decl.ty,
         };
-        let name = copy(alloc, &decl.name)?;
+        let name = decl.name.copy(alloc)?;
         fields.push(alloc, NamedField { name, at })?;
     }
     Ok(())
-}
-
-fn copy(alloc: Global, name: &Name) -> Result<Name, Memory>
-    ensures { IfOk result (λ copy. copy ≡ name.now) }
-{
-    Ok(Name {
-        text: Items::from_slice(alloc, name.text.as_slice())?,
-    })
 }

@@ -166,7 +166,7 @@ fn named<'a>(
     if !names::is_name(name) {
         return Err(Stop::Refused(Unread));
     }
-    let own = names::copy_name(alloc, name)?;
+    let own = name.copy(alloc)?;
     let Some(behind) = after_sign(tokens, Sign::OpenBracket) else {
         return Ok(Reading {
             tree: Expr::Name(own),

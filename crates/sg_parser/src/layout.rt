@@ -27,10 +27,7 @@ fn next_size(alloc: Global, tokens: &[Spanned]) -> Result<(SizeDecl, &[Spanned])
             SizeDecl::Number(*value),
             rest,
         )),
-        Token::Name(name) if names::is_name(name) => Ok((
-            SizeDecl::Name(names::copy_name(alloc, name)?),
-            rest,
-        )),
+        Token::Name(name) if names::is_name(name) => Ok((SizeDecl::Name(name.copy(alloc)?), rest)),
         _ => Err(Stop::Refused(Unread)),
     }
 }

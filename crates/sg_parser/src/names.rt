@@ -1,13 +1,11 @@
 //! Names, and which bytes make one.
 
-ghost use Rattle.std.specs.Prelude.{◌≡◌, ◌||◌, IfOk, bytes_eq};
+ghost use Rattle.std.specs.Prelude.{◌≡◌, ◌||◌, bytes_eq};
 ghost use Rattle.std.specs.Char.{is_ascii_digit};
 ghost use Rattle.std.specs.List.{list_all, list_any};
 ghost use Rattle.sg_ast.specs.Token as spec;
 
 use sg_ast::Name;
-use sg_words::Items;
-use std::alloc::{AllocError, Global};
 
 /// The reserved words, none of which is a name.
 const RESERVED: [&[u8]; 33] = [
@@ -91,13 +89,4 @@ pub fn is_name(name: &Name) -> bool
 {
     let text = name.text.as_slice();
     is_name_form(text) && text.len() <= LONGEST && !is_reserved(text)
-}
-
-/// A name of its own with the same bytes. Fails where memory runs out.
-pub fn copy_name(alloc: Global, name: &Name) -> Result<Name, AllocError>
-    ensures { IfOk result (λ copy. copy ≡ name.now) }
-{
-    Ok(Name {
-        text: Items::from_slice(alloc, name.text.as_slice())?,
-    })
 }

@@ -140,7 +140,7 @@ fn placed<'a>(
     if !names::is_name(name) {
         return Err(Stop::Refused(Unread));
     }
-    let own = names::copy_name(alloc, name)?;
+    let own = name.copy(alloc)?;
     let Some(behind) = after_sign(tokens, Sign::OpenBracket) else {
         let (value, rest) = assigned(alloc, tokens)?;
         return Ok((Stmt::Assign { name: own, value }, rest));

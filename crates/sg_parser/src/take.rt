@@ -49,7 +49,7 @@ pub fn next_name(alloc: Global, tokens: &[Spanned]) -> Result<(Name, &[Spanned])
         return Err(Stop::Refused(Unread));
     };
     match &first.token {
-        Token::Name(name) if names::is_name(name) => Ok((names::copy_name(alloc, name)?, rest)),
+        Token::Name(name) if names::is_name(name) => Ok((name.copy(alloc)?, rest)),
         _ => Err(Stop::Refused(Unread)),
     }
 }

@@ -22,7 +22,8 @@ use Rattle.sg_types.specs.declared.typed.TypedKind.TheOpen.{TypedKind-F, TypedSt
 use Rattle.sg_types.specs.declared.typed.TypedStmt.{TypedStmt, fold-TypedStmt}
 use Rattle.sg_types.specs.Values.{World, Moment, coord_of, value_of}
 use Rattle.sg_types.specs.Iterations.{Action, set_var, run_all, range_numbers, action_of, first_moment}
-use Rattle.sg_types.specs.Written.{TextWrite, gathered, text_step, text_writes, kernel_writes, same_acc, same_way, is_of, is_written}
+use Rattle.sg_ast.specs.Stmt.{joined}
+use Rattle.sg_types.specs.Written.{TextWrite, text_step, text_writes, kernel_writes, same_acc, same_way, is_of, is_written}
 use Rattle.sg_types.specs.Laws.{EffectsAreWritten}
 use Rattle.sg_types.proofs.FoldWords.{fold-stmt}
 use Rattle.sg_types.proofs.FormWords.{action-Let, action-Assign, action-Write, action-If, action-For}
@@ -88,11 +89,11 @@ module _ (number : ℕ) where
       ∙ ap (λ (it : ℕ → List TextWrite). it number) (fold-roll-TypedKind (ℕ → List TextWrite) (List TextWrite) text_step shown_text (k.Write layout place index way value)))
 
   text-If : (condition : TypedExpr) (block otherwise : List TypedStmt) (has_else : Bool) → text_writes (record { number = number; kind = kind.If condition block otherwise has_else })
-      ≡ gathered (map text_writes block) ++ gathered (map text_writes otherwise)
+      ≡ joined (map text_writes block) ++ joined (map text_writes otherwise)
   text-If condition block otherwise has_else = text_of_kind (kind.If condition block otherwise has_else) ∙ (ap text_of (sym (rolls-If condition block otherwise has_else))
       ∙ ap (λ (it : ℕ → List TextWrite). it number) (fold-roll-TypedKind (ℕ → List TextWrite) (List TextWrite) text_step shown_text (k.If condition block otherwise has_else)))
 
-  text-For : (var : ℕ) (range : TypedRange) (body : List TypedStmt) → text_writes (record { number = number; kind = kind.For var range body }) ≡ gathered (map text_writes body)
+  text-For : (var : ℕ) (range : TypedRange) (body : List TypedStmt) → text_writes (record { number = number; kind = kind.For var range body }) ≡ joined (map text_writes body)
   text-For var range body = text_of_kind (kind.For var range body) ∙ (ap text_of (sym (rolls-For var range body))
       ∙ ap (λ (it : ℕ → List TextWrite). it number) (fold-roll-TypedKind (ℕ → List TextWrite) (List TextWrite) text_step shown_text (k.For var range body)))
 
@@ -155,11 +156,11 @@ module _ (world : World) (texts : List TextWrite) where
   abbrev KeepsWithin : TypedStmt → Type 0
   KeepsWithin stmt = Among (text_writes stmt) texts → Keeps (action_of world stmt)
 
-  keeps_block : (block : List TypedStmt) → AllByRecursion KeepsWithin block → Among (gathered (map text_writes block)) texts → AllByRecursion Keeps (map (action_of world) block)
+  keeps_block : (block : List TypedStmt) → AllByRecursion KeepsWithin block → Among (joined (map text_writes block)) texts → AllByRecursion Keeps (map (action_of world) block)
   keeps_block [] all among = tt
   keeps_block (stmt ∷ block) all among = (
-    all.0 (among_front (text_writes stmt) (gathered (map text_writes block)) texts among),
-    keeps_block block all.1 (among_back (text_writes stmt) (gathered (map text_writes block)) texts among),
+    all.0 (among_front (text_writes stmt) (joined (map text_writes block)) texts among),
+    keeps_block block all.1 (among_back (text_writes stmt) (joined (map text_writes block)) texts among),
   )
 
   keeps_write : (number layout place : ℕ) (index : List TypedExpr) (way : Way) (value : TypedExpr) → KeepsWithin (record { number = number; kind = kind.Write layout place index way value })
@@ -188,16 +189,16 @@ module _ (world : World) (texts : List TextWrite) where
         (λ var value h among now stands. ap (λ (m : Moment). list_all (is_written texts) m.writes) (action-Assign world number var value now) ∙ stands)
         (λ layout place index way value h. keeps_write number layout place index way value)
         (λ condition block otherwise has_else h among now stands.
-        let within : Among (gathered (map text_writes block) ++ gathered (map text_writes otherwise)) texts =
+        let within : Among (joined (map text_writes block) ++ joined (map text_writes otherwise)) texts =
         λ write w. among write (ap (λ (xs : List TextWrite). is_written xs write) (text-If number condition block otherwise has_else) ∙ w) in
         let b = keeps_block block (parts block (omega (arith, depth-If condition block otherwise has_else, le-max_left (largest (map stmt_depth block)) (largest (map stmt_depth otherwise)))))
-        (among_front (gathered (map text_writes block)) (gathered (map text_writes otherwise)) texts within) in
+        (among_front (joined (map text_writes block)) (joined (map text_writes otherwise)) texts within) in
         let o = keeps_block otherwise (parts otherwise (omega (arith, depth-If condition block otherwise has_else, le-max_right (largest (map stmt_depth block)) (largest (map stmt_depth otherwise)))))
-        (among_back (gathered (map text_writes block)) (gathered (map text_writes otherwise)) texts within) in
+        (among_back (joined (map text_writes block)) (joined (map text_writes otherwise)) texts within) in
         ap (λ (m : Moment). list_all (is_written texts) m.writes) (action-If world number condition block otherwise has_else now)
         ∙ either (value_of world now condition == 0) (map (action_of world) block) (map (action_of world) otherwise) b o now stands)
         (λ var range body h among now stands.
-        let within : Among (gathered (map text_writes body)) texts =
+        let within : Among (joined (map text_writes body)) texts =
         λ write w. among write (ap (λ (xs : List TextWrite). is_written xs write) (text-For number var range body) ∙ w) in
         let b = keeps_block body (parts body (omega (arith, depth-For var range body))) within in
         ap (λ (m : Moment). list_all (is_written texts) m.writes) (action-For world number var range body now)

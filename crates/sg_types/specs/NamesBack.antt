@@ -26,6 +26,7 @@ use Rattle.sg_flat.specs.declared.effects.Way.TheVariants.{Own, Acc}
 use Rattle.sg_names.specs.declared.tables.Constant.{Constant}
 use Rattle.sg_names.specs.declared.tables.FieldAt.{FieldAt}
 use Rattle.sg_names.specs.Tables.{field_named, layout_named}
+use Rattle.sg_ast.specs.Stmt.{joined}
 use Rattle.sg_types.specs.declared.typed.TypedExpr.{TypedExpr, fold-TypedExpr}
 use Rattle.sg_types.specs.declared.typed.Form.TheOpen as f
 use Rattle.sg_types.specs.declared.typed.Form.TheOpen.{Form-F}
@@ -116,26 +117,22 @@ marked_kernel known kernel = record {
 
 -- ---- the names of a kernel's variables, in the order of first tokens
 
-abbrev pub joined_names : List (List Name) → List Name
-joined_names [] = []
-joined_names (names ∷ more) = names ++ joined_names more
-
 abbrev pub else_names : Option (List (List Name)) → List Name
 else_names None = []
-else_names (Some names) = joined_names names
+else_names (Some names) = joined names
 
 abbrev pub names_step : Stmt-F (List Name) → List Name
 names_step (s.Let name value) = name ∷ []
 names_step (s.Assign name value) = []
 names_step (s.Write field index how value) = []
-names_step (s.If condition block otherwise) = joined_names block ++ else_names otherwise
-names_step (s.For name range body) = name ∷ joined_names body
+names_step (s.If condition block otherwise) = joined block ++ else_names otherwise
+names_step (s.For name range body) = name ∷ joined body
 
 abbrev pub stmt_names : Stmt → List Name
 stmt_names = fold-Stmt (List Name) names_step
 
 abbrev pub block_names : List Stmt → List Name
-block_names block = joined_names (map stmt_names block)
+block_names block = joined (map stmt_names block)
 
 abbrev pub variable_names : KernelDecl → List Name
 variable_names kernel = kernel.vars ++ block_names kernel.body

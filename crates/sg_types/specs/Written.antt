@@ -1,6 +1,7 @@
 -- The writes that stand in the text of a kernel.
 use Rattle.std.specs.Prelude.{ℕ, Bool, true, false, ◌&&◌, ◌==◌, List, [], ◌∷◌, ◌++◌, map, length}
 use Rattle.std.specs.List.{list_any}
+use Rattle.sg_ast.specs.Stmt.{joined}
 use Rattle.sg_words.specs.declared.operators.AccOp.{AccOp}
 use Rattle.sg_words.specs.declared.operators.AccOp.TheVariants as acc
 use Rattle.sg_flat.specs.declared.effects.Way.{Way}
@@ -19,25 +20,20 @@ pub record TextWrite : Type 0 where
   pub indices : ℕ
   pub way : Way
 
--- lists, one after the other
-abbrev pub gathered : List (List TextWrite) → List TextWrite
-gathered [] = []
-gathered (x ∷ xs) = x ++ gathered xs
-
 -- one layer of a statement, where the writes in the statements in it are given
 abbrev pub text_step : TypedKind-F (ℕ → List TextWrite) (List TextWrite) → ℕ → List TextWrite
 text_step (k.Let var value) stmt = []
 text_step (k.Assign var value) stmt = []
 text_step (k.Write layout place index way value) stmt = record { stmt = stmt; layout = layout; place = place; indices = length index; way = way } ∷ []
-text_step (k.If condition block otherwise has_else) stmt = gathered block ++ gathered otherwise
-text_step (k.For var range body) stmt = gathered body
+text_step (k.If condition block otherwise has_else) stmt = joined block ++ joined otherwise
+text_step (k.For var range body) stmt = joined body
 
 -- the writes that stand in a statement
 abbrev pub text_writes : TypedStmt → List TextWrite
 text_writes = fold-TypedStmt (ℕ → List TextWrite) (List TextWrite) text_step (λ stmt. stmt.kind stmt.number)
 
 abbrev pub kernel_writes : TypedKernel → List TextWrite
-kernel_writes kernel = gathered (map text_writes kernel.body)
+kernel_writes kernel = joined (map text_writes kernel.body)
 
 abbrev pub same_acc : AccOp → AccOp → Bool
 same_acc acc.Add acc.Add = true

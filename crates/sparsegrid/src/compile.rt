@@ -1,9 +1,10 @@
-ghost use Rattle.std.specs.Prelude.{◌≡◌, ◌≤◌, length, None, Ok, IfOk, IsTrue};
-ghost use Rattle.sg_words.specs.Answers.{Answers};
+ghost use Rattle.std.specs.Prelude.{◌≡◌, ◌≤◌, length, map, None, Ok, IfOk, IsTrue};
+ghost use Rattle.sg_words.specs.Answers.{Answers, AnswersAs};
+ghost use Rattle.sg_names.specs.Laws.{layout_decls};
 ghost use Rattle.sg_names.specs.Names.{tables_of};
 ghost use Rattle.sg_names.specs.Shapes.{shape_of};
 ghost use Rattle.sparsegrid.specs.Built.{is_built_shape, first_not_built};
-ghost use Rattle.sparsegrid.specs.Compiled.{IsSpelled, spelled, shapes_of, built, typed_and_built, compiled};
+ghost use Rattle.sparsegrid.specs.Compiled.{IsSpelled, spelled, built_layouts, typed_and_built, compiled};
 
 use crate::built::{built_layout, first_not_built};
 use crate::refusal::Refusal;
@@ -55,45 +56,57 @@ pub fn compile(alloc: Global, program: &Program) -> Result<Compiled, Stop<Refusa
     ensures { Answers result (compiled program.now) }
 {
     match name_tables(alloc, program) {
-        Ok(names) => type_and_build(alloc, program, names),
+        Ok(names) => with_names(alloc, program, names),
         Err(Stop::Refused(fault)) => Err(Stop::Refused(Refusal::Name(fault))),
         Err(Stop::Memory) => Err(Stop::Memory),
     }
 }
 
 /// The same of a program with these names.
-fn type_and_build(alloc: Global, program: &Program, names: Names) -> Result<Compiled, Stop<Refusal>>
+fn with_names(alloc: Global, program: &Program, names: Names) -> Result<Compiled, Stop<Refusal>>
     requires spelled { IsSpelled program.now }
     requires names { tables_of program.now ≡ Ok names }
     ensures { Answers result (typed_and_built program.now names) }
 {
-    match type_program(alloc, program, &names) {
-        Ok(typed) => build(alloc, program, names, typed),
+    match types_and_layouts(alloc, program, &names) {
+        Ok((typed, layouts)) => Ok(Compiled {
+            names,
+            layouts,
+            typed,
+        }),
+        Err(why) => Err(why),
+    }
+}
+
+/// The kernels and the layouts of a program with these names: types come before what is not built.
+fn types_and_layouts(
+    alloc: Global,
+    program: &Program,
+    names: &Names,
+) -> Result<(Typed, Layouts), Stop<Refusal>>
+    requires spelled { IsSpelled program.now }
+    requires names { tables_of program.now ≡ Ok names.now }
+    ensures { AnswersAs (λ found. record { names = names.now; layouts = found.1; typed = found.0 }) result
+        (typed_and_built program.now names.now) }
+{
+    match type_program(alloc, program, names) {
+        Ok(typed) => match built_layouts(alloc, program, names) {
+            Ok(layouts) => Ok((typed, layouts)),
+            Err(why) => Err(why),
+        },
         Err(Stop::Refused(fault)) => Err(Stop::Refused(Refusal::Types(fault))),
         Err(Stop::Memory) => Err(Stop::Memory),
     }
 }
 
-/// The same of a program with these names and kernels.
-fn build(
-    alloc: Global,
-    program: &Program,
-    names: Names,
-    typed: Typed,
-) -> Result<Compiled, Stop<Refusal>>
+/// The layouts of a program, where no item is of a form that is not built.
+fn built_layouts(alloc: Global, program: &Program, names: &Names) -> Result<Layouts, Stop<Refusal>>
     requires { length program.now.items ≤ 16384 }
-    ensures { Answers result (built program.now names typed) }
+    ensures { Answers result (built_layouts program.now names.now) }
 {
     let items = program.items.as_slice();
-    match first_not_built(alloc, &names, items) {
-        Ok(None) => {
-            let layouts = layouts_of(alloc, &names, items)?;
-            Ok(Compiled {
-                names,
-                layouts,
-                typed,
-            })
-        }
+    match first_not_built(alloc, names, items) {
+        Ok(None) => Ok(layouts_of(alloc, names, items)?),
         Ok(Some(item)) => Err(Stop::Refused(Refusal::NotBuilt { item })),
         Err(Memory) => Err(Stop::Memory),
     }
@@ -102,7 +115,7 @@ fn build(
 /// The layouts that items declare, in order.
 fn layouts_of(alloc: Global, names: &Names, items: &[Item]) -> Result<Layouts, Memory>
     requires { first_not_built names.now 1 items.now ≡ None }
-    ensures { IfOk result (λ layouts. layouts.list ≡ shapes_of names.now items.now) }
+    ensures { IfOk result (λ layouts. layouts.list ≡ map (shape_of names.now) (layout_decls items.now)) }
 {
     let mut list = Items::new(alloc);
     for item in items {

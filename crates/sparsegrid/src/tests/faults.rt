@@ -3,26 +3,23 @@ ghost use Rattle.std.specs.Prelude.{None};
 use super::setting::Setting;
 use crate::Done;
 use sg_outside::{MemSink, Put, Sink};
-use std::alloc::Global;
-use std::process::Abort;
 use std::test::Fail;
-use std::thread::Threads;
 
 /// The words of the first field of the first layout in a session's state.
-fn words(done: &Done) -> [u32; 2] {
-    match &done.session {
-        Some(session) => match session
-            .flat
-            .layouts
-            .get(0)
-            .and_then(|flat| flat.fields.get(0))
-        {
-            Some(field) => [field.word(0), field.word(1)],
-            None => [99, 99],
-        },
-        None => [99, 99],
-    }
+fn words(done: &Done) -> Option<[u32; 2]> {
+    let session = done.session.as_ref()?;
+    let layout = session.flat.layouts.get(0)?;
+    let field = layout.fields.get(0)?;
+    Some([field.word(0), field.word(1)])
 }
+
+/// Commands after a good one, the status, and the words of the last state.
+static COMMANDS: &[(&str, u8, [u32; 2])] = &[
+    ("", 0, [1, 2]),
+    ("run good;", 0, [2, 4]),
+    ("run bad;", 7, [1, 2]),
+    ("run good; run bad; run good;", 7, [2, 4]),
+];
 
 #[test]
 fn the_state_before_a_refused_command(rt: HostRuntime) -> Result<(), Fail> {
@@ -30,109 +27,102 @@ fn the_state_before_a_refused_command(rt: HostRuntime) -> Result<(), Fail> {
     let front =
         "layout A(i) { dense(i: 2); field x: i32; } kernel good { for i in 0..2 { x[i] = x[i] + i + 1; } } \
          kernel bad { for i in 0..3 { x[i] = 9; } } run good; ";
-    for (behind, status, wanted) in [
-        ("", 0, [1, 2]),
-        ("run good;", 0, [2, 4]),
-        ("run bad;", 7, [1, 2]),
-        ("run good; run bad; run good;", 7, [2, 4]),
-    ] {
+    for (behind, status, wanted) in COMMANDS {
         let source = format!(in alloc; "{front}{behind}")?;
         let mut out = MemSink::new(alloc, Vec::new(alloc), 0);
         let done = Setting::of(source.as_str()).run_into(&rt, alloc, &mut out)?;
-        assert_eq!(rt; done.status, status, "{behind}");
-        assert_eq!(rt; words(&done), wanted, "{behind}");
+        assert_eq!(rt; done.status, *status, "{behind}");
+        assert_eq!(rt; words(&done), Some(*wanted), "{behind}");
     }
     Ok(())
 }
 
-static SQUARES: &str =
-    "layout A(i) { dense(i: 4); field x: i32; } kernel k { for i in 0..4 { x[i] = i * i; } } run k; dump x;";
+static SQUARES: Setting = Setting {
+    words: &["p.sg"],
+    source: "layout A(i) { dense(i: 4); field x: i32; } kernel k { for i in 0..4 { x[i] = i * i; } } run k; dump x;",
+    failing_reads: &[],
+    failing_puts: &[],
+    take: 0,
+};
+
+/// Bad words, and the name of a file that there isn't, with the status and the last line.
+static WORDS: &[(&[&str], u8, &str)] = &[
+    (&[], 1, "refused: words\n"),
+    (&["p.sg", "x"], 1, "refused: words\n"),
+    (&["-"], 1, "refused: words\n"),
+    (&[""], 1, "refused: words\n"),
+    (&["--help"], 1, "refused: words\n"),
+    (&["q.sg"], 2, "refused: read q.sg\n"),
+];
 
 #[test]
-fn words_and_faults(rt: HostRuntime) -> Result<(), Fail> {
-    let alloc = rt.alloc();
-    let source = SQUARES.as_bytes();
-    let bad = "refused: words\n";
-    let absent = "refused: read q.sg\n";
-    let failed = "refused: read p.sg\n";
-    let good: &[&str] = &["p.sg"];
-    let none: &[u64] = &[];
-    let first: &[u64] = &[1];
-    for (words, failing_reads, failing_puts, take, status, text) in [
-        ([].as_slice(), none, none, 0, 1, bad),
-        (["p.sg", "x"].as_slice(), none, none, 0, 1, bad),
-        (["-"].as_slice(), none, none, 0, 1, bad),
-        ([""].as_slice(), none, none, 0, 1, bad),
-        (["--help"].as_slice(), none, none, 0, 1, bad),
-        (["q.sg"].as_slice(), none, none, 0, 2, absent),
-        (good, first, none, 0, 2, failed),
-        (good, none, first, 0, 3, ""),
-        (good, none, first, 1, 3, "g"),
-        (good, none, first, 5, 3, "grid "),
-        (["q.sg"].as_slice(), none, first, 9, 3, "refused: "),
-        (good, first, first, 3, 3, "ref"),
-    ] {
+fn words_that_run_nothing(rt: HostRuntime) -> Result<(), Fail> {
+    for (words, status, text) in WORDS {
+        let setting = Setting { words, ..SQUARES };
+        setting.ends(&rt, rt.alloc(), *status, text)?;
+    }
+    Ok(())
+}
+
+/// Words, the reads and puts that fail, how many bytes a failed put takes, the status, and what was written.
+static FAULTS: &[(&str, &[u64], &[u64], usize, u8, &str)] = &[
+    ("p.sg", &[1], &[], 0, 2, "refused: read p.sg\n"),
+    ("p.sg", &[], &[1], 0, 3, ""),
+    ("p.sg", &[], &[1], 1, 3, "g"),
+    ("p.sg", &[], &[1], 5, 3, "grid "),
+    ("q.sg", &[], &[1], 9, 3, "refused: "),
+    ("p.sg", &[1], &[1], 3, 3, "ref"),
+];
+
+#[test]
+fn reads_and_puts_that_fail(rt: HostRuntime) -> Result<(), Fail> {
+    for (name, failing_reads, failing_puts, take, status, text) in FAULTS {
         let setting = Setting {
-            words,
-            source,
+            words: &[name],
             failing_reads,
             failing_puts,
-            take,
+            take: *take,
+            ..SQUARES
         };
-        let left = setting.run(&rt, alloc)?;
-        assert_eq!(rt; left.status, status, "{text}");
-        assert_eq!(rt; left.session, false, "{text}");
-        assert_eq!(rt; left.text.as_slice(), text.as_bytes(), "{text}");
+        setting.ends(&rt, rt.alloc(), *status, text)?;
     }
     Ok(())
 }
 
-static TWO_DUMPS: &str =
+const TWO_DUMPS: &str =
     "layout A(i) { dense(i: 1); field x: i32; field y: u32; } kernel k { for i in 0..1 { x[i] = 7; } } dump y; run k; dump x;";
 
-static DUMP_AND_REFUSAL: &str =
+const DUMP_AND_REFUSAL: &str =
     "layout A(i) { dense(i: 1); field x: i32; } kernel bad { for i in 0..2 { x[i] = 7; } } dump x; run bad; dump x;";
 
-/// Puts that fail, how many bytes they take, the status, and the text after the first dump.
-static PUTS_OF_TWO_DUMPS: &[(u64, usize, u8, &str)] = &[
-    (2, 3, 3, "gri"),
-    (2, 99, 3, "grid 1 1\n0 7"),
-    (3, 3, 0, "grid 1 1\n0 7\n"),
-];
-
-static PUTS_OF_DUMP_AND_REFUSAL: &[(u64, usize, u8, &str)] = &[
-    (2, 4, 3, "refu"),
+/// The put that fails, how many bytes it takes, the status, and what was written.
+static PUTS: &[(&str, &[u64], usize, u8, &str)] = &[
+    (TWO_DUMPS, &[2], 3, 3, "grid 1 1\n0 0\ngri"),
+    (TWO_DUMPS, &[2], 99, 3, "grid 1 1\n0 0\ngrid 1 1\n0 7"),
+    (TWO_DUMPS, &[3], 3, 0, "grid 1 1\n0 0\ngrid 1 1\n0 7\n"),
+    (DUMP_AND_REFUSAL, &[2], 4, 3, "grid 1 1\n0 0\nrefu"),
     (
-        3,
+        DUMP_AND_REFUSAL,
+        &[3],
         4,
         7,
-        "refused: write outside: kernel bad statement 1 at 1\n",
+        "grid 1 1\n0 0\nrefused: write outside: kernel bad statement 1 at 1\n",
     ),
 ];
-
-fn compare_puts<R: Threads + Sync + Abort>(
-    rt: &R,
-    alloc: Global,
-    source: &str,
-    rows: &[(u64, usize, u8, &str)],
-) -> Result<(), Fail> {
-    for (failing_put, take, status, behind) in rows {
-        let mut out = MemSink::new(alloc, vec![in alloc; *failing_put]?, *take);
-        let done = Setting::of(source).run_into(rt, alloc, &mut out)?;
-        let text = format!(in alloc; "grid 1 1\n0 0\n{behind}")?;
-        assert_eq!(rt; done.status, *status, "{behind}");
-        assert_eq!(rt; done.session.is_some(), *status != 3, "{behind}");
-        assert_eq!(rt; out.bytes(), text.as_bytes(), "{behind}");
-    }
-    Ok(())
-}
 
 /// Each text goes out by one put, and after a put that failed there is none.
 #[test]
 fn puts_one_after_the_other(rt: HostRuntime) -> Result<(), Fail> {
-    let alloc = rt.alloc();
-    compare_puts(&rt, alloc, TWO_DUMPS, PUTS_OF_TWO_DUMPS)?;
-    compare_puts(&rt, alloc, DUMP_AND_REFUSAL, PUTS_OF_DUMP_AND_REFUSAL)
+    for (source, failing_puts, take, status, text) in PUTS {
+        let setting = Setting {
+            source,
+            failing_puts,
+            take: *take,
+            ..SQUARES
+        };
+        setting.ends(&rt, rt.alloc(), *status, text)?;
+    }
+    Ok(())
 }
 
 /// A sink that has room for a few puts.
@@ -155,25 +145,22 @@ impl Sink for NarrowSink {
     }
 }
 
-fn ends_with_room_for<R: Threads + Sync + Abort>(
-    rt: &R,
-    alloc: Global,
-    left: u32,
-    source: &str,
-    status: u8,
-) -> Result<(), Fail> {
-    let done = Setting::of(source).run_into(rt, alloc, &mut NarrowSink { left })?;
-    assert_eq!(rt; done.status, status, "{source}");
-    assert_eq!(rt; done.session.is_some(), status != 9, "{source}");
-    Ok(())
-}
+/// How many puts there is room for, and the status.
+static ROOMS: &[(&str, u32, u8)] = &[
+    (TWO_DUMPS, 0, 9),
+    (TWO_DUMPS, 1, 9),
+    (TWO_DUMPS, 2, 0),
+    (DUMP_AND_REFUSAL, 1, 9),
+    (DUMP_AND_REFUSAL, 2, 7),
+];
 
 #[test]
 fn a_sink_with_no_room(rt: HostRuntime) -> Result<(), Fail> {
-    let alloc = rt.alloc();
-    ends_with_room_for(&rt, alloc, 0, TWO_DUMPS, 9)?;
-    ends_with_room_for(&rt, alloc, 1, TWO_DUMPS, 9)?;
-    ends_with_room_for(&rt, alloc, 2, TWO_DUMPS, 0)?;
-    ends_with_room_for(&rt, alloc, 1, DUMP_AND_REFUSAL, 9)?;
-    ends_with_room_for(&rt, alloc, 2, DUMP_AND_REFUSAL, 7)
+    for (source, room, status) in ROOMS {
+        let mut out = NarrowSink { left: *room };
+        let done = Setting::of(source).run_into(&rt, rt.alloc(), &mut out)?;
+        assert_eq!(rt; done.status, *status, "{source}");
+        assert_eq!(rt; done.session.is_some(), *status != 9, "{source}");
+    }
+    Ok(())
 }

@@ -1,56 +1,197 @@
-use super::setting::{Setting, repeated};
+//! Files at their limits, and one past them.
+
+use super::setting::{ends, repeated};
+use std::alloc::{AllocError, Global};
 use std::test::Fail;
+
+/// A text, how often it stands in the file, the status, and the last line.
+static TOKENS: &[(&str, u32, u8, &str)] = &[
+    (" ", 65536, 0, ""),
+    (" ", 65537, 8, "refused: limit: file bytes\n"),
+    (";", 16384, 4, "refused: syntax: item 1 line 1\n"),
+    (";", 16385, 8, "refused: limit: tokens\n"),
+    ("(", 16384, 4, "refused: syntax: item 1 line 1\n"),
+];
 
 #[test]
 fn limits_of_bytes_and_tokens(rt: HostRuntime) -> Result<(), Fail> {
     let alloc = rt.alloc();
-    for (piece, count, status, text) in [
-        (" ", 65536, 0, ""),
-        (" ", 65537, 8, "refused: limit: file bytes\n"),
-        (";", 16384, 4, "refused: syntax: item 1 line 1\n"),
-        (";", 16385, 8, "refused: limit: tokens\n"),
-        ("(", 16384, 4, "refused: syntax: item 1 line 1\n"),
-    ] {
-        let source = repeated(alloc, piece, count)?;
-        let left = Setting::of(source.as_str()).run(&rt, alloc)?;
-        assert_eq!(rt; left.status, status, "{count}");
-        assert_eq!(rt; left.text.as_slice(), text.as_bytes(), "{count}");
+    for (piece, count, status, text) in TOKENS {
+        let source = repeated(alloc, piece, *count)?;
+        ends(&rt, alloc, source.as_str(), *status, text)?;
+    }
+    Ok(())
+}
+
+/// How many layouts with how many fields each, what stands behind them, the status, and the last line.
+static LAYOUTS: &[(u32, u32, &str, u8, &str)] = &[
+    (8, 2, "", 0, ""),
+    (1, 16, "", 0, ""),
+    (9, 1, "", 8, "refused: limit: layouts\n"),
+    (1, 17, "", 8, "refused: limit: fields\n"),
+    // one layout and one field too many: the layouts count first
+    (
+        8,
+        2,
+        "layout M(i) { dense(i: 1); field b: i32; }",
+        8,
+        "refused: limit: layouts\n",
+    ),
+    (
+        5,
+        3,
+        "layout M(i) { dense(i: 1); field b: i32; field c: i32; }",
+        8,
+        "refused: limit: fields\n",
+    ),
+];
+
+fn fields(alloc: Global, layout: u32, count: u32) -> Result<String, AllocError> {
+    let mut source = String::new(alloc);
+    for n in 0..count {
+        let field = format!(in alloc; "field f{layout}_{n}: i32; ")?;
+        source.push_str(field.as_str())?;
+    }
+    Ok(source)
+}
+
+fn layouts(alloc: Global, count: u32, each: u32) -> Result<String, AllocError> {
+    let mut source = String::new(alloc);
+    for n in 0..count {
+        let fields = fields(alloc, n, each)?;
+        let layout = format!(in alloc; "layout L{n}(i) {{ dense(i: 1); {fields} }}")?;
+        source.push_str(layout.as_str())?;
+    }
+    Ok(source)
+}
+
+#[test]
+fn limits_of_layouts_and_fields(rt: HostRuntime) -> Result<(), Fail> {
+    let alloc = rt.alloc();
+    for (count, each, behind, status, text) in LAYOUTS {
+        let mut source = layouts(alloc, *count, *each)?;
+        source.push_str(behind)?;
+        ends(&rt, alloc, source.as_str(), *status, text)?;
+    }
+    Ok(())
+}
+
+/// How many kernels, what stands behind them, the status, and the last line.
+static KERNELS: &[(u32, &str, u8, &str)] = &[
+    (16, "", 0, ""),
+    (17, "", 8, "refused: limit: kernels\n"),
+    // another fault of the kernel that is one too many comes first
+    (
+        16,
+        "kernel k3 { for i in 0..1 { } }",
+        5,
+        "refused: name twice: item 17\n",
+    ),
+    (
+        16,
+        "kernel m { for i in Z { } }",
+        5,
+        "refused: unknown name: item 17\n",
+    ),
+];
+
+fn kernels(alloc: Global, count: u32) -> Result<String, AllocError> {
+    let mut source = String::new(alloc);
+    for n in 0..count {
+        let kernel = format!(in alloc; "kernel k{n} {{ for i in 0..1 {{ let t = 0; }} }} ")?;
+        source.push_str(kernel.as_str())?;
+    }
+    Ok(source)
+}
+
+#[test]
+fn limit_of_kernels(rt: HostRuntime) -> Result<(), Fail> {
+    let alloc = rt.alloc();
+    for (count, behind, status, text) in KERNELS {
+        let mut source = kernels(alloc, *count)?;
+        source.push_str(behind)?;
+        ends(&rt, alloc, source.as_str(), *status, text)?;
+    }
+    Ok(())
+}
+
+/// How many runs of a kernel, what stands behind them, the status, and the last line.
+static COMMANDS: &[(u32, &str, u8, &str)] = &[
+    (64, "", 0, ""),
+    (65, "", 8, "refused: limit: commands\n"),
+    // a `times` is a command, and those in it are
+    (
+        62,
+        "times 2 { run k0; run k0; }",
+        8,
+        "refused: limit: commands\n",
+    ),
+    (
+        61,
+        "times 2 { run k0; run k0; }",
+        5,
+        "refused: not built: item 63\n",
+    ),
+];
+
+#[test]
+fn limit_of_commands(rt: HostRuntime) -> Result<(), Fail> {
+    let alloc = rt.alloc();
+    for (count, behind, status, text) in COMMANDS {
+        let mut source = kernels(alloc, 1)?;
+        let runs = repeated(alloc, "run k0; ", *count)?;
+        source.push_str(runs.as_str())?;
+        source.push_str(behind)?;
+        ends(&rt, alloc, source.as_str(), *status, text)?;
     }
     Ok(())
 }
 
 #[test]
-fn limits_of_items(rt: HostRuntime) -> Result<(), Fail> {
+fn as_many_dumps_as_there_may_be(rt: HostRuntime) -> Result<(), Fail> {
     let alloc = rt.alloc();
-    for (count, status, text) in [(8, 0, ""), (9, 8, "refused: limit: layouts\n")] {
-        let mut source = String::new(alloc);
-        for n in 0..count {
-            let layout = format!(in alloc; "layout L{n}(i) {{ dense(i: 1); field f{n}: i32; }}")?;
-            source.push_str(layout.as_str())?;
-        }
-        let left = Setting::of(source.as_str()).run(&rt, alloc)?;
-        assert_eq!(rt; left.status, status, "{count}");
-        assert_eq!(rt; left.text.as_slice(), text.as_bytes(), "{count}");
-    }
-    for (count, status, text) in [(16, 0, ""), (17, 8, "refused: limit: kernels\n")] {
-        let mut source = String::new(alloc);
-        for n in 0..count {
-            let kernel = format!(in alloc; "kernel k{n} {{ for i in 0..1 {{ }} }}")?;
-            source.push_str(kernel.as_str())?;
-        }
-        let left = Setting::of(source.as_str()).run(&rt, alloc)?;
-        assert_eq!(rt; left.status, status, "{count}");
-        assert_eq!(rt; left.text.as_slice(), text.as_bytes(), "{count}");
-    }
-    for (count, status) in [(64, 0), (65, 8)] {
-        let mut source = String::from_str(alloc, "layout L(i) { dense(i: 1); field f: i32; }")?;
-        source.push_str(repeated(alloc, "dump f;", count)?.as_str())?;
-        let left = Setting::of(source.as_str()).run(&rt, alloc)?;
-        assert_eq!(rt; left.status, status, "{count}");
-        let dumps = repeated(alloc, "grid 1 1\n0 0\n", count)?;
-        let refused = "refused: limit: commands\n";
-        let text = if status == 0 { dumps.as_str() } else { refused };
-        assert_eq!(rt; left.text.as_slice(), text.as_bytes(), "{count}");
+    let mut source = String::from_str(alloc, "layout L(i) { dense(i: 1); field f: i32; }")?;
+    let dumps = repeated(alloc, "dump f; ", 64)?;
+    source.push_str(dumps.as_str())?;
+    let text = repeated(alloc, "grid 1 1\n0 0\n", 64)?;
+    ends(&rt, alloc, source.as_str(), 0, text.as_str())
+}
+
+/// What stands before and behind a number, one inside the other, how often, and the value.
+static NESTED: &[(&str, &str, u32, &str)] = &[
+    ("(", ")", 62, "3"),
+    ("-", "", 62, "3"),
+    ("~", "", 62, "3"),
+    ("i32(u32(", "))", 31, "3"),
+    ("min(", ", 5)", 62, "3"),
+    ("max(5, ", ")", 62, "5"),
+    ("1 + (", ")", 31, "34"),
+    ("y[", "]", 62, "0"),
+];
+
+/// A deep expression takes time in proportion to its length.
+#[test]
+fn deep_expressions(rt: HostRuntime) -> Result<(), Fail> {
+    let alloc = rt.alloc();
+    for (open, close, count, value) in NESTED {
+        let before = repeated(alloc, open, *count)?;
+        let behind = repeated(alloc, close, *count)?;
+        let source = format!(in alloc;
+            "layout L(i) {{ dense(i: 1); field x: i32; field y: i32; }} kernel k {{ for i in 0..1 {{ x[i] = {before}3{behind}; }} }} run k; dump x;"
+        )?;
+        let text = format!(in alloc; "grid 1 1\n0 {value}\n")?;
+        ends(&rt, alloc, source.as_str(), 0, text.as_str())?;
     }
     Ok(())
+}
+
+/// A file of 16,381 tokens, nearly all of them in one kernel.
+#[test]
+fn a_long_kernel(rt: HostRuntime) -> Result<(), Fail> {
+    let alloc = rt.alloc();
+    let steps = repeated(alloc, "a = a + i; ", 2722)?;
+    let source = format!(in alloc;
+        "layout L(i) {{ dense(i: 2); field x: i32; }} kernel k {{ for i in 0..2 {{ let a = 7; {steps}x[i] = a; }} }} run k; dump x;"
+    )?;
+    ends(&rt, alloc, source.as_str(), 0, "grid 1 2\n0 7\n1 2729\n")
 }

@@ -9,14 +9,14 @@ use std::thread::Threads;
 #[derive(Clone, Copy)]
 pub struct Setting<'a> {
     pub words: &'a [&'a str],
-    pub source: &'a [u8],
+    pub source: &'a str,
     pub failing_reads: &'a [u64],
     pub failing_puts: &'a [u64],
     pub take: usize,
 }
 
 /// What a run left: its status, whether there is a session, and the bytes that the sink took.
-#[derive(Debug, PartialEq, Eq, Drop)]
+#[derive(Drop)]
 pub struct Left {
     pub status: u8,
     pub session: bool,
@@ -27,7 +27,7 @@ impl<'a> Setting<'a> {
     pub fn of(source: &'a str) -> Setting<'a> {
         Setting {
             words: &["p.sg"],
-            source: source.as_bytes(),
+            source,
             failing_reads: &[],
             failing_puts: &[],
             take: 0,
@@ -41,19 +41,19 @@ impl<'a> Setting<'a> {
         alloc: Global,
         out: &mut S,
     ) -> Result<Done, AllocError> {
-        let mut words = Vec::new(alloc);
-        for word in self.words {
-            words.push(String::from_str(alloc, word)?)?;
-        }
+        let words = owned(alloc, self.words)?;
+        let mut files = self.files(alloc)?;
+        Ok(run(rt, alloc, words.as_slice(), &mut files, out, &FreeGate))
+    }
+
+    /// The one file.
+    fn files(&self, alloc: Global) -> Result<MemFiles, AllocError> {
+        let failing = Vec::from_slice(alloc, self.failing_reads)?;
         let file = NamedBytes {
             name: String::from_str(alloc, "p.sg")?,
-            bytes: Vec::from_slice(alloc, self.source)?,
+            bytes: Vec::from_slice(alloc, self.source.as_bytes())?,
         };
-        let mut files = MemFiles::new(
-            vec![in alloc; file]?,
-            Vec::from_slice(alloc, self.failing_reads)?,
-        );
-        Ok(run(rt, alloc, words.as_slice(), &mut files, out, &FreeGate))
+        Ok(MemFiles::new(vec![in alloc; file]?, failing))
     }
 
     pub fn run<R: Threads + Sync>(&self, rt: &R, alloc: Global) -> Result<Left, AllocError> {
@@ -65,9 +65,34 @@ impl<'a> Setting<'a> {
             text: Vec::from_slice(alloc, out.bytes())?,
         })
     }
+
+    /// The run has this status and text, and a session exactly with status 0 and 7.
+    pub fn ends<R: Threads + Sync + Abort>(
+        &self,
+        rt: &R,
+        alloc: Global,
+        status: u8,
+        text: &str,
+    ) -> Result<(), Fail> {
+        let left = self.run(rt, alloc)?;
+        let source = self.source;
+        assert_eq!(rt; left.status, status, "{source}");
+        assert_eq!(rt; left.session, status == 0 || status == 7, "{source}");
+        assert_eq!(rt; left.text.as_slice(), text.as_bytes(), "{source}");
+        Ok(())
+    }
 }
 
-/// The run of a source has this status and text, and a session exactly with status 0 and 7.
+/// Words of their own.
+fn owned(alloc: Global, words: &[&str]) -> Result<Vec<String>, AllocError> {
+    let mut list = Vec::new(alloc);
+    for word in words {
+        list.push(String::from_str(alloc, word)?)?;
+    }
+    Ok(list)
+}
+
+/// The run of a source has this status and text.
 pub fn ends<R: Threads + Sync + Abort>(
     rt: &R,
     alloc: Global,
@@ -75,11 +100,7 @@ pub fn ends<R: Threads + Sync + Abort>(
     status: u8,
     text: &str,
 ) -> Result<(), Fail> {
-    let left = Setting::of(source).run(rt, alloc)?;
-    assert_eq!(rt; left.status, status, "{source}");
-    assert_eq!(rt; left.session, status == 0 || status == 7, "{source}");
-    assert_eq!(rt; left.text.as_slice(), text.as_bytes(), "{source}");
-    Ok(())
+    Setting::of(source).ends(rt, alloc, status, text)
 }
 
 /// Each source with the status and the text of its run.

@@ -10,7 +10,7 @@ name_tables-requires c = c.requires.few_items
 
 pub returns-in-Ok : goal.returns-in-Ok
 returns-in-Ok c =
-    subst (λ (m : Result Compiled Refusal). Answers c.type_and_build.result m) (sym (compiled_names c.args.program.now c.in-Ok.names c.in-Ok.ensures)) c.type_and_build.ensures
+    subst (λ (m : Result Compiled Refusal). Answers c.with_names.result m) (sym (compiled_names c.args.program.now c.in-Ok.names c.in-Ok.ensures)) c.with_names.ensures
 
 pub returns-in-Err-Refused : goal.returns-in-Err-Refused
 returns-in-Err-Refused c = rw c.in-Err-Refused.field-0-is (compiled_refused c.args.program.now c.in-Err-Refused.fault (rw c.in-Err-Refused.field-0-is at c.in-Err-Refused.ensures))
