@@ -64,7 +64,7 @@ fn words_that_run_nothing(rt: HostRuntime) -> Result<(), Fail> {
     Ok(())
 }
 
-/// Words, the reads and puts that fail, how many bytes a failed put takes, the status, and what was written.
+/// The file's name, the reads and puts that fail, how many bytes a failed put takes, the status, and what was written.
 static FAULTS: &[(&str, &[u64], &[u64], usize, u8, &str)] = &[
     ("p.sg", &[1], &[], 0, 2, "refused: read p.sg\n"),
     ("p.sg", &[], &[1], 0, 3, ""),
@@ -95,7 +95,7 @@ const TWO_DUMPS: &str =
 const DUMP_AND_REFUSAL: &str =
     "layout A(i) { dense(i: 1); field x: i32; } kernel bad { for i in 0..2 { x[i] = 7; } } dump x; run bad; dump x;";
 
-/// The put that fails, how many bytes it takes, the status, and what was written.
+/// A source, the put that fails, how many bytes it takes, the status, and what was written.
 static PUTS: &[(&str, &[u64], usize, u8, &str)] = &[
     (TWO_DUMPS, &[2], 3, 3, "grid 1 1\n0 0\ngri"),
     (TWO_DUMPS, &[2], 99, 3, "grid 1 1\n0 0\ngrid 1 1\n0 7"),
@@ -145,7 +145,7 @@ impl Sink for NarrowSink {
     }
 }
 
-/// How many puts there is room for, and the status.
+/// A source, how many puts there is room for, and the status.
 static ROOMS: &[(&str, u32, u8)] = &[
     (TWO_DUMPS, 0, 9),
     (TWO_DUMPS, 1, 9),

@@ -147,26 +147,29 @@ fn limit_of_commands(rt: HostRuntime) -> Result<(), Fail> {
     Ok(())
 }
 
+/// As many dumps as there may be write all their texts, and one more writes none.
 #[test]
-fn as_many_dumps_as_there_may_be(rt: HostRuntime) -> Result<(), Fail> {
+fn limit_of_dumps(rt: HostRuntime) -> Result<(), Fail> {
     let alloc = rt.alloc();
     let mut source = String::from_str(alloc, "layout L(i) { dense(i: 1); field f: i32; }")?;
     let dumps = repeated(alloc, "dump f; ", 64)?;
     source.push_str(dumps.as_str())?;
     let text = repeated(alloc, "grid 1 1\n0 0\n", 64)?;
-    ends(&rt, alloc, source.as_str(), 0, text.as_str())
+    ends(&rt, alloc, source.as_str(), 0, text.as_str())?;
+    source.push_str("dump f; ")?;
+    ends(&rt, alloc, source.as_str(), 8, "refused: limit: commands\n")
 }
 
 /// What stands before and behind a number, one inside the other, how often, and the value.
 static NESTED: &[(&str, &str, u32, &str)] = &[
-    ("(", ")", 62, "3"),
-    ("-", "", 62, "3"),
-    ("~", "", 62, "3"),
+    ("(", ")", 63, "3"),
+    ("-", "", 63, "-3"),
+    ("~", "", 63, "-4"),
     ("i32(u32(", "))", 31, "3"),
-    ("min(", ", 5)", 62, "3"),
-    ("max(5, ", ")", 62, "5"),
+    ("min(", ", 5)", 63, "3"),
+    ("max(5, ", ")", 63, "5"),
     ("1 + (", ")", 31, "34"),
-    ("y[", "]", 62, "0"),
+    ("y[", "]", 63, "0"),
 ];
 
 /// A deep expression takes time in proportion to its length.

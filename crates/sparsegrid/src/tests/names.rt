@@ -3,7 +3,7 @@
 use super::setting::compare;
 use std::test::Fail;
 
-/// Sources with their status and their line: what names are unknown or declared twice, and how many there may be.
+/// Sources with their status and their line: what names are unknown or declared twice.
 static NAMES: &[(&str, u8, &str)] = &[
     (
         "layout B(i) { dense(i: N); field f: i32; } const N = 4;",
