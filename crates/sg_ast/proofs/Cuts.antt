@@ -62,7 +62,7 @@ cut_by-whole {A} token n (x ∷ xs) rest h = go (ends_item n (token x)) refl xs 
   go true is (y ∷ ys) h more = absurd (cc)
   go false is ys h more = rw (is, more h) refl
 
--- the same for what is left
+-- behind a whole item, what is left is what is left of the rest
 pub are_left_from-whole : (left : Bool) (n : ℕ) (xs rest : List Token) → is_whole n xs ≡ true → are_left_from left n (xs ++ rest) ≡ are_left_from false 0 rest
 are_left_from-whole left n [] rest h = absurd (cc)
 are_left_from-whole left n (x ∷ xs) rest h = go (ends_item n x) refl xs h (are_left_from-whole (not (ends_item n x)) (open_after n x) xs rest) where

@@ -19,7 +19,6 @@ use Rattle.sg_ast.specs.declared.layout.NodeKind.TheVariants as kind
 use Rattle.sg_ast.specs.declared.layout.NodeDecl.{NodeDecl}
 use Rattle.sg_ast.specs.declared.layout.FieldDecl.{FieldDecl}
 use Rattle.sg_ast.specs.declared.layout.LayoutDecl.{LayoutDecl}
-use Rattle.sg_ast.specs.declared.stmt.RangeDecl.{RangeDecl}
 use Rattle.sg_ast.specs.declared.kernel.DomainDecl.{DomainDecl}
 use Rattle.sg_ast.specs.declared.kernel.DomainDecl.TheVariants as domain
 use Rattle.sg_ast.specs.declared.kernel.KernelDecl.{KernelDecl}
@@ -27,7 +26,7 @@ use Rattle.sg_ast.specs.declared.command.Command.{Command}
 use Rattle.sg_ast.specs.declared.program.Item.{Item}
 use Rattle.sg_ast.specs.declared.program.Item.TheVariants as item
 use Rattle.sg_ast.specs.Token.{is_number}
-use Rattle.sg_ast.specs.Expr.{separated}
+use Rattle.sg_ast.specs.Expr.{with_commas}
 use Rattle.sg_ast.specs.Stmt.{joined, range_tokens, block_tokens}
 use Rattle.sg_ast.specs.Layout.{names_tokens, size_token, axis_tokens, kind_token, bound_by, node_tokens, ty_token, field_tokens, layout_tokens}
 use Rattle.sg_ast.specs.Kernel.{domain_tokens, kernel_tokens}
@@ -35,21 +34,19 @@ use Rattle.sg_ast.specs.Command.{bound_tokens, named_tokens, command_tokens}
 use Rattle.sg_ast.specs.Program.{signed_tokens, item_tokens}
 use Rattle.sg_ast.specs.Grammar.{one_or_more, is_simple, is_command, is_item}
 use Rattle.sg_ast.specs.Items.{cut_by, cut, are_left}
-use Rattle.sg_ast.proofs.CommandVariants.{by_command_variant, command_tokens-Load, command_tokens-Run, command_tokens-Times, command_tokens-Dump, command_tokens-Image, command_tokens-Stats, command_tokens-Prune, command_tokens-Clear, is_simple-Times, is_command-Times}
+use Rattle.sg_ast.proofs.Uses.Commands.{by_command_variant, command_tokens-Load, command_tokens-Run, command_tokens-Times, command_tokens-Dump, command_tokens-Image, command_tokens-Stats, command_tokens-Prune, command_tokens-Clear, is_simple-Times, is_command-Times}
 use Rattle.sg_ast.proofs.Cuts.{is_whole, is_whole-append, cut_by-whole, are_left_from-whole}
-use Rattle.sg_ast.proofs.Balance.{IsPlain, ArePlain, plain-separated, plain_range, IsBalanced, AreBalanced, balanced-append, balanced_plain, balanced_ended, balanced_semicolon, balanced-joined, balanced_block_tokens}
+use Rattle.sg_ast.proofs.Balance.{IsPlain, ArePlain, each_mapped, plain-separated, plain_range, IsBalanced, AreBalanced, balanced-append, balanced_plain, balanced_ended, balanced_semicolon, balanced-joined, balanced_block_tokens}
 
 plain_names : (names : List Name) → ArePlain (map (λ name. t.Name name ∷ []) names)
-plain_names [] = tt
-plain_names (name ∷ more) = ((λ n. refl), plain_names more)
+plain_names = each_mapped IsPlain (λ name. t.Name name ∷ []) (λ name n. refl)
 
 plain_size : (size : SizeDecl) (xs : List Token) → IsPlain xs → IsPlain (size_token size ∷ xs)
 plain_size (size.Number value) xs h n = h n
 plain_size (size.Name name) xs h n = h n
 
 plain_axes : (axes : List AxisDecl) → ArePlain (map axis_tokens axes)
-plain_axes [] = tt
-plain_axes (axis ∷ more) = (plain_size axis.size [] (λ n. refl), plain_axes more)
+plain_axes = each_mapped IsPlain axis_tokens (λ axis. plain_size axis.size [] (λ n. refl))
 
 balanced_kind : (node : NodeKind) (xs : List Token) → IsBalanced xs → IsBalanced (kind_token node ∷ xs)
 balanced_kind kind.Dense xs h n = h n
@@ -64,7 +61,7 @@ plain_bound word (Some given) n = plain_size given [] (λ k. refl) n
 
 balanced_node : (node : NodeDecl) → IsBalanced (node_tokens node)
 balanced_node node =
-    let axes : List Token = separated (map axis_tokens node.axes) in
+    let axes : List Token = with_commas (map axis_tokens node.axes) in
     let cap : List Token = bound_by w.Cap node.cap ++ t.Sign s.Semicolon ∷ [] in
     let bounds : List Token = bound_by w.Chunk node.chunk ++ cap in
     balanced_kind node.kind (t.Sign s.OpenParen ∷ (axes ++ t.Sign s.CloseParen ∷ bounds)) (balanced-append axes (t.Sign s.CloseParen ∷ bounds)
@@ -73,32 +70,23 @@ balanced_node node =
     (balanced_plain (bound_by w.Chunk node.chunk) (plain_bound w.Chunk node.chunk))
     (balanced_ended (bound_by w.Cap node.cap) (plain_bound w.Cap node.cap))))
 
-balanced_nodes : (nodes : List NodeDecl) → AreBalanced (map node_tokens nodes)
-balanced_nodes [] = tt
-balanced_nodes (node ∷ more) = (balanced_node node, balanced_nodes more)
-
 balanced_ty : (ty : Ty) (xs : List Token) → IsBalanced xs → IsBalanced (ty_token ty ∷ xs)
 balanced_ty ty.I32 xs h n = h n
 balanced_ty ty.U32 xs h n = h n
 balanced_ty ty.Bool xs h n = h n
 
-balanced_fields : (fields : List FieldDecl) → AreBalanced (map field_tokens fields)
-balanced_fields [] = tt
-balanced_fields (field ∷ more) = (balanced_ty field.ty (t.Sign s.Semicolon ∷ []) balanced_semicolon, balanced_fields more)
+balanced_field : (field : FieldDecl) → IsBalanced (field_tokens field)
+balanced_field field = balanced_ty field.ty (t.Sign s.Semicolon ∷ []) balanced_semicolon
 
 whole_layout : (layout : LayoutDecl) → is_whole 0 (layout_tokens layout) ≡ true
 whole_layout layout =
     is_whole-append 0 0 (names_tokens layout.axes) _ (plain-separated _ (plain_names layout.axes) 0)
-    ∙ is_whole-append 1 1 (joined (map node_tokens layout.nodes)) _ (balanced-joined (map node_tokens layout.nodes) (balanced_nodes layout.nodes) 0)
-    ∙ is_whole-append 1 1 (joined (map field_tokens layout.fields)) (t.Sign s.CloseBrace ∷ []) (balanced-joined (map field_tokens layout.fields) (balanced_fields layout.fields) 0)
-
-plain_ranges : (ranges : List RangeDecl) → ArePlain (map range_tokens ranges)
-plain_ranges [] = tt
-plain_ranges (range ∷ more) = (plain_range range, plain_ranges more)
+    ∙ is_whole-append 1 1 (joined (map node_tokens layout.nodes)) _ (balanced-joined (map node_tokens layout.nodes) (each_mapped IsBalanced node_tokens balanced_node layout.nodes) 0)
+    ∙ is_whole-append 1 1 (joined (map field_tokens layout.fields)) (t.Sign s.CloseBrace ∷ []) (balanced-joined (map field_tokens layout.fields) (each_mapped IsBalanced field_tokens balanced_field layout.fields) 0)
 
 plain_domain : (domain : DomainDecl) → IsPlain (domain_tokens domain)
 plain_domain (domain.Layout name) n = refl
-plain_domain (domain.Ranges ranges) n = plain-separated (map range_tokens ranges) (plain_ranges ranges) n
+plain_domain (domain.Ranges ranges) n = plain-separated (map range_tokens ranges) (each_mapped IsPlain range_tokens plain_range ranges) n
 
 whole_kernel : (kernel : KernelDecl) → is_whole 0 (kernel_tokens kernel) ≡ true
 whole_kernel kernel =

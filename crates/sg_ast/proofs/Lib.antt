@@ -1,6 +1,4 @@
-pub mod Variants
-pub mod StmtVariants
-pub mod CommandVariants
+pub mod Uses
 pub mod Cuts
 pub mod Balance
 pub mod ItemCuts

@@ -24,9 +24,9 @@ use Rattle.sg_ast.specs.Stmt.{stmt_tokens, nesting}
 use Rattle.sg_ast.specs.Kernel.{kernel_tokens}
 use Rattle.sg_ast.specs.Command.{command_tokens}
 use Rattle.sg_ast.specs.Grammar.{is_formed, is_expr, is_stmt, is_kernel, is_command}
-use Rattle.sg_ast.proofs.Variants.{expr_equations}
-use Rattle.sg_ast.proofs.StmtVariants.{stmt_equations}
-use Rattle.sg_ast.proofs.CommandVariants.{command_equations}
+use Rattle.sg_ast.proofs.Uses.Exprs.{expr_equations}
+use Rattle.sg_ast.proofs.Uses.Stmts.{stmt_equations}
+use Rattle.sg_ast.proofs.Uses.Commands.{command_equations}
 
 abbrev name : List ℕ → Name
 name text = record { text = text }

@@ -9,11 +9,12 @@ use Rattle.sg_ast.specs.declared.token.Token.TheVariants as t
 use Rattle.sg_ast.specs.declared.command.Command.{Command, fold-Command}
 use Rattle.sg_ast.specs.declared.command.Command.TheOpen as f
 use Rattle.sg_ast.specs.declared.command.Command.TheOpen.{Command-F}
-use Rattle.sg_ast.specs.Stmt.{braced}
+use Rattle.sg_ast.specs.Limits.{max_number}
+use Rattle.sg_ast.specs.Stmt.{in_braces}
 
--- the number of a bound, with a `u` exactly where it is past 2147483648
+-- the number of a bound, with a `u` exactly where it is past the limit without one
 abbrev pub magnitude_token : ℕ → Token
-magnitude_token n = t.Number n (nat_lt 2147483648 n)
+magnitude_token n = t.Number n (nat_lt (max_number false) n)
 
 -- a bound: its number, behind a `-` where it is negative. `negsuc n` is -(n + 1), so no `-` stands before 0
 abbrev pub bound_tokens : ℤ → List Token
@@ -28,7 +29,7 @@ named_tokens word name = t.Word word ∷ t.Name name ∷ t.Sign s.Semicolon ∷ 
 abbrev pub command_step : Command-F (List Token) → List Token
 command_step (f.Load field) = named_tokens w.Load field
 command_step (f.Run kernel) = named_tokens w.Run kernel
-command_step (f.Times number body) = t.Word w.Times ∷ t.Number number false ∷ braced body
+command_step (f.Times number body) = t.Word w.Times ∷ t.Number number false ∷ in_braces body
 command_step (f.Dump field) = named_tokens w.Dump field
 command_step (f.Image field lo hi) = t.Word w.Image ∷ t.Name field ∷ (bound_tokens lo ++ (bound_tokens hi ++ t.Sign s.Semicolon ∷ []))
 command_step (f.Stats layout) = named_tokens w.Stats layout

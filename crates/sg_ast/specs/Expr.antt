@@ -65,13 +65,13 @@ each_more [] = []
 each_more (x ∷ xs) = t.Sign s.Comma ∷ (x ++ each_more xs)
 
 -- lists of tokens, a comma between each two
-abbrev pub separated : List (List Token) → List Token
-separated [] = []
-separated (x ∷ xs) = x ++ each_more xs
+abbrev pub with_commas : List (List Token) → List Token
+with_commas [] = []
+with_commas (x ∷ xs) = x ++ each_more xs
 
 -- `NAME[INDEX, ..]`, where the tokens of each index are given
 abbrev pub access_tokens : Name → List (List Token) → List Token
-access_tokens field index = t.Name field ∷ t.Sign s.OpenBracket ∷ (separated index ++ t.Sign s.CloseBracket ∷ [])
+access_tokens field index = t.Name field ∷ t.Sign s.OpenBracket ∷ (with_commas index ++ t.Sign s.CloseBracket ∷ [])
 
 -- one layer of an expression, where the tokens of its parts are given
 abbrev pub tokens_step : Expr-F (List Token) → List Token
@@ -82,7 +82,7 @@ tokens_step (f.Read field index) = access_tokens field index
 tokens_step (f.Paren inner) = t.Sign s.OpenParen ∷ (inner ++ t.Sign s.CloseParen ∷ [])
 tokens_step (f.Un op operand) = un_token op ∷ operand
 tokens_step (f.Bin op left right) = left ++ op_token op ∷ right
-tokens_step (f.Call callee arguments) = callee_token callee ∷ t.Sign s.OpenParen ∷ (separated arguments ++ t.Sign s.CloseParen ∷ [])
+tokens_step (f.Call callee arguments) = callee_token callee ∷ t.Sign s.OpenParen ∷ (with_commas arguments ++ t.Sign s.CloseParen ∷ [])
 
 -- the tokens of an expression
 abbrev pub tokens_of : Expr → List Token

@@ -33,6 +33,7 @@ use Rattle.sg_ast.specs.declared.program.ConstDecl.{ConstDecl}
 use Rattle.sg_ast.specs.declared.program.Item.{Item}
 use Rattle.sg_ast.specs.declared.program.Item.TheVariants as item
 use Rattle.sg_ast.specs.declared.program.Program.{Program}
+use Rattle.sg_ast.specs.Limits.{max_depth, max_nesting, most_listed_axes, most_listed_nodes}
 use Rattle.sg_ast.specs.Token.{is_name, is_reserved, is_number}
 use Rattle.sg_ast.specs.Expr.{depth, levelled}
 use Rattle.sg_ast.specs.Stmt.{nesting}
@@ -73,14 +74,6 @@ formed_step (fe.Call callee arguments) = (length arguments == arity callee) && l
 -- Every node of an expression is one of the grammar's.
 abbrev pub is_formed : Expr → Bool
 is_formed = fold-Expr Bool formed_step
-
--- how deep an expression may be
-abbrev pub max_depth : ℕ
-max_depth = 64
-
--- how deep the blocks of a kernel may nest, the one of its loop counted
-abbrev pub max_nesting : ℕ
-max_nesting = 16
 
 -- an expression of the grammar: formed, levelled, and not too deep
 abbrev pub is_expr : Expr → Bool
@@ -125,9 +118,9 @@ has_bounds kind.Hash None (Some cap) = is_size cap
 has_bounds kind.Dynamic (Some chunk) (Some cap) = is_size chunk && is_size cap
 has_bounds _ _ _ = false
 
--- a node of the grammar: it names one to three axes
+-- a node of the grammar: it names at least one axis, and as many as the limit at most
 abbrev pub is_node : NodeDecl → Bool
-is_node node = one_to 3 is_axis node.axes && has_bounds node.kind node.chunk node.cap
+is_node node = one_to most_listed_axes is_axis node.axes && has_bounds node.kind node.chunk node.cap
 
 -- whether a field may have the type
 abbrev pub is_field_ty : Ty → Bool
@@ -136,23 +129,23 @@ is_field_ty ty.U32 = true
 is_field_ty ty.Bool = false
 
 -- a field of the grammar
-abbrev pub is_field : FieldDecl → Bool
-is_field field = is_name field.name && is_field_ty field.ty
+abbrev pub is_field_decl : FieldDecl → Bool
+is_field_decl field = is_name field.name && is_field_ty field.ty
 
--- a layout of the grammar: one to three axes, one to six nodes, and a field at least
+-- a layout of the grammar: axes and nodes, at least one of each and as many as the limits at most, and a field at least
 abbrev pub is_layout : LayoutDecl → Bool
 is_layout layout =
-    (is_name layout.name && one_to 3 is_name layout.axes) && (one_to 6 is_node layout.nodes && one_or_more is_field layout.fields)
+    (is_name layout.name && one_to most_listed_axes is_name layout.axes) && (one_to most_listed_nodes is_node layout.nodes && one_or_more is_field_decl layout.fields)
 
--- a domain of the grammar: a layout's name, or one to three ranges
+-- a domain of the grammar: a layout's name, or ranges, at most one for each axis that there may be
 abbrev pub is_domain : DomainDecl → Bool
 is_domain (domain.Layout name) = is_name name
-is_domain (domain.Ranges ranges) = one_to 3 is_range ranges
+is_domain (domain.Ranges ranges) = one_to most_listed_axes is_range ranges
 
--- a kernel of the grammar: one to three variables, and blocks that do not nest too deep
+-- a kernel of the grammar: variables, at most one for each axis that there may be, and blocks that do not nest too deep
 abbrev pub is_kernel : KernelDecl → Bool
 is_kernel kernel =
-    (is_name kernel.name && one_to 3 is_name kernel.vars)
+    (is_name kernel.name && one_to most_listed_axes is_name kernel.vars)
     && (is_domain kernel.domain && (list_all is_stmt kernel.body && nat_le (nesting kernel.body) max_nesting))
 
 -- a bound is a number within its limit, or minus one

@@ -34,6 +34,10 @@ cut_by token braces (x ∷ xs) = in_front (ends_item braces (token x)) x (cut_by
 abbrev pub cut : List Token → List (List Token)
 cut = cut_by (λ token. token) 0
 
+-- tokens without their places
+abbrev pub kinds : List Spanned → List Token
+kinds tokens = map (λ spanned. spanned.token) tokens
+
 -- the items of the tokens of a file
 abbrev pub items_of : List Spanned → List (List Spanned)
 items_of = cut_by (λ spanned. spanned.token) 0

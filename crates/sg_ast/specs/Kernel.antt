@@ -7,14 +7,14 @@ use Rattle.sg_ast.specs.declared.token.Token.TheVariants as t
 use Rattle.sg_ast.specs.declared.kernel.DomainDecl.{DomainDecl}
 use Rattle.sg_ast.specs.declared.kernel.DomainDecl.TheVariants as domain
 use Rattle.sg_ast.specs.declared.kernel.KernelDecl.{KernelDecl}
-use Rattle.sg_ast.specs.Expr.{separated}
+use Rattle.sg_ast.specs.Expr.{with_commas}
 use Rattle.sg_ast.specs.Stmt.{range_tokens, block_tokens}
 use Rattle.sg_ast.specs.Layout.{names_tokens}
 
 -- the name of a layout, or ranges with a comma between each two
 abbrev pub domain_tokens : DomainDecl → List Token
 domain_tokens (domain.Layout name) = t.Name name ∷ []
-domain_tokens (domain.Ranges ranges) = separated (map range_tokens ranges)
+domain_tokens (domain.Ranges ranges) = with_commas (map range_tokens ranges)
 
 -- `kernel NAME { for VARIABLES in DOMAIN BLOCK }`
 abbrev pub kernel_tokens : KernelDecl → List Token

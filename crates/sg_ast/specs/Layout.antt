@@ -16,12 +16,12 @@ use Rattle.sg_ast.specs.declared.layout.NodeKind.TheVariants as kind
 use Rattle.sg_ast.specs.declared.layout.NodeDecl.{NodeDecl}
 use Rattle.sg_ast.specs.declared.layout.FieldDecl.{FieldDecl}
 use Rattle.sg_ast.specs.declared.layout.LayoutDecl.{LayoutDecl}
-use Rattle.sg_ast.specs.Expr.{separated}
+use Rattle.sg_ast.specs.Expr.{with_commas}
 use Rattle.sg_ast.specs.Stmt.{joined}
 
 -- names, a comma between each two
 abbrev pub names_tokens : List Name → List Token
-names_tokens names = separated (map (λ name. t.Name name ∷ []) names)
+names_tokens names = with_commas (map (λ name. t.Name name ∷ []) names)
 
 -- a number without `u`, or a name
 abbrev pub size_token : SizeDecl → Token
@@ -48,7 +48,7 @@ bound_by word (Some size) = t.Word word ∷ size_token size ∷ []
 -- `KIND(AXES) chunk SIZE cap SIZE;`
 abbrev pub node_tokens : NodeDecl → List Token
 node_tokens node =
-    kind_token node.kind ∷ t.Sign s.OpenParen ∷ (separated (map axis_tokens node.axes) ++
+    kind_token node.kind ∷ t.Sign s.OpenParen ∷ (with_commas (map axis_tokens node.axes) ++
     (t.Sign s.CloseParen ∷ (bound_by w.Chunk node.chunk ++ (bound_by w.Cap node.cap ++ t.Sign s.Semicolon ∷ []))))
 
 -- the word of a type

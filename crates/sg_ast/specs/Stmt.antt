@@ -19,8 +19,8 @@ abbrev pub joined : {A : Type 0} → List (List A) → List A
 joined lists = flat_map (λ list. list) lists
 
 -- a block, where the tokens of each statement are given
-abbrev pub braced : List (List Token) → List Token
-braced parts = t.Sign s.OpenBrace ∷ (joined parts ++ t.Sign s.CloseBrace ∷ [])
+abbrev pub in_braces : List (List Token) → List Token
+in_braces parts = t.Sign s.OpenBrace ∷ (joined parts ++ t.Sign s.CloseBrace ∷ [])
 
 -- `LO..HI`
 abbrev pub range_tokens : RangeDecl → List Token
@@ -36,7 +36,7 @@ way_tokens (way.Acc acc.Max) = t.Word w.Max ∷ t.Sign s.Equal ∷ []
 -- `else` with its block, or nothing
 abbrev pub else_tokens : Option (List (List Token)) → List Token
 else_tokens None = []
-else_tokens (Some parts) = t.Word w.Else ∷ braced parts
+else_tokens (Some parts) = t.Word w.Else ∷ in_braces parts
 
 -- one layer of a statement, where the tokens of the statements in it are given
 abbrev pub stmt_step : Stmt-F (List Token) → List Token
@@ -44,8 +44,8 @@ stmt_step (f.Let name value) = t.Word w.Let ∷ t.Name name ∷ t.Sign s.Equal �
 stmt_step (f.Assign name value) = t.Name name ∷ t.Sign s.Equal ∷ (tokens_of value ++ t.Sign s.Semicolon ∷ [])
 stmt_step (f.Write field index how value) =
     access_tokens field (map tokens_of index) ++ (way_tokens how ++ (tokens_of value ++ t.Sign s.Semicolon ∷ []))
-stmt_step (f.If condition then otherwise) = t.Word w.If ∷ (tokens_of condition ++ (braced then ++ else_tokens otherwise))
-stmt_step (f.For name range body) = t.Word w.For ∷ t.Name name ∷ t.Word w.In ∷ (range_tokens range ++ braced body)
+stmt_step (f.If condition then otherwise) = t.Word w.If ∷ (tokens_of condition ++ (in_braces then ++ else_tokens otherwise))
+stmt_step (f.For name range body) = t.Word w.For ∷ t.Name name ∷ t.Word w.In ∷ (range_tokens range ++ in_braces body)
 
 -- the tokens of a statement
 abbrev pub stmt_tokens : Stmt → List Token
@@ -53,7 +53,7 @@ stmt_tokens = fold-Stmt (List Token) stmt_step
 
 -- the tokens of a block, its braces among them
 abbrev pub block_tokens : List Stmt → List Token
-block_tokens block = braced (map stmt_tokens block)
+block_tokens block = in_braces (map stmt_tokens block)
 
 -- the depth of an `else`, where the depths of the statements in it are given
 abbrev pub else_nesting : Option (List ℕ) → ℕ
@@ -72,6 +72,6 @@ nesting_step (f.For name range body) = largest body + 1
 abbrev pub stmt_nesting : Stmt → ℕ
 stmt_nesting = fold-Stmt ℕ nesting_step
 
--- the same in a block, itself counted
+-- how many blocks lie in one another in a block, itself counted
 abbrev pub nesting : List Stmt → ℕ
 nesting block = largest (map stmt_nesting block) + 1

@@ -1,5 +1,5 @@
 -- What a token may be: the reserved words, names and numbers.
-use Rattle.std.specs.Prelude.{◌≡◌, refl, ℕ, Bool, true, false, not, ◌&&◌, ◌||◌, ◌==◌, nat_le, if◌then◌else◌, List, [], ◌∷◌, length, codes, bytes_eq}
+use Rattle.std.specs.Prelude.{◌≡◌, refl, ℕ, Bool, true, false, not, ◌&&◌, ◌||◌, ◌==◌, nat_le, List, [], ◌∷◌, length, codes, bytes_eq}
 use Rattle.std.specs.List.{list_all, list_any}
 use Rattle.std.specs.Char.{is_ascii_alphabetic, is_ascii_digit}
 use Rattle.sg_ast.specs.declared.token.Name.{Name}
@@ -7,6 +7,7 @@ use Rattle.sg_ast.specs.declared.token.Word.{Word}
 use Rattle.sg_ast.specs.declared.token.Word.TheVariants as w
 use Rattle.sg_ast.specs.declared.token.Token.{Token}
 use Rattle.sg_ast.specs.declared.token.Token.TheVariants as t
+use Rattle.sg_ast.specs.Limits.{most_name_bytes, max_number}
 
 -- the bytes of a reserved word
 abbrev pub word_text : Word → List ℕ
@@ -65,13 +66,17 @@ is_name_form (c ∷ cs) = begins_name c && list_all (λ d. begins_name d || is_a
 unfoldable pub is_reserved : List ℕ → Bool
 is_reserved text = list_any (λ word. bytes_eq (word_text word) text) reserved_words
 
--- a name: of the form of names, at most 32 bytes, and no reserved word
+-- a name: of the form of names, with no more bytes than the limit, and no reserved word
 unfoldable pub is_name : Name → Bool
-is_name name = is_name_form name.text && (nat_le (length name.text) 32 && not (is_reserved name.text))
+is_name name = is_name_form name.text && (nat_le (length name.text) most_name_bytes && not (is_reserved name.text))
 
--- the value that a number may have, by whether a `u` stands behind it
+-- whether two names are the same bytes
+abbrev pub same_name : Name → Name → Bool
+same_name x y = bytes_eq x.text y.text
+
+-- whether a number may have this value, by whether a `u` stands behind it
 abbrev pub is_number : ℕ → Bool → Bool
-is_number value unsigned = nat_le value (if unsigned then 4294967295 else 2147483648)
+is_number value unsigned = nat_le value (max_number unsigned)
 
 -- a token that text can spell
 abbrev pub is_token : Token → Bool

@@ -8,8 +8,6 @@ pub mod laws;
 pub mod layout;
 pub mod program;
 pub mod stmt;
-#[cfg(test)]
-mod tests;
 pub mod token;
 
 pub use command::Command;

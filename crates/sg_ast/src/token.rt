@@ -1,4 +1,5 @@
 ghost use Rattle.std.specs.Prelude.{◌≡◌, IfOk};
+ghost use Rattle.sg_ast.specs.Token.{same_name};
 
 use sg_words::{Items, Memory};
 use std::alloc::Global;
@@ -17,6 +18,13 @@ impl Name {
         Ok(Name {
             text: Items::from_slice(alloc, self.text.as_slice())?,
         })
+    }
+
+    /// Whether the two names are the same bytes.
+    pub fn is(&self, other: &Name) -> bool
+        ensures { result ≡ same_name self.now other.now }
+    {
+        self.text.as_slice() == other.text.as_slice()
     }
 }
 

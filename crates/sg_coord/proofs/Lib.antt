@@ -2,3 +2,4 @@ pub mod Places
 pub mod RowLaws
 pub mod SliceLaws
 pub mod OrderLaws
+pub mod Uses

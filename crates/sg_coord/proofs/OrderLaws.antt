@@ -2,7 +2,7 @@
 use Rattle.std.proofs.Common.{◌≡◌, inl, inr, ℤ, ◌<ℤ◌, arith}
 use Rattle.std.proofs.lemmas.Int.{ints, by_lt_z}
 use Rattle.sg_coord.specs.Laws.{OrderCarriesOver, OrderIsStrict, OrderIsTotal}
-use Rattle.sg_coord.proofs.RowLaws.{same_parts}
+use Rattle.sg_coord.proofs.Uses.{same_parts}
 
 by_order : {P : Type 0} (x y : ℤ) → (x <ℤ y → P) → (x ≡ y → P) → (y <ℤ x → P) → P
 by_order x y less same more =

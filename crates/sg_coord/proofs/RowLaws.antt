@@ -6,25 +6,8 @@ use Rattle.sg_coord.specs.declared.coord.Coord.{Coord}
 use Rattle.sg_coord.specs.Bounds.{Bounds, IsBounds, volume}
 use Rattle.sg_coord.specs.Coord.{Inside, count_of, row_of, point_at, ComesBefore}
 use Rattle.sg_coord.specs.Laws.{PointInside, RowOfPoint, RowBelow, PointOfRow, RowOrder, PointsRise}
+use Rattle.sg_coord.proofs.Uses.{part_is, offset_below, same_parts}
 use Rattle.sg_coord.proofs.Places.{place_below, place_first, place_second, place_third, factors_above, first_below, place_of_parts, Lower, lower_place, lower_parts}
-
--- a part that is at least 0 is its offset, which is below what the part is below
-pub part_is : (z : ℤ) → pos 0 ≤ℤ z → z ≡ pos (count_of z)
-part_is (pos k) low = refl
-part_is (negsuc k) low = absurd (omega (arith, ints))
-
-pub offset_below : (z : ℤ) (n : ℕ) → pos 0 ≤ℤ z → z <ℤ pos n → count_of z < n
-offset_below (pos k) n low high = omega (arith, ints)
-offset_below (negsuc k) n low high = absurd (omega (arith, ints))
-
--- coordinates with equal parts are equal
-made : ℕ → ℤ → ℤ → ℤ → Coord
-made n a b c = record { n = n; a = a; b = b; c = c }
-
-pub same_parts : (x y : Coord) → x.n ≡ y.n → x.a ≡ y.a → x.b ≡ y.b → x.c ≡ y.c → x ≡ y
-unfolding made
-same_parts x y n a b c =
-    ap (λ v. made v x.a x.b x.c) n ∙ ap (λ v. made y.n v x.b x.c) a ∙ ap (λ v. made y.n y.a v x.c) b ∙ ap (λ v. made y.n y.a y.b v) c
 
 pub point_inside : PointInside
 point_inside e k below =

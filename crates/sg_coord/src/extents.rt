@@ -1,4 +1,5 @@
-ghost use Rattle.std.specs.Prelude.{◌≡◌, ◌*◌, ◌^◌, ◌<◌, ◌≤◌};
+ghost use Rattle.std.specs.Prelude.{◌≡◌, ◌*◌, ◌<◌, ◌≤◌};
+ghost use Rattle.sg_coord.specs.Limits.{most_axes, most_extent, most_points};
 
 /// How many points each of `n` axes has: 1 to 3 axes of 1 to 2^15 points, and at most 2^30 points
 /// in all. An axis that is not used has 1 point.
@@ -9,16 +10,16 @@ pub struct Extents {
     pub b: u32,
     pub c: u32,
     pub ghost some_axis: { 1 ≤ n },
-    pub ghost three_axes: { n ≤ 3 },
+    pub ghost three_axes: { n ≤ most_axes },
     pub ghost a_some: { 1 ≤ a },
-    pub ghost a_most: { a ≤ 2 ^ 15 },
+    pub ghost a_most: { a ≤ most_extent },
     pub ghost b_some: { 1 ≤ b },
-    pub ghost b_most: { b ≤ 2 ^ 15 },
+    pub ghost b_most: { b ≤ most_extent },
     pub ghost b_unused: { n < 2 → b ≡ 1 },
     pub ghost c_some: { 1 ≤ c },
-    pub ghost c_most: { c ≤ 2 ^ 15 },
+    pub ghost c_most: { c ≤ most_extent },
     pub ghost c_unused: { n < 3 → c ≡ 1 },
-    pub ghost volume_most: { a * b * c ≤ 2 ^ 30 },
+    pub ghost volume_most: { a * b * c ≤ most_points },
 }
 
 impl Extents {

@@ -9,7 +9,7 @@ pub mod slices;
 #[cfg(test)]
 mod tests;
 
-pub use coord::{Coord, rises};
+pub use coord::{Coord, coord_of, count, rises};
 pub use extents::Extents;
 pub use laws::{numbering, row_order, slices_partition, strict_order};
 pub use rows::{coord_at, inside, row};

@@ -1,8 +1,8 @@
-ghost use Rattle.std.specs.Prelude.{◌≡◌, ◌<◌, ◌↔◌, IsTrue, pos, ◌≤ℤ◌};
+ghost use Rattle.std.specs.Prelude.{◌≡◌, ◌<◌, ◌↔◌, IsTrue};
 ghost use Rattle.sg_coord.specs.Bounds.{bounds_of, volume};
-ghost use Rattle.sg_coord.specs.Coord.{Inside, is_inside, is_on_axis, count_of, row_of, point_at};
+ghost use Rattle.sg_coord.specs.Coord.{Inside, is_inside, is_on_axis, row_of, point_at};
 
-use crate::coord::Coord;
+use crate::coord::{Coord, count};
 use crate::extents::Extents;
 
 /// Whether a coordinate has as many axes as the extents, with each part at least 0 and below the
@@ -30,14 +30,7 @@ pub fn row(extents: &Extents, at: Coord) -> u32
     ensures below { result < volume (bounds_of extents.now) }
     ensures inverse { point_at (bounds_of extents.now) result ≡ at }
 {
-    (offset(at.a) * extents.b + offset(at.b)) * extents.c + offset(at.c)
-}
-
-fn offset(part: i32) -> u32
-    requires { pos 0 ≤ℤ part }
-    ensures { result ≡ count_of part }
-{
-    part as u32
+    (count(at.a) * extents.b + count(at.b)) * extents.c + count(at.c)
 }
 
 /// The coordinate with row number `k`.

@@ -31,10 +31,11 @@ use Rattle.sg_layout.specs.Accepted.{IsAccepted}
 use Rattle.sg_layout.specs.Path.{path}
 use Rattle.sg_layout.specs.Live.{kind_or, kind_at, makes_live, is_live}
 use Rattle.sg_layout.specs.Closure.{last_sparse, is_in_closure, points, closure}
-use Rattle.sg_flat.specs.Blocks.{bounds_over, nodes_above, is_whole, block_of, place_of, reach_of, is_reached, is_row_reached}
+use Rattle.sg_flat.specs.steps.Blocks.{bounds_over, nodes_above, is_whole, block_of, place_of, reach_of, is_reached, is_row_reached}
 use Rattle.sg_flat.proofs.MapWords.{is_eq-nat_cmp}
 use Rattle.sg_flat.proofs.Accepted.{good_at, last_where_dynamic}
-use Rattle.sg_flat.proofs.Slotted.{same_tests, slot_test}
+use Rattle.sg_flat.proofs.Slotted.{slot_test}
+use Rattle.sg_words.proofs.Uses.{same_tests}
 use Rattle.sg_flat.proofs.Reaches.{is_reached-any, list_any-agree, filter-agree}
 
 -- ---- rows in order

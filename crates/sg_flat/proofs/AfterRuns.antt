@@ -1,5 +1,5 @@
 -- The fields of a layout and the layouts after a run, one after another.
-use Rattle.std.specs.Option.{is_some}
+use Rattle.std.specs.Option.{is_some, option_or}
 use Rattle.std.proofs.lemmas.Bool.{both_ways}
 use Rattle.std.proofs.Common.{true, false, Some, ◌≡◌, ℕ, suc, ◌+◌, ◌≤◌, ◌⊎◌, inl, inr, List, [], ◌∷◌, ◌++◌, length, drop, Option, None, subst, refl, sym, ap, ◌∙◌, append_assoc, add-one, append-nil}
 use Rattle.std.proofs.lemmas.List.{drop_more, drop_all}
@@ -7,7 +7,6 @@ use Rattle.sg_coord.specs.Bounds.{Bounds}
 use Rattle.sg_words.specs.declared.operators.Ty.{Ty}
 use Rattle.sg_layout.specs.declared.shape.Shape.{Shape}
 use Rattle.sg_layout.specs.Need.{first_full}
-use Rattle.sg_layout.specs.Rules.{or_else}
 use Rattle.sg_flat.specs.declared.effects.Turn.{Turn}
 use Rattle.sg_flat.specs.declared.effects.RunFault.{RunFault}
 use Rattle.sg_flat.specs.declared.state.FlatLayout.{FlatLayout}
@@ -71,21 +70,21 @@ layouts_after-end shapes flats done whole turns i over so_far =
     sym (append-nil done) ∙ ap (λ (ls : List FlatLayout). done ++ ls) (sym none) ∙ so_far
 
 -- the search for a layout without room, at one of them: its fault, or the search among those after it
-pub first_full_layout-here : (shapes : List Shape) (flats : List FlatLayout) (whole : Option RunFault) (turns : List Turn) (i number : ℕ) (shape : Shape) (flat : FlatLayout) → StandsAt shapes flats i number shape flat → first_full_layout i (drop i shapes) (drop i flats) turns ≡ whole → or_else (full_fault number (first_full shape (flat.active ++ written_in number turns))) (first_full_layout (i + 1) (drop (i + 1) shapes) (drop (i + 1) flats) turns) ≡ whole
+pub first_full_layout-here : (shapes : List Shape) (flats : List FlatLayout) (whole : Option RunFault) (turns : List Turn) (i number : ℕ) (shape : Shape) (flat : FlatLayout) → StandsAt shapes flats i number shape flat → first_full_layout i (drop i shapes) (drop i flats) turns ≡ whole → option_or (full_fault number (first_full shape (flat.active ++ written_in number turns))) (first_full_layout (i + 1) (drop (i + 1) shapes) (drop (i + 1) flats) turns) ≡ whole
 first_full_layout-here shapes flats whole turns i number shape flat stands so_far =
     let later = first_full_layout (i + 1) (drop (i + 1) shapes) (drop (i + 1) flats) turns in
-    let now : or_else (full_fault i (first_full shape (flat.active ++ written_in i turns))) (first_full_layout (suc i) (drop (i + 1) shapes) (drop (i + 1) flats) turns) ≡ whole =
+    let now : option_or (full_fault i (first_full shape (flat.active ++ written_in i turns))) (first_full_layout (suc i) (drop (i + 1) shapes) (drop (i + 1) flats) turns) ≡ whole =
     drop_both (λ ss ls. first_full_layout i ss ls turns ≡ whole) shapes flats i number shape flat stands so_far in
-    ap (λ n. or_else (full_fault n (first_full shape (flat.active ++ written_in n turns))) later) stands.index
-    ∙ ap (λ n. or_else (full_fault i (first_full shape (flat.active ++ written_in i turns))) (first_full_layout n (drop (i + 1) shapes) (drop (i + 1) flats) turns)) (add-one i)
+    ap (λ n. option_or (full_fault n (first_full shape (flat.active ++ written_in n turns))) later) stands.index
+    ∙ ap (λ n. option_or (full_fault i (first_full shape (flat.active ++ written_in i turns))) (first_full_layout n (drop (i + 1) shapes) (drop (i + 1) flats) turns)) (add-one i)
     ∙ now
 
 -- the search stops at a fault, and goes on where there is none
-pub stops_here : (fault full later whole : Option RunFault) → fault ≡ full → is_some fault ≡ true → or_else full later ≡ whole → fault ≡ whole
+pub stops_here : (fault full later whole : Option RunFault) → fault ≡ full → is_some fault ≡ true → option_or full later ≡ whole → fault ≡ whole
 stops_here fault None later whole is some found = absurd (both_ways (is_some fault) (ap is_some is) some)
 stops_here fault (Some full) later whole is some found = is ∙ found
 
-pub goes_on : (fault full later whole : Option RunFault) → fault ≡ full → is_some fault ≡ false → or_else full later ≡ whole → later ≡ whole
+pub goes_on : (fault full later whole : Option RunFault) → fault ≡ full → is_some fault ≡ false → option_or full later ≡ whole → later ≡ whole
 goes_on fault None later whole is none found = found
 goes_on fault (Some full) later whole is none found = absurd (both_ways (is_some fault) none (ap is_some is))
 

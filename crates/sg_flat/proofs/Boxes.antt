@@ -1,15 +1,15 @@
 -- The points of a box: which they are, and in which order.
-use Rattle.std.proofs.Common.{◌≡◌, ℕ, zero, suc, ◌<◌, ◌⊎◌, inl, inr, ℤ, pos, negsuc, ◌+ℤ◌, ◌-ℤ◌, ◌≤ℤ◌, ◌<ℤ◌, Bool, true, false, List, [], ◌∷◌, ◌++◌, map, length, get_or, refl, sym, ap, ◌∙◌, subst, arith, zero-add}
-use Rattle.std.specs.Prelude.{All, AllPairs, Contains, nat_le, filter}
-use Rattle.std.proofs.lemmas.Bool.{cond-true, cond_both}
+use Rattle.std.proofs.Common.{◌≡◌, ℕ, suc, ◌<◌, ◌⊎◌, inl, inr, ℤ, pos, negsuc, ◌+ℤ◌, ◌-ℤ◌, ◌≤ℤ◌, ◌<ℤ◌, Bool, true, false, List, [], ◌∷◌, ◌++◌, map, length, get_or, refl, sym, ap, ◌∙◌, subst, arith, zero-add}
+use Rattle.std.specs.Prelude.{All, AllPairs, Contains, nat_le}
 use Rattle.std.specs.List.{flat_map}
 use Rattle.std.proofs.lemmas.Int.{ints}
-use Rattle.std.proofs.lemmas.List.Elements.{All-nil, All-map, All-filter, All-contains_itself, filter_passes, All-weaker, All-append, All-contains, Contains-get_or, Contains-append_left, Contains-append_right, Contains-append_cases}
+use Rattle.std.proofs.lemmas.List.Elements.{All-nil, All-map, All-weaker, All-append, All-contains, Contains-get_or, Contains-append_left, Contains-append_right, Contains-append_cases}
 use Rattle.std.proofs.lemmas.List.Kept.{AllPairs-cons}
 use Rattle.std.proofs.lemmas.List.FromFn.{length-map-range_with_len, get_or-map-range_with_len}
+use Rattle.sg_words.proofs.Uses.{contains_none, contains_cases, into_map, from_map}
 use Rattle.sg_coord.specs.declared.coord.Coord.{Coord}
 use Rattle.sg_coord.specs.Coord.{count_of, ComesBefore}
-use Rattle.sg_coord.proofs.RowLaws.{part_is, offset_below, same_parts}
+use Rattle.sg_coord.proofs.Uses.{part_is, offset_below, same_parts}
 use Rattle.sg_flat.specs.Domain.{numbers, parts_of, box_points}
 use Rattle.sg_flat.specs.Laws.{IsPartOf, IsInBox, BoxIsRanges, BoxIsInOrder}
 
@@ -20,52 +20,18 @@ Contains-here x xs = (0, omega arith, refl)
 Contains-later : {X : Type 0} (x : X) (xs : List X) (y : X) → Contains xs y → Contains (x ∷ xs) y
 Contains-later x xs y has = (suc has.0, omega (arith, has.1), has.2)
 
-Contains-nil : {X : Type 0} (x : X) → Contains [] x → ⊥
-Contains-nil x has = omega (arith, has.1)
-
 Contains-cases : {X : Type 0} (x : X) (xs : List X) (y : X) → Contains (x ∷ xs) y → (x ≡ y) ⊎ Contains xs y
-Contains-cases x xs y (zero, below, is) = inl is
-Contains-cases x xs y (suc k, below, is) = inr (k, omega arith, is)
-
-pub Contains-map : {X Y : Type 0} (f : X → Y) (xs : List X) (x : X) → Contains xs x → Contains (map f xs) (f x)
-Contains-map f [] x has = absurd (Contains-nil x has)
-Contains-map f (y ∷ ys) x has = elim (Contains-cases y ys x has) [
-  | inl same ↦ subst (λ z. Contains (map f (y ∷ ys)) (f z)) same (Contains-here (f y) (map f ys))
-  | inr later ↦ Contains-later (f y) (map f ys) (f x) (Contains-map f ys x later)
-]
-
-from_map : {X Y : Type 0} (f : X → Y) (xs : List X) (y : Y) → Contains (map f xs) y → (x : X) × Contains xs x × (f x ≡ y)
-from_map f [] y has = absurd (Contains-nil y has)
-from_map f (x ∷ xs) y has = elim (Contains-cases (f x) (map f xs) y has) [
-  | inl same ↦ (x, Contains-here x xs, same)
-  | inr later ↦ (let found = from_map f xs y later in (found.0, Contains-later x xs found.0 found.1, found.2))
-]
-
--- a filter contains what passes
-pub from_filter : {X : Type 0} (test : X → Bool) (xs : List X) (x : X) → Contains (filter test xs) x → Contains xs x × (test x ≡ true)
-from_filter {X} test xs x has = (
-  All-contains (Contains xs) (filter test xs) x (All-filter test (Contains xs) xs (All-contains_itself xs)) has,
-  All-contains (λ (y : X). test y ≡ true) (filter test xs) x (filter_passes test xs) has,
-)
-
-pub into_filter : {X : Type 0} (test : X → Bool) (xs : List X) (x : X) → Contains xs x → test x ≡ true → Contains (filter test xs) x
-into_filter test [] x has passes = absurd (Contains-nil x has)
-into_filter {X} test (y ∷ ys) x has passes = elim (Contains-cases y ys x has) [
-  | inl same ↦ subst (λ (zs : List X). Contains zs x) (sym (cond-true (test y) (y ∷ filter test ys) (filter test ys) (ap test same ∙ passes)))
-      (subst (λ z. Contains (z ∷ filter test ys) x) (sym same) (Contains-here x (filter test ys)))
-  | inr later ↦ cond_both (test y) (y ∷ filter test ys) (filter test ys) (λ (zs : List X). Contains zs x)
-      (λ _. Contains-later y (filter test ys) x (into_filter test ys x later passes)) (λ _. into_filter test ys x later passes)
-]
+Contains-cases x xs y has = contains_cases y x xs has
 
 Contains-flat_map : {X Y : Type 0} (f : X → List Y) (xs : List X) (x : X) (y : Y) → Contains xs x → Contains (f x) y → Contains (flat_map f xs) y
-Contains-flat_map f [] x y has has_y = absurd (Contains-nil x has)
+Contains-flat_map f [] x y has has_y = absurd (contains_none x has)
 Contains-flat_map f (z ∷ zs) x y has has_y = elim (Contains-cases z zs x has) [
   | inl same ↦ Contains-append_left (f z) (flat_map f zs) y (subst (λ w. Contains (f w) y) (sym same) has_y)
   | inr later ↦ Contains-append_right (f z) (flat_map f zs) y (Contains-flat_map f zs x y later has_y)
 ]
 
 from_flat_map : {X Y : Type 0} (f : X → List Y) (xs : List X) (y : Y) → Contains (flat_map f xs) y → (x : X) × Contains xs x × Contains (f x) y
-from_flat_map f [] y has = absurd (Contains-nil y has)
+from_flat_map f [] y has = absurd (contains_none y has)
 from_flat_map f (x ∷ xs) y has = elim (Contains-append_cases (f x) (flat_map f xs) y has) [
   | inl here ↦ (x, Contains-here x xs, here)
   | inr later ↦ (let found = from_flat_map f xs y later in (found.0, Contains-later x xs found.0 found.1, found.2))
@@ -144,7 +110,7 @@ from_parts : (used : Bool) (lo hi part : ℤ) → Contains (parts_of used lo hi)
 from_parts true lo hi part has = from_numbers lo hi part has
 from_parts false lo hi part has = elim (Contains-cases (pos 0) [] part has) [
   | inl same ↦ sym same
-  | inr none ↦ absurd (Contains-nil part none)
+  | inr none ↦ absurd (contains_none part none)
 ]
 
 parts_rise : (used : Bool) (lo hi : ℤ) → AllPairs ◌<ℤ◌ (parts_of used lo hi)
@@ -190,7 +156,7 @@ box_is_ranges lo hi at = (from, to)
     to is =
         let same : point_of lo.n at.a at.b at.c ≡ at = same_parts (point_of lo.n at.a at.b at.c) at (sym is.same_axes) refl refl refl in
         let in_c : Contains (with_ab lo hi at.a at.b) at =
-        subst (λ (p : Coord). Contains (with_ab lo hi at.a at.b) p) same (Contains-map (point_of lo.n at.a at.b) (c_parts lo hi) at.c (in_parts (nat_le 3 lo.n) lo.c hi.c at.c is.c_part)) in
+        subst (λ (p : Coord). Contains (with_ab lo hi at.a at.b) p) same (into_map (point_of lo.n at.a at.b) (c_parts lo hi) at.c (in_parts (nat_le 3 lo.n) lo.c hi.c at.c is.c_part)) in
         let in_b : Contains (with_a lo hi at.a) at =
         Contains-flat_map (with_ab lo hi at.a) (b_parts lo hi) at.b at (in_parts (nat_le 2 lo.n) lo.b hi.b at.b is.b_part) in_c in
         Contains-flat_map (with_a lo hi) (a_parts lo hi) at.a at (in_parts (nat_le 1 lo.n) lo.a hi.a at.a is.a_part) in_b

@@ -1,14 +1,15 @@
 -- An axis cut into runs of one length, and a box cut into blocks.
-use Rattle.std.proofs.Common.{◌≡◌, ℕ, ◌+◌, ◌*◌, ◌/◌, ◌%◌, ◌<◌, ◌≤◌, ℤ, pos, negsuc, ◌≤ℤ◌, ◌<ℤ◌, refl, sym, ap, ◌∙◌, arith}
+use Rattle.std.proofs.Common.{◌≡◌, ℕ, ◌+◌, ◌*◌, ◌/◌, ◌%◌, ◌<◌, ◌≤◌, pos, sym, ap, ◌∙◌, arith}
 use Rattle.std.proofs.lemmas.Int.{ints}
 use Rattle.std.proofs.lemmas.Nat.{mul-add-lt, div-mul-add, mod-mul-add, div_below, mod_below}
 use Rattle.sg_coord.specs.declared.coord.Coord.{Coord}
 use Rattle.sg_coord.specs.Bounds.{Bounds}
 use Rattle.sg_coord.specs.Coord.{Inside, count_of, row_of, point_at}
 use Rattle.sg_coord.specs.Laws.{PointOfRow}
+use Rattle.sg_coord.proofs.Uses.{part_is, offset_below, same_parts}
 use Rattle.sg_flat.specs.declared.blocks.Blocks.{Blocks}
 use Rattle.sg_coord.specs.Bounds.{bounds_of}
-use Rattle.sg_flat.specs.Blocks.{corner, within, block_of}
+use Rattle.sg_flat.specs.steps.Blocks.{corner, within, block_of}
 
 -- each axis is cut into runs of one length, from 1, without a rest
 pub record IsCut (all block : Bounds) : Type 0 where
@@ -54,29 +55,12 @@ runs_tell x y s some same =
     let plain_right : y / s * s + 0 ≡ y / s * s = omega arith in
     sym (ap (λ n. n / s) (sym plain_left) ∙ left) ∙ ap (λ n. n / s) same ∙ ap (λ n. n / s) (sym plain_right) ∙ right
 
--- ---- parts of coordinates
-pub part_is : (z : ℤ) → pos 0 ≤ℤ z → z ≡ pos (count_of z)
-part_is (pos k) low = refl
-part_is (negsuc k) low = absurd (omega (arith, ints))
-
-pub count_below : (z : ℤ) (n : ℕ) → pos 0 ≤ℤ z → z <ℤ pos n → count_of z < n
-count_below (pos k) n low high = omega (arith, ints)
-count_below (negsuc k) n low high = absurd (omega (arith, ints))
-
-made : ℕ → ℤ → ℤ → ℤ → Coord
-made n a b c = record { n = n; a = a; b = b; c = c }
-
-pub same_coord : (x y : Coord) → x.n ≡ y.n → x.a ≡ y.a → x.b ≡ y.b → x.c ≡ y.c → x ≡ y
-unfolding made
-same_coord x y n a b c =
-    ap (λ v. made v x.a x.b x.c) n ∙ ap (λ v. made y.n v x.b x.c) a ∙ ap (λ v. made y.n y.a v x.c) b ∙ ap (λ v. made y.n y.a y.b v) c
-
 -- ---- blocks
 pub corner_inside : (all block : Bounds) (at : Coord) → IsCut all block → Inside all at → Inside all (corner block at)
 corner_inside all block at cut inside =
-    let a_below = in_run_at_start (count_of at.a) block.a all.a cut.a_some cut.a_cut (count_below at.a all.a inside.a_low inside.a_high) in
-    let b_below = in_run_at_start (count_of at.b) block.b all.b cut.b_some cut.b_cut (count_below at.b all.b inside.b_low inside.b_high) in
-    let c_below = in_run_at_start (count_of at.c) block.c all.c cut.c_some cut.c_cut (count_below at.c all.c inside.c_low inside.c_high) in
+    let a_below = in_run_at_start (count_of at.a) block.a all.a cut.a_some cut.a_cut (offset_below at.a all.a inside.a_low inside.a_high) in
+    let b_below = in_run_at_start (count_of at.b) block.b all.b cut.b_some cut.b_cut (offset_below at.b all.b inside.b_low inside.b_high) in
+    let c_below = in_run_at_start (count_of at.c) block.c all.c cut.c_some cut.c_cut (offset_below at.c all.c inside.c_low inside.c_high) in
     record {
       same_axes = inside.same_axes;
       a_low = omega (arith, ints);
@@ -110,9 +94,9 @@ pub record IsFurther (all block : Bounds) (at by point : Coord) : Type 0 where
 
 pub is_further : (all block : Bounds) (at first by point : Coord) (a a' b b' c c' : ℕ) → IsCut all block → Inside all at → Inside block by → first ≡ corner block at → (a ≡ count_of first.a) × (b ≡ count_of first.b) × (c ≡ count_of first.c) → (a' ≡ count_of by.a) × (b' ≡ count_of by.b) × (c' ≡ count_of by.c) → point ≡ record { n = at.n; a = pos (a + a'); b = pos (b + b'); c = pos (c + c') } → IsFurther all block at by point
 is_further all block at first by point a a' b b' c c' cut inside by_inside is_first counts by_counts is_point =
-    let a_by = count_below by.a block.a by_inside.a_low by_inside.a_high in
-    let b_by = count_below by.b block.b by_inside.b_low by_inside.b_high in
-    let c_by = count_below by.c block.c by_inside.c_low by_inside.c_high in
+    let a_by = offset_below by.a block.a by_inside.a_low by_inside.a_high in
+    let b_by = offset_below by.b block.b by_inside.b_low by_inside.b_high in
+    let c_by = offset_below by.c block.c by_inside.c_low by_inside.c_high in
     let a_first : a ≡ count_of at.a / block.a * block.a = counts.0 ∙ ap (λ (p : Coord). count_of p.a) is_first in
     let b_first : b ≡ count_of at.b / block.b * block.b = counts.1 ∙ ap (λ (p : Coord). count_of p.b) is_first in
     let c_first : c ≡ count_of at.c / block.c * block.c = counts.2 ∙ ap (λ (p : Coord). count_of p.c) is_first in
@@ -120,9 +104,9 @@ is_further all block at first by point a a' b b' c c' cut inside by_inside is_fi
     let a_is : point.a ≡ pos (count_of at.a / block.a * block.a + count_of by.a) = ap (λ (p : Coord). p.a) is_point ∙ ap (λ k. pos (k + a')) a_first ∙ ap (λ k. pos (count_of at.a / block.a * block.a + k)) by_counts.0 in
     let b_is : point.b ≡ pos (count_of at.b / block.b * block.b + count_of by.b) = ap (λ (p : Coord). p.b) is_point ∙ ap (λ k. pos (k + b')) b_first ∙ ap (λ k. pos (count_of at.b / block.b * block.b + k)) by_counts.1 in
     let c_is : point.c ≡ pos (count_of at.c / block.c * block.c + count_of by.c) = ap (λ (p : Coord). p.c) is_point ∙ ap (λ k. pos (k + c')) c_first ∙ ap (λ k. pos (count_of at.c / block.c * block.c + k)) by_counts.2 in
-    let a_below = in_run (count_of at.a) block.a all.a (count_of by.a) cut.a_some cut.a_cut (count_below at.a all.a inside.a_low inside.a_high) a_by in
-    let b_below = in_run (count_of at.b) block.b all.b (count_of by.b) cut.b_some cut.b_cut (count_below at.b all.b inside.b_low inside.b_high) b_by in
-    let c_below = in_run (count_of at.c) block.c all.c (count_of by.c) cut.c_some cut.c_cut (count_below at.c all.c inside.c_low inside.c_high) c_by in
+    let a_below = in_run (count_of at.a) block.a all.a (count_of by.a) cut.a_some cut.a_cut (offset_below at.a all.a inside.a_low inside.a_high) a_by in
+    let b_below = in_run (count_of at.b) block.b all.b (count_of by.b) cut.b_some cut.b_cut (offset_below at.b all.b inside.b_low inside.b_high) b_by in
+    let c_below = in_run (count_of at.c) block.c all.c (count_of by.c) cut.c_some cut.c_cut (offset_below at.c all.c inside.c_low inside.c_high) c_by in
     record {
       inside = record {
         same_axes = same_n ∙ inside.same_axes;
@@ -133,11 +117,11 @@ is_further all block at first by point a a' b b' c c' cut inside by_inside is_fi
         c_low = omega (arith, ints);
         c_high = omega (arith, ints);
       };
-      same_block = same_coord (corner block point) (corner block at) same_n
+      same_block = same_parts (corner block point) (corner block at) same_n
           (ap (λ z. pos (count_of z / block.a * block.a)) a_is ∙ ap pos (same_run (count_of at.a) block.a (count_of by.a) a_by))
           (ap (λ z. pos (count_of z / block.b * block.b)) b_is ∙ ap pos (same_run (count_of at.b) block.b (count_of by.b) b_by))
           (ap (λ z. pos (count_of z / block.c * block.c)) c_is ∙ ap pos (same_run (count_of at.c) block.c (count_of by.c) c_by));
-      place = same_coord (within block point) by (same_n ∙ inside.same_axes ∙ cut.same_axes ∙ sym by_inside.same_axes)
+      place = same_parts (within block point) by (same_n ∙ inside.same_axes ∙ cut.same_axes ∙ sym by_inside.same_axes)
           (ap (λ z. pos (count_of z % block.a)) a_is ∙ ap pos (place_in_run (count_of at.a) block.a (count_of by.a) a_by) ∙ sym (part_is by.a by_inside.a_low))
           (ap (λ z. pos (count_of z % block.b)) b_is ∙ ap pos (place_in_run (count_of at.b) block.b (count_of by.b) b_by) ∙ sym (part_is by.b by_inside.b_low))
           (ap (λ z. pos (count_of z % block.c)) c_is ∙ ap pos (place_in_run (count_of at.c) block.c (count_of by.c) c_by) ∙ sym (part_is by.c by_inside.c_low));
@@ -151,7 +135,7 @@ pub record InSameRuns (block : Bounds) (x y : Coord) : Type 0 where
 
 pub same_block_from_runs : (all block : Bounds) (x y : Coord) → x.n ≡ y.n → InSameRuns block x y → block_of all block x ≡ block_of all block y
 same_block_from_runs all block x y same_n same =
-    ap (row_of all) (same_coord (corner block x) (corner block y) same_n
+    ap (row_of all) (same_parts (corner block x) (corner block y) same_n
     (ap (λ k. pos (k * block.a)) same.a_run) (ap (λ k. pos (k * block.b)) same.b_run) (ap (λ k. pos (k * block.c)) same.c_run))
 
 pub same_runs_from_block : (all block : Bounds) (x y : Coord) → PointOfRow → IsCut all block → Inside all x → Inside all y → block_of all block x ≡ block_of all block y → InSameRuns block x y

@@ -4,7 +4,7 @@ use Rattle.std.specs.Prelude.{filter}
 use Rattle.std.specs.List.{range_with_len}
 use Rattle.std.proofs.lemmas.Bool.{both_ways, cases_eq, cond-true, cond-false, cond_both, eqb-true, eq-eqb, ne_eqb, not-true, not-false, and_parts}
 use Rattle.sg_flat.specs.Words.{has_no_zero, word_at, words_of}
-use Rattle.sg_flat.specs.Landing.{AreWordsBelow}
+use Rattle.sg_flat.specs.steps.Landing.{AreWordsBelow}
 
 -- the words that a function gives the rows from a number on
 abbrev pub words_from : ℕ → ℕ → (ℕ → ℕ) → List (ℕ × ℕ)

@@ -22,10 +22,11 @@ use Rattle.sg_flat.specs.Words.{are_words, word_at}
 use Rattle.sg_flat.specs.Effects.{landed, is_to, writes_of, writes_to, written_in}
 use Rattle.sg_flat.specs.State.{IsFlatField, IsFlatLayout, AreFlatLayouts}
 use Rattle.sg_flat.specs.Kernel.{field_after, fields_after, layout_after}
-use Rattle.sg_flat.specs.Landing.{AreWordsBelow, stay_inside}
+use Rattle.sg_flat.specs.steps.Landing.{AreWordsBelow, stay_inside}
 use Rattle.sg_flat.proofs.FieldWords.{are_words_of, are_words_from_rows}
 use Rattle.sg_flat.proofs.Actives.{rows_below}
-use Rattle.sg_flat.proofs.Boxes.{Contains-here, Contains-map, into_filter, from_filter}
+use Rattle.sg_flat.proofs.Boxes.{Contains-here}
+use Rattle.sg_words.proofs.Uses.{into_map, into_filter, from_filter}
 use Rattle.sg_flat.proofs.Pairs.{StandsAt}
 
 -- the words of a field of a flat layout
@@ -60,7 +61,7 @@ pub record RunLaws (shape : Shape) : Type 0 where
 
 -- the coordinates of the writes into a layout, where these stay inside
 written_at : (layout : ℕ) (turns : List Turn) (write : Write) → Contains (writes_of turns) write → eqb write.layout layout ≡ true → Contains (written_in layout turns) write.at
-written_at layout turns write there same = Contains-map (λ (w : Write). w.at) (filter (λ (w : Write). eqb w.layout layout) (writes_of turns)) write (into_filter (λ (w : Write). eqb w.layout layout) (writes_of turns) write there same)
+written_at layout turns write there same = into_map (λ (w : Write). w.at) (filter (λ (w : Write). eqb w.layout layout) (writes_of turns)) write (into_filter (λ (w : Write). eqb w.layout layout) (writes_of turns) write there same)
 
 written_inside : (bounds : Bounds) (layout : ℕ) (turns : List Turn) (write : Write) → InsideTest → stay_inside bounds layout (writes_of turns) ≡ true → Contains (writes_of turns) write → eqb write.layout layout ≡ true → Inside bounds write.at
 written_inside bounds layout turns write inside_test inside there same =

@@ -9,21 +9,17 @@ use Rattle.sg_coord.specs.declared.coord.Coord.{Coord}
 use Rattle.sg_coord.specs.Coord.{is_inside}
 use Rattle.sg_layout.specs.declared.shape.Shape.{Shape}
 use Rattle.sg_layout.specs.Axes.{bounds_of_shape}
-use Rattle.sg_layout.specs.Rules.{or_else}
 use Rattle.sg_flat.specs.declared.effects.Write.{Write}
 use Rattle.sg_flat.specs.declared.effects.Turn.{Turn}
 use Rattle.sg_flat.specs.declared.effects.RunFault.TheVariants.{WriteOutside}
+use Rattle.sg_words.proofs.Uses.{neither}
 use Rattle.sg_flat.specs.Effects.{writes_of}
-use Rattle.sg_flat.specs.Landing.{stay_inside}
+use Rattle.sg_flat.specs.steps.Landing.{stay_inside}
 use Rattle.sg_flat.specs.Kernel.{is_inside_of, outside_among, first_outside}
 
 -- the write is inside the extents of the layout that it names
 abbrev is_inside_its : List Shape → Write → Bool
 is_inside_its shapes write = is_inside_of (slice_get shapes write.layout) write.at
-
-neither : {A : Type 0} (first second : Option A) → or_else first second ≡ None → (first ≡ None) × (second ≡ None)
-neither None second none = (refl, none)
-neither (Some x) second none = absurd (cc)
 
 inside_from_none : (shapes : List Shape) (at : Coord) (writes : List Write) → outside_among shapes at writes ≡ None → list_all (is_inside_its shapes) writes ≡ true
 inside_from_none shapes at [] none = refl

@@ -16,7 +16,7 @@ use Rattle.sg_flat.specs.declared.effects.Write.{Write}
 use Rattle.sg_flat.specs.declared.effects.Turn.{Turn}
 use Rattle.sg_flat.specs.Words.{word_at, words_of}
 use Rattle.sg_flat.specs.Effects.{land, landed, is_to, writes_of}
-use Rattle.sg_flat.specs.Landing.{AreWordsBelow, put_word, stay_inside}
+use Rattle.sg_flat.specs.steps.Landing.{AreWordsBelow, put_word, stay_inside}
 use Rattle.sg_flat.proofs.FieldWords.{word_at-words_of, words_of-agree, are_words_of}
 
 -- what a row's word is after writes

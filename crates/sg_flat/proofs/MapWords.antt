@@ -12,7 +12,7 @@ use Rattle.std.specs.BTreeMap.{is_at, insert_entry}
 use Rattle.std.proofs.lemmas.Bool.{cases_eq, cases_lt, cases_order, cond-true, cond-false, cond_both, eq-eqb, ne_eqb, lt-ltb, not_from_false, and_parts, and_from}
 use Rattle.std.proofs.lemmas.Map.Keys.{sorted_head, sorted_tail}
 use Rattle.sg_flat.specs.Words.{has_no_zero, are_words, word_at, words_of}
-use Rattle.sg_flat.specs.Landing.{AreWordsBelow, put_word}
+use Rattle.sg_flat.specs.steps.Landing.{AreWordsBelow, put_word}
 use Rattle.sg_flat.proofs.FieldWords.{RowsRise, are_words_from_rows, words_of-agree, word_at-past, head_not_zero, tail_not_zero}
 
 -- a comparison of two numbers answers `Equal` exactly where they are equal

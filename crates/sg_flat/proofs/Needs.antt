@@ -32,7 +32,7 @@ use Rattle.sg_layout.specs.Axes.{count_of, bounds_of_shape}
 use Rattle.sg_layout.specs.Accepted.{IsAccepted}
 use Rattle.sg_layout.specs.Path.{offset_at, offsets, path}
 use Rattle.sg_layout.specs.Need.{distinct, reached_slots, greatest_offset, under_slot, chunks_under, need_by, need_of}
-use Rattle.sg_flat.specs.Blocks.{bounds_over, nodes_above, is_whole, block_of, place_of, reach_of, longer, length_at}
+use Rattle.sg_flat.specs.steps.Blocks.{bounds_over, nodes_above, is_whole, block_of, place_of, reach_of, longer, length_at}
 use Rattle.sg_flat.proofs.Accepted.{good_at, last_where_dynamic, has_cap}
 use Rattle.sg_flat.proofs.MapWords.{is_eq-nat_cmp}
 use Rattle.sg_flat.proofs.Slotted.{paths_tell, place_is_offset}

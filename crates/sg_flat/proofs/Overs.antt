@@ -8,8 +8,8 @@ use Rattle.sg_coord.specs.Bounds.{Bounds}
 use Rattle.sg_layout.specs.declared.shape.NodeShape.{NodeShape}
 use Rattle.sg_layout.specs.Axes.{extent_in, extent_over}
 use Rattle.sg_layout.specs.Rules.{has_good_extents}
-use Rattle.sg_flat.specs.Blocks.{bounds_over}
-use Rattle.sg_flat.proofs.Accepted.{extent_in_some, extent_over_some}
+use Rattle.sg_flat.specs.steps.Blocks.{bounds_over}
+use Rattle.sg_layout.proofs.Uses.{in_some, over_some}
 
 pub over_split : (nodes : List NodeShape) (k axis : ℕ) → extent_over nodes axis ≡ extent_over (take k nodes) axis * extent_over (drop k nodes) axis
 over_split nodes zero axis = omega arith
@@ -26,18 +26,18 @@ pub over_cut : (nodes : List NodeShape) (k axis : ℕ) → list_all has_good_ext
 over_cut nodes k axis good =
     let split = over_split nodes k axis in
     ap (λ n. n / extent_over (drop k nodes) axis * extent_over (drop k nodes) axis) split
-    ∙ whole_runs (extent_over (take k nodes) axis) (extent_over (drop k nodes) axis) (extent_over_some (drop k nodes) axis good)
+    ∙ whole_runs (extent_over (take k nodes) axis) (extent_over (drop k nodes) axis) (over_some (drop k nodes) axis good)
     ∙ sym split
 
 -- a node's extent fits into that over it and the nodes below it, and leaves theirs
 pub extent_fits : (node : NodeShape) (later : List NodeShape) (axis : ℕ) → list_all has_good_extents later ≡ true → extent_in node.sizes axis ≤ extent_over (node ∷ later) axis
 extent_fits node later axis good =
-    omega (arith, mul-le (extent_in node.sizes axis) 1 (extent_in node.sizes axis) (extent_over later axis) (omega arith) (extent_over_some later axis good))
+    omega (arith, mul-le (extent_in node.sizes axis) 1 (extent_in node.sizes axis) (extent_over later axis) (omega arith) (over_some later axis good))
 
 pub quotient_is : (node : NodeShape) (later : List NodeShape) (axis : ℕ) → has_good_extents node ≡ true → extent_over (node ∷ later) axis / extent_in node.sizes axis ≡ extent_over later axis
 quotient_is node later axis good =
     ap (λ n. n / extent_in node.sizes axis) (mul_comm (extent_in node.sizes axis) (extent_over later axis))
-    ∙ mul-div_cancel (extent_over later axis) (extent_in_some node axis good)
+    ∙ mul-div_cancel (extent_over later axis) (in_some node.sizes axis good)
 
 -- a quotient by what fits
 pub quotient_some : (a e : ℕ) → 1 ≤ e → e ≤ a → 1 ≤ a / e

@@ -12,10 +12,11 @@ use Rattle.sg_coord.specs.declared.coord.Coord.{Coord}
 use Rattle.sg_coord.specs.Bounds.{Bounds, volume}
 use Rattle.sg_coord.specs.Coord.{Inside, count_of, row_of, point_at}
 use Rattle.sg_coord.specs.Laws.{PointOfRow, RowOfPoint, PointInside}
-use Rattle.sg_flat.specs.Blocks.{within, block_of, place_of, reach_of, longer, length_at, is_reached}
-use Rattle.sg_flat.proofs.Cuts.{IsCut, same_runs_from_block, within_inside, same_coord, part_is}
+use Rattle.sg_flat.specs.steps.Blocks.{within, block_of, place_of, reach_of, longer, length_at, is_reached}
+use Rattle.sg_flat.proofs.Cuts.{IsCut, same_runs_from_block, within_inside}
+use Rattle.sg_coord.proofs.Uses.{same_parts, part_is}
 use Rattle.sg_flat.proofs.MapWords.{is_eq-nat_cmp}
-use Rattle.sg_flat.proofs.Slotted.{same_tests}
+use Rattle.sg_words.proofs.Uses.{same_tests}
 use Rattle.std.proofs.lemmas.Nat.{div-add-mod'}
 
 -- ---- one more coordinate
@@ -121,7 +122,7 @@ same_place all block x y point_of_row cut x_in y_in same_block same =
     let runs = same_runs_from_block all block x y point_of_row cut x_in y_in same_block in
     let rests : within block x ≡ within block y =
     sym (point_of_row block (within block x) (within_inside all block x cut x_in)) ∙ ap (point_at block) same ∙ point_of_row block (within block y) (within_inside all block y cut y_in) in
-    same_coord x y (x_in.same_axes ∙ sym y_in.same_axes)
+    same_parts x y (x_in.same_axes ∙ sym y_in.same_axes)
     (part_is x.a x_in.a_low ∙ ap pos (same_part (count_of x.a) (count_of y.a) block.a runs.a_run (ap (λ (p : Coord). count_of p.a) rests)) ∙ sym (part_is y.a y_in.a_low))
     (part_is x.b x_in.b_low ∙ ap pos (same_part (count_of x.b) (count_of y.b) block.b runs.b_run (ap (λ (p : Coord). count_of p.b) rests)) ∙ sym (part_is y.b y_in.b_low))
     (part_is x.c x_in.c_low ∙ ap pos (same_part (count_of x.c) (count_of y.c) block.c runs.c_run (ap (λ (p : Coord). count_of p.c) rests)) ∙ sym (part_is y.c y_in.c_low))

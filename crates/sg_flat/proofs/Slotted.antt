@@ -7,11 +7,11 @@ use Rattle.std.proofs.Math.Arith.{mod-mul}
 use Rattle.std.proofs.Math.Nat.{mul_comm, div-div-eq-div-mul, mod-eq_of_lt, div-one, mod-one, mul-one}
 use Rattle.std.proofs.lemmas.Nat.{same_from_place, mod_below, div_below}
 use Rattle.std.proofs.lemmas.Bool.{and_parts, and_from, eqb-true, eq-eqb, ltb-true, leb-true, lt-ltb, le-leb}
-use Rattle.std.proofs.lemmas.Bool.Decides.{same_from_decides}
 use Rattle.sg_coord.specs.declared.coord.Coord.{Coord}
 use Rattle.sg_coord.specs.Bounds.{Bounds, volume}
 use Rattle.sg_coord.specs.Coord.{Inside, count_of}
 use Rattle.sg_coord.specs.Laws.{PointOfRow, RowBelow}
+use Rattle.sg_words.proofs.Uses.{same_tests}
 use Rattle.sg_layout.specs.declared.shape.Kind.{Kind}
 use Rattle.sg_layout.specs.declared.shape.Kind.TheVariants.{Dense, Bitmasked, Pointer, Hash, Dynamic}
 use Rattle.sg_layout.specs.declared.shape.NodeShape.{NodeShape}
@@ -21,13 +21,11 @@ use Rattle.sg_layout.specs.Accepted.{IsAccepted}
 use Rattle.sg_layout.specs.Path.{offset_at, offsets, path}
 use Rattle.sg_layout.specs.Live.{is_at_or_below, makes_live}
 use Rattle.sg_layout.specs.Rules.{has_good_extents}
-use Rattle.sg_flat.specs.Blocks.{bounds_over, nodes_above, is_whole, block_of, within, place_of, reach_of}
-use Rattle.sg_flat.proofs.Accepted.{good_extents, good_below, extent_in_some, extent_over_some}
-use Rattle.sg_flat.proofs.Cuts.{IsCut, same_runs_from_block, same_block_from_runs, within_inside, count_below}
+use Rattle.sg_flat.specs.steps.Blocks.{bounds_over, nodes_above, is_whole, block_of, within, place_of, reach_of}
+use Rattle.sg_layout.proofs.Uses.{all_good, good_below, in_some, over_some}
+use Rattle.sg_flat.proofs.Cuts.{IsCut, same_runs_from_block, same_block_from_runs, within_inside}
+use Rattle.sg_coord.proofs.Uses.{offset_below}
 use Rattle.sg_flat.proofs.Overs.{over_split, over_cut}
-
-pub same_tests : (a b : Bool) → (a ≡ true → b ≡ true) → (b ≡ true → a ≡ true) → a ≡ b
-same_tests a b there back = same_from_decides a b (there, back) ((λ e. e), (λ e. e))
 
 -- ---- one axis: the digits of a number to two bases
 axis_step : (x y e f rest later : ℕ) → later ≡ f * rest → 1 ≤ e → 1 ≤ f → (x / rest % (e * f) ≡ y / rest % (e * f)) ↔ ((x / later % e ≡ y / later % e) × (x / rest % f ≡ y / rest % f))
@@ -63,8 +61,8 @@ record SameNode (node : NodeShape) (later : List NodeShape) (x y : Coord) : Type
 
 same_node_from_offset : (node : NodeShape) (later : List NodeShape) (x y : Coord) → has_good_extents node ≡ true → offset_at node later x ≡ offset_at node later y → SameNode node later x y
 same_node_from_offset node later x y good same =
-    let b_some = extent_in_some node 2 good in
-    let c_some = extent_in_some node 3 good in
+    let b_some = in_some node.sizes 2 good in
+    let c_some = in_some node.sizes 3 good in
     let e = extent_in node.sizes in
     let first = same_from_place
     (count_of x.a / extent_over later 1 % e 1 * e 2 + count_of x.b / extent_over later 2 % e 2) (count_of x.c / extent_over later 3 % e 3)
@@ -109,11 +107,11 @@ parts_from_path (node ∷ later) (suc k) x y good same =
     let front = good_front later k goods.1 in
     record {
       a = (axis_step (count_of x.a) (count_of y.a) (extent_in node.sizes 1) (extent_over (take k later) 1) (extent_over (drop k later) 1) (extent_over later 1)
-          (over_split later k 1) (extent_in_some node 1 goods.0) (extent_over_some (take k later) 1 front)).1 (here.a, rest.a);
+          (over_split later k 1) (in_some node.sizes 1 goods.0) (over_some (take k later) 1 front)).1 (here.a, rest.a);
       b = (axis_step (count_of x.b) (count_of y.b) (extent_in node.sizes 2) (extent_over (take k later) 2) (extent_over (drop k later) 2) (extent_over later 2)
-          (over_split later k 2) (extent_in_some node 2 goods.0) (extent_over_some (take k later) 2 front)).1 (here.b, rest.b);
+          (over_split later k 2) (in_some node.sizes 2 goods.0) (over_some (take k later) 2 front)).1 (here.b, rest.b);
       c = (axis_step (count_of x.c) (count_of y.c) (extent_in node.sizes 3) (extent_over (take k later) 3) (extent_over (drop k later) 3) (extent_over later 3)
-          (over_split later k 3) (extent_in_some node 3 goods.0) (extent_over_some (take k later) 3 front)).1 (here.c, rest.c);
+          (over_split later k 3) (in_some node.sizes 3 goods.0) (over_some (take k later) 3 front)).1 (here.c, rest.c);
     }
 
 path_from_parts : (nodes : List NodeShape) (through : ℕ) (x y : Coord) → list_all has_good_extents nodes ≡ true → SameParts nodes through x y → take through (offsets nodes x) ≡ take through (offsets nodes y)
@@ -123,28 +121,28 @@ path_from_parts (node ∷ later) (suc k) x y good same =
     let goods = and_parts (has_good_extents node) (list_all has_good_extents later) good in
     let front = good_front later k goods.1 in
     let a = (axis_step (count_of x.a) (count_of y.a) (extent_in node.sizes 1) (extent_over (take k later) 1) (extent_over (drop k later) 1) (extent_over later 1)
-    (over_split later k 1) (extent_in_some node 1 goods.0) (extent_over_some (take k later) 1 front)).0 same.a in
+    (over_split later k 1) (in_some node.sizes 1 goods.0) (over_some (take k later) 1 front)).0 same.a in
     let b = (axis_step (count_of x.b) (count_of y.b) (extent_in node.sizes 2) (extent_over (take k later) 2) (extent_over (drop k later) 2) (extent_over later 2)
-    (over_split later k 2) (extent_in_some node 2 goods.0) (extent_over_some (take k later) 2 front)).0 same.b in
+    (over_split later k 2) (in_some node.sizes 2 goods.0) (over_some (take k later) 2 front)).0 same.b in
     let c = (axis_step (count_of x.c) (count_of y.c) (extent_in node.sizes 3) (extent_over (take k later) 3) (extent_over (drop k later) 3) (extent_over later 3)
-    (over_split later k 3) (extent_in_some node 3 goods.0) (extent_over_some (take k later) 3 front)).0 same.c in
+    (over_split later k 3) (in_some node.sizes 3 goods.0) (over_some (take k later) 3 front)).0 same.c in
     ap (λ first. first ∷ take k (offsets later x)) (offset_from_same_node node later x y (record { a = a.0; b = b.0; c = c.0 }))
     ∙ ap (λ rest. offset_at node later y ∷ rest) (path_from_parts later k x y goods.1 (record { a = a.1; b = b.1; c = c.1 }))
 
 -- a part inside is below the extents over the first nodes, once divided by those over the others
 in_front : (nodes : List NodeShape) (k axis n : ℕ) → list_all has_good_extents nodes ≡ true → n < extent_over nodes axis → n / extent_over (drop k nodes) axis % extent_over (take k nodes) axis ≡ n / extent_over (drop k nodes) axis
 in_front nodes k axis n good below =
-    let some = extent_over_some (drop k nodes) axis (good_below nodes k good) in
+    let some = over_some (drop k nodes) axis (good_below nodes k good) in
     mod-eq_of_lt (div_below n (extent_over (drop k nodes) axis) (extent_over (take k nodes) axis) some (omega (arith, over_split nodes k axis)))
 
 pub cut_over : (shape : Shape) (k : ℕ) → IsAccepted shape → IsCut (bounds_of_shape shape) (bounds_over shape.axes (drop k shape.nodes))
 cut_over shape k accepted =
-    let below = good_below shape.nodes k (good_extents shape accepted) in
+    let below = good_below shape.nodes k (all_good shape accepted) in
     record {
       same_axes = refl;
-      a_some = extent_over_some (drop k shape.nodes) 1 below;
-      b_some = extent_over_some (drop k shape.nodes) 2 below;
-      c_some = extent_over_some (drop k shape.nodes) 3 below;
+      a_some = over_some (drop k shape.nodes) 1 below;
+      b_some = over_some (drop k shape.nodes) 2 below;
+      c_some = over_some (drop k shape.nodes) 3 below;
       a_cut = over_cut shape.nodes k 1 below;
       b_cut = over_cut shape.nodes k 2 below;
       c_cut = over_cut shape.nodes k 3 below;
@@ -161,28 +159,28 @@ paths_tell shape k x y point_of_row accepted x_in y_in = same_tests _ _ there ba
     nodes = shape.nodes
 
     good : list_all has_good_extents shape.nodes ≡ true
-    good = good_extents shape accepted
+    good = all_good shape accepted
 
     front : (axis : ℕ) (n : ℕ) → n < extent_over shape.nodes axis → n / extent_over (drop k shape.nodes) axis % extent_over (take k shape.nodes) axis ≡ n / extent_over (drop k shape.nodes) axis
     front axis n below = in_front shape.nodes k axis n good below
 
     xa : count_of x.a < extent_over shape.nodes 1
-    xa = count_below x.a (extent_over shape.nodes 1) x_in.a_low x_in.a_high
+    xa = offset_below x.a (extent_over shape.nodes 1) x_in.a_low x_in.a_high
 
     xb : count_of x.b < extent_over shape.nodes 2
-    xb = count_below x.b (extent_over shape.nodes 2) x_in.b_low x_in.b_high
+    xb = offset_below x.b (extent_over shape.nodes 2) x_in.b_low x_in.b_high
 
     xc : count_of x.c < extent_over shape.nodes 3
-    xc = count_below x.c (extent_over shape.nodes 3) x_in.c_low x_in.c_high
+    xc = offset_below x.c (extent_over shape.nodes 3) x_in.c_low x_in.c_high
 
     ya : count_of y.a < extent_over shape.nodes 1
-    ya = count_below y.a (extent_over shape.nodes 1) y_in.a_low y_in.a_high
+    ya = offset_below y.a (extent_over shape.nodes 1) y_in.a_low y_in.a_high
 
     yb : count_of y.b < extent_over shape.nodes 2
-    yb = count_below y.b (extent_over shape.nodes 2) y_in.b_low y_in.b_high
+    yb = offset_below y.b (extent_over shape.nodes 2) y_in.b_low y_in.b_high
 
     yc : count_of y.c < extent_over shape.nodes 3
-    yc = count_below y.c (extent_over shape.nodes 3) y_in.c_low y_in.c_high
+    yc = offset_below y.c (extent_over shape.nodes 3) y_in.c_low y_in.c_high
 
     there : bytes_eq (path shape x k) (path shape y k) ≡ true → eqb (block_of (bounds_of_shape shape) (bounds_over shape.axes (drop k shape.nodes)) x) (block_of (bounds_of_shape shape) (bounds_over shape.axes (drop k shape.nodes)) y) ≡ true
     there same =

@@ -1,13 +1,14 @@
-use Rattle.std.specs.Prelude.{ℕ, suc, Bool, false, List, [], ◌∷◌, ◌++◌, if◌then◌else◌, Option, Some, None, Result, Ok, Err, slice_get}
+use Rattle.std.specs.Prelude.{ℕ, suc, Bool, false, List, [], ◌∷◌, ◌++◌, if◌then◌else◌, Option, Some, None, Result, Ok, slice_get}
 use Rattle.sg_coord.specs.declared.coord.Coord.{Coord}
 use Rattle.sg_coord.specs.Bounds.{Bounds, volume}
 use Rattle.sg_coord.specs.Coord.{is_inside}
+use Rattle.sg_words.specs.Results.{fault_or}
 use Rattle.sg_words.specs.declared.operators.Ty.{Ty}
 use Rattle.sg_layout.specs.declared.shape.Shape.{Shape}
 use Rattle.sg_layout.specs.Axes.{bounds_of_shape}
 use Rattle.sg_layout.specs.Closure.{closure}
 use Rattle.sg_layout.specs.Need.{FullNode, first_full}
-use Rattle.sg_layout.specs.Rules.{or_else}
+use Rattle.std.specs.Option.{option_or}
 use Rattle.sg_flat.specs.declared.effects.Write.{Write}
 use Rattle.sg_flat.specs.declared.effects.Turn.{Turn}
 use Rattle.sg_flat.specs.declared.effects.Effects.{Effects}
@@ -33,7 +34,7 @@ outside_among shapes at (write ∷ writes) =
 -- where a kernel made it
 abbrev pub first_outside : List Shape → List Turn → Option RunFault
 first_outside shapes [] = None
-first_outside shapes (turn ∷ turns) = or_else (outside_among shapes turn.at turn.writes) (first_outside shapes turns)
+first_outside shapes (turn ∷ turns) = option_or (outside_among shapes turn.at turn.writes) (first_outside shapes turns)
 
 -- the fault of a layout with this number, where a node of it has no room
 abbrev pub full_fault : ℕ → Option FullNode → Option RunFault
@@ -45,7 +46,7 @@ abbrev pub first_full_layout : ℕ → List Shape → List FlatLayout → List T
 first_full_layout layout [] flats turns = None
 first_full_layout layout (shape ∷ shapes) [] turns = None
 first_full_layout layout (shape ∷ shapes) (flat ∷ flats) turns =
-    or_else (full_fault layout (first_full shape (flat.active ++ written_in layout turns))) (first_full_layout (suc layout) shapes flats turns)
+    option_or (full_fault layout (first_full shape (flat.active ++ written_in layout turns))) (first_full_layout (suc layout) shapes flats turns)
 
 -- a field after writes: in each cell what the writes to it make of its word
 abbrev pub field_after : Bounds → ℕ → ℕ → Ty → List (ℕ × ℕ) → List Write → List (ℕ × ℕ)
@@ -71,12 +72,10 @@ layouts_after layout (shape ∷ shapes) [] turns = []
 layouts_after layout (shape ∷ shapes) (flat ∷ flats) turns =
     layout_after layout shape flat turns ∷ layouts_after (suc layout) shapes flats turns
 
--- the fault where there is one, else the answer
-abbrev pub unless : {A E : Type 0} → Option E → Result A E → Result A E
-unless (Some fault) answer = Err fault
-unless None answer = answer
-
--- a kernel run of these effects: refused where some write is outside, else where some node has no room, else each layout is as after the run
+-- a kernel run of these effects: refused where some write is outside, else where some node has no room, else each
+-- layout is as after the run
 abbrev pub kernel_meaning : List Shape → FlatState → Effects → Result FlatState RunFault
 kernel_meaning shapes state effects =
-    unless (first_outside shapes effects.turns) (unless (first_full_layout 0 shapes state.layouts effects.turns) (Ok (record { layouts = layouts_after 0 shapes state.layouts effects.turns })))
+    fault_or (first_outside shapes effects.turns)
+    (fault_or (first_full_layout 0 shapes state.layouts effects.turns)
+    (Ok (record { layouts = layouts_after 0 shapes state.layouts effects.turns })))

@@ -2,9 +2,8 @@ pub mod Words
 pub mod State
 pub mod Domain
 pub mod Effects
-pub mod Landing
 pub mod Kernel
-pub mod Blocks
+pub mod steps
 pub mod Laws
 pub mod Examples
 pub mod RunExamples

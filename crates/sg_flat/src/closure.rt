@@ -5,7 +5,7 @@ ghost use Rattle.sg_coord.specs.Bounds.{bounds_of, volume};
 ghost use Rattle.sg_coord.specs.Coord.{Inside, point_at};
 ghost use Rattle.sg_layout.specs.Axes.{bounds_of_shape};
 ghost use Rattle.sg_layout.specs.Closure.{last_sparse, points, closure};
-ghost use Rattle.sg_flat.specs.Blocks.{all_of, each_of, reaches_row, is_between};
+ghost use Rattle.sg_flat.specs.steps.Blocks.{all_of, each_of, reaches_row, is_between};
 
 use crate::blocks::Blocks;
 use crate::lengths::Grown;

@@ -1,13 +1,13 @@
-ghost use Rattle.std.specs.Prelude.{◌≡◌, ◌≤◌, ◌<◌, ◌*◌, ◌/◌, ◌^◌, pos, ◌≤ℤ◌, drop, length, IsTrue};
+ghost use Rattle.std.specs.Prelude.{◌≡◌, ◌≤◌, ◌<◌, ◌*◌, ◌/◌, drop, length, IsTrue};
 ghost use Rattle.std.specs.List.{list_all};
 ghost use Rattle.sg_coord.specs.Bounds.{bounds_of, volume};
-ghost use Rattle.sg_coord.specs.Coord.{Inside, count_of};
+ghost use Rattle.sg_coord.specs.Coord.{Inside};
 ghost use Rattle.sg_layout.specs.Axes.{extent_in, bounds_of_shape};
 ghost use Rattle.sg_layout.specs.Rules.{is_extent};
-ghost use Rattle.sg_flat.specs.Blocks.{bounds_over, nodes_above, is_whole, corner, within, all_of, each_of, number_in, place_in, reach_in, point_in};
+ghost use Rattle.sg_flat.specs.steps.Blocks.{bounds_over, nodes_above, is_whole, corner, within, all_of, each_of, number_in, place_in, reach_in, point_in};
 
 use crate::blocks::Blocks;
-use sg_coord::{Coord, Extents, coord_at, row};
+use sg_coord::{Coord, Extents, coord_at, coord_of, count, row};
 use sg_layout::{Kind, Layout, NodeShape, extent_in};
 
 impl Blocks {
@@ -98,29 +98,6 @@ impl Blocks {
             count(first.c) + count(by.c),
         );
         row(&self.extents, point)
-    }
-}
-
-/// A number that is at least 0, as a part of a coordinate inside or a node's cap, as a count.
-pub(crate) fn count(part: i32) -> u32
-    requires { pos 0 ≤ℤ part }
-    ensures value { result ≡ count_of part }
-    ensures part { part ≡ pos result }
-{
-    part as u32
-}
-
-fn coord_of(n: u32, a: u32, b: u32, c: u32) -> Coord
-    requires a { a < 2 ^ 31 }
-    requires b { b < 2 ^ 31 }
-    requires c { c < 2 ^ 31 }
-    ensures { result ≡ record { n = n; a = pos a; b = pos b; c = pos c } }
-{
-    Coord {
-        n,
-        a: a as i32,
-        b: b as i32,
-        c: c as i32,
     }
 }
 

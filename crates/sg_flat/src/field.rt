@@ -23,7 +23,7 @@ impl Model for FlatField {
 impl FlatField {
     ghost use Rattle.std.specs.Prelude.{◌≡◌, [], ℕ, ◌<◌, IsTrue, IfOk, OnOk};
     ghost use Rattle.sg_flat.specs.Words.{has_no_zero, are_words, word_at, words_of};
-    ghost use Rattle.sg_flat.specs.Landing.{AreWordsBelow, put_word};
+    ghost use Rattle.sg_flat.specs.steps.Landing.{AreWordsBelow, put_word};
 
     /// A field whose words are all 0.
     pub(crate) fn new(alloc: Global) -> FlatField

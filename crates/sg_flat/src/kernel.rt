@@ -5,7 +5,7 @@ ghost use Rattle.sg_layout.specs.Need.{first_full};
 ghost use Rattle.sg_words.specs.Answers.{AnswersAs};
 ghost use Rattle.sg_flat.specs.State.{IsFlat, IsFlatLayout};
 ghost use Rattle.sg_flat.specs.Effects.{writes_of, written_in};
-ghost use Rattle.sg_flat.specs.Landing.{stay_inside};
+ghost use Rattle.sg_flat.specs.steps.Landing.{stay_inside};
 ghost use Rattle.sg_flat.specs.Kernel.{is_inside_of, outside_among, first_outside, full_fault, first_full_layout, layout_after, layouts_after, kernel_meaning};
 
 use crate::closure::closure;

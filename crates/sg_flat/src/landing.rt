@@ -4,7 +4,7 @@ ghost use Rattle.sg_layout.specs.Axes.{bounds_of_shape};
 ghost use Rattle.sg_flat.specs.State.{IsFlatLayout};
 ghost use Rattle.sg_flat.specs.Effects.{writes_of, land};
 ghost use Rattle.sg_flat.specs.Words.{are_words, word_at};
-ghost use Rattle.sg_flat.specs.Landing.{AreWordsBelow, stay_inside};
+ghost use Rattle.sg_flat.specs.steps.Landing.{AreWordsBelow, stay_inside};
 ghost use Rattle.sg_flat.specs.Kernel.{field_after, fields_after};
 
 use crate::effects::{Effects, Turn, Way, Write};

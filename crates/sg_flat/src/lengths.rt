@@ -3,7 +3,7 @@ ghost use Rattle.std.specs.Ordering.{nat_cmp};
 ghost use Rattle.std.specs.BTreeMap.{get};
 ghost use Rattle.sg_coord.specs.Bounds.{volume};
 ghost use Rattle.sg_coord.specs.Coord.{Inside};
-ghost use Rattle.sg_flat.specs.Blocks.{longer, all_of, each_of, number_in, reach_in, length_in};
+ghost use Rattle.sg_flat.specs.steps.Blocks.{longer, all_of, each_of, number_in, reach_in, length_in};
 
 use crate::blocks::Blocks;
 use sg_coord::Coord;

@@ -8,10 +8,9 @@ ghost use Rattle.sg_layout.specs.Need.{need_of, first_full};
 ghost use Rattle.sg_flat.specs.Kernel.{full_fault};
 
 use crate::blocks::Blocks;
-use crate::cutting::count;
 use crate::effects::RunFault;
 use crate::lengths::lengths_of;
-use sg_coord::{Coord, numbering};
+use sg_coord::{Coord, count, numbering};
 use sg_layout::{Kind, Layout, NodeShape};
 use sg_words::Memory;
 use std::alloc::Global;

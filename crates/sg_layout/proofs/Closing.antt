@@ -14,7 +14,7 @@ use Rattle.sg_layout.specs.Live.{kind_at, is_live}
 use Rattle.sg_layout.specs.Closure.{last_sparse, is_in_closure, points, closure}
 use Rattle.sg_layout.specs.ClosureLaws.{PointsAreInside, PointsAreInOrder, ClosureIsTested, ClosureIsInside, ClosureIsInOrder, ClosureExtends, ClosureGrows, ClosureIsOfMembers, ClosureIsClosed, ClosureAbsorbs}
 use Rattle.std.proofs.lemmas.List.Kept.{AllPairs-filter}
-use Rattle.sg_layout.proofs.Lists.{same_tests, from_filter, into_filter}
+use Rattle.sg_words.proofs.Uses.{same_tests, from_filter, into_filter}
 use Rattle.sg_layout.proofs.Slots.{live_itself, live_onward, MakesLive, from_live, into_live}
 
 -- the slot of a coordinate at the last node that isn't dense is live for the list

@@ -15,9 +15,9 @@ use Rattle.sg_layout.specs.declared.shape.Kind.TheVariants.{Dense, Bitmasked, Po
 use Rattle.sg_layout.specs.declared.shape.NodeShape.{NodeShape}
 use Rattle.sg_layout.specs.declared.shape.Shape.{Shape}
 use Rattle.sg_layout.specs.Axes.{count_of, size_of, slots_of}
-use Rattle.sg_layout.specs.Rules.{stands_well, first_node_fault}
+use Rattle.sg_layout.specs.Rules.{has_good_order, first_node_fault}
 use Rattle.sg_layout.specs.StorageWords.{ends_segment, put_before, segments, last_node, copies_after, mask_by, mask_words, power_for, end_by, end_words, copy_words, segment_words, chunks_by, words_of_shape}
-use Rattle.sg_layout.specs.WordSteps.{own_words, copies_next, slots_next, counted}
+use Rattle.sg_layout.specs.steps.WordSteps.{own_words, copies_next, slots_next, counted}
 use Rattle.sg_layout.proofs.Keeping.{faultless_head, faultless_tail}
 
 -- the least power of two
@@ -179,7 +179,7 @@ counted_dynamic fields copies front node chunks masks end =
     ∙ turned
 
 -- each kind of node
-counted_kind : (kind : Kind) (number fields copies : ℕ) (front : List NodeShape) (node : NodeShape) (later : List NodeShape) → node.kind ≡ kind → stands_well kind number later ≡ true → (HasCells fields (front ++ node ∷ []) → IsCounted fields copies (front ++ node ∷ []) later) → IsCounted fields (count_of node.cap + 17) [] later → segment_words fields copies (glue front (put_before (ends_segment kind) node (segments later))) + (chunks_by kind node fields + chunk_words fields later) ≡ copies * mask_words 1 front + (copies * own_words kind node (slots_of front) (slots_of front * size_of node.sizes) + chunks_by kind node fields + counted fields (copies_next kind node copies) (slots_next kind (slots_of front * size_of node.sizes)) later)
+counted_kind : (kind : Kind) (number fields copies : ℕ) (front : List NodeShape) (node : NodeShape) (later : List NodeShape) → node.kind ≡ kind → has_good_order kind number later ≡ true → (HasCells fields (front ++ node ∷ []) → IsCounted fields copies (front ++ node ∷ []) later) → IsCounted fields (count_of node.cap + 17) [] later → segment_words fields copies (glue front (put_before (ends_segment kind) node (segments later))) + (chunks_by kind node fields + chunk_words fields later) ≡ copies * mask_words 1 front + (copies * own_words kind node (slots_of front) (slots_of front * size_of node.sizes) + chunks_by kind node fields + counted fields (copies_next kind node copies) (slots_next kind (slots_of front * size_of node.sizes)) later)
 counted_kind Dense number fields copies front node later is stands rest others =
     let masks = mask_first front node ∙ ap (λ k. mask_words 1 front + mask_by k (slots_of front * size_of node.sizes)) is in
     counted_open fields copies front node later 0 masks (rest (cells_push fields front node (λ segment. ap (λ k. end_by k node segment fields) is)))

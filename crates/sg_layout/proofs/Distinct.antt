@@ -1,31 +1,15 @@
 -- Lists of slots with each member once: what they have, and how sums over them grow.
-use Rattle.std.proofs.Common.{◌≡◌, ◌≢◌, ℕ, zero, suc, ◌+◌, ◌≤◌, Bool, true, false, cond, List, [], ◌∷◌, ◌++◌, length, map, refl, sym, ap, ◌∙◌, subst, arith, inl, inr, ◌⊎◌}
+use Rattle.std.proofs.Common.{◌≡◌, ◌≢◌, ℕ, zero, suc, ◌+◌, ◌≤◌, Bool, true, false, cond, List, [], ◌∷◌, ◌++◌, length, refl, sym, ap, ◌∙◌, subst, arith, inl, inr, ◌⊎◌}
 use Rattle.std.specs.List.{Contains, AllPairs, list_any, sum_by}
 use Rattle.std.specs.Str.{bytes_eq}
 use Rattle.std.specs.Cmp.Lexicographic.{bytes_decides}
 use Rattle.std.proofs.lemmas.Bool.{cases_Bool, false≢true}
-use Rattle.std.proofs.lemmas.List.{get_or-map, get_or_default, length-map}
+use Rattle.std.proofs.lemmas.List.{get_or_default}
 use Rattle.std.proofs.lemmas.List.Elements.{Contains-append_left, Contains-append_right, Contains-append_cases}
 use Rattle.std.proofs.lemmas.List.Sums.{sum_by-cons, sum_by-append}
 use Rattle.std.proofs.lemmas.List.Folds.{Any-from_list_any, list_any-from_Any}
 use Rattle.sg_layout.specs.Need.{distinct}
-use Rattle.sg_layout.proofs.Lists.{contains_none, contains_head, contains_rest}
-
--- what a list has: its head, or what the rest has
-pub contains_cases : {X : Type 0} (x y : X) (xs : List X) → Contains (y ∷ xs) x → (y ≡ x) ⊎ Contains xs x
-contains_cases x y xs (zero, below, same) = inl same
-contains_cases x y xs (suc k, below, same) = inr (k, omega arith, same)
-
--- what a mapped list has
-pub into_map : {X Y : Type 0} (f : X → Y) (xs : List X) (x : X) → Contains xs x → Contains (map f xs) (f x)
-into_map f xs x (k, below, same) = (k, omega (arith, length-map xs f), get_or-map f xs k x (f x) below ∙ ap f same)
-
-pub from_map : {X Y : Type 0} (f : X → Y) (xs : List X) (y : Y) → Contains (map f xs) y → (x : X) × Contains xs x × (f x ≡ y)
-from_map f [] y has = absurd (contains_none y has)
-from_map f (x ∷ xs) y (zero, below, same) = (x, contains_head x x xs refl, same)
-from_map f (x ∷ xs) y (suc k, below, same) =
-    let found = from_map f xs y (k, omega arith, same) in
-    (found.0, contains_rest found.0 x xs found.1, found.2)
+use Rattle.sg_words.proofs.Uses.{contains_none, contains_head, contains_rest, contains_cases}
 
 -- the test that a list has a slot
 has_slot : (slot : List ℕ) (slots : List (List ℕ)) → list_any (bytes_eq slot) slots ≡ true → Contains slots slot

@@ -21,7 +21,7 @@ pub record IsExtent (z : ℤ) : Type 0 where
   pub most : count_of z ≤ 32768
   pub whole : z ≡ pos (count_of z)
 
-whole_from : (z : ℤ) → 1 ≤ count_of z → z ≡ pos (count_of z)
+pub whole_from : (z : ℤ) → 1 ≤ count_of z → z ≡ pos (count_of z)
 whole_from (pos n) some = refl
 whole_from (negsuc n) some = absurd (omega arith)
 
@@ -37,7 +37,7 @@ extent_is z good =
     record { some = some; most = omega arith; whole = whole_from z some }
 
 -- so are the extents of an axis, at a node and over nodes
-in_some : (sizes : List Size) (axis : ℕ) → list_all (λ size. is_extent size.extent) sizes ≡ true → 1 ≤ extent_in sizes axis
+pub in_some : (sizes : List Size) (axis : ℕ) → list_all (λ size. is_extent size.extent) sizes ≡ true → 1 ≤ extent_in sizes axis
 in_some [] axis good = omega arith
 in_some (size ∷ sizes) axis good =
     let parts = and_parts (is_extent size.extent) (list_all (λ size. is_extent size.extent) sizes) good in

@@ -17,7 +17,7 @@ use Rattle.sg_layout.specs.Closure.{is_dense, last_sparse, is_in_closure, points
 use Rattle.sg_layout.specs.Need.{need_by, need_of, first_full_from}
 use Rattle.sg_layout.specs.Rules.{all_dense}
 use Rattle.sg_layout.specs.ClosureLaws.{PointsAreInside, DenseIsFull}
-use Rattle.sg_layout.proofs.Lists.{filter_all}
+use Rattle.sg_words.proofs.Uses.{filter_all}
 
 pub no_sparse : (nodes : List NodeShape) → all_dense nodes ≡ true → last_sparse nodes ≡ 0
 no_sparse [] dense = refl

@@ -1,5 +1,5 @@
-pub mod Lists
 pub mod Slots
+pub mod Measured
 pub mod Points
 pub mod Closing
 pub mod Filled
@@ -16,4 +16,6 @@ pub mod Paths
 pub mod Distinct
 pub mod Deciding
 pub mod Needs
+pub mod Lives
 pub mod Reached
+pub mod Uses

@@ -21,8 +21,8 @@ use Rattle.sg_layout.specs.Closure.{is_dense, last_sparse, closure}
 use Rattle.sg_layout.specs.Need.{FullNode, greatest_offset, under_slot, chunks_under, need_by, need_of, first_full_from}
 use Rattle.sg_layout.specs.ClosureLaws.{PointsAreInside}
 use Rattle.sg_layout.specs.NeedLaws.{IsNode, AllInside, NeedGrows, NeedIsOfMembers, FullIsOfMembers, NeedAbsorbs, FullAbsorbs}
-use Rattle.sg_layout.proofs.Lists.{contains_none, contains_head, contains_rest, from_filter, into_filter}
-use Rattle.sg_layout.proofs.Distinct.{contains_cases, into_map, from_map, distinct_grows, distinct_length}
+use Rattle.sg_words.proofs.Uses.{contains_none, contains_head, contains_rest, from_filter, into_filter, contains_cases, into_map, from_map}
+use Rattle.sg_layout.proofs.Distinct.{distinct_grows, distinct_length}
 use Rattle.sg_layout.proofs.Closing.{closed_parts, closure_is_tested, closure_extends}
 use Rattle.sg_layout.proofs.Paths.{offsets_long}
 use Rattle.sg_layout.proofs.Deciding.{last_decides}
@@ -188,7 +188,7 @@ below_last (a ∷ b ∷ x) (c ∷ d ∷ y) (suc m) below long =
     let parts = and_parts (eqb a c) (is_at_or_below (b ∷ x) (d ∷ y)) below in
     below_last (b ∷ x) (d ∷ y) m parts.1 (omega arith)
 
-live_take : (kind : Kind) (x y : List ℕ) (m : ℕ) → makes_live kind x y ≡ true → m < length x → take m x ≡ take m y
+pub live_take : (kind : Kind) (x y : List ℕ) (m : ℕ) → makes_live kind x y ≡ true → m < length x → take m x ≡ take m y
 live_take Dynamic x y m live short = below_take x y m live short
 live_take Dense x y m live short = ap (take m) ((bytes_decides x y).0 live)
 live_take Bitmasked x y m live short = ap (take m) ((bytes_decides x y).0 live)
@@ -246,12 +246,12 @@ covered_by shape number by at first below within live = elim (cases_eq number (l
 ]
 
 -- the last node that isn't dense, with one more node before
-sparse_first : (node : NodeShape) (later : List NodeShape) → is_dense node.kind ≡ false → 1 ≤ last_sparse (node ∷ later)
+pub sparse_first : (node : NodeShape) (later : List NodeShape) → is_dense node.kind ≡ false → 1 ≤ last_sparse (node ∷ later)
 sparse_first node later sparse =
     cond_both (ltb 0 (last_sparse later)) (suc (last_sparse later)) (cond (is_dense node.kind) 0 1) (λ n. 1 ≤ n) (λ e. omega arith)
     (λ e. omega (arith, cond-false {A = ℕ} (is_dense node.kind) 0 1 sparse))
 
-sparse_more : (node : NodeShape) (later : List NodeShape) (number : ℕ) → 1 ≤ number → number ≤ last_sparse later → suc number ≤ last_sparse (node ∷ later)
+pub sparse_more : (node : NodeShape) (later : List NodeShape) (number : ℕ) → 1 ≤ number → number ≤ last_sparse later → suc number ≤ last_sparse (node ∷ later)
 sparse_more node later number some below =
     omega (arith, cond-true {A = ℕ} (ltb 0 (last_sparse later)) (suc (last_sparse later)) (cond (is_dense node.kind) 0 1) (lt-ltb 0 (last_sparse later) (omega arith)))
 

@@ -1,5 +1,5 @@
 -- The whole path of a coordinate inside tells the coordinate, and each slot of the last node is one.
-use Rattle.std.proofs.Common.{◌≡◌, ℕ, zero, suc, ◌+◌, ◌*◌, ◌/◌, ◌%◌, ◌<◌, ◌≤◌, List, [], ◌∷◌, length, map, take, None, refl, sym, ap, ◌∙◌, subst, arith, ℤ, pos, negsuc, ◌≤ℤ◌, ◌<ℤ◌}
+use Rattle.std.proofs.Common.{◌≡◌, ℕ, zero, suc, ◌+◌, ◌*◌, ◌/◌, ◌%◌, ◌<◌, ◌≤◌, List, [], ◌∷◌, length, map, take, None, refl, sym, ap, ◌∙◌, subst, arith, ℤ, pos}
 use Rattle.std.proofs.Math.Nat.{pos_of_ne-zero, mod-eq_of_lt}
 use Rattle.std.proofs.Math.Arith.{mod-mul}
 use Rattle.std.proofs.lemmas.Nat.{mul-add-lt, mod_below, same_from_place}
@@ -9,6 +9,7 @@ use Rattle.sg_coord.specs.declared.coord.Coord.{Coord}
 use Rattle.sg_coord.specs.Bounds.{Bounds, volume}
 use Rattle.sg_coord.specs.Coord.{Inside, row_of, point_at}
 use Rattle.sg_coord.specs.Laws.{PointInside, RowOfPoint, RowBelow, PointOfRow}
+use Rattle.sg_coord.proofs.Uses.{offset_below}
 use Rattle.sg_layout.specs.declared.shape.NodeShape.{NodeShape}
 use Rattle.sg_layout.specs.declared.shape.Shape.{Shape}
 use Rattle.sg_layout.specs.Axes.{count_of, size_of, extent_in, extent_over, bounds_of_shape}
@@ -30,14 +31,6 @@ digits e l a p r some line low same =
     same_from_place (a / l % e) (a % l) p r l (mod_below a l line) low (sym (mod-mul a {m = e} {c = l} some line) ∙ same)
 
 -- the parts of coordinates inside
-part_is : (z : ℤ) → pos 0 ≤ℤ z → z ≡ pos (count_of z)
-part_is (pos k) low = refl
-part_is (negsuc k) low = absurd (omega (arith, ints))
-
-part_below : (z : ℤ) (n : ℕ) → pos 0 ≤ℤ z → z <ℤ pos n → count_of z < n
-part_below (pos k) n low high = omega (arith, ints)
-part_below (negsuc k) n low high = absurd (omega (arith, ints))
-
 abbrev point : ℕ → ℕ → ℕ → ℕ → Coord
 point n a b c = record { n = n; a = pos a; b = pos b; c = pos c }
 
@@ -106,7 +99,7 @@ first_axis = record {
   of_node = λ node. refl;
   of_nodes = λ nodes. refl;
   some = λ e has. has.a;
-  below = λ e at inside. part_below at.a e.a inside.a_low inside.a_high;
+  below = λ e at inside. offset_below at.a e.a inside.a_low inside.a_high;
 }
 
 second_axis : IsAxis (λ (at : Coord). at.b) 2 (λ (e : Bounds). e.b)
@@ -115,7 +108,7 @@ second_axis = record {
   of_node = λ node. refl;
   of_nodes = λ nodes. refl;
   some = λ e has. has.b;
-  below = λ e at inside. part_below at.b e.b inside.b_low inside.b_high;
+  below = λ e at inside. offset_below at.b e.b inside.b_low inside.b_high;
 }
 
 third_axis : IsAxis (λ (at : Coord). at.c) 3 (λ (e : Bounds). e.c)
@@ -124,7 +117,7 @@ third_axis = record {
   of_node = λ node. refl;
   of_nodes = λ nodes. refl;
   some = λ e has. has.c;
-  below = λ e at inside. part_below at.c e.c inside.c_low inside.c_high;
+  below = λ e at inside. offset_below at.c e.c inside.c_low inside.c_high;
 }
 
 -- from a path back to the number on an axis
@@ -144,9 +137,9 @@ number_back law part axis extent is (node ∷ later) at has =
 -- bounds that something is inside of have points
 inside_points : (shape : Shape) (at : Coord) → Inside (bounds_of_shape shape) at → HasPoints (over shape.nodes)
 inside_points shape at inside =
-    let a = part_below at.a (extent_over shape.nodes 1) inside.a_low inside.a_high in
-    let b = part_below at.b (extent_over shape.nodes 2) inside.b_low inside.b_high in
-    let c = part_below at.c (extent_over shape.nodes 3) inside.c_low inside.c_high in
+    let a = offset_below at.a (extent_over shape.nodes 1) inside.a_low inside.a_high in
+    let b = offset_below at.b (extent_over shape.nodes 2) inside.b_low inside.b_high in
+    let c = offset_below at.c (extent_over shape.nodes 3) inside.c_low inside.c_high in
     record {
       a = omega arith;
       b = omega arith;
@@ -165,9 +158,9 @@ coordinate_of_path shape law at inside =
     let e : Bounds = bounds_of_shape shape in
     let nodes : List NodeShape = shape.nodes in
     let has = inside_points shape at inside in
-    let a_below = part_below at.a e.a inside.a_low inside.a_high in
-    let b_below = part_below at.b e.b inside.b_low inside.b_high in
-    let c_below = part_below at.c e.c inside.c_low inside.c_high in
+    let a_below = offset_below at.a e.a inside.a_low inside.a_high in
+    let b_below = offset_below at.b e.b inside.b_low inside.b_high in
+    let c_below = offset_below at.c e.c inside.c_low inside.c_high in
     let a = number_back law (λ (x : Coord). x.a) 1 (λ (x : Bounds). x.a) first_axis nodes at has ∙ mod-eq_of_lt a_below in
     let b = number_back law (λ (x : Coord). x.b) 2 (λ (x : Bounds). x.b) second_axis nodes at has ∙ mod-eq_of_lt b_below in
     let c = number_back law (λ (x : Coord). x.c) 3 (λ (x : Bounds). x.c) third_axis nodes at has ∙ mod-eq_of_lt c_below in

@@ -9,7 +9,7 @@ use Rattle.std.specs.Int.RustNames.{count_ones}
 use Rattle.std.proofs.lemmas.List.Folds.{Any-from_list_any, list_any-from_Any}
 use Rattle.std.proofs.lemmas.List.FromFn.{get_or-range_with_len}
 use Rattle.sg_layout.specs.Rules.{is_extent}
-use Rattle.sg_layout.proofs.Lists.{same_tests}
+use Rattle.sg_words.proofs.Uses.{same_tests}
 
 -- twice a number has the same ones
 ones_of_double : (m : ℕ) → count_ones (m * 2) ≡ count_ones m

@@ -13,7 +13,8 @@ use Rattle.sg_layout.specs.Live.{is_at_or_below, makes_live, kind_at, is_live}
 use Rattle.sg_layout.specs.Need.{reached_slots, under_slot}
 use Rattle.sg_layout.specs.NeedLaws.{IsDynamicNode, ReachedAreLive, ReachedOnce, ParentsHaveLive, LiveUpToGreatest}
 use Rattle.sg_layout.proofs.Slots.{from_live, into_live, live_itself}
-use Rattle.sg_layout.proofs.Distinct.{into_map, from_map, into_distinct, from_distinct, distinct_once, once_pairs}
+use Rattle.sg_layout.proofs.Distinct.{into_distinct, from_distinct, distinct_once, once_pairs}
+use Rattle.sg_words.proofs.Uses.{into_map, from_map}
 use Rattle.sg_layout.proofs.Paths.{offsets_long}
 use Rattle.sg_layout.proofs.Needs.{offset_there, into_under, from_under, greatest_member, fold_reached, below_take, below_last, path_front, path_long, path_offset}
 

@@ -7,7 +7,8 @@ use Rattle.sg_layout.specs.declared.shape.Shape.{Shape}
 use Rattle.sg_layout.specs.declared.layout.LayoutFault.{LayoutFault}
 use Rattle.sg_layout.specs.declared.layout.LayoutFault.TheVariants.{BadExtent, BadOrder, BadAxis, BadCap, TooLarge}
 use Rattle.sg_layout.specs.Axes.{bounds_of_shape}
-use Rattle.sg_layout.specs.Rules.{has_good_extents, stands_well, has_good_axes, has_good_caps, or_else, node_fault, first_node_fault, is_small, checked_by}
+use Rattle.sg_layout.specs.Rules.{has_good_extents, has_good_order, has_good_axes, has_good_caps, node_fault, first_node_fault, is_small, checked_by}
+use Rattle.std.specs.Option.{option_or}
 use Rattle.sg_layout.specs.RuleLaws.{KeepsRules, AllKeep, AcceptedKeepsRules, FailsFirst, HasFault, FaultIsFirst}
 use Rattle.std.proofs.lemmas.Option.{same_Some}
 use Rattle.sg_layout.proofs.Keeping.{keeps, faultless_head, faultless_tail}
@@ -21,7 +22,7 @@ passed false fault rest good none = cc
 no_fault_here : (axes number : ℕ) (node : NodeShape) (later : List NodeShape) → KeepsRules axes number node later → node_fault axes number node later ≡ None
 no_fault_here axes number node later keep =
     passed (has_good_extents node) (BadExtent number) _ keep.extents
-    (passed (stands_well node.kind number later) (BadOrder number) _ keep.order
+    (passed (has_good_order node.kind number later) (BadOrder number) _ keep.order
     (passed (has_good_axes axes node) (BadAxis number) _ keep.names
     (passed (has_good_caps node.kind node) (BadCap number) None keep.caps refl)))
 
@@ -47,8 +48,8 @@ keep_all axes number (first ∷ later) none (suc k) node there =
     let place : suc number + k ≡ number + suc k = omega arith in
     subst (λ n. KeepsRules axes n node (drop (suc k) later)) place (keep_all axes (suc number) later (faultless_tail axes number first later none) k node there)
 
-joined : (first rest : Option LayoutFault) → first ≡ None → rest ≡ None → or_else first rest ≡ None
-joined first rest here there = ap (λ f. or_else f rest) here ∙ there
+joined : (first rest : Option LayoutFault) → first ≡ None → rest ≡ None → option_or first rest ≡ None
+joined first rest here there = ap (λ f. option_or f rest) here ∙ there
 
 none_from : (axes number : ℕ) (nodes : List NodeShape) → KeepAll axes number nodes → first_node_fault axes number nodes ≡ None
 none_from axes number [] keep = refl
@@ -102,7 +103,7 @@ fails_first true true true false number fault e =
     subst (λ f. FailsFirst true true true false number f) (same_Some (BadCap number) fault e) (refl, refl, refl, refl, refl)
 fails_first true true true true number fault e = cc
 
-either : (first rest : Option LayoutFault) (fault : LayoutFault) → or_else first rest ≡ Some fault → (first ≡ Some fault) ⊎ ((first ≡ None) × (rest ≡ Some fault))
+either : (first rest : Option LayoutFault) (fault : LayoutFault) → option_or first rest ≡ Some fault → (first ≡ Some fault) ⊎ ((first ≡ None) × (rest ≡ Some fault))
 either (Some other) rest fault e = inl e
 either None rest fault e = inr (refl, e)
 
@@ -123,7 +124,7 @@ found axes number [] fault is = cc
 found axes number (first ∷ later) fault is = elim (either (node_fault axes number first later) (first_node_fault axes (suc number) later) fault is) [
   | inl here ↦
       let place : number ≡ number + 0 = omega arith in
-      let fails = fails_first (has_good_extents first) (stands_well first.kind number later) (has_good_axes axes first) (has_good_caps first.kind first) number fault here in (
+      let fails = fails_first (has_good_extents first) (has_good_order first.kind number later) (has_good_axes axes first) (has_good_caps first.kind first) number fault here in (
         0,
         first,
         record {

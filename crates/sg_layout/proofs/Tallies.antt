@@ -9,7 +9,7 @@ use Rattle.sg_layout.specs.declared.shape.Shape.{Shape}
 use Rattle.sg_layout.specs.Axes.{count_of, size_of, slots_of}
 use Rattle.sg_layout.specs.Rules.{has_good_extents, has_good_caps, first_node_fault}
 use Rattle.sg_layout.specs.StorageWords.{chunks_by}
-use Rattle.sg_layout.specs.WordSteps.{own_words, copies_next, slots_next, counted}
+use Rattle.sg_layout.specs.steps.WordSteps.{own_words, copies_next, slots_next, counted}
 use Rattle.sg_layout.proofs.Caps.{cap_range, dynamic_cap, dynamic_chunk}
 use Rattle.sg_layout.proofs.Keeping.{faultless_head, faultless_tail}
 use Rattle.sg_layout.proofs.Faultless.{size_some, slots_some, no_fault, slots_few, counts_declared}

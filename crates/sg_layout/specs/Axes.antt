@@ -1,5 +1,5 @@
 -- The extents of nodes and of axes.
-use Rattle.std.specs.Prelude.{ℕ, ◌*◌, List, [], ◌∷◌, if◌then◌else◌, ◌==◌}
+use Rattle.std.specs.Prelude.{ℕ, ◌*◌, List, [], ◌∷◌, map, if◌then◌else◌, ◌==◌}
 use Rattle.sg_coord.specs.Bounds.{Bounds}
 -- a number as a count: 0 where it is negative
 pub use Rattle.sg_coord.specs.Coord.{count_of}
@@ -21,6 +21,10 @@ extent_over (node ∷ nodes) axis = extent_in node.sizes axis * extent_over node
 abbrev pub size_of : List Size → ℕ
 size_of [] = 1
 size_of (size ∷ sizes) = count_of size.extent * size_of sizes
+
+-- the sizes of nodes, from the first on
+abbrev pub sizes_of : List NodeShape → List ℕ
+sizes_of nodes = map (λ node. size_of node.sizes) nodes
 
 -- the product of the sizes of nodes: how many slots the last of them has in all, under one slot of the node before
 -- the first

@@ -1,3 +1,4 @@
+pub mod Limits
 pub mod Axes
 pub mod Path
 pub mod Live
@@ -5,6 +6,7 @@ pub mod Closure
 pub mod Need
 pub mod ClosureLaws
 pub mod NeedLaws
+pub mod LiveLaws
 pub mod Slots
 pub mod PathLaws
 pub mod Rules
@@ -14,4 +16,4 @@ pub mod Examples
 pub mod NeedExamples
 pub mod PathExamples
 pub mod StorageWords
-pub mod WordSteps
+pub mod steps

@@ -5,12 +5,12 @@ use Rattle.sg_layout.specs.declared.shape.Shape.{Shape}
 use Rattle.sg_layout.specs.declared.layout.LayoutFault.{LayoutFault}
 use Rattle.sg_layout.specs.declared.layout.LayoutFault.TheVariants.{BadExtent, BadOrder, BadAxis, TooLarge, BadCap}
 use Rattle.sg_layout.specs.Axes.{bounds_of_shape}
-use Rattle.sg_layout.specs.Rules.{has_good_extents, stands_well, has_good_axes, has_good_caps, is_small, checked}
+use Rattle.sg_layout.specs.Rules.{has_good_extents, has_good_order, has_good_axes, has_good_caps, is_small, checked}
 
 -- the node with this number, before these others, keeps the rules that are about one node
 pub record KeepsRules (axes number : ℕ) (node : NodeShape) (later : List NodeShape) : Type 0 where
   pub extents : IsTrue (has_good_extents node)
-  pub order : IsTrue (stands_well node.kind number later)
+  pub order : IsTrue (has_good_order node.kind number later)
   pub names : IsTrue (has_good_axes axes node)
   pub caps : IsTrue (has_good_caps node.kind node)
 
@@ -43,7 +43,7 @@ FailsFirst extents order names caps number TooLarge = ⊥
 -- the node with this number, before these others, has the fault: it breaks this rule and none that is smaller
 abbrev pub HasFault : (axes number : ℕ) → NodeShape → List NodeShape → LayoutFault → Type 0
 HasFault axes number node later fault =
-    FailsFirst (has_good_extents node) (stands_well node.kind number later) (has_good_axes axes node)
+    FailsFirst (has_good_extents node) (has_good_order node.kind number later) (has_good_axes axes node)
     (has_good_caps node.kind node) number fault
 
 -- the node at this place has the fault, and all before it keep the rules

@@ -1,7 +1,11 @@
 -- The rules of layouts, and the fault that is answered.
 use Rattle.std.specs.Prelude.{ℕ, ◌^◌, suc, ℤ, Bool, true, false, not, ◌&&◌, List, [], ◌∷◌, length, if◌then◌else◌, ◌==◌, nat_lt, nat_le, Option, Some, None, Result, Ok, Err}
 use Rattle.std.specs.List.{list_any, list_all, range_with_len}
+use Rattle.std.specs.Option.{option_or}
 use Rattle.sg_coord.specs.Bounds.{Bounds, volume}
+use Rattle.sg_coord.specs.Limits.{most_axes, most_extent, most_points}
+use Rattle.sg_layout.specs.Limits.{most_nodes, most_fields, most_cap}
+use Rattle.sg_words.specs.Results.{fault_or}
 use Rattle.sg_words.specs.declared.operators.Ty.{Ty}
 use Rattle.sg_words.specs.declared.operators.Ty.TheVariants as ty
 use Rattle.sg_layout.specs.declared.shape.Kind.{Kind}
@@ -23,13 +27,13 @@ abbrev pub has_good_extents : NodeShape → Bool
 has_good_extents node = list_all (λ size. is_extent size.extent) node.sizes
 
 -- rule 2: a hash node is the first, a dynamic node the last
-abbrev pub stands_well : Kind → ℕ → List NodeShape → Bool
-stands_well Hash number later = number == 1
-stands_well Dynamic number [] = true
-stands_well Dynamic number (node ∷ nodes) = false
-stands_well Dense number later = true
-stands_well Bitmasked number later = true
-stands_well Pointer number later = true
+abbrev pub has_good_order : Kind → ℕ → List NodeShape → Bool
+has_good_order Hash number later = number == 1
+has_good_order Dynamic number [] = true
+has_good_order Dynamic number (node ∷ nodes) = false
+has_good_order Dense number later = true
+has_good_order Bitmasked number later = true
+has_good_order Pointer number later = true
 
 -- each size names an axis of the layout, from 1 to `axes`, that no later size names again
 abbrev pub names_axes_once : ℕ → List Size → Bool
@@ -50,9 +54,9 @@ has_few_axes Hash sizes = true
 abbrev pub has_good_axes : ℕ → NodeShape → Bool
 has_good_axes axes node = names_axes_once axes node.sizes && has_few_axes node.kind node.sizes
 
--- a cap is from 1 to 2^16
+-- a cap is from 1 to the greatest
 abbrev pub is_cap : ℤ → Bool
-is_cap cap = nat_lt 0 (count_of cap) && nat_le (count_of cap) (2 ^ 16)
+is_cap cap = nat_lt 0 (count_of cap) && nat_le (count_of cap) most_cap
 
 -- rule 5: the cap of a pointer, hash or dynamic node is one, and a dynamic node's chunk is from 1 to its extent
 abbrev pub has_good_caps : Kind → NodeShape → Bool
@@ -67,31 +71,25 @@ has_good_caps Dynamic node =
 abbrev pub node_fault : ℕ → ℕ → NodeShape → List NodeShape → Option LayoutFault
 node_fault axes number node later =
     if not (has_good_extents node) then Some (BadExtent number)
-    else (if not (stands_well node.kind number later) then Some (BadOrder number)
+    else (if not (has_good_order node.kind number later) then Some (BadOrder number)
     else (if not (has_good_axes axes node) then Some (BadAxis number)
     else (if not (has_good_caps node.kind node) then Some (BadCap number) else None)))
-
--- the first of two faults
-abbrev pub or_else : {A : Type 0} → Option A → Option A → Option A
-or_else (Some x) other = Some x
-or_else None other = other
 
 -- the first fault of a list of nodes, numbered from the given number on
 abbrev pub first_node_fault : ℕ → ℕ → List NodeShape → Option LayoutFault
 first_node_fault axes number [] = None
 first_node_fault axes number (node ∷ later) =
-    or_else (node_fault axes number node later) (first_node_fault axes (suc number) later)
+    option_or (node_fault axes number node later) (first_node_fault axes (suc number) later)
 
--- rule 4: no axis is past 2^15, and the product of the axes not past 2^30
+-- rule 4: no axis is past the greatest extent, and the product of the axes not past the most points
 abbrev pub is_small : Bounds → Bool
 is_small bounds =
-    nat_le bounds.a (2 ^ 15)
-    && (nat_le bounds.b (2 ^ 15) && (nat_le bounds.c (2 ^ 15) && nat_le (volume bounds) (2 ^ 30)))
+    nat_le bounds.a most_extent
+    && (nat_le bounds.b most_extent && (nat_le bounds.c most_extent && nat_le (volume bounds) most_points))
 
 -- the shape after its nodes: their first fault, else rule 4
 abbrev pub checked_by : Option LayoutFault → Shape → Result Shape LayoutFault
-checked_by (Some fault) shape = Err fault
-checked_by None shape = if is_small (bounds_of_shape shape) then Ok shape else Err TooLarge
+checked_by fault shape = fault_or fault (if is_small (bounds_of_shape shape) then Ok shape else Err TooLarge)
 
 -- the shape where it keeps all rules, else the fault: of the first node that has one, and after all nodes rule 4
 abbrev pub checked : Shape → Result Shape LayoutFault
@@ -103,11 +101,11 @@ is_field ty.I32 = true
 is_field ty.U32 = true
 is_field ty.Bool = false
 
--- what a declared layout has: 1 to 3 axes, 1 to 6 nodes, 1 to 16 fields of numbers
+-- what a declared layout has: axes, nodes and fields of numbers, of each at least one and no more than there may be
 abbrev pub is_declared : Shape → Bool
 is_declared shape =
-    (nat_lt 0 shape.axes && nat_le shape.axes 3) && ((nat_lt 0 (length shape.nodes) && nat_le (length shape.nodes) 6)
-    && ((nat_lt 0 (length shape.fields) && nat_le (length shape.fields) 16) && list_all is_field shape.fields))
+    (nat_lt 0 shape.axes && nat_le shape.axes most_axes) && ((nat_lt 0 (length shape.nodes) && nat_le (length shape.nodes) most_nodes)
+    && ((nat_lt 0 (length shape.fields) && nat_le (length shape.fields) most_fields) && list_all is_field shape.fields))
 
 -- every node is dense
 abbrev pub all_dense : List NodeShape → Bool

@@ -7,6 +7,8 @@ use Rattle.sg_layout.specs.declared.shape.Kind.{Kind}
 use Rattle.sg_layout.specs.declared.shape.Kind.TheVariants.{Dense, Bitmasked, Pointer, Hash, Dynamic}
 use Rattle.sg_layout.specs.declared.shape.NodeShape.{NodeShape}
 use Rattle.sg_layout.specs.declared.shape.Shape.{Shape}
+use Rattle.sg_layout.specs.Limits.{spare_places}
+pub use Rattle.sg_layout.specs.Limits.{most_words}
 use Rattle.sg_layout.specs.Axes.{count_of, size_of, slots_of}
 use Rattle.sg_layout.specs.Examples.{node1, node2, shape_of, blocks, growing, grid}
 
@@ -35,11 +37,10 @@ segments (node ∷ later) = put_before (ends_segment node.kind) node (segments l
 abbrev pub last_node : List NodeShape → Option NodeShape
 last_node nodes = slice_get nodes (length nodes - 1)
 
--- the copies of a segment, by the last node of the segment before: the child containers of its cap, and one spare for
--- each of 16 workers and one more
+-- the copies of a segment, by the last node of the segment before: the child containers of its cap, and the spare ones
 abbrev pub copies_after : Option NodeShape → ℕ
 copies_after None = 0
-copies_after (Some node) = count_of node.cap + 17
+copies_after (Some node) = count_of node.cap + spare_places
 
 -- the words of a node's mask with this many bits, 64 to a word
 abbrev pub mask_by : Kind → ℕ → ℕ
@@ -104,10 +105,6 @@ words_of_shape shape =
 -- the storage words of all layouts
 abbrev pub total_words : List Shape → ℕ
 total_words shapes = sum_by words_of_shape shapes
-
--- the greatest number of storage words of all layouts together
-abbrev pub most_words : ℕ
-most_words = 2 ^ 22
 
 -- ---- examples
 pointer_blocks : words_of_shape blocks ≡ 80

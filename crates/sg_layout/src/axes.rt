@@ -1,18 +1,23 @@
-ghost use Rattle.std.specs.Prelude.{◌≡◌, ◌≤◌, ◌<◌, ◌^◌, IsTrue, MatchOption, false, None};
+ghost use Rattle.std.specs.Prelude.{◌≡◌, ◌≤◌, ◌<◌, ◌^◌, ◌∷◌, length, map, IfOk, IsTrue, MatchOption, false, None};
 ghost use Rattle.std.specs.List.{list_all};
 ghost use Rattle.sg_coord.specs.Bounds.{bounds_of};
 ghost use Rattle.sg_layout.specs.Axes.{extent_in, extent_over, bounds_of_shape};
+ghost use Rattle.sg_layout.specs.Slots.{node_bounds};
+ghost use Rattle.sg_layout.specs.steps.Measuring.{AreMeasurable, bounds_below, measure_of, measures_in};
 ghost use Rattle.sg_layout.specs.Rules.{is_extent, has_good_extents, first_node_fault, is_small, is_declared};
 
+use crate::measures::Measures;
 use crate::rules::MOST_EXTENT;
 use crate::shape::{NodeShape, Shape, Size};
 use sg_coord::Extents;
+use sg_words::{Items, Memory};
+use std::alloc::Global;
 
 /// The greatest number of points of a layout.
 const MOST_POINTS: u64 = 1 << 30;
 
 /// The extents of a shape whose nodes have no fault. None where an axis or their product is too large.
-pub fn extents_of(shape: &Shape) -> Option<Extents>
+pub(crate) fn extents_of(shape: &Shape) -> Option<Extents>
     requires declared { IsTrue (is_declared shape.now) }
     requires no_fault { first_node_fault shape.now.axes 1 shape.now.nodes ≡ None }
     ensures { MatchOption result (is_small (bounds_of_shape shape.now) ≡ false)
@@ -63,4 +68,47 @@ pub fn extent_in(sizes: &[Size], axis: u32) -> u32
         }
     }
     1
+}
+
+/// The measures of a shape's nodes, from the root on.
+pub(crate) fn measures_of(alloc: Global, shape: &Shape) -> Result<Items<Measures>, Memory>
+    requires few { length shape.now.nodes ≤ 6 }
+    requires fit { AreMeasurable shape.now.axes 1 shape.now.nodes }
+    ensures { IfOk result (λ measures. map measure_of measures ≡ measures_in shape.now.nodes) }
+{
+    let nodes = shape.nodes.as_slice();
+    let mut measures = Items::new(alloc);
+    for (index, node) in nodes.iter().enumerate() {
+        measures.push(node_measures(shape.axes, index as u32 + 1, node, &nodes[index + 1..]))?;
+    }
+    Ok(measures)
+}
+
+/// The measures of the node with this number, where the others are the nodes below it.
+fn node_measures(axes: u32, number: u32, node: &NodeShape, later: &[NodeShape]) -> Measures
+    requires { AreMeasurable axes number (node.now ∷ later.now) }
+    ensures own { bounds_of result.own ≡ node_bounds node.now }
+    ensures below { bounds_of result.below ≡ bounds_below later.now }
+{
+    let sizes = node.sizes.as_slice();
+    Measures {
+        own: Extents {
+            n: 3,
+            a: extent_in(sizes, 1),
+            b: extent_in(sizes, 2),
+            c: extent_in(sizes, 3),
+        },
+        below: extents_below(axes, number, node, later),
+    }
+}
+
+/// The extents over the nodes below a node.
+fn extents_below(axes: u32, number: u32, node: &NodeShape, later: &[NodeShape]) -> Extents
+    requires { AreMeasurable axes number (node.now ∷ later.now) }
+    ensures { bounds_of result ≡ bounds_below later.now }
+{
+    let a = extent_over(later, 1).unwrap_or(1);
+    let b = extent_over(later, 2).unwrap_or(1);
+    let c = extent_over(later, 3).unwrap_or(1);
+    Extents { n: 3, a, b, c }
 }

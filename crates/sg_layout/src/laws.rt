@@ -5,6 +5,7 @@ ghost use Rattle.sg_layout.specs.declared.shape.Shape.{Shape};
 ghost use Rattle.sg_layout.specs.ClosureLaws.{PointsAreInside, PointsFillVolume, PointsAreNumbered, PointsAreInOrder, ClosureIsTested, ClosureIsInside, ClosureIsInOrder, ClosureIsOfMembers, ClosureExtends, ClosureGrows, ClosureIsClosed, ClosureAbsorbs, DenseIsFull};
 ghost use Rattle.sg_layout.specs.RuleLaws.{AcceptedKeepsRules, FaultIsFirst};
 ghost use Rattle.sg_layout.specs.PathLaws.{WholePathIsOffsets, CoordinateOfPath, PathTellsCoordinate, PathIsSlot, SlotIsPath, SlotIsReached, SlotsFillVolume, SlotHasNumber, NumberHasSlot, SlotsAreListed, SlotsAreCounted, SlotsAreInOrder, NoneDecides, LastDecides, SlotDecides};
+ghost use Rattle.sg_layout.specs.LiveLaws.{LiveGrows, LiveIsOfMembers, ClosureIsLive, LiveAbsorbs};
 ghost use Rattle.sg_layout.specs.NeedLaws.{NeedGrows, NeedIsOfMembers, FullIsOfMembers, NeedAbsorbs, FullAbsorbs, ReachedAreLive, ReachedOnce, ParentsHaveLive, LiveUpToGreatest, ChunksHaveRoom};
 
 use sg_coord::{Extents, numbering};
@@ -125,3 +126,19 @@ pub fn need_counts_live()
     ensures greatest { (shape : Shape) → LiveUpToGreatest shape }
     ensures room { (shape : Shape) → ChunksHaveRoom shape }
 {}
+
+/// What is live for a list is of its members alone, and grows with it.
+pub fn live_grows()
+    ensures grows { (shape : Shape) → LiveGrows shape }
+    ensures of_members { (shape : Shape) → LiveIsOfMembers shape }
+{}
+
+/// The slots of a closure are live for its list, and closing a part of a list first makes no other live.
+pub fn live_absorbs()
+    ensures closure { (shape : Shape) → ClosureIsLive shape }
+    ensures absorbs { (shape : Shape) → LiveAbsorbs shape }
+{
+    // for the laws that they ensure
+    points_in_order();
+    numbering(&ONE_POINT);
+}

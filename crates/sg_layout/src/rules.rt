@@ -1,19 +1,19 @@
 ghost use Rattle.std.specs.Prelude.{◌≡◌, ◌≤◌, ◌==◌, ◌&&◌, nat_lt, nat_le, IsTrue, length, pos};
 ghost use Rattle.std.specs.List.{list_any};
 ghost use Rattle.sg_layout.specs.Axes.{count_of, size_of};
-ghost use Rattle.sg_layout.specs.Rules.{is_extent, has_good_extents, stands_well, names_axes_once, has_few_axes, has_good_axes, is_cap, has_good_caps, node_fault, first_node_fault};
+ghost use Rattle.sg_layout.specs.Rules.{is_extent, has_good_extents, has_good_order, names_axes_once, has_few_axes, has_good_axes, is_cap, has_good_caps, node_fault, first_node_fault};
 
 use crate::layout::LayoutFault;
 use crate::shape::{Kind, NodeShape, Size};
 
 /// The greatest extent of an axis, at a node and over all nodes.
-pub const MOST_EXTENT: u32 = 1 << 15;
+pub(crate) const MOST_EXTENT: u32 = 1 << 15;
 
 /// The greatest number of child containers of a node, or of its chunks.
 const MOST_CAP: i32 = 1 << 16;
 
 /// The first fault of the nodes, from the root on.
-pub fn first_fault(axes: u32, nodes: &[NodeShape]) -> Option<LayoutFault>
+pub(crate) fn first_fault(axes: u32, nodes: &[NodeShape]) -> Option<LayoutFault>
     requires { length nodes.now ≤ 6 }
     ensures { result ≡ first_node_fault axes 1 nodes.now }
 {
@@ -32,7 +32,7 @@ fn node_fault(axes: u32, number: u32, node: &NodeShape, later: &[NodeShape]) -> 
 {
     if !has_good_extents(node) {
         Some(LayoutFault::BadExtent { node: number })
-    } else if !stands_well(node.kind, number, later) {
+    } else if !has_good_order(node.kind, number, later) {
         Some(LayoutFault::BadOrder { node: number })
     } else if !has_good_axes(axes, node) {
         Some(LayoutFault::BadAxis { node: number })
@@ -66,8 +66,8 @@ fn is_small_power(number: u32) -> bool
 }
 
 /// Rule 2: a hash node is the first, a dynamic node the last.
-fn stands_well(kind: Kind, number: u32, later: &[NodeShape]) -> bool
-    ensures { result ≡ stands_well kind number later.now }
+fn has_good_order(kind: Kind, number: u32, later: &[NodeShape]) -> bool
+    ensures { result ≡ has_good_order kind number later.now }
 {
     match kind {
         Kind::Hash => number == 1,

@@ -1,6 +1,7 @@
 use super::*;
 use crate::layout::LayoutFault::{BadAxis, BadCap, BadExtent, BadOrder};
 use crate::shape::Kind::{Bitmasked, Dense, Dynamic, Hash, Pointer};
+use sg_coord::{Coord, inside};
 use sg_words::{Items, Stop, Ty};
 use std::alloc::Global;
 use std::process::Abort;
@@ -268,5 +269,36 @@ fn totals_up_to_the_limit(rt: HostRuntime) -> Result<(), Fail> {
         push_layout(&rt, alloc, &mut layouts, WIDE)?;
     }
     assert_eq!(rt; check_total(&layouts), Err(TooLarge));
+    Ok(())
+}
+
+// Two nodes over two axes, the second with its axes the other way round.
+static SPLIT: [Node; 2] = [
+    (Pointer, &[(1, 4), (2, 2)], 8, 0),
+    (Dense, &[(2, 4), (1, 2)], 0, 0),
+];
+
+// Of a node and a coordinate inside: the node's size, the coordinate's offset there, and what that adds.
+fn place(layout: &Layout, node: usize, at: Coord) -> Option<(u32, u32, Coord)> {
+    if node >= layout.nodes() || !inside(&layout.extents(), at) {
+        return None;
+    }
+    let offset = layout.offset(node, at);
+    Some((layout.size(node), offset, layout.share(node, offset)))
+}
+
+fn plane(a: i32, b: i32) -> Coord {
+    Coord { n: 2, a, b, c: 0 }
+}
+
+#[test]
+fn tells_offsets_and_what_they_add(rt: HostRuntime) -> Result<(), Fail> {
+    let shape = shape_of(rt.alloc(), 2, &SPLIT, 1)?;
+    assert!(rt; shape.is_declared());
+    let layout = check_layout(rt.alloc(), &shape)?.copy(rt.alloc())?;
+    assert_eq!(rt; place(&layout, 0, plane(5, 6)), Some((8, 5, plane(4, 4))));
+    assert_eq!(rt; place(&layout, 1, plane(5, 6)), Some((8, 6, plane(1, 2))));
+    assert_eq!(rt; place(&layout, 0, plane(8, 6)), None);
+    assert_eq!(rt; place(&layout, 2, plane(5, 6)), None);
     Ok(())
 }

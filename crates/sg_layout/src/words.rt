@@ -3,8 +3,9 @@ ghost use Rattle.std.specs.List.{list_all};
 ghost use Rattle.sg_layout.specs.Axes.{count_of, size_of};
 ghost use Rattle.sg_layout.specs.Rules.{is_extent, is_cap, has_good_caps};
 ghost use Rattle.sg_layout.specs.Accepted.{IsAccepted};
-ghost use Rattle.sg_layout.specs.StorageWords.{power_for, chunks_by, words_of_shape, total_words, most_words};
-ghost use Rattle.sg_layout.specs.WordSteps.{own_words, copies_next, slots_next};
+ghost use Rattle.sg_layout.specs.StorageWords.{power_for, chunks_by, words_of_shape, total_words};
+ghost use Rattle.sg_layout.specs.Limits.{most_words};
+ghost use Rattle.sg_layout.specs.steps.WordSteps.{own_words, copies_next, slots_next};
 
 use crate::layout::{Layout, Layouts};
 use crate::shape::{Kind, NodeShape, Shape, Size};

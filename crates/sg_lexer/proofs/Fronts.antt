@@ -1,5 +1,5 @@
 -- The piece at the front of some bytes: what it is, and that it is found.
-use Rattle.std.proofs.Common.{◌≡◌, ℕ, ◌+◌, ◌<◌, ◌≤◌, Bool, true, false, nat_eq, nat_lt, List, [], ◌∷◌, length, slice_index, get_or, take, drop, Option, Some, None, Result, Ok, Err, codes, refl, sym, ap, ◌∙◌, subst, inl, inr, arith, length-take}
+use Rattle.std.proofs.Common.{◌≡◌, ℕ, ◌<◌, ◌≤◌, true, false, nat_eq, nat_lt, List, [], ◌∷◌, length, slice_index, get_or, take, drop, Option, Some, None, Result, Ok, Err, codes, refl, sym, ap, ◌∙◌, subst, inl, inr, arith, length-take}
 use Rattle.std.specs.List.{starts_with, list_all, prefix_len}
 use Rattle.std.proofs.lemmas.Bool.{leb-true, not-true, both_ways, ltb-true, lt-ltb, cond-true, cond-false, cases_Bool}
 use Rattle.std.proofs.lemmas.Slice.Eq.{bytes_eq-Decides}
@@ -13,11 +13,13 @@ use Rattle.sg_ast.specs.Token.{is_token}
 use Rattle.sg_lexer.specs.declared.fault.LexFault.{LexFault}
 use Rattle.sg_lexer.specs.declared.fault.LexFault.TheVariants as fault
 use Rattle.sg_lexer.specs.Alphabet.{is_space, is_inner, sign_text, sign_at, text_of}
-use Rattle.sg_lexer.specs.Lexing.{◌>>=◌, Piece, run_token, if_room, run_piece, sign_piece, is_in_line, piece}
+use Rattle.sg_lexer.specs.Lexing.{Piece, run_token, if_room, run_piece, sign_piece, is_in_line, piece}
+use Rattle.sg_words.specs.Results.{◌>>=◌}
 use Rattle.sg_lexer.specs.Laws.{Blank, none, space, comment, IsLexeme}
 use Rattle.sg_lexer.proofs.Prefixes.{prefix_some}
 use Rattle.sg_lexer.proofs.Tables.{chosen, sign_outer, sign_some, sign_found, sign_longest}
 use Rattle.sg_lexer.proofs.Texts.{all_at, run_found}
+use Rattle.sg_ast.specs.Limits.{most_tokens}
 
 -- a token at the front of some bytes
 pub record Takes (bytes : List ℕ) (n : ℕ) (t : Token) : Type 0 where
@@ -31,7 +33,7 @@ pub record Takes (bytes : List ℕ) (n : ℕ) (t : Token) : Type 0 where
 -- a piece is white space or a comment, or a token
 pub data Front (count : ℕ) (bytes : List ℕ) (n : ℕ) (o : Option Token) : Type 0 where
   blank : None ≡ o → 0 < n → n ≤ length bytes → Blank bytes (drop n bytes) → Front count bytes n o
-  taken : (t : Token) → Some t ≡ o → count < 16384 → Takes bytes n t → Front count bytes n o
+  taken : (t : Token) → Some t ≡ o → count < most_tokens → Takes bytes n t → Front count bytes n o
 
 -- ---- lists
 
@@ -149,10 +151,10 @@ takes_sign bytes s no_comment outer e =
     }
 
 -- a choice of room, both ways
-pub roomy : (count : ℕ) (answer : Result Piece LexFault) → count < 16384 → if_room count answer ≡ answer
-roomy count answer h = cond-true _ _ _ (lt-ltb count 16384 h)
+pub roomy : (count : ℕ) (answer : Result Piece LexFault) → count < most_tokens → if_room count answer ≡ answer
+roomy count answer h = cond-true _ _ _ (lt-ltb count most_tokens h)
 
-run_answer : (line count n : ℕ) (o : Option Token) (bytes : List ℕ) → 0 < length bytes → starts_with nat_eq bytes (codes "//") ≡ false → is_inner (slice_index bytes 0) ≡ true → count < 16384 → (r : Result Token LexFault) → run_token line (take (prefix_len is_inner bytes) bytes) ≡ r → (r >>= (λ t. let out : Result Piece LexFault = Ok (length (take (prefix_len is_inner bytes) bytes), Some t) in out)) ≡ Ok (n, o) → Front count bytes n o
+run_answer : (line count n : ℕ) (o : Option Token) (bytes : List ℕ) → 0 < length bytes → starts_with nat_eq bytes (codes "//") ≡ false → is_inner (slice_index bytes 0) ≡ true → count < most_tokens → (r : Result Token LexFault) → run_token line (take (prefix_len is_inner bytes) bytes) ≡ r → (r >>= (λ t. let out : Result Piece LexFault = Ok (length (take (prefix_len is_inner bytes) bytes), Some t) in out)) ≡ Ok (n, o) → Front count bytes n o
 run_answer line count n o bytes some no_comment inner room (Ok t) e answer =
     let parts = ok_pair (length (take (prefix_len is_inner bytes) bytes)) n (Some t) o answer in
     let size : prefix_len is_inner bytes ≡ n = sym (length-prefix_len is_inner bytes) ∙ parts.0 in
@@ -163,11 +165,11 @@ run_answer line count n o bytes some no_comment inner room (Err f) e answer = cc
 sign_answer : (line count n : ℕ) (o : Option Token) (bytes : List ℕ) → starts_with nat_eq bytes (codes "//") ≡ false → is_inner (slice_index bytes 0) ≡ false → (r : Option Sign) → sign_at bytes ≡ r → sign_piece line count r ≡ Ok (n, o) → Front count bytes n o
 sign_answer line count n o bytes no_comment outer None e answer = cc
 sign_answer line count n o bytes no_comment outer (Some s) e answer =
-    elim (chosen {A = Result Piece LexFault} (nat_lt count 16384) (Ok (length (sign_text s), Some (token.Sign s))) (Err fault.TooManyTokens) (Ok (n, o)) answer) [
+    elim (chosen {A = Result Piece LexFault} (nat_lt count most_tokens) (Ok (length (sign_text s), Some (token.Sign s))) (Err fault.TooManyTokens) (Ok (n, o)) answer) [
       | inl h ↦ (
           let parts = ok_pair (length (sign_text s)) n (Some (token.Sign s)) o h.1 in
           let P : ℕ → Type 0 = λ m. Takes bytes m (token.Sign s) in
-          taken (token.Sign s) parts.1 (ltb-true count 16384 h.0) (subst P parts.0 (takes_sign bytes s no_comment outer e)))
+          taken (token.Sign s) parts.1 (ltb-true count most_tokens h.0) (subst P parts.0 (takes_sign bytes s no_comment outer e)))
       | inr h ↦ cc
     ]
 
@@ -187,8 +189,8 @@ front line count n o bytes some e =
             let P : ℕ → Type 0 = λ m. Blank bytes (drop m bytes) in
             blank parts.1 (omega (arith, comment_some bytes is)) (omega (arith, prefix_len-le-length is_in_line bytes)) (subst P size (comment_blank bytes is)))
         | inr no_comment ↦ elim (cases_Bool (is_inner (slice_index bytes 0))) [
-          | inl inner ↦ elim (chosen {A = Result Piece LexFault} (nat_lt count 16384) (run_token line (take (prefix_len is_inner bytes) bytes) >>= (λ t. let out : Result Piece LexFault = Ok (length (take (prefix_len is_inner bytes) bytes), Some t) in out)) (Err fault.TooManyTokens) (Ok (n, o)) (sym (piece_run line count bytes no_space no_comment inner) ∙ e)) [
-            | inl h ↦ run_answer line count n o bytes some no_comment inner (ltb-true count 16384 h.0) (run_token line (take (prefix_len is_inner bytes) bytes)) refl h.1
+          | inl inner ↦ elim (chosen {A = Result Piece LexFault} (nat_lt count most_tokens) (run_token line (take (prefix_len is_inner bytes) bytes) >>= (λ t. let out : Result Piece LexFault = Ok (length (take (prefix_len is_inner bytes) bytes), Some t) in out)) (Err fault.TooManyTokens) (Ok (n, o)) (sym (piece_run line count bytes no_space no_comment inner) ∙ e)) [
+            | inl h ↦ run_answer line count n o bytes some no_comment inner (ltb-true count most_tokens h.0) (run_token line (take (prefix_len is_inner bytes) bytes)) refl h.1
             | inr h ↦ cc
           ]
           | inr outer ↦ sign_answer line count n o bytes no_comment outer (sign_at bytes) refl (sym (piece_sign line count bytes no_space no_comment outer) ∙ e)

@@ -9,14 +9,15 @@ use Rattle.sg_ast.specs.declared.token.Spanned.{Spanned}
 use Rattle.sg_ast.specs.Token.{is_token}
 use Rattle.sg_lexer.specs.declared.fault.LexFault.{LexFault}
 use Rattle.sg_lexer.specs.Alphabet.{is_inner, sign_text, text_of}
-use Rattle.sg_lexer.specs.Lexing.{line_after, lexed_from, lexed}
-use Rattle.sg_lexer.specs.Laws.{ReadsAgain}
+use Rattle.sg_lexer.specs.Lexing.{line_after, tokens_from, token_list}
+use Rattle.sg_lexer.specs.Laws.{SpelledAreReadAgain}
 use Rattle.sg_lexer.proofs.Tables.{sign_some, sign_without_spaces, sign_alone_no_comment, sign_no_comment}
 use Rattle.sg_lexer.proofs.Texts.{all_at, run_or_sign}
 use Rattle.sg_lexer.proofs.Passing.{goes}
 use Rattle.sg_lexer.proofs.Fronts.{Takes, comment_slash, piece_space}
 use Rattle.sg_lexer.proofs.Returning.{returned}
 use Rattle.sg_lexer.proofs.Uniqueness.{tokens_ok}
+use Rattle.sg_ast.specs.Limits.{most_tokens}
 
 text_some : (t : Token) → is_token t ≡ true → 0 < length (text_of t)
 text_some t good =
@@ -87,13 +88,13 @@ takes_spaced t rest good =
 abbrev placed : List ℕ → Token → Spanned
 placed before t = record { token = t; start = length before; end = length before + length (text_of t); line = line_after before }
 
-again : (ts : List Token) → list_all is_token ts ≡ true → (before : List ℕ) (done : List Spanned) → length done + length ts ≤ 16384 → (read : List Spanned) × (lexed_from 0 before done (join_with_byte 32 (map (λ t. text_of t) ts)) ≡ Ok (done ++ read)) × (map (λ t. t.token) read ≡ ts)
+again : (ts : List Token) → list_all is_token ts ≡ true → (before : List ℕ) (done : List Spanned) → length done + length ts ≤ most_tokens → (read : List Spanned) × (tokens_from 0 before done (join_with_byte 32 (map (λ t. text_of t) ts)) ≡ Ok (done ++ read)) × (map (λ t. t.token) read ≡ ts)
 again [] good before done few = ([], ap (λ (ts : List Spanned). let out : Result (List Spanned) LexFault = Ok ts in out) (sym (append-nil done)), refl)
 again (t ∷ []) good before done few =
     let n : ℕ = length (text_of t) in
     let at = takes_alone t (and_parts (is_token t) true good).0 in
     let step = goes before done (text_of t) n (Some t) (returned (line_after before) (length done) (text_of t) n t at (omega arith)) at.some at.within in
-    (placed before t ∷ [], step ∙ ap (lexed_from 0 (before ++ take n (text_of t)) (done ++ placed before t ∷ [])) (drop-length (text_of t)), refl)
+    (placed before t ∷ [], step ∙ ap (tokens_from 0 (before ++ take n (text_of t)) (done ++ placed before t ∷ [])) (drop-length (text_of t)), refl)
 again (t ∷ u ∷ ts) good before done few =
     let n : ℕ = length (text_of t) in
     let rest : List ℕ = join_with_byte 32 (map (λ v. text_of v) (u ∷ ts)) in
@@ -106,12 +107,12 @@ again (t ∷ u ∷ ts) good before done few =
     let gap = goes behind more (32 ∷ rest) 1 None (piece_space (line_after behind) (length more) (32 ∷ rest) refl) (omega arith) (omega arith) in
     let r = again (u ∷ ts) parts.1 (behind ++ 32 ∷ []) more (omega (arith, length_push done (placed before t))) in (
       placed before t ∷ r.0,
-      step ∙ ap (lexed_from 0 behind more) (drop-append_seam (text_of t) (32 ∷ rest)) ∙ gap ∙ r.1 ∙ ap (λ (xs : List Spanned). let out : Result (List Spanned) LexFault = Ok xs in out) (append_assoc done (placed before t ∷ []) r.0),
+      step ∙ ap (tokens_from 0 behind more) (drop-append_seam (text_of t) (32 ∷ rest)) ∙ gap ∙ r.1 ∙ ap (λ (xs : List Spanned). let out : Result (List Spanned) LexFault = Ok xs in out) (append_assoc done (placed before t ∷ []) r.0),
       ap (λ (xs : List Token). t ∷ xs) r.2,
     )
 
-pub reads_again : (ts : List Token) → ReadsAgain ts
-unfolding lexed
+pub reads_again : SpelledAreReadAgain
+unfolding token_list
 reads_again ts good few =
     let r = again ts good [] [] (omega arith) in
     (record { list = r.0 }, tokens_ok (join_with_byte 32 (map (λ t. text_of t) ts)) r.0 r.1, r.2)

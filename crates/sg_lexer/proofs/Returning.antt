@@ -13,12 +13,14 @@ use Rattle.sg_ast.specs.declared.token.Token.TheVariants as token
 use Rattle.sg_lexer.specs.declared.fault.LexFault.{LexFault}
 use Rattle.sg_lexer.specs.declared.fault.LexFault.TheVariants as fault
 use Rattle.sg_lexer.specs.Alphabet.{is_space, is_inner, sign_text, sign_at, text_of}
-use Rattle.sg_lexer.specs.Lexing.{◌>>=◌, Piece, run_token, if_room, run_piece, sign_piece, piece}
+use Rattle.sg_lexer.specs.Lexing.{Piece, run_token, if_room, run_piece, sign_piece, piece}
+use Rattle.sg_words.specs.Results.{◌>>=◌}
 use Rattle.sg_lexer.specs.Laws.{run_at, IsNoBlank, IsFault, bad_byte, bad_number, long_name, too_many_runs, too_many_signs}
 use Rattle.sg_lexer.proofs.Prefixes.{prefix_some}
 use Rattle.sg_lexer.proofs.Tables.{chosen, sign_some, sign_no_space, sign_found, sign_longest, no_sign_found, same_sign}
 use Rattle.sg_lexer.proofs.Texts.{all_at, digit_inner, run_fault, run_long, run_bad, IsRun, run_or_sign}
 use Rattle.sg_lexer.proofs.Fronts.{Takes, starts_take, take_starts, first_of_take, run_inner, first_inner, first_outer, roomy, piece_space, piece_comment, piece_run, piece_sign}
+use Rattle.sg_ast.specs.Limits.{most_tokens}
 
 -- ---- faults
 
@@ -26,7 +28,7 @@ use Rattle.sg_lexer.proofs.Fronts.{Takes, starts_take, take_starts, first_of_tak
 abbrev Faulty : ℕ → ℕ → List ℕ → LexFault → Type 0
 Faulty count line bytes f = IsNoBlank bytes × IsFault count line bytes f
 
-run_refused : (line count : ℕ) (f : LexFault) (bytes : List ℕ) → 0 < length bytes → is_inner (slice_index bytes 0) ≡ true → count < 16384 → (r : Result Token LexFault) → run_token line (take (prefix_len is_inner bytes) bytes) ≡ r → (r >>= (λ t. let out : Result Piece LexFault = Ok (length (take (prefix_len is_inner bytes) bytes), Some t) in out)) ≡ Err f → IsFault count line bytes f
+run_refused : (line count : ℕ) (f : LexFault) (bytes : List ℕ) → 0 < length bytes → is_inner (slice_index bytes 0) ≡ true → count < most_tokens → (r : Result Token LexFault) → run_token line (take (prefix_len is_inner bytes) bytes) ≡ r → (r >>= (λ t. let out : Result Piece LexFault = Ok (length (take (prefix_len is_inner bytes) bytes), Some t) in out)) ≡ Err f → IsFault count line bytes f
 run_refused line count f bytes some inner room (Ok t) e answer = cc
 run_refused line count f bytes some inner room (Err g) e answer =
     let same : g ≡ f = cc in
@@ -43,12 +45,12 @@ sign_refused line count f bytes outer None e answer =
     let P : LexFault → Type 0 = IsFault count line bytes in
     subst P same (bad_byte outer (no_sign_found bytes e))
 sign_refused line count f bytes outer (Some s) e answer =
-    elim (chosen {A = Result Piece LexFault} (nat_lt count 16384) (Ok (length (sign_text s), Some (token.Sign s))) (Err fault.TooManyTokens) (Err f) answer) [
+    elim (chosen {A = Result Piece LexFault} (nat_lt count most_tokens) (Ok (length (sign_text s), Some (token.Sign s))) (Err fault.TooManyTokens) (Err f) answer) [
       | inl h ↦ cc
       | inr h ↦ (
           let same : fault.TooManyTokens ≡ f = cc in
           let P : LexFault → Type 0 = IsFault count line bytes in
-          subst P same (too_many_signs (ltb-false count 16384 h.0) s (sign_found bytes s e)))
+          subst P same (too_many_signs (ltb-false count most_tokens h.0) s (sign_found bytes s e)))
     ]
 
 -- what a fault is
@@ -61,12 +63,12 @@ refused line count f bytes some e =
         | inr no_comment ↦ (
           record { no_space = no_space; no_comment = no_comment },
           elim (cases_Bool (is_inner (slice_index bytes 0))) [
-            | inl inner ↦ elim (chosen {A = Result Piece LexFault} (nat_lt count 16384) (run_token line (take (prefix_len is_inner bytes) bytes) >>= (λ t. let out : Result Piece LexFault = Ok (length (take (prefix_len is_inner bytes) bytes), Some t) in out)) (Err fault.TooManyTokens) (Err f) (sym (piece_run line count bytes no_space no_comment inner) ∙ e)) [
-              | inl h ↦ run_refused line count f bytes some inner (ltb-true count 16384 h.0) (run_token line (take (prefix_len is_inner bytes) bytes)) refl h.1
+            | inl inner ↦ elim (chosen {A = Result Piece LexFault} (nat_lt count most_tokens) (run_token line (take (prefix_len is_inner bytes) bytes) >>= (λ t. let out : Result Piece LexFault = Ok (length (take (prefix_len is_inner bytes) bytes), Some t) in out)) (Err fault.TooManyTokens) (Err f) (sym (piece_run line count bytes no_space no_comment inner) ∙ e)) [
+              | inl h ↦ run_refused line count f bytes some inner (ltb-true count most_tokens h.0) (run_token line (take (prefix_len is_inner bytes) bytes)) refl h.1
               | inr h ↦ (
                   let same : fault.TooManyTokens ≡ f = cc in
                   let P : LexFault → Type 0 = IsFault count line bytes in
-                  subst P same (too_many_runs (ltb-false count 16384 h.0) inner))
+                  subst P same (too_many_runs (ltb-false count most_tokens h.0) inner))
             ]
             | inr outer ↦ sign_refused line count f bytes outer (sign_at bytes) refl (sym (piece_sign line count bytes no_space no_comment outer) ∙ e)
           ],
@@ -75,17 +77,17 @@ refused line count f bytes some e =
     ]
 
 -- a fault that stands at the front is answered
-full : (count : ℕ) (answer : Result Piece LexFault) → 16384 ≤ count → if_room count answer ≡ Err fault.TooManyTokens
-full count answer h = cond-false _ _ _ (le-ltb count 16384 h)
+full : (count : ℕ) (answer : Result Piece LexFault) → most_tokens ≤ count → if_room count answer ≡ Err fault.TooManyTokens
+full count answer h = cond-false _ _ _ (le-ltb count most_tokens h)
 
 no_sign : (bytes : List ℕ) → ((s : Sign) → starts_with nat_eq bytes (sign_text s) ≡ false) → sign_at bytes ≡ None
 no_sign bytes other = (elim (sign_at bytes) as (λ o. sign_at bytes ≡ o → o ≡ None) [ None ↦ λ e. refl | Some s ↦ λ e. absurd (both_ways (starts_with nat_eq bytes (sign_text s)) (other s) (sign_found bytes s e)) ]) refl
 
-some_sign : (line count : ℕ) (bytes : List ℕ) (s : Sign) → 16384 ≤ count → starts_with nat_eq bytes (sign_text s) ≡ true → (o : Option Sign) → sign_at bytes ≡ o → sign_piece line count o ≡ Err fault.TooManyTokens
+some_sign : (line count : ℕ) (bytes : List ℕ) (s : Sign) → most_tokens ≤ count → starts_with nat_eq bytes (sign_text s) ≡ true → (o : Option Sign) → sign_at bytes ≡ o → sign_piece line count o ≡ Err fault.TooManyTokens
 some_sign line count bytes s h there None e = absurd (both_ways (starts_with nat_eq bytes (sign_text s)) (no_sign_found bytes e s) there)
 some_sign line count bytes s h there (Some v) e = full count (Ok (length (sign_text v), Some (token.Sign v))) h
 
-run_stops : (line count : ℕ) (bytes : List ℕ) (f : LexFault) → count < 16384 → run_token line (run_at bytes) ≡ Err f → run_piece line count (run_at bytes) ≡ Err f
+run_stops : (line count : ℕ) (bytes : List ℕ) (f : LexFault) → count < most_tokens → run_token line (run_at bytes) ≡ Err f → run_piece line count (run_at bytes) ≡ Err f
 run_stops line count bytes f room e =
     roomy count (run_token line (run_at bytes) >>= (λ t. let out : Result Piece LexFault = Ok (length (run_at bytes), Some t) in out)) room
     ∙ ap (λ (r : Result Token LexFault). r >>= (λ t. let out : Result Piece LexFault = Ok (length (run_at bytes), Some t) in out)) e
@@ -122,7 +124,7 @@ run_ends bytes n t at all =
     (λ below. false_from_ne_true (is_inner (get_or bytes n 0)) (λ inner.
     at.longest (n + 1) (omega arith) (omega arith) (inl (list_all_more is_inner bytes n 0 below ∙ and_from (list_all is_inner (take n bytes)) (is_inner (get_or bytes n 0)) all inner))))
 
-run_returns : (line count : ℕ) (bytes : List ℕ) (n : ℕ) (t : Token) → Takes bytes n t → count < 16384 → IsRun t → piece line count bytes ≡ Ok (n, Some t)
+run_returns : (line count : ℕ) (bytes : List ℕ) (n : ℕ) (t : Token) → Takes bytes n t → count < most_tokens → IsRun t → piece line count bytes ≡ Ok (n, Some t)
 run_returns line count bytes n t at room run =
     let all : list_all is_inner (take n bytes) ≡ true = ap (list_all is_inner) at.text ∙ run.inner in
     let inner : is_inner (slice_index bytes 0) ≡ true = first_inner bytes n at.some at.within all in
@@ -155,7 +157,7 @@ sign_ends bytes n s r at e =
               ap (λ (w : Sign). let out : Option Sign = Some w in out) one)
         ]
 
-sign_returns : (line count : ℕ) (bytes : List ℕ) (n : ℕ) (s : Sign) → Takes bytes n (token.Sign s) → count < 16384 → piece line count bytes ≡ Ok (n, Some (token.Sign s))
+sign_returns : (line count : ℕ) (bytes : List ℕ) (n : ℕ) (s : Sign) → Takes bytes n (token.Sign s) → count < most_tokens → piece line count bytes ≡ Ok (n, Some (token.Sign s))
 sign_returns line count bytes n s at room =
     let outer : is_inner (slice_index bytes 0) ≡ false = first_outer bytes n s at.some at.text in
     let no_space : is_space (slice_index bytes 0) ≡ false = ap is_space (sym (first_of_take bytes n at.some) ∙ ap (λ (text : List ℕ). slice_index text 0) at.text) ∙ not-true (is_space (slice_index (sign_text s) 0)) (sign_no_space s) in
@@ -165,7 +167,7 @@ sign_returns line count bytes n s at room =
     ∙ roomy count (Ok (length (sign_text s), Some (token.Sign s))) room
     ∙ ap (λ (k : ℕ). let out : Result Piece LexFault = Ok (k, Some (token.Sign s)) in out) size
 
-pub returned : (line count : ℕ) (bytes : List ℕ) (n : ℕ) (t : Token) → Takes bytes n t → count < 16384 → piece line count bytes ≡ Ok (n, Some t)
+pub returned : (line count : ℕ) (bytes : List ℕ) (n : ℕ) (t : Token) → Takes bytes n t → count < most_tokens → piece line count bytes ≡ Ok (n, Some t)
 returned line count bytes n t at room =
     elim (run_or_sign t at.valid) [
       | inl run ↦ run_returns line count bytes n t at room run

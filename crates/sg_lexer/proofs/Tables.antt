@@ -8,7 +8,7 @@ use Rattle.sg_ast.specs.declared.token.Word.TheVariants as word
 use Rattle.sg_ast.specs.declared.token.Sign.{Sign}
 use Rattle.sg_ast.specs.declared.token.Sign.TheVariants as sign
 use Rattle.sg_ast.specs.Token.{is_reserved}
-use Rattle.sg_lexer.specs.Alphabet.{is_space, is_inner, word_text, reserved_words, word_of, sign_text, signs, sign_at}
+use Rattle.sg_lexer.specs.Alphabet.{is_space, is_inner, word_text, reserved_words, reserved_word, sign_text, signs, sign_at}
 
 -- the two ways in which a choice gives a value
 pub chosen : {A : Type 0} (b : Bool) (x y z : A) → cond b x y ≡ z → ((b ≡ true) × (x ≡ z)) ⊎ ((b ≡ false) × (y ≡ z))
@@ -110,8 +110,8 @@ pub for_word : (p : Word → Bool) → list_all p reserved_words ≡ true → (w
 for_word p e w = passes_each p reserved_words e w (each_word w)
 
 -- a word is found by its spelling
-pub word_again : (w : Word) → word_of (word_text w) ≡ Some w
-unfolding word_of
+pub word_again : (w : Word) → reserved_word (word_text w) ≡ Some w
+unfolding reserved_word
 word_again word.Const = refl
 word_again word.Layout = refl
 word_again word.Field = refl
@@ -147,13 +147,13 @@ word_again word.Prune = refl
 word_again word.Clear = refl
 
 -- the word that is found has the spelling
-pub word_found : (text : List ℕ) (w : Word) → word_of text ≡ Some w → word_text w ≡ text
-unfolding word_of
+pub word_found : (text : List ℕ) (w : Word) → reserved_word text ≡ Some w → word_text w ≡ text
+unfolding reserved_word
 word_found text w e = (bytes_eq-Decides (word_text w) text).0 (found_passes (λ v. bytes_eq (word_text v) text) reserved_words w e)
 
 -- where none is found, no word has the spelling
-pub no_word_found : (text : List ℕ) → word_of text ≡ None → (w : Word) → word_text w ≡ text → ⊥
-unfolding word_of
+pub no_word_found : (text : List ℕ) → reserved_word text ≡ None → (w : Word) → word_text w ≡ text → ⊥
+unfolding reserved_word
 no_word_found text e w same = both_ways (bytes_eq (word_text w) text) (none_passes (λ v. bytes_eq (word_text v) text) reserved_words w e (each_word w)) ((bytes_eq-Decides (word_text w) text).1 same)
 
 -- one that passes
@@ -173,9 +173,9 @@ no_reserved_word text e w same =
     both_ways (list_any (λ v. bytes_eq (word_text v) text) reserved_words) e (any_passes (λ v. bytes_eq (word_text v) text) reserved_words w (each_word w) ((bytes_eq-Decides (word_text w) text).1 same))
 
 -- what has the spelling of none is no reserved word
-pub reserved_word : (text : List ℕ) → ((w : Word) → word_text w ≡ text → ⊥) → is_reserved text ≡ false
+pub not_reserved : (text : List ℕ) → ((w : Word) → word_text w ≡ text → ⊥) → is_reserved text ≡ false
 unfolding is_reserved
-reserved_word text other = any_none (λ v. bytes_eq (word_text v) text) reserved_words (λ w. false_from_ne_true (bytes_eq (word_text w) text) (λ e. other w ((bytes_eq-Decides (word_text w) text).0 e)))
+not_reserved text other = any_none (λ v. bytes_eq (word_text v) text) reserved_words (λ w. false_from_ne_true (bytes_eq (word_text w) text) (λ e. other w ((bytes_eq-Decides (word_text w) text).0 e)))
 
 -- ---- signs
 

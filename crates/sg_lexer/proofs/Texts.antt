@@ -17,10 +17,10 @@ use Rattle.sg_ast.specs.declared.token.Token.TheVariants as token
 use Rattle.sg_ast.specs.Token.{begins_name, is_name_form, is_reserved, is_name, is_token}
 use Rattle.sg_lexer.specs.declared.fault.LexFault.{LexFault}
 use Rattle.sg_lexer.specs.declared.fault.LexFault.TheVariants as fault
-use Rattle.sg_lexer.specs.Alphabet.{is_inner, word_text, word_of, sign_text, suffix, text_of}
-use Rattle.sg_lexer.specs.Lexing.{word_or_name, name, value_of, is_decimal, number_as, number, run_token}
-use Rattle.sg_lexer.proofs.Numbers.{limit}
-use Rattle.sg_lexer.proofs.Tables.{chosen, for_word, word_again, word_found, no_word_found, reserved_word, no_reserved_word, sign_outer}
+use Rattle.sg_lexer.specs.Alphabet.{is_inner, word_text, reserved_word, sign_text, suffix, text_of}
+use Rattle.sg_lexer.specs.Lexing.{word_or_name, name_token, decimal_value, is_decimal, number_as, number_token, run_token}
+use Rattle.sg_lexer.proofs.Tables.{chosen, for_word, word_again, word_found, no_word_found, not_reserved, no_reserved_word, sign_outer}
+use Rattle.sg_ast.specs.Limits.{max_number}
 
 -- what an element of a list that passes does
 pub all_at : (p : ℕ → Bool) (xs : List ℕ) (i : ℕ) → list_all p xs ≡ true → i < length xs → p (get_or xs i 0) ≡ true
@@ -34,54 +34,54 @@ digits_inner ds e = list_all-from_AllPass is_inner ds (λ k d h. digit_inner (ge
 
 -- ---- numbers
 
-own : IsNumeralModel (λ ds. list_all is_ascii_digit ds ≡ true) value_of
+own : IsNumeralModel (λ ds. list_all is_ascii_digit ds ≡ true) decimal_value
 own = numerals_by_fold _ (search rules) (λ n ds. fold (λ v d. 10 * v + (d - 48)) n ds) (search rules)
 
-limit_small : (unsigned : Bool) → limit unsigned < 2 ^ 64
+limit_small : (unsigned : Bool) → max_number unsigned < 2 ^ 64
 limit_small true = omega arith
 limit_small false = omega arith
 
-number_as_found : (line : ℕ) (unsigned : Bool) (ds : List ℕ) (t : Token) → number_as line unsigned ds ≡ Ok t → (token.Number (value_of ds) unsigned ≡ t) × (value_of ds ≤ limit unsigned) × (decimal (value_of ds) ≡ ds)
+number_as_found : (line : ℕ) (unsigned : Bool) (ds : List ℕ) (t : Token) → number_as line unsigned ds ≡ Ok t → (token.Number (decimal_value ds) unsigned ≡ t) × (decimal_value ds ≤ max_number unsigned) × (decimal (decimal_value ds) ≡ ds)
 unfolding number_as
 number_as_found line unsigned ds t e =
-    elim (chosen {A = Result Token LexFault} (is_decimal ds && nat_le (value_of ds) (limit unsigned)) (Ok (token.Number (value_of ds) unsigned)) (Err (fault.BadNumber line)) (Ok t) e) [
+    elim (chosen {A = Result Token LexFault} (is_decimal ds && nat_le (decimal_value ds) (max_number unsigned)) (Ok (token.Number (decimal_value ds) unsigned)) (Err (fault.BadNumber line)) (Ok t) e) [
       | inl h ↦ (
-          let both = and_parts (is_decimal ds) (nat_le (value_of ds) (limit unsigned)) h.0 in
-          let below : value_of ds ≤ limit unsigned = leb-true (value_of ds) (limit unsigned) both.1 in
+          let both = and_parts (is_decimal ds) (nat_le (decimal_value ds) (max_number unsigned)) h.0 in
+          let below : decimal_value ds ≤ max_number unsigned = leb-true (decimal_value ds) (max_number unsigned) both.1 in
           let parts = and_parts (nat_lt 0 (length ds) && list_all is_ascii_digit ds) (length ds == 1 || not (slice_index ds 0 == 48)) both.0 in
           let front = and_parts (nat_lt 0 (length ds)) (list_all is_ascii_digit ds) parts.0 in
           let alone : get_or ds 0 0 ≡ 48 → length ds ≡ 1 = λ zero. elim (or_cases (length ds == 1) (not (slice_index ds 0 == 48)) parts.1) [ inl one ↦ eqb-true (length ds) 1 one | inr no_zero ↦ absurd (eqb-false (slice_index ds 0) 48 (not-true (slice_index ds 0 == 48) no_zero) zero) ] in
-          let small : value_of ds < 2 ^ 64 = omega (arith, limit_small unsigned) in
+          let small : decimal_value ds < 2 ^ 64 = omega (arith, limit_small unsigned) in
           (cc, below, decimal-digits_value own ds front.1 (ltb-true 0 (length ds) front.0) alone small))
       | inr h ↦ cc
     ]
 
-number_as_is : (line : ℕ) (unsigned : Bool) (ds : List ℕ) → is_decimal ds ≡ true → value_of ds ≤ limit unsigned → number_as line unsigned ds ≡ Ok (token.Number (value_of ds) unsigned)
+number_as_is : (line : ℕ) (unsigned : Bool) (ds : List ℕ) → is_decimal ds ≡ true → decimal_value ds ≤ max_number unsigned → number_as line unsigned ds ≡ Ok (token.Number (decimal_value ds) unsigned)
 unfolding number_as
-number_as_is line unsigned ds good below = cond-true _ _ _ (and_from (is_decimal ds) (nat_le (value_of ds) (limit unsigned)) good (le-leb (value_of ds) (limit unsigned) below))
+number_as_is line unsigned ds good below = cond-true _ _ _ (and_from (is_decimal ds) (nat_le (decimal_value ds) (max_number unsigned)) good (le-leb (decimal_value ds) (max_number unsigned) below))
 
 number_as_fault : (line : ℕ) (unsigned : Bool) (ds : List ℕ) (f : LexFault) → number_as line unsigned ds ≡ Err f → fault.BadNumber line ≡ f
 unfolding number_as
 number_as_fault line unsigned ds f e =
-    elim (chosen {A = Result Token LexFault} (is_decimal ds && nat_le (value_of ds) (limit unsigned)) (Ok (token.Number (value_of ds) unsigned)) (Err (fault.BadNumber line)) (Err f) e) [ inl h ↦ cc | inr h ↦ cc ]
+    elim (chosen {A = Result Token LexFault} (is_decimal ds && nat_le (decimal_value ds) (max_number unsigned)) (Ok (token.Number (decimal_value ds) unsigned)) (Err (fault.BadNumber line)) (Err f) e) [ inl h ↦ cc | inr h ↦ cc ]
 
-number_found : (line : ℕ) (run : List ℕ) (t : Token) → number line run ≡ Ok t → (run ≡ text_of t) × (is_token t ≡ true)
-unfolding number
+number_found : (line : ℕ) (run : List ℕ) (t : Token) → number_token line run ≡ Ok t → (run ≡ text_of t) × (is_token t ≡ true)
+unfolding number_token
 number_found line run t e =
     elim (chosen {A = Result Token LexFault} (ends_with nat_eq run (codes "u")) (number_as line true (take (length run - 1) run)) (number_as line false run) (Ok t) e) [
       | inl h ↦ (
           let found = number_as_found line true (take (length run - 1) run) t h.1 in
           let split : run ≡ take (length run - 1) run ++ codes "u" = (ends_is Decides-eqb run (codes "u") (ends_with nat_eq run (codes "u")) refl).0 h.0 in
-          let text : run ≡ text_of (token.Number (value_of (take (length run - 1) run)) true) = split ∙ ap (λ (ds : List ℕ). ds ++ codes "u") (sym found.2) in
-          (text ∙ ap text_of found.0, let P : Token → Type 0 = λ u. is_token u ≡ true in subst P found.0 (le-leb (value_of (take (length run - 1) run)) (limit true) found.1)))
+          let text : run ≡ text_of (token.Number (decimal_value (take (length run - 1) run)) true) = split ∙ ap (λ (ds : List ℕ). ds ++ codes "u") (sym found.2) in
+          (text ∙ ap text_of found.0, let P : Token → Type 0 = λ u. is_token u ≡ true in subst P found.0 (le-leb (decimal_value (take (length run - 1) run)) (max_number true) found.1)))
       | inr h ↦ (
           let found = number_as_found line false run t h.1 in
-          let text : run ≡ text_of (token.Number (value_of run) false) = sym found.2 ∙ sym (append-nil (decimal (value_of run))) in
-          (text ∙ ap text_of found.0, let P : Token → Type 0 = λ u. is_token u ≡ true in subst P found.0 (le-leb (value_of run) (limit false) found.1)))
+          let text : run ≡ text_of (token.Number (decimal_value run) false) = sym found.2 ∙ sym (append-nil (decimal (decimal_value run))) in
+          (text ∙ ap text_of found.0, let P : Token → Type 0 = λ u. is_token u ≡ true in subst P found.0 (le-leb (decimal_value run) (max_number false) found.1)))
     ]
 
-number_fault : (line : ℕ) (run : List ℕ) (f : LexFault) → number line run ≡ Err f → fault.BadNumber line ≡ f
-unfolding number
+number_fault : (line : ℕ) (run : List ℕ) (f : LexFault) → number_token line run ≡ Err f → fault.BadNumber line ≡ f
+unfolding number_token
 number_fault line run f e =
     elim (chosen {A = Result Token LexFault} (ends_with nat_eq run (codes "u")) (number_as line true (take (length run - 1) run)) (number_as line false run) (Err f) e) [
       | inl h ↦ number_as_fault line true (take (length run - 1) run) f h.1
@@ -101,10 +101,10 @@ is_decimal-decimal v small =
     and_from (nat_lt 0 (length (decimal v)) && list_all is_ascii_digit (decimal v)) (length (decimal v) == 1 || not (slice_index (decimal v) 0 == 48)) (and_from (nat_lt 0 (length (decimal v))) (list_all is_ascii_digit (decimal v)) (lt-ltb 0 (length (decimal v)) (decimal_nonempty v small)) (digits_decimal own v small)) first
 
 -- the digits of a number that is within its limit
-number_as_again : (line v : ℕ) (unsigned : Bool) → v ≤ limit unsigned → number_as line unsigned (decimal v) ≡ Ok (token.Number v unsigned)
+number_as_again : (line v : ℕ) (unsigned : Bool) → v ≤ max_number unsigned → number_as line unsigned (decimal v) ≡ Ok (token.Number v unsigned)
 number_as_again line v unsigned below =
     let small : v < 2 ^ 64 = omega (arith, limit_small unsigned) in
-    let value : value_of (decimal v) ≡ v = digits_value-decimal own v small in
+    let value : decimal_value (decimal v) ≡ v = digits_value-decimal own v small in
     number_as_is line unsigned (decimal v) (is_decimal-decimal v small) (omega arith) ∙ ap (λ (k : ℕ). let out : Result Token LexFault = Ok (token.Number k unsigned) in out) value
 
 -- digits do not end in `u`
@@ -117,8 +117,8 @@ ends_in_digit ds digits =
     let last : list_all is_ascii_digit (codes "u") ≡ true = (and_parts (list_all is_ascii_digit front) (list_all is_ascii_digit (codes "u")) (sym (list_all-append is_ascii_digit front (codes "u")) ∙ all)).1 in
     false≢true last)
 
-number_again : (line v : ℕ) (unsigned : Bool) → v ≤ limit unsigned → number line (decimal v ++ suffix unsigned) ≡ Ok (token.Number v unsigned)
-unfolding number
+number_again : (line v : ℕ) (unsigned : Bool) → v ≤ max_number unsigned → number_token line (decimal v ++ suffix unsigned) ≡ Ok (token.Number v unsigned)
+unfolding number_token
 number_again line v true below =
     let run : List ℕ = decimal v ++ codes "u" in
     let ends : ends_with nat_eq run (codes "u") ≡ true = (ends_is Decides-eqb run (codes "u") (ends_with nat_eq run (codes "u")) refl).1 (decimal v) refl in
@@ -133,22 +133,22 @@ number_again line v false below =
 
 -- ---- names and words
 
-name_is : (line : ℕ) (run : List ℕ) → length run ≤ 32 → name line run ≡ Ok (word_or_name run (word_of run))
-unfolding name
+name_is : (line : ℕ) (run : List ℕ) → length run ≤ 32 → name_token line run ≡ Ok (word_or_name run (reserved_word run))
+unfolding name_token
 name_is line run short = cond-false _ _ _ (le-ltb 32 (length run) short)
 
-name_found : (line : ℕ) (run : List ℕ) (t : Token) → name line run ≡ Ok t → (length run ≤ 32) × (word_or_name run (word_of run) ≡ t)
-unfolding name
+name_found : (line : ℕ) (run : List ℕ) (t : Token) → name_token line run ≡ Ok t → (length run ≤ 32) × (word_or_name run (reserved_word run) ≡ t)
+unfolding name_token
 name_found line run t e =
-    elim (chosen {A = Result Token LexFault} (nat_lt 32 (length run)) (Err (fault.LongName line)) (Ok (word_or_name run (word_of run))) (Ok t) e) [ inl h ↦ cc | inr h ↦ (ltb-false 32 (length run) h.0, cc) ]
+    elim (chosen {A = Result Token LexFault} (nat_lt 32 (length run)) (Err (fault.LongName line)) (Ok (word_or_name run (reserved_word run))) (Ok t) e) [ inl h ↦ cc | inr h ↦ (ltb-false 32 (length run) h.0, cc) ]
 
-name_fault : (line : ℕ) (run : List ℕ) (f : LexFault) → name line run ≡ Err f → (32 < length run) × (fault.LongName line ≡ f)
-unfolding name
+name_fault : (line : ℕ) (run : List ℕ) (f : LexFault) → name_token line run ≡ Err f → (32 < length run) × (fault.LongName line ≡ f)
+unfolding name_token
 name_fault line run f e =
-    elim (chosen {A = Result Token LexFault} (nat_lt 32 (length run)) (Err (fault.LongName line)) (Ok (word_or_name run (word_of run))) (Err f) e) [ inl h ↦ (ltb-true 32 (length run) h.0, cc) | inr h ↦ cc ]
+    elim (chosen {A = Result Token LexFault} (nat_lt 32 (length run)) (Err (fault.LongName line)) (Ok (word_or_name run (reserved_word run))) (Err f) e) [ inl h ↦ (ltb-true 32 (length run) h.0, cc) | inr h ↦ cc ]
 
-word_none : (text : List ℕ) → ((w : Word) → word_text w ≢ text) → word_of text ≡ None
-word_none text other = (elim (word_of text) as (λ o. word_of text ≡ o → o ≡ None) [ None ↦ λ e. refl | Some w ↦ λ e. absurd (other w (word_found text w e)) ]) refl
+word_none : (text : List ℕ) → ((w : Word) → word_text w ≢ text) → reserved_word text ≡ None
+word_none text other = (elim (reserved_word text) as (λ o. reserved_word text ≡ o → o ≡ None) [ None ↦ λ e. refl | Some w ↦ λ e. absurd (other w (word_found text w e)) ]) refl
 
 -- the text of a name: a run of at most 32 bytes that begins with no digit and is no reserved word
 record IsName (text : List ℕ) : Type 0 where
@@ -199,20 +199,20 @@ name_from (c ∷ cs) h =
     let inner = and_parts (is_inner c) (list_all is_inner cs) h.inner in
     and_from (is_name_form (c ∷ cs)) (nat_le (length (c ∷ cs)) 32 && not (is_reserved (c ∷ cs)))
     (and_from (begins_name c) (list_all (λ d. begins_name d || is_ascii_digit d) cs) (inner_begins c inner.0 h.no_digit) (all_alike is_inner (λ d. begins_name d || is_ascii_digit d) inner_goes_on cs inner.1))
-    (and_from (nat_le (length (c ∷ cs)) 32) (not (is_reserved (c ∷ cs))) (le-leb (length (c ∷ cs)) 32 h.short) (not_from_false (is_reserved (c ∷ cs)) (reserved_word (c ∷ cs) h.no_word)))
+    (and_from (nat_le (length (c ∷ cs)) 32) (not (is_reserved (c ∷ cs))) (le-leb (length (c ∷ cs)) 32 h.short) (not_from_false (is_reserved (c ∷ cs)) (not_reserved (c ∷ cs) h.no_word)))
 
 -- a reserved word or a name
-spelled : (run : List ℕ) (o : Option Word) → word_of run ≡ o → length run ≤ 32 → list_all is_inner run ≡ true → is_ascii_digit (slice_index run 0) ≡ false → 0 < length run → (run ≡ text_of (word_or_name run o)) × (is_token (word_or_name run o) ≡ true)
+spelled : (run : List ℕ) (o : Option Word) → reserved_word run ≡ o → length run ≤ 32 → list_all is_inner run ≡ true → is_ascii_digit (slice_index run 0) ≡ false → 0 < length run → (run ≡ text_of (word_or_name run o)) × (is_token (word_or_name run o) ≡ true)
 spelled run None e short inner first some = (refl, name_from run (record { some = some; short = short; inner = inner; no_digit = first; no_word = no_word_found run e }))
 spelled run (Some w) e short inner first some = (sym (word_found run w e), refl)
 
 -- ---- runs
 
-run_number : (line : ℕ) (run : List ℕ) → is_ascii_digit (slice_index run 0) ≡ true → run_token line run ≡ number line run
+run_number : (line : ℕ) (run : List ℕ) → is_ascii_digit (slice_index run 0) ≡ true → run_token line run ≡ number_token line run
 unfolding run_token
 run_number line run first = cond-true _ _ _ first
 
-run_name : (line : ℕ) (run : List ℕ) → is_ascii_digit (slice_index run 0) ≡ false → run_token line run ≡ name line run
+run_name : (line : ℕ) (run : List ℕ) → is_ascii_digit (slice_index run 0) ≡ false → run_token line run ≡ name_token line run
 unfolding run_token
 run_name line run first = cond-false _ _ _ first
 
@@ -224,7 +224,7 @@ run_found line run t e inner some =
       | inr first ↦ (
           let found = name_found line run t (sym (run_name line run first) ∙ e) in
           let P : Token → Type 0 = λ u. (run ≡ text_of u) × (is_token u ≡ true) in
-          subst P found.1 (spelled run (word_of run) refl found.0 inner first some))
+          subst P found.1 (spelled run (reserved_word run) refl found.0 inner first some))
     ]
 
 -- what is known of a token that is a run
@@ -255,7 +255,7 @@ suffix_inner : (unsigned : Bool) → list_all is_inner (suffix unsigned) ≡ tru
 suffix_inner true = refl
 suffix_inner false = refl
 
-number_run : (v : ℕ) (unsigned : Bool) → v ≤ limit unsigned → IsRun (token.Number v unsigned)
+number_run : (v : ℕ) (unsigned : Bool) → v ≤ max_number unsigned → IsRun (token.Number v unsigned)
 number_run v unsigned below =
     let small : v < 2 ^ 64 = omega (arith, limit_small unsigned) in
     let digits : list_all is_ascii_digit (decimal v) ≡ true = digits_decimal own v small in
@@ -271,7 +271,7 @@ number_run v unsigned below =
 pub run_or_sign : (t : Token) → is_token t ≡ true → IsRun t ⊎ ((s : Sign) × (token.Sign s ≡ t))
 run_or_sign (token.Name n) h = inl (name_run n.text (name_parts n.text h))
 run_or_sign (token.Word w) h = inl (word_run w)
-run_or_sign (token.Number v unsigned) h = inl (number_run v unsigned (leb-true v (limit unsigned) h))
+run_or_sign (token.Number v unsigned) h = inl (number_run v unsigned (leb-true v (max_number unsigned) h))
 run_or_sign (token.Sign s) h = inr (s, refl)
 
 -- the faults of a run: a number that no token spells, or a long name
@@ -291,9 +291,9 @@ run_fault line run f e inner =
       | inr first ↦ (let long = name_fault line run f (sym (run_name line run first) ∙ e) in inr (first, long.1, long.0))
     ]
 
--- the same faults from what is known of a run
+-- the faults from what is known of a run
 pub run_long : (line : ℕ) (run : List ℕ) → is_ascii_digit (slice_index run 0) ≡ false → 32 < length run → run_token line run ≡ Err (fault.LongName line)
-unfolding name
+unfolding name_token
 run_long line run first long = run_name line run first ∙ cond-true _ _ _ (lt-ltb 32 (length run) long)
 
 pub run_bad : (line : ℕ) (run : List ℕ) → list_all is_inner run ≡ true → 0 < length run → is_ascii_digit (slice_index run 0) ≡ true → ((t : Token) → is_token t ≡ true → text_of t ≢ run) → run_token line run ≡ Err (fault.BadNumber line)

@@ -7,10 +7,12 @@ use Rattle.sg_ast.specs.declared.token.Token.{Token}
 use Rattle.sg_ast.specs.declared.token.Spanned.{Spanned}
 use Rattle.sg_ast.specs.declared.token.Tokens.{Tokens}
 use Rattle.sg_lexer.specs.declared.fault.LexFault.{LexFault}
-use Rattle.sg_lexer.specs.Lexing.{◌>>=◌, Piece, piece, line_after, with_piece, lexed_from, lexed, tokens}
-use Rattle.sg_lexer.specs.Laws.{Blank, none, space, comment, IsLexeme, IsTokenOf, AreTokens, IsNoBlank, IsFault, IsFirstFault}
+use Rattle.sg_lexer.specs.Lexing.{Piece, piece, line_after, with_piece, tokens_from, token_list, tokens}
+use Rattle.sg_words.specs.Results.{◌>>=◌}
+use Rattle.sg_lexer.specs.Laws.{Blank, none, space, comment, IsLexeme, IsTokenOf, AreTokens, IsNoBlank, IsFault, IsFirstLexFault}
 use Rattle.sg_lexer.proofs.Fronts.{Takes, Front, blank, taken, front}
 use Rattle.sg_lexer.proofs.Returning.{refused}
+use Rattle.sg_ast.specs.Limits.{most_tokens}
 
 -- ---- lists of tokens
 
@@ -41,7 +43,7 @@ more_token whole from (u ∷ ts) t within h is = (h.0, h.1, h.2, more_token whol
 -- what is known up to a place: the tokens so far are those of the bytes up to it
 pub record Held (whole : List ℕ) (done : List Spanned) (at : ℕ) : Type 0 where
   pub tokens : AreTokens whole 0 done at
-  pub few : length done ≤ 16384
+  pub few : length done ≤ most_tokens
   pub within : at ≤ length whole
 
 -- a token at the front of what stands behind `before`
@@ -84,9 +86,9 @@ stepped whole before done bytes n o e held some (taken t is room at) =
 
 pub Outcome : List ℕ → Result (List Spanned) LexFault → Type 0
 Outcome whole (Ok ts) = Held whole ts (length whole)
-Outcome whole (Err f) = IsFirstFault whole f
+Outcome whole (Err f) = IsFirstLexFault whole f
 
-first_fault : (whole before : List ℕ) (done : List Spanned) (bytes : List ℕ) (f : LexFault) → before ++ bytes ≡ whole → Held whole done (length before) → 0 < length bytes → piece (line_after before) (length done) bytes ≡ Err f → IsFirstFault whole f
+first_fault : (whole before : List ℕ) (done : List Spanned) (bytes : List ℕ) (f : LexFault) → before ++ bytes ≡ whole → Held whole done (length before) → 0 < length bytes → piece (line_after before) (length done) bytes ≡ Err f → IsFirstLexFault whole f
 first_fault whole before done bytes f e held some is =
     let rest : bytes ≡ drop (length before) whole = sym (ap (drop (length before)) (sym e) ∙ drop-append_seam before bytes) in
     let front : before ≡ take (length before) whole = sym (ap (take (length before)) (sym e) ∙ take-append_seam before bytes) in
@@ -96,7 +98,7 @@ first_fault whole before done bytes f e held some is =
     let F : List ℕ → List ℕ → Type 0 = λ x y. IsFault (length done) (line_after x) y f in
     record { before = done; at = length before; within = omega arith; well = held.tokens; few = held.few; no_blank = subst N rest known.0; fault = subst₂ F front rest known.1 }
 
-walk : (whole : List ℕ) (left : ℕ) (before : List ℕ) (done : List Spanned) (bytes : List ℕ) → before ++ bytes ≡ whole → left ≤ length bytes → Held whole done (length before + left) → Outcome whole (lexed_from left before done bytes)
+walk : (whole : List ℕ) (left : ℕ) (before : List ℕ) (done : List Spanned) (bytes : List ℕ) → before ++ bytes ≡ whole → left ≤ length bytes → Held whole done (length before + left) → Outcome whole (tokens_from left before done bytes)
 unfolding Outcome
 walk whole left before done [] e within held =
     let end : length before + left ≡ length whole = omega (arith, length-append before [], ap length e) in
@@ -111,7 +113,7 @@ walk whole zero before done (b ∷ bytes) e within held =
     let H : ℕ → Type 0 = Held whole done in
     let here : Held whole done (length before) = subst H place held in
     let some : 0 < length (b ∷ bytes) = omega arith in
-    let next : Piece → Result (List Spanned) LexFault = λ p. lexed_from (p.0 - 1) (before ++ b ∷ []) (with_piece before done p) bytes in
+    let next : Piece → Result (List Spanned) LexFault = λ p. tokens_from (p.0 - 1) (before ++ b ∷ []) (with_piece before done p) bytes in
     (elim (piece (line_after before) (length done) (b ∷ bytes)) as (λ r. piece (line_after before) (length done) (b ∷ bytes) ≡ r → Outcome whole (r >>= next)) [
       | Ok p ↦ λ is.
           let step = stepped whole before done (b ∷ bytes) p.0 p.1 e here some (front (line_after before) (length done) p.0 p.1 (b ∷ bytes) some is) in
@@ -123,22 +125,22 @@ walk whole zero before done (b ∷ bytes) e within held =
       | Err f ↦ λ is. first_fault whole before done (b ∷ bytes) f e here some is
     ]) refl
 
-outcome : (bytes : List ℕ) → Outcome bytes (lexed bytes)
-unfolding lexed
+outcome : (bytes : List ℕ) → Outcome bytes (token_list bytes)
+unfolding token_list
 outcome bytes = walk bytes 0 [] [] bytes refl (omega arith) (record { tokens = none bytes; few = omega arith; within = omega arith })
 
 -- ---- the answers of `tokens`
 
-pub lexed_ok : (bytes : List ℕ) (found : Tokens) → tokens bytes ≡ Ok found → lexed bytes ≡ Ok found.list
+pub lexed_ok : (bytes : List ℕ) (found : Tokens) → tokens bytes ≡ Ok found → token_list bytes ≡ Ok found.list
 lexed_ok bytes found e =
-    (elim (lexed bytes) as (λ r. (r >>= (λ list. let out : Result Tokens LexFault = Ok (record { list = list }) in out)) ≡ Ok found → r ≡ Ok found.list) [
+    (elim (token_list bytes) as (λ r. (r >>= (λ list. let out : Result Tokens LexFault = Ok (record { list = list }) in out)) ≡ Ok found → r ≡ Ok found.list) [
       | Ok list ↦ λ is. (let t : Tokens = record { list = list } in let same : t ≡ found = cc in ap (λ (x : Tokens). let out : Result (List Spanned) LexFault = Ok x.list in out) same)
       | Err f ↦ λ is. cc
     ]) e
 
-pub lexed_err : (bytes : List ℕ) (f : LexFault) → tokens bytes ≡ Err f → lexed bytes ≡ Err f
+pub lexed_err : (bytes : List ℕ) (f : LexFault) → tokens bytes ≡ Err f → token_list bytes ≡ Err f
 lexed_err bytes f e =
-    (elim (lexed bytes) as (λ r. (r >>= (λ list. let out : Result Tokens LexFault = Ok (record { list = list }) in out)) ≡ Err f → r ≡ Err f) [
+    (elim (token_list bytes) as (λ r. (r >>= (λ list. let out : Result Tokens LexFault = Ok (record { list = list }) in out)) ≡ Err f → r ≡ Err f) [
       | Ok list ↦ λ is. cc
       | Err g ↦ λ is. (let same : g ≡ f = cc in ap (λ (x : LexFault). let out : Result (List Spanned) LexFault = Err x in out) same)
     ]) e
@@ -147,6 +149,6 @@ pub found_held : (bytes : List ℕ) (found : Tokens) → tokens bytes ≡ Ok fou
 unfolding Outcome
 found_held bytes found e = let P : Result (List Spanned) LexFault → Type 0 = Outcome bytes in subst P (lexed_ok bytes found e) (outcome bytes)
 
-pub fault_first : (bytes : List ℕ) (f : LexFault) → tokens bytes ≡ Err f → IsFirstFault bytes f
+pub fault_first : (bytes : List ℕ) (f : LexFault) → tokens bytes ≡ Err f → IsFirstLexFault bytes f
 unfolding Outcome
 fault_first bytes f e = let P : Result (List Spanned) LexFault → Type 0 = Outcome bytes in subst P (lexed_err bytes f e) (outcome bytes)

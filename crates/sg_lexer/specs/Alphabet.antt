@@ -18,8 +18,8 @@ abbrev pub is_inner : ℕ → Bool
 is_inner b = is_ascii_alphanumeric b || b == 95
 
 -- the reserved word of this spelling, if there is one
-unfoldable pub word_of : List ℕ → Option Word
-word_of text = find (λ w. bytes_eq (word_text w) text) reserved_words
+unfoldable pub reserved_word : List ℕ → Option Word
+reserved_word text = find (λ w. bytes_eq (word_text w) text) reserved_words
 
 -- the word beside the first text that equals the given one
 abbrev pub lookup : List (List ℕ × Word) → List ℕ → Option Word

@@ -11,6 +11,8 @@ use Rattle.sg_lexer.specs.declared.fault.LexFault.{LexFault}
 use Rattle.sg_lexer.specs.declared.fault.LexFault.TheVariants as fault
 use Rattle.sg_lexer.specs.Alphabet.{is_space, is_inner, sign_text, text_of}
 use Rattle.sg_lexer.specs.Lexing.{is_in_line, line_after, tokens}
+use Rattle.sg_ast.specs.Limits.{most_name_bytes, most_tokens}
+use Rattle.sg_ast.specs.Items.{kinds}
 
 -- only white space and comments stand before `after`
 pub data Blank : List ℕ → List ℕ → Type 0 where
@@ -49,40 +51,47 @@ pub record IsNoBlank (bytes : List ℕ) : Type 0 where
 -- The fault of the bytes that stand in this line, after `count` tokens, with no white space or comment at their front.
 pub data IsFault (count line : ℕ) (bytes : List ℕ) : LexFault → Type 0 where
   bad_byte : is_inner (slice_index bytes 0) ≡ false → ((s : Sign) → starts_with nat_eq bytes (sign_text s) ≡ false) → IsFault count line bytes (fault.BadByte line)
-  bad_number : count < 16384 → is_ascii_digit (slice_index bytes 0) ≡ true → ((t : Token) → IsTrue (is_token t) → text_of t ≢ run_at bytes) → IsFault count line bytes (fault.BadNumber line)
-  long_name : count < 16384 → is_inner (slice_index bytes 0) ≡ true → is_ascii_digit (slice_index bytes 0) ≡ false → 32 < length (run_at bytes) → IsFault count line bytes (fault.LongName line)
-  too_many_runs : 16384 ≤ count → is_inner (slice_index bytes 0) ≡ true → IsFault count line bytes fault.TooManyTokens
-  too_many_signs : 16384 ≤ count → (s : Sign) → starts_with nat_eq bytes (sign_text s) ≡ true → IsFault count line bytes fault.TooManyTokens
+  bad_number : count < most_tokens → is_ascii_digit (slice_index bytes 0) ≡ true → ((t : Token) → IsTrue (is_token t) → text_of t ≢ run_at bytes) → IsFault count line bytes (fault.BadNumber line)
+  long_name : count < most_tokens → is_inner (slice_index bytes 0) ≡ true → is_ascii_digit (slice_index bytes 0) ≡ false → most_name_bytes < length (run_at bytes) → IsFault count line bytes (fault.LongName line)
+  too_many_runs : most_tokens ≤ count → is_inner (slice_index bytes 0) ≡ true → IsFault count line bytes fault.TooManyTokens
+  too_many_signs : most_tokens ≤ count → (s : Sign) → starts_with nat_eq bytes (sign_text s) ≡ true → IsFault count line bytes fault.TooManyTokens
 
 -- a fault at a place, up to which all is well, with no more tokens than the limit
-pub record IsFirstFault (bytes : List ℕ) (f : LexFault) : Type 0 where
+pub record IsFirstLexFault (bytes : List ℕ) (f : LexFault) : Type 0 where
   pub before : List Spanned
   pub at : ℕ
   pub within : at < length bytes
   pub well : AreTokens bytes 0 before at
-  pub few : length before ≤ 16384
+  pub few : length before ≤ most_tokens
   pub no_blank : IsNoBlank (drop at bytes)
   pub fault : IsFault (length before) (line_after (take at bytes)) (drop at bytes) f
 
 -- ---- the laws
 
 -- what is answered are the tokens of the bytes
-abbrev pub AnswersTheTokens : List ℕ → Tokens → Type 0
-AnswersTheTokens bytes found = tokens bytes ≡ Ok found → AreTokens bytes 0 found.list (length bytes)
+abbrev pub AnsweredAreTokens : Type 0
+AnsweredAreTokens = (bytes : List ℕ) (found : Tokens) → tokens bytes ≡ Ok found → AreTokens bytes 0 found.list (length bytes)
 
--- no other list is the tokens of the bytes
-abbrev pub AnswersTheOnlyTokens : List ℕ → Tokens → Type 0
-AnswersTheOnlyTokens bytes given = AreTokens bytes 0 given.list (length bytes) → length given.list ≤ 16384 → tokens bytes ≡ Ok given
+-- the tokens of the bytes are answered, so no other list is
+abbrev pub TokensAreAnswered : Type 0
+TokensAreAnswered =
+    (bytes : List ℕ) (given : Tokens) → AreTokens bytes 0 given.list (length bytes) → length given.list ≤ most_tokens
+    → tokens bytes ≡ Ok given
 
--- a fault is the first, and the first fault is answered
-abbrev pub AnswersTheFirstFault : List ℕ → LexFault → Type 0
-AnswersTheFirstFault bytes f = (tokens bytes ≡ Err f) ↔ IsFirstFault bytes f
+-- a fault that is answered is the first, and the first fault is answered
+abbrev pub FirstFaultIsAnswered : Type 0
+FirstFaultIsAnswered = (bytes : List ℕ) (f : LexFault) → (tokens bytes ≡ Err f) ↔ IsFirstLexFault bytes f
 
--- no more tokens than the limit
-abbrev pub AnswersFewTokens : List ℕ → Tokens → Type 0
-AnswersFewTokens bytes found = tokens bytes ≡ Ok found → length found.list ≤ 16384
+-- no more tokens are answered than the limit
+abbrev pub AnsweredAreFew : Type 0
+AnsweredAreFew = (bytes : List ℕ) (found : Tokens) → tokens bytes ≡ Ok found → length found.list ≤ most_tokens
+
+-- tokens, each by its text
+abbrev pub texts_of : List Token → List (List ℕ)
+texts_of ts = map (λ t. text_of t) ts
 
 -- tokens that are spelled with a space between each two are read again
-abbrev pub ReadsAgain : List Token → Type 0
-ReadsAgain ts =
-    IsTrue (list_all is_token ts) → length ts ≤ 16384 → (read : Tokens) × (tokens (join_with_byte 32 (map (λ t. text_of t) ts)) ≡ Ok read) × (map (λ t. t.token) read.list ≡ ts)
+abbrev pub SpelledAreReadAgain : Type 0
+SpelledAreReadAgain =
+    (ts : List Token) → IsTrue (list_all is_token ts) → length ts ≤ most_tokens
+    → (read : Tokens) × (tokens (join_with_byte 32 (texts_of ts)) ≡ Ok read) × (kinds read.list ≡ ts)

@@ -1,3 +1,4 @@
+pub mod Limits
 pub mod Alphabet
 pub mod Lexing
 pub mod Laws

@@ -1,31 +1,30 @@
-//! What is proved of the tokens, apart from the way they are found. These functions do nothing.
+//! What is proved of the tokens, apart from the way they are found: each law is the contract of a function that
+//! does nothing.
 
-ghost use Rattle.sg_lexer.specs.Laws.{AnswersTheTokens, AnswersTheOnlyTokens, AnswersTheFirstFault, AnswersFewTokens, ReadsAgain};
-
-use crate::fault::LexFault;
-use sg_ast::{Token, Tokens};
+ghost use Rattle.sg_lexer.specs.Laws.{AnsweredAreTokens, TokensAreAnswered, FirstFaultIsAnswered};
+ghost use Rattle.sg_lexer.specs.Laws.{AnsweredAreFew, SpelledAreReadAgain};
 
 /// What `lex` answers are the tokens of the bytes.
-pub fn answers_the_tokens(bytes: &[u8], found: &Tokens)
-    ensures { AnswersTheTokens bytes.now found.now }
+pub fn answered_are_tokens()
+    ensures { AnsweredAreTokens }
 {}
 
-/// No other list is the tokens of the bytes.
-pub fn answers_the_only_tokens(bytes: &[u8], given: &Tokens)
-    ensures { AnswersTheOnlyTokens bytes.now given.now }
+/// The tokens of the bytes are what `lex` answers, so that no other list is.
+pub fn tokens_are_answered()
+    ensures { TokensAreAnswered }
 {}
 
 /// A fault is the first: all is well up to its place; and the first fault is answered.
-pub fn answers_the_first_fault(bytes: &[u8], fault: LexFault)
-    ensures { AnswersTheFirstFault bytes.now fault }
+pub fn first_fault_is_answered()
+    ensures { FirstFaultIsAnswered }
 {}
 
-/// There are at most 16,384 tokens.
-pub fn answers_few_tokens(bytes: &[u8], found: &Tokens)
-    ensures { AnswersFewTokens bytes.now found.now }
+/// There are no more tokens than the limit.
+pub fn answered_are_few()
+    ensures { AnsweredAreFew }
 {}
 
 /// Tokens that are spelled with a space between each two are read again.
-pub fn reads_again(tokens: &[Token])
-    ensures { ReadsAgain tokens.now }
+pub fn spelled_are_read_again()
+    ensures { SpelledAreReadAgain }
 {}

@@ -2,6 +2,7 @@
 
 ghost use Rattle.std.specs.Prelude.{◌≡◌, ◌≤◌, length};
 ghost use Rattle.sg_words.specs.Answers.{Answers};
+ghost use Rattle.sg_lexer.specs.Limits.{most_file_bytes};
 ghost use Rattle.sg_lexer.specs.Lexing.{tokens};
 
 use crate::fault::LexFault;
@@ -12,7 +13,7 @@ use std::alloc::Global;
 
 /// The tokens of a file's bytes, each with its span and line; or the first fault.
 pub fn lex(alloc: Global, bytes: &[u8]) -> Result<Tokens, Stop<LexFault>>
-    requires { length bytes.now ≤ 65536 }
+    requires { length bytes.now ≤ most_file_bytes }
     ensures { Answers result (tokens bytes.now) }
 {
     let mut list = Items::new(alloc);

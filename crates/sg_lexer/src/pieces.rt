@@ -51,7 +51,7 @@ fn line_len(bytes: &[u8]) -> usize
 }
 
 /// How many newlines there are.
-pub fn newlines(bytes: &[u8]) -> usize
+pub(crate) fn newlines(bytes: &[u8]) -> usize
     ensures value { result ≡ count_by (λ b. b == 10) bytes.now }
     ensures within { result ≤ length bytes.now }
 {
@@ -60,7 +60,7 @@ pub fn newlines(bytes: &[u8]) -> usize
 
 /// How many bytes the piece at the front takes, and its token, if it is one.
 #[tactic(auto, unfolding(crate::specs::Lexing::piece))]
-pub fn piece(
+pub(crate) fn piece(
     alloc: Global,
     line: u32,
     count: usize,

@@ -1,11 +1,12 @@
 //! Runs of letters, digits and `_`: names, reserved words and numbers.
 
-ghost use Rattle.std.specs.Prelude.{◌≡◌, ◌<◌, if◌then◌else◌, length};
+ghost use Rattle.std.specs.Prelude.{◌≡◌, ◌<◌, length};
 ghost use Rattle.sg_words.specs.Answers.{Answers};
+ghost use Rattle.sg_ast.specs.Limits.{max_number};
 ghost use Rattle.sg_lexer.specs.Lexing as spec;
 
 use crate::fault::LexFault;
-use crate::spelling::word_of;
+use crate::spelling::reserved_word;
 use sg_ast::{Name, Token};
 use sg_words::{Items, Stop};
 use std::alloc::Global;
@@ -13,14 +14,14 @@ use std::alloc::Global;
 /// The most bytes of a name.
 const NAME_BYTES: usize = 32;
 
-#[tactic(auto, unfolding(crate::specs::Lexing::name))]
-fn name(alloc: Global, line: u32, run: &[u8]) -> Result<Token, Stop<LexFault>>
-    ensures { Answers result (spec.name line run.now) }
+#[tactic(auto, unfolding(crate::specs::Lexing::name_token))]
+fn name_token(alloc: Global, line: u32, run: &[u8]) -> Result<Token, Stop<LexFault>>
+    ensures { Answers result (spec.name_token line run.now) }
 {
     if NAME_BYTES < run.len() {
         return Err(Stop::Refused(LexFault::LongName { line }));
     }
-    match word_of(run) {
+    match reserved_word(run) {
         Some(word) => Ok(Token::Word(word)),
         None => Ok(Token::Name(Name {
             text: Items::from_slice(alloc, run)?,
@@ -30,7 +31,7 @@ fn name(alloc: Global, line: u32, run: &[u8]) -> Result<Token, Stop<LexFault>>
 
 /// The greatest number, by whether a `u` stands behind it.
 fn limit(unsigned: bool) -> u64
-    ensures { result ≡ (if unsigned then 4294967295 else 2147483648) }
+    ensures { result ≡ max_number unsigned }
 {
     if unsigned {
         4_294_967_295
@@ -65,9 +66,9 @@ fn number_as(line: u32, unsigned: bool, digits: &[u8]) -> Result<Token, Stop<Lex
     })
 }
 
-#[tactic(auto, unfolding(crate::specs::Lexing::number))]
-fn number(line: u32, run: &[u8]) -> Result<Token, Stop<LexFault>>
-    ensures { Answers result (spec.number line run.now) }
+#[tactic(auto, unfolding(crate::specs::Lexing::number_token))]
+fn number_token(line: u32, run: &[u8]) -> Result<Token, Stop<LexFault>>
+    ensures { Answers result (spec.number_token line run.now) }
 {
     if run.ends_with(b"u") {
         number_as(line, true, &run[..run.len() - 1])
@@ -78,13 +79,13 @@ fn number(line: u32, run: &[u8]) -> Result<Token, Stop<LexFault>>
 
 /// The token of a whole run.
 #[tactic(auto, unfolding(crate::specs::Lexing::run_token))]
-pub fn run_token(alloc: Global, line: u32, run: &[u8]) -> Result<Token, Stop<LexFault>>
+pub(crate) fn run_token(alloc: Global, line: u32, run: &[u8]) -> Result<Token, Stop<LexFault>>
     requires { 0 < length run.now }
     ensures { Answers result (spec.run_token line run.now) }
 {
     if run[0].is_ascii_digit() {
-        number(line, run)
+        number_token(line, run)
     } else {
-        name(alloc, line, run)
+        name_token(alloc, line, run)
     }
 }

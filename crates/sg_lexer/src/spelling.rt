@@ -54,15 +54,15 @@ fn lookup(mut table: &[(&[u8], Word)], text: &[u8]) -> Option<Word>
 }
 
 /// The reserved word of this spelling.
-#[tactic(auto, unfolding(crate::specs::Alphabet::word_of))]
-pub fn word_of(text: &[u8]) -> Option<Word>
-    ensures { result ≡ spec.word_of text.now }
+#[tactic(auto, unfolding(crate::specs::Alphabet::reserved_word))]
+pub(crate) fn reserved_word(text: &[u8]) -> Option<Word>
+    ensures { result ≡ spec.reserved_word text.now }
 {
     lookup(&WORDS, text)
 }
 
 /// The spelling of a sign.
-pub fn sign_text(sign: Sign) -> &'static [u8]
+pub(crate) fn sign_text(sign: Sign) -> &'static [u8]
     ensures value { result.now ≡ spec.sign_text sign }
     ensures some { 0 < length result.now }
 {
@@ -107,7 +107,7 @@ pub fn sign_text(sign: Sign) -> &'static [u8]
 
 /// The longest sign that the bytes begin with.
 #[tactic(auto, unfolding(crate::specs::Alphabet::sign_at))]
-pub fn sign_at(bytes: &[u8]) -> Option<Sign>
+pub(crate) fn sign_at(bytes: &[u8]) -> Option<Sign>
     ensures value { result ≡ spec.sign_at bytes.now }
     ensures within { IfSome result (λ s. length (spec.sign_text s) ≤ length bytes.now) }
 {

@@ -13,10 +13,12 @@ use Rattle.sg_ast.specs.declared.layout.LayoutDecl.{LayoutDecl}
 use Rattle.sg_ast.specs.declared.kernel.KernelDecl.{KernelDecl}
 use Rattle.sg_ast.specs.declared.program.Item.TheVariants as item
 use Rattle.sg_names.specs.declared.tables.NamedField.{NamedField}
-use Rattle.sg_names.specs.Tables.{Tables, same_name, is_known, layout_named, field_named, kernel_named}
+use Rattle.sg_ast.specs.Token.{same_name}
+use Rattle.sg_names.specs.Tables.{Tables, is_known, layout_named, field_named, kernel_named}
 use Rattle.sg_names.specs.Declares.{fields_from, declare}
 use Rattle.sg_names.specs.Names.{has_repeat, declares_twice, first_past, too_many}
-use Rattle.sg_names.proofs.NameLists.{same_name-symm}
+use Rattle.sg_words.proofs.Uses.{neither_holds}
+use Rattle.sg_ast.proofs.Uses.{same_name-symm}
 
 pub length-fields_from : (layout number place : ℕ) (fields : List FieldDecl) → length (fields_from layout number place fields) ≡ length fields
 length-fields_from layout number place [] = refl
@@ -121,11 +123,6 @@ is_known-any tables name =
     ∙ (ap (λ b. list_any (λ named. same_name name named.name) tables.constants || (list_any (λ named. same_name name named.name) tables.layouts || (b || is_some (kernel_named tables name)))) (is_some-found (λ named. named.at) (λ named. same_name name named.name) tables.fields)
     ∙ ap (λ b. list_any (λ named. same_name name named.name) tables.constants || (list_any (λ named. same_name name named.name) tables.layouts || (list_any (λ named. same_name name named.name) tables.fields || b))) (is_some-position (same_name name) tables.kernels)))
 
--- none of two, of four
-pub neither : (a b : Bool) → (a || b) ≡ false → (a ≡ false) × (b ≡ false)
-neither true b h = absurd (cc)
-neither false b h = (refl, h)
-
 -- a name that is not known stands in none of the tables
 pub record IsNew (tables : Tables) (name : Name) : Type 0 where
   pub constants : find (λ named. same_name name named.name) tables.constants ≡ None
@@ -135,9 +132,9 @@ pub record IsNew (tables : Tables) (name : Name) : Type 0 where
 
 pub new_name : (tables : Tables) (name : Name) → is_known tables name ≡ false → IsNew tables name
 new_name tables name h =
-    let one = neither (list_any (λ named. same_name name named.name) tables.constants) _ (sym (is_known-any tables name) ∙ h) in
-    let two = neither (list_any (λ named. same_name name named.name) tables.layouts) _ one.1 in
-    let three = neither (list_any (λ named. same_name name named.name) tables.fields) _ two.1 in
+    let one = neither_holds (list_any (λ named. same_name name named.name) tables.constants) _ (sym (is_known-any tables name) ∙ h) in
+    let two = neither_holds (list_any (λ named. same_name name named.name) tables.layouts) _ one.1 in
+    let three = neither_holds (list_any (λ named. same_name name named.name) tables.fields) _ two.1 in
     record {
       constants = not_found (λ named. same_name name named.name) tables.constants one.0;
       layouts = not_found (λ named. same_name name named.name) tables.layouts two.0;
@@ -147,7 +144,7 @@ new_name tables name h =
 
 -- a kernel's name is new
 pub new_kernel : (tables : Tables) (kernel : KernelDecl) → declares_twice tables (item.Kernel kernel) ≡ false → IsNew tables kernel.name
-new_kernel tables kernel h = new_name tables kernel.name ((neither (is_known tables kernel.name) false (neither (is_known tables kernel.name || false) false h).0).0)
+new_kernel tables kernel h = new_name tables kernel.name ((neither_holds (is_known tables kernel.name) false (neither_holds (is_known tables kernel.name || false) false h).0).0)
 
 -- none of a list of fields has the name of a field of the tables
 abbrev pub AreNew : List NamedField → List FieldDecl → Type 0
@@ -156,7 +153,7 @@ AreNew fields decls = AllByRecursion (λ decl. find (λ named. same_name decl.na
 new_fields : (tables : Tables) (decls : List FieldDecl) → list_any (λ decl. is_known tables decl.name) decls ≡ false → AreNew tables.fields decls
 new_fields tables [] h = tt
 new_fields tables (decl ∷ decls) h =
-    let parts = neither (is_known tables decl.name) (list_any (λ other. is_known tables other.name) decls) h in
+    let parts = neither_holds (is_known tables decl.name) (list_any (λ other. is_known tables other.name) decls) h in
     ((new_name tables decl.name parts.0).fields, new_fields tables decls parts.1)
 
 -- what a layout that declares nothing twice may rely on
@@ -167,12 +164,12 @@ pub record IsNewLayout (tables : Tables) (decl : LayoutDecl) : Type 0 where
 
 pub new_layout : (tables : Tables) (decl : LayoutDecl) → declares_twice tables (item.Layout decl) ≡ false → IsNewLayout tables decl
 new_layout tables decl h =
-    let parts = neither (is_known tables decl.name || (list_any (λ field. is_known tables field.name) decl.fields || list_any (λ field. same_name decl.name field.name) decl.fields)) _ (sym (declares_twice-Layout tables decl) ∙ h) in
-    let names = neither (is_known tables decl.name) _ parts.0 in
+    let parts = neither_holds (is_known tables decl.name || (list_any (λ field. is_known tables field.name) decl.fields || list_any (λ field. same_name decl.name field.name) decl.fields)) _ (sym (declares_twice-Layout tables decl) ∙ h) in
+    let names = neither_holds (is_known tables decl.name) _ parts.0 in
     record {
       name = new_name tables decl.name names.0;
-      fields = new_fields tables decl.fields ((neither (list_any (λ field. is_known tables field.name) decl.fields) _ names.1).0);
-      distinct = (neither (has_repeat (map (λ field. field.name) decl.fields)) _ parts.1).0;
+      fields = new_fields tables decl.fields ((neither_holds (list_any (λ field. is_known tables field.name) decl.fields) _ names.1).0);
+      distinct = (neither_holds (has_repeat (map (λ field. field.name) decl.fields)) _ parts.1).0;
     }
 
 -- While the fields of a layout are put into a table: those that are left follow those that are there, have new names, and have room.
@@ -190,7 +187,7 @@ still_new : (fields : List NamedField) (named : NamedField) (left : List FieldDe
     → list_any (same_name named.name) (map (λ field. field.name) left) ≡ false → AreNew (fields ++ named ∷ []) left
 still_new fields named [] new h = tt
 still_new fields named (decl ∷ left) new h =
-    let parts = neither (same_name named.name decl.name) (list_any (same_name named.name) (map (λ field. field.name) left)) h in (
+    let parts = neither_holds (same_name named.name decl.name) (list_any (same_name named.name) (map (λ field. field.name) left)) h in (
       find-append (λ other. same_name decl.name other.name) fields (named ∷ [])
           ∙ (ap (λ o. option_or o (find (λ other. same_name decl.name other.name) (named ∷ []))) new.0
           ∙ ap (λ b. cond b (Some named) None) (same_name-symm decl.name named.name ∙ parts.0)),
@@ -201,7 +198,7 @@ pub pushing_more : (layout place : ℕ) (whole fields : List NamedField) (decl :
     → IsPushing layout place whole fields (decl ∷ left) → IsPushing layout (place + 1) whole (fields ++ field_at layout (length fields) place decl ∷ []) left
 pushing_more layout place whole fields decl left h =
     let named = field_at layout (length fields) place decl in
-    let parts = neither (list_any (same_name decl.name) (map (λ field. field.name) left)) (has_repeat (map (λ field. field.name) left)) h.distinct in
+    let parts = neither_holds (list_any (same_name decl.name) (map (λ field. field.name) left)) (has_repeat (map (λ field. field.name) left)) h.distinct in
     let longer = length_push fields named in
     record {
       same = append_assoc fields (named ∷ []) (fields_from layout (length (fields ++ named ∷ [])) (place + 1) left)

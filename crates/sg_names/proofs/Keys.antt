@@ -5,7 +5,7 @@ use Rattle.std.specs.List.{AllByRecursion, position_or_len}
 use Rattle.std.proofs.lemmas.List.{length_push}
 use Rattle.std.specs.Map.{keys_of, values_of, lookup}
 use Rattle.sg_ast.specs.declared.token.Name.{Name}
-use Rattle.sg_names.specs.Tables.{same_name}
+use Rattle.sg_ast.specs.Token.{same_name}
 
 module _ {K X : Type 0} (bytes : K → List ℕ) (name_of : X → Name) where
   -- each key is the bytes of its thing's name

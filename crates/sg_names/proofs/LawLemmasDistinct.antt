@@ -12,17 +12,19 @@ use Rattle.sg_ast.specs.declared.program.Program.{Program}
 use Rattle.sg_names.specs.declared.tables.NamedConstant.{NamedConstant}
 use Rattle.sg_names.specs.declared.tables.NamedLayout.{NamedLayout}
 use Rattle.sg_names.specs.declared.tables.NamedField.{NamedField}
-use Rattle.sg_names.specs.Tables.{Tables, no_tables, same_name, is_known}
+use Rattle.sg_ast.specs.Token.{same_name}
+use Rattle.sg_names.specs.Tables.{Tables, no_tables, is_known}
 use Rattle.sg_names.specs.Declares.{declared_names, axes_declared, commands_in, constant_of, fields_from, declare}
 use Rattle.sg_names.specs.Names.{has_repeat, declares_twice, fault_in, tables_from}
 use Rattle.sg_names.specs.Laws.{all_names, NamesAreDistinct}
-use Rattle.sg_names.proofs.NameLists.{same_name-symm}
-use Rattle.sg_names.proofs.Declaring.{is_known-any, neither}
+use Rattle.sg_ast.proofs.Uses.{same_name-symm}
+use Rattle.sg_names.proofs.Declaring.{is_known-any}
+use Rattle.sg_words.proofs.Uses.{neither_holds}
 use Rattle.sg_names.proofs.Reading.{sound}
 use Rattle.sg_names.proofs.LawLemmasFault.{ok_parts, same_tables}
 use Rattle.sg_names.proofs.LawLemmasDeclared.{names_from}
 
--- neither of two, from each
+-- neither_holds of two, from each
 both_false : (a b : Bool) → a ≡ false → b ≡ false → (a || b) ≡ false
 both_false true b left right = left
 both_false false b left right = right
@@ -52,14 +54,14 @@ none_of_both : (test : Name → Bool) (xs ys : List Name) → list_any test xs �
 none_of_both test xs ys left right = list_any-append test xs ys ∙ both_false (list_any test xs) (list_any test ys) left right
 
 pub none_of_each : (test : Name → Bool) (xs ys : List Name) → list_any test (xs ++ ys) ≡ false → (list_any test xs ≡ false) × (list_any test ys ≡ false)
-none_of_each test xs ys none = neither (list_any test xs) (list_any test ys) (sym (list_any-append test xs ys) ∙ none)
+none_of_each test xs ys none = neither_holds (list_any test xs) (list_any test ys) (sym (list_any-append test xs ys) ∙ none)
 
 -- a new name put in the middle of a list
 put_one : (x : Name) (xs ys : List Name) → list_any (same_name x) (xs ++ ys) ≡ false → has_repeat (xs ++ ys) ≡ false → has_repeat (xs ++ x ∷ ys) ≡ false
 put_one x [] ys new distinct = both_false (list_any (same_name x) ys) (has_repeat ys) new distinct
 put_one x (y ∷ xs) ys new distinct =
-    let apart = neither (same_name x y) (list_any (same_name x) (xs ++ ys)) new in
-    let parts = neither (list_any (same_name y) (xs ++ ys)) (has_repeat (xs ++ ys)) distinct in
+    let apart = neither_holds (same_name x y) (list_any (same_name x) (xs ++ ys)) new in
+    let parts = neither_holds (list_any (same_name y) (xs ++ ys)) (has_repeat (xs ++ ys)) distinct in
     let each = none_of_each (same_name y) xs ys parts.0 in
     both_false (list_any (same_name y) (xs ++ x ∷ ys)) (has_repeat (xs ++ x ∷ ys))
     (none_of_both (same_name y) xs (x ∷ ys) each.0 (both_false (same_name y x) (list_any (same_name y) ys) (same_name-symm y x ∙ apart.0) each.1))
@@ -70,8 +72,8 @@ put_more : (names xs ys : List Name) → list_any (λ name. list_any (same_name 
     → has_repeat (xs ++ (names ++ ys)) ≡ false
 put_more [] xs ys new once distinct = distinct
 put_more (x ∷ names) xs ys new once distinct =
-    let news = neither (list_any (same_name x) (xs ++ ys)) (list_any (λ name. list_any (same_name name) (xs ++ ys)) names) new in
-    let parts = neither (list_any (same_name x) names) (has_repeat names) once in
+    let news = neither_holds (list_any (same_name x) (xs ++ ys)) (list_any (λ name. list_any (same_name name) (xs ++ ys)) names) new in
+    let parts = neither_holds (list_any (same_name x) names) (has_repeat names) once in
     let each = none_of_each (same_name x) xs ys news.0 in
     put_one x xs (names ++ ys) (none_of_both (same_name x) xs (names ++ ys) each.0 (none_of_both (same_name x) names ys parts.0 each.1))
     (put_more names xs ys news.1 parts.1 distinct)
@@ -87,10 +89,10 @@ record AreAdded (before : Tables) (names : List Name) : Type 0 where
 
 are_added : (before : Tables) (given : Item) → declares_twice before given ≡ false → AreAdded before (declared_names given)
 are_added before given once =
-    let parts = neither (list_any (is_known before) (declared_names given)) (has_repeat (declared_names given) || has_repeat (axes_declared given)) once in
+    let parts = neither_holds (list_any (is_known before) (declared_names given)) (has_repeat (declared_names given) || has_repeat (axes_declared given)) once in
     record {
       new = any_same (λ name. list_any (same_name name) (all_names before)) (is_known before) (declared_names given) (known_among before) ∙ parts.0;
-      once = (neither (has_repeat (declared_names given)) (has_repeat (axes_declared given)) parts.1).0;
+      once = (neither_holds (has_repeat (declared_names given)) (has_repeat (axes_declared given)) parts.1).0;
     }
 
 distinct_by : (xs ys : List Name) → xs ≡ ys → has_repeat xs ≡ false → has_repeat ys ≡ false
@@ -115,7 +117,7 @@ module _ (before : Tables) where
   distinct_more : (given : Item) → declares_twice before given ≡ false → has_repeat (all_names before) ≡ false → has_repeat (all_names (declare before given)) ≡ false
   distinct_more (item.Const decl) once distinct =
       let added = are_added before (item.Const decl) once in
-      let new = (neither (list_any (same_name decl.name) (all_names before)) false added.new).0 in
+      let new = (neither_holds (list_any (same_name decl.name) (all_names before)) false added.new).0 in
       distinct_by (c ++ decl.name ∷ (l ++ (f ++ k))) (all_names (declare before (item.Const decl)))
       (sym (append_assoc c (decl.name ∷ []) (l ++ (f ++ k)))
       ∙ ap (λ names. names ++ (l ++ (f ++ k))) (sym (map-append (λ (named : NamedConstant). named.name) before.constants (record { name = decl.name; constant = constant_of decl } ∷ []))))
@@ -123,8 +125,8 @@ module _ (before : Tables) where
   distinct_more (item.Layout decl) once distinct =
       let added = are_added before (item.Layout decl) once in
       let names = map (λ (field : FieldDecl). field.name) decl.fields in
-      let news = neither (list_any (same_name decl.name) (all_names before)) (list_any (λ name. list_any (same_name name) (all_names before)) names) added.new in
-      let parts = neither (list_any (same_name decl.name) names) (has_repeat names) added.once in
+      let news = neither_holds (list_any (same_name decl.name) (all_names before)) (list_any (λ name. list_any (same_name name) (all_names before)) names) added.new in
+      let parts = neither_holds (list_any (same_name decl.name) names) (has_repeat names) added.once in
       let fields = put_more names (c ++ (l ++ f)) k
       (any_same (λ name. list_any (same_name name) ((c ++ (l ++ f)) ++ k)) (λ name. list_any (same_name name) (all_names before)) names
       (λ name. ap (list_any (same_name name)) (regrouped k)) ∙ news.1)
@@ -150,7 +152,7 @@ module _ (before : Tables) where
       (distinct_by ((c ++ (l ++ f)) ++ (names ++ k)) ((c ++ l) ++ (f ++ (names ++ k))) (regrouped (names ++ k) ∙ sym (append_assoc c l (f ++ (names ++ k)))) fields))
   distinct_more (item.Kernel decl) once distinct =
       let added = are_added before (item.Kernel decl) once in
-      let new = (neither (list_any (same_name decl.name) (all_names before)) false added.new).0 in
+      let new = (neither_holds (list_any (same_name decl.name) (all_names before)) false added.new).0 in
       distinct_by (all_names before ++ decl.name ∷ []) (all_names (declare before (item.Kernel decl)))
       (append_assoc c (l ++ (f ++ k)) (decl.name ∷ [])
       ∙ ap (λ names. c ++ names) (append_assoc l (f ++ k) (decl.name ∷ []) ∙ ap (λ names. l ++ names) (append_assoc f k (decl.name ∷ []))))

@@ -6,8 +6,9 @@ use Rattle.sg_ast.specs.declared.program.Program.{Program}
 use Rattle.sg_names.specs.declared.fault.NameFault.{NameFault}
 use Rattle.sg_names.specs.Tables.{Tables, no_tables}
 use Rattle.sg_names.specs.Declares.{commands_in, declare}
-use Rattle.sg_names.specs.Names.{fault_in, unless_fault, tables_from, tables_of}
-use Rattle.sg_names.specs.Laws.{fault_at, AcceptedIsFaultless, RefusedIsFirst}
+use Rattle.sg_names.specs.Names.{fault_in, tables_from, tables_of}
+use Rattle.sg_words.specs.Results.{fault_or}
+use Rattle.sg_names.specs.Laws.{item_fault, AcceptedIsFaultless, RefusedIsFirst}
 
 -- what is wrong with an item, where some items came before the list
 abbrev fault_from : Tables → ℕ → ℕ → List Item → ℕ → Item → Option NameFault
@@ -34,11 +35,11 @@ abbrev NoneTo : Tables → ℕ → ℕ → List Item → ℕ → Type 0
 NoneTo before commands number items end =
     (place : ℕ) (given : Item) → place < end → slice_get items place ≡ Some given → fault_from before commands number items place given ≡ None
 
-pub ok_parts : (fault : Option NameFault) (after : Result Tables NameFault) (tables : Tables) → unless_fault fault after ≡ Ok tables → (fault ≡ None) × (after ≡ Ok tables)
+pub ok_parts : (fault : Option NameFault) (after : Result Tables NameFault) (tables : Tables) → fault_or fault after ≡ Ok tables → (fault ≡ None) × (after ≡ Ok tables)
 ok_parts (Some fault) after tables e = absurd (cc)
 ok_parts None after tables e = (refl, e)
 
-err_parts : (first : Option NameFault) (after : Result Tables NameFault) (fault : NameFault) → unless_fault first after ≡ Err fault → (first ≡ Some fault) ⊎ ((first ≡ None) × (after ≡ Err fault))
+err_parts : (first : Option NameFault) (after : Result Tables NameFault) (fault : NameFault) → fault_or first after ≡ Err fault → (first ≡ Some fault) ⊎ ((first ≡ None) × (after ≡ Err fault))
 err_parts (Some other) after fault e = let same : Some other ≡ Some fault = cc in inl same
 err_parts None after fault e = inr (refl, e)
 
@@ -72,7 +73,7 @@ are_declared before commands number (first ∷ items) tables is =
 accepted_from : (before : Tables) (commands number : ℕ) (items : List Item) → NoneFrom before commands number items → tables_from before commands number items ≡ Ok (fold declare before items)
 accepted_from before commands number [] none = refl
 accepted_from before commands number (first ∷ items) none =
-    ap (λ o. unless_fault o (tables_from (declare before first) (commands + commands_in first) (suc number) items))
+    ap (λ o. fault_or o (tables_from (declare before first) (commands + commands_in first) (suc number) items))
     (sym (fault_first before commands number first items) ∙ none 0 first refl)
     ∙ accepted_from (declare before first) (commands + commands_in first) (suc number) items
     (λ place given there. sym (fault_later before commands number first items place given) ∙ none (suc place) given there)
@@ -82,7 +83,7 @@ pub tables_are : (program : Program) (tables : Tables) → tables_of program ≡
 tables_are program tables is = are_declared no_tables 0 1 program.items tables is
 
 -- of a program the first item has the number 1
-one_more : (items : List Item) (place : ℕ) (given : Item) → fault_from no_tables 0 1 items place given ≡ fault_at items place given
+one_more : (items : List Item) (place : ℕ) (given : Item) → fault_from no_tables 0 1 items place given ≡ item_fault items place given
 one_more items place given =
     let same : 1 + place ≡ suc place = omega arith in
     ap (λ n. fault_in (fold declare no_tables (take place items)) (fold (λ n i. n + commands_in i) 0 (take place items)) n given) same
@@ -141,10 +142,10 @@ refused_from : (before : Tables) (commands number : ℕ) (items : List Item) (fa
 refused_from before commands number [] fault place given is = let there = is.there in absurd (cc)
 refused_from before commands number (first ∷ items) fault zero given is =
     let has = subst (λ x. fault_from before commands number (first ∷ items) 0 x ≡ Some fault) (sym (same_item first given is.there)) is.has in
-    ap (λ o. unless_fault o (tables_from (declare before first) (commands + commands_in first) (suc number) items)) (sym (fault_first before commands number first items) ∙ has)
+    ap (λ o. fault_or o (tables_from (declare before first) (commands + commands_in first) (suc number) items)) (sym (fault_first before commands number first items) ∙ has)
 refused_from before commands number (first ∷ items) fault (suc place) given is =
     let none = sym (fault_first before commands number first items) ∙ is.earlier 0 first (omega arith) refl in
-    ap (λ o. unless_fault o (tables_from (declare before first) (commands + commands_in first) (suc number) items)) none
+    ap (λ o. fault_or o (tables_from (declare before first) (commands + commands_in first) (suc number) items)) none
     ∙ refused_from (declare before first) (commands + commands_in first) (suc number) items fault place given (record {
       there = is.there;
       earlier = λ k other below there. sym (fault_later before commands number first items k other) ∙ is.earlier (suc k) other (omega arith) there;

@@ -3,8 +3,6 @@ use Rattle.std.specs.Prelude.{◌≡◌, refl, ℕ, ◌+◌, zero, suc, Bool, tr
 use Rattle.std.proofs.Common.{sym, ap, ◌∙◌, subst, arith}
 use Rattle.std.specs.List.{list_any, position_or_len}
 use Rattle.std.proofs.lemmas.Bool.Decides.{nat_tests}
-use Rattle.std.proofs.lemmas.Slice.Eq.{bytes_eq-Decides}
-use Rattle.std.specs.Cmp.Lexicographic.{nat_list_eq_equiv}
 use Rattle.sg_ast.specs.declared.token.Name.{Name}
 use Rattle.sg_ast.specs.declared.program.Program.{Program}
 use Rattle.sg_names.specs.declared.tables.Constant.{Constant}
@@ -12,36 +10,28 @@ use Rattle.sg_names.specs.declared.tables.FieldAt.{FieldAt}
 use Rattle.sg_names.specs.declared.tables.NamedConstant.{NamedConstant}
 use Rattle.sg_names.specs.declared.tables.NamedLayout.{NamedLayout}
 use Rattle.sg_names.specs.declared.tables.NamedField.{NamedField}
-use Rattle.sg_names.specs.Tables.{Tables, same_name}
+use Rattle.sg_ast.specs.Token.{same_name}
+use Rattle.sg_names.specs.Tables.{Tables}
 use Rattle.sg_names.specs.Names.{has_repeat, tables_of}
 use Rattle.sg_names.specs.Laws.{all_names, NamesStandOnce, ConstantsAreFound, ConstantsAreNumbered, LayoutsAreFound, FieldsAreFound, FieldsAreNumbered, KernelsAreFound}
-use Rattle.sg_names.proofs.Declaring.{neither, same_names}
-use Rattle.sg_names.proofs.NameLists.{same_name-symm}
+use Rattle.sg_names.proofs.Declaring.{same_names}
+use Rattle.sg_words.proofs.Uses.{neither_holds}
+use Rattle.sg_ast.proofs.Uses.{same_name-is, same_name-self, same_name-symm}
 use Rattle.sg_names.proofs.LawLemmasDeclared.{fields_are_placed}
 use Rattle.sg_names.proofs.LawLemmasDistinct.{none_of_each, names_are_distinct}
-
--- names of the same bytes are the same
-abbrev named_by : List ℕ → Name
-named_by text = record { text = text }
-
-same_is : (x y : Name) → same_name x y ≡ true → x ≡ y
-same_is x y same = ap named_by ((bytes_eq-Decides x.text y.text).0 same)
-
-is_same : (x : Name) → same_name x x ≡ true
-is_same x = nat_list_eq_equiv.refl x.text
 
 -- parts of a list without a repeat have none
 first_part : (xs ys : List Name) → has_repeat (xs ++ ys) ≡ false → has_repeat xs ≡ false
 first_part [] ys distinct = refl
 first_part (x ∷ xs) ys distinct =
-    let parts = neither (list_any (same_name x) (xs ++ ys)) (has_repeat (xs ++ ys)) distinct in
+    let parts = neither_holds (list_any (same_name x) (xs ++ ys)) (has_repeat (xs ++ ys)) distinct in
     let here = (none_of_each (same_name x) xs ys parts.0).0 in
     let rest = first_part xs ys parts.1 in
     ap (λ b. b || has_repeat xs) here ∙ rest
 
 last_part : (xs ys : List Name) → has_repeat (xs ++ ys) ≡ false → has_repeat ys ≡ false
 last_part [] ys distinct = distinct
-last_part (x ∷ xs) ys distinct = last_part xs ys (neither (list_any (same_name x) (xs ++ ys)) (has_repeat (xs ++ ys)) distinct).1
+last_part (x ∷ xs) ys distinct = last_part xs ys (neither_holds (list_any (same_name x) (xs ++ ys)) (has_repeat (xs ++ ys)) distinct).1
 
 -- the first thing that passes, with its number
 abbrev numbered : {X : Type 0} → (X → Bool) → List X → Option ℕ
@@ -92,7 +82,7 @@ module _ {X : Type 0} (name_of : X → Name) where
           → ((k : ℕ) → numbered (λ y. same_name name (name_of y)) xs ≡ Some k
           → (y : X) × (slice_get xs k ≡ Some y) × (name ≡ name_of y) × (find (λ z. same_name name (name_of z)) xs ≡ Some y))
           → (y : X) × (slice_get (x ∷ xs) number ≡ Some y) × (name ≡ name_of y) × (cond b (Some x) (find (λ z. same_name name (name_of z)) xs) ≡ Some y)
-      by true is here rest = let zeroth : number ≡ 0 = cc in (x, ap (slice_get (x ∷ xs)) zeroth, same_is name (name_of x) is, refl)
+      by true is here rest = let zeroth : number ≡ 0 = cc in (x, ap (slice_get (x ∷ xs)) zeroth, same_name-is name (name_of x) is, refl)
       by false is later rest =
           let less = pred_some (numbered (λ y. same_name name (name_of y)) xs) number later in
           let next = rest less.0 less.1 in
@@ -102,9 +92,9 @@ module _ {X : Type 0} (name_of : X → Name) where
   apart_at name [] number x there none = absurd (cc)
   apart_at name (y ∷ xs) zero x there none =
       let same : y ≡ x = cc in
-      ap (λ z. same_name name (name_of z)) (sym same) ∙ (neither (same_name name (name_of y)) (list_any (same_name name) (map name_of xs)) none).0
+      ap (λ z. same_name name (name_of z)) (sym same) ∙ (neither_holds (same_name name (name_of y)) (list_any (same_name name) (map name_of xs)) none).0
   apart_at name (y ∷ xs) (suc number) x there none =
-      apart_at name xs number x there (neither (same_name name (name_of y)) (list_any (same_name name) (map name_of xs)) none).1
+      apart_at name xs number x there (neither_holds (same_name name (name_of y)) (list_any (same_name name) (map name_of xs)) none).1
 
   -- where no name stands twice, the thing of a number is looked up by its name
   number_at : (xs : List X) (number : ℕ) (x : X) → has_repeat (map name_of xs) ≡ false → slice_get xs number ≡ Some x
@@ -112,12 +102,12 @@ module _ {X : Type 0} (name_of : X → Name) where
   number_at [] number x distinct there = absurd (cc)
   number_at (y ∷ xs) zero x distinct there =
       let same : y ≡ x = cc in
-      let is = ap (λ z. same_name (name_of x) (name_of z)) same ∙ is_same (name_of x) in (
+      let is = ap (λ z. same_name (name_of x) (name_of z)) same ∙ same_name-self (name_of x) in (
         ap (λ b. cond b (Some 0) (option_map suc (numbered (λ z. same_name (name_of x) (name_of z)) xs))) is,
         ap (λ b. cond b (Some y) (find (λ z. same_name (name_of x) (name_of z)) xs)) is ∙ ap Some same,
       )
   number_at (y ∷ xs) (suc number) x distinct there =
-      let parts = neither (list_any (same_name (name_of y)) (map name_of xs)) (has_repeat (map name_of xs)) distinct in
+      let parts = neither_holds (list_any (same_name (name_of y)) (map name_of xs)) (has_repeat (map name_of xs)) distinct in
       let apart = same_name-symm (name_of x) (name_of y) ∙ apart_at (name_of y) xs number x there parts.0 in
       let next = number_at xs number x parts.1 there in (
         ap (λ b. cond b (Some 0) (option_map suc (numbered (λ z. same_name (name_of x) (name_of z)) xs))) apart ∙ ap (option_map suc) next.0,

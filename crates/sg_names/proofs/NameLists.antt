@@ -2,15 +2,12 @@
 use Rattle.std.specs.Prelude.{◌≡◌, refl, ℕ, ◌+◌, ◌<◌, Bool, true, false, ◌||◌, List, [], ◌∷◌, ◌++◌, length, map, drop, slice_index_or, if◌then◌else◌, bytes_eq}
 use Rattle.std.proofs.Common.{sym, ap, ◌∙◌}
 use Rattle.std.specs.List.{list_any}
-use Rattle.std.specs.Cmp.Lexicographic.{nat_list_eq_equiv}
 use Rattle.std.proofs.lemmas.List.{drop_more}
 use Rattle.std.proofs.lemmas.List.Folds.{list_any-append}
 use Rattle.sg_ast.specs.declared.token.Name.{Name}
-use Rattle.sg_names.specs.Tables.{same_name}
+use Rattle.sg_ast.specs.Token.{same_name}
+use Rattle.sg_ast.proofs.Uses.{same_name-symm}
 use Rattle.sg_names.specs.Names.{has_repeat}
-
-pub same_name-symm : (x y : Name) → same_name x y ≡ same_name y x
-same_name-symm x y = nat_list_eq_equiv.symm x.text y.text
 
 pub or-none : (a : Bool) → (a || false) ≡ a
 or-none true = refl

@@ -15,7 +15,11 @@ use Rattle.sg_names.specs.declared.fault.NameFault.{NameFault}
 use Rattle.sg_names.specs.declared.fault.NameFault.TheVariants.{Unknown, Twice, TooMany}
 use Rattle.sg_names.specs.Tables.{Tables}
 use Rattle.sg_names.specs.Declares.{declare, commands_in, constant_of}
-use Rattle.sg_names.specs.Names.{uses_unknown, declares_twice, too_many, AreFew, fault_in, unless_fault, tables_from}
+use Rattle.sg_ast.specs.Limits.{most_tokens}
+use Rattle.sg_names.specs.Limits.{most_layouts, most_program_fields, most_kernels, most_commands}
+use Rattle.sg_names.specs.steps.Room.{AreFew}
+use Rattle.sg_names.specs.Names.{uses_unknown, declares_twice, too_many, fault_in, tables_from}
+use Rattle.sg_words.specs.Results.{fault_or}
 
 -- a test that finds nothing, and what comes after it
 unless : {X : Type 0} (b : Bool) (x : X) (o : Option X) → (if b then Some x else o) ≡ None → (b ≡ false) × (o ≡ None)
@@ -28,25 +32,25 @@ no_kind (Some which) h = absurd (cc)
 
 -- numbers within the limits
 pub record AreWithin (tables : Tables) (commands : ℕ) : Type 0 where
-  pub layouts : length tables.layouts ≤ 8
-  pub fields : length tables.fields ≤ 16
-  pub kernels : length tables.kernels ≤ 16
-  pub commands_within : commands ≤ 64
+  pub layouts : length tables.layouts ≤ most_layouts
+  pub fields : length tables.fields ≤ most_program_fields
+  pub kernels : length tables.kernels ≤ most_kernels
+  pub commands_within : commands ≤ most_commands
 
 at_most : (limit n : ℕ) → nat_lt limit n ≡ false → n ≤ limit
 at_most limit n h = grind (arith, nat_tests)
 
 within : (tables : Tables) (commands : ℕ) → too_many tables commands ≡ None → AreWithin tables commands
 within tables commands h =
-    let one = unless (nat_lt 8 (length tables.layouts)) Layouts _ h in
-    let two = unless (nat_lt 16 (length tables.fields)) Fields _ one.1 in
-    let three = unless (nat_lt 16 (length tables.kernels)) Kernels _ two.1 in
-    let four = unless (nat_lt 64 commands) Commands None three.1 in
+    let one = unless (nat_lt most_layouts (length tables.layouts)) Layouts _ h in
+    let two = unless (nat_lt most_program_fields (length tables.fields)) Fields _ one.1 in
+    let three = unless (nat_lt most_kernels (length tables.kernels)) Kernels _ two.1 in
+    let four = unless (nat_lt most_commands commands) Commands None three.1 in
     record {
-      layouts = at_most 8 (length tables.layouts) one.0;
-      fields = at_most 16 (length tables.fields) two.0;
-      kernels = at_most 16 (length tables.kernels) three.0;
-      commands_within = at_most 64 commands four.0;
+      layouts = at_most most_layouts (length tables.layouts) one.0;
+      fields = at_most most_program_fields (length tables.fields) two.0;
+      kernels = at_most most_kernels (length tables.kernels) three.0;
+      commands_within = at_most most_commands commands four.0;
     }
 
 -- an item without a fault
@@ -77,25 +81,25 @@ pub record IsReading (whole : Result Tables NameFault) (items : List Item) (tabl
 
 module _ (whole : Result Tables NameFault) (items : List Item) (tables : Tables) (commands place : ℕ) (given : Item)
     (reading : IsReading whole items tables commands place) (here : place < length items) (at : given ≡ slice_index_or items place given) where
-  next : unless_fault (fault_in tables commands (place + 1) given) (tables_from (declare tables given) (commands + commands_in given) (suc (place + 1)) (drop (place + 1) items)) ≡ whole
+  next : fault_or (fault_in tables commands (place + 1) given) (tables_from (declare tables given) (commands + commands_in given) (suc (place + 1)) (drop (place + 1) items)) ≡ whole
   next =
       sym (ap (tables_from tables commands (place + 1)) (drop_more items place given here ∙ ap (λ x. x ∷ drop (place + 1) items) (sym at))) ∙ reading.left
 
   pub reading-fault : (fault : NameFault) → fault_in tables commands (place + 1) given ≡ Some fault → whole ≡ Err fault
   reading-fault fault h =
-      sym next ∙ ap (λ o. unless_fault o (tables_from (declare tables given) (commands + commands_in given) (suc (place + 1)) (drop (place + 1) items))) h
+      sym next ∙ ap (λ o. fault_or o (tables_from (declare tables given) (commands + commands_in given) (suc (place + 1)) (drop (place + 1) items))) h
 
   pub reading-more : fault_in tables commands (place + 1) given ≡ None → IsReading whole items (declare tables given) (commands + commands_in given) (place + 1)
   reading-more h =
       let safe = sound tables commands (place + 1) given h in
       record {
         left = ap (λ n. tables_from (declare tables given) (commands + commands_in given) n (drop (place + 1) items)) (add-one (place + 1))
-            ∙ (sym (ap (λ o. unless_fault o (tables_from (declare tables given) (commands + commands_in given) (suc (place + 1)) (drop (place + 1) items))) h) ∙ next);
+            ∙ (sym (ap (λ o. fault_or o (tables_from (declare tables given) (commands + commands_in given) (suc (place + 1)) (drop (place + 1) items))) h) ∙ next);
         constants = omega (arith, constants_more tables given, reading.constants);
         within_limits = safe.within_limits;
       }
 
-  pub reading-few : length items ≤ 16384 → fault_in tables commands (place + 1) given ≡ None → AreFew (declare tables given)
+  pub reading-few : length items ≤ most_tokens → fault_in tables commands (place + 1) given ≡ None → AreFew (declare tables given)
   reading-few most h =
       let safe = sound tables commands (place + 1) given h in
       record {

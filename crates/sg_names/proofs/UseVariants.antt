@@ -1,26 +1,20 @@
 -- Whether one of the names that a tree uses passes a test: at each variant, by its parts.
 use Rattle.std.specs.Prelude.{◌≡◌, refl, ℕ, ◌+◌, Bool, true, false, ◌||◌, List, [], ◌∷◌, ◌++◌, map, sum, Option, Some, None, option_map}
-use Rattle.std.proofs.Common.{sym, ap, ◌∙◌}
+use Rattle.std.proofs.Common.{ap, ◌∙◌}
 use Rattle.std.specs.List.{list_any, flat_map}
 use Rattle.std.proofs.lemmas.List.Folds.{list_any-append}
 use Rattle.sg_words.specs.declared.operators.BinOp.{BinOp}
 use Rattle.sg_words.specs.declared.operators.UnOp.{UnOp}
 use Rattle.sg_ast.specs.declared.token.Name.{Name}
 use Rattle.sg_ast.specs.declared.expr.Callee.{Callee}
-use Rattle.sg_ast.specs.declared.expr.Expr.{Expr, fold-roll-Expr}
+use Rattle.sg_ast.specs.declared.expr.Expr.{Expr}
 use Rattle.sg_ast.specs.declared.expr.Expr.TheVariants as e
-use Rattle.sg_ast.specs.declared.expr.Expr.TheVariants.{rolls-Number, rolls-Truth, rolls-Name, rolls-Read, rolls-Paren, rolls-Un, rolls-Bin, rolls-Call}
-use Rattle.sg_ast.specs.declared.expr.Expr.TheOpen as f
 use Rattle.sg_ast.specs.declared.stmt.WayDecl.{WayDecl}
 use Rattle.sg_ast.specs.declared.stmt.RangeDecl.{RangeDecl}
-use Rattle.sg_ast.specs.declared.stmt.Stmt.{Stmt, fold-roll-Stmt}
+use Rattle.sg_ast.specs.declared.stmt.Stmt.{Stmt}
 use Rattle.sg_ast.specs.declared.stmt.Stmt.TheVariants as s
-use Rattle.sg_ast.specs.declared.stmt.Stmt.TheVariants.{rolls-Let, rolls-Assign, rolls-Write, rolls-If, rolls-For}
-use Rattle.sg_ast.specs.declared.stmt.Stmt.TheOpen as g
-use Rattle.sg_ast.specs.declared.command.Command.{Command, fold-roll-Command}
+use Rattle.sg_ast.specs.declared.command.Command.{Command}
 use Rattle.sg_ast.specs.declared.command.Command.TheVariants as c
-use Rattle.sg_ast.specs.declared.command.Command.TheVariants.{rolls-Times}
-use Rattle.sg_ast.specs.declared.command.Command.TheOpen as h
 use Rattle.sg_ast.specs.Stmt.{joined}
 use Rattle.sg_names.specs.Uses.{reads_of, reads_step, range_reads, else_fields, stmt_fields, fields_step, command_layouts, command_layouts_step, command_fields, command_fields_step, command_kernels, command_kernels_step, size_names, optional_size_names, node_sizes, domain_layouts, domain_fields}
 use Rattle.sg_ast.specs.declared.layout.NodeDecl.{NodeDecl}
@@ -28,6 +22,7 @@ use Rattle.sg_ast.specs.declared.layout.LayoutDecl.{LayoutDecl}
 use Rattle.sg_ast.specs.declared.kernel.DomainDecl.{DomainDecl}
 use Rattle.sg_ast.specs.declared.kernel.KernelDecl.{KernelDecl}
 use Rattle.sg_ast.specs.declared.program.Item.TheVariants as item
+use Rattle.sg_ast.proofs.Uses.{fold-Read_expr, fold-Paren_expr, fold-Un_expr, fold-Bin_expr, fold-Call_expr, fold-Let_stmt, fold-Assign_stmt, fold-Write_stmt, fold-If_stmt, fold-If_else_stmt, fold-For_stmt, fold-Times_command}
 use Rattle.sg_names.specs.Declares.{command_count, commands_step}
 use Rattle.sg_names.specs.Tables.{Tables}
 use Rattle.sg_names.specs.Names.{is_no_size, is_no_layout, is_no_field, uses_unknown}
@@ -48,23 +43,23 @@ module _ (test : Name → Bool) where
 
   pub reads_any-Read : (field : Name) (index : List Expr) → reads_any (e.Read field index) ≡ (test field || list_any reads_any index)
   reads_any-Read field index =
-      ap reads_any (sym (rolls-Read field index)) ∙ (ap (list_any test) (fold-roll-Expr (List Name) reads_step (f.Read field index))
+      (ap (list_any test) (fold-Read_expr reads_step field index)
       ∙ ap (λ more. test field || more) (list_any-joined test reads_of index))
 
   pub reads_any-Paren : (inner : Expr) → reads_any (e.Paren inner) ≡ reads_any inner
-  reads_any-Paren inner = ap reads_any (sym (rolls-Paren inner)) ∙ ap (list_any test) (fold-roll-Expr (List Name) reads_step (f.Paren inner))
+  reads_any-Paren inner = ap (list_any test) (fold-Paren_expr reads_step inner)
 
   pub reads_any-Un : (op : UnOp) (operand : Expr) → reads_any (e.Un op operand) ≡ reads_any operand
-  reads_any-Un op operand = ap reads_any (sym (rolls-Un op operand)) ∙ ap (list_any test) (fold-roll-Expr (List Name) reads_step (f.Un op operand))
+  reads_any-Un op operand = ap (list_any test) (fold-Un_expr reads_step op operand)
 
   pub reads_any-Bin : (op : BinOp) (left right : Expr) → reads_any (e.Bin op left right) ≡ (reads_any left || reads_any right)
   reads_any-Bin op left right =
-      ap reads_any (sym (rolls-Bin op left right)) ∙ (ap (list_any test) (fold-roll-Expr (List Name) reads_step (f.Bin op left right))
+      (ap (list_any test) (fold-Bin_expr reads_step op left right)
       ∙ list_any-append test (reads_of left) (reads_of right))
 
   pub reads_any-Call : (callee : Callee) (arguments : List Expr) → reads_any (e.Call callee arguments) ≡ list_any reads_any arguments
   reads_any-Call callee arguments =
-      ap reads_any (sym (rolls-Call callee arguments)) ∙ (ap (list_any test) (fold-roll-Expr (List Name) reads_step (f.Call callee arguments))
+      (ap (list_any test) (fold-Call_expr reads_step callee arguments)
       ∙ list_any-joined test reads_of arguments)
 
   abbrev pub range_any : RangeDecl → Bool
@@ -74,15 +69,15 @@ module _ (test : Name → Bool) where
   range_any-reads range = list_any-append test (reads_of range.lo) (reads_of range.hi)
 
   pub fields_any-Let : (name : Name) (value : Expr) → fields_any (s.Let name value) ≡ reads_any value
-  fields_any-Let name value = ap fields_any (sym (rolls-Let name value)) ∙ ap (list_any test) (fold-roll-Stmt (List Name) fields_step (g.Let name value))
+  fields_any-Let name value = ap (list_any test) (fold-Let_stmt fields_step name value)
 
   pub fields_any-Assign : (name : Name) (value : Expr) → fields_any (s.Assign name value) ≡ reads_any value
-  fields_any-Assign name value = ap fields_any (sym (rolls-Assign name value)) ∙ ap (list_any test) (fold-roll-Stmt (List Name) fields_step (g.Assign name value))
+  fields_any-Assign name value = ap (list_any test) (fold-Assign_stmt fields_step name value)
 
   pub fields_any-Write : (field : Name) (index : List Expr) (how : WayDecl) (value : Expr)
       → fields_any (s.Write field index how value) ≡ (test field || (list_any reads_any index || reads_any value))
   fields_any-Write field index how value =
-      ap fields_any (sym (rolls-Write field index how value)) ∙ (ap (list_any test) (fold-roll-Stmt (List Name) fields_step (g.Write field index how value))
+      (ap (list_any test) (fold-Write_stmt fields_step field index how value)
       ∙ ap (λ more. test field || more) (list_any-append test (flat_map reads_of index) (reads_of value)
       ∙ ap (λ some. some || reads_any value) (list_any-flat_map test reads_of index)))
 
@@ -102,33 +97,30 @@ module _ (test : Name → Bool) where
   pub fields_any-If : (condition : Expr) (then : List Stmt) (otherwise : Option (List Stmt))
       → fields_any (s.If condition then otherwise) ≡ (reads_any condition || (list_any fields_any then || else_any fields_any otherwise))
   fields_any-If condition then None =
-      ap fields_any (sym (rolls-If condition then None)) ∙ (ap (list_any test) (fold-roll-Stmt (List Name) fields_step (g.If condition then None))
+      (ap (list_any test) (fold-If_stmt fields_step condition then)
       ∙ fields_any-parts condition then None)
   fields_any-If condition then (Some otherwise) =
-      ap fields_any (sym (rolls-If condition then (Some otherwise))) ∙ (ap (list_any test) (fold-roll-Stmt (List Name) fields_step (g.If condition then (Some otherwise)))
+      (ap (list_any test) (fold-If_else_stmt fields_step condition then otherwise)
       ∙ fields_any-parts condition then (Some otherwise))
 
   pub fields_any-For : (name : Name) (range : RangeDecl) (body : List Stmt)
       → fields_any (s.For name range body) ≡ (list_any test (range_reads range) || list_any fields_any body)
   fields_any-For name range body =
-      ap fields_any (sym (rolls-For name range body)) ∙ (ap (list_any test) (fold-roll-Stmt (List Name) fields_step (g.For name range body))
+      (ap (list_any test) (fold-For_stmt fields_step name range body)
       ∙ (list_any-append test (range_reads range) (joined (map stmt_fields body))
       ∙ ap (λ more. list_any test (range_reads range) || more) (list_any-joined test stmt_fields body)))
 
   layouts_any-Times : (number : ℕ) (body : List Command) → list_any test (command_layouts (c.Times number body)) ≡ list_any (λ inner. list_any test (command_layouts inner)) body
   layouts_any-Times number body =
-      ap (λ given. list_any test (command_layouts given)) (sym (rolls-Times number body))
-      ∙ (ap (list_any test) (fold-roll-Command (List Name) command_layouts_step (h.Times number body)) ∙ list_any-joined test command_layouts body)
+      ap (list_any test) (fold-Times_command command_layouts_step number body) ∙ list_any-joined test command_layouts body
 
   fields_any-Times : (number : ℕ) (body : List Command) → list_any test (command_fields (c.Times number body)) ≡ list_any (λ inner. list_any test (command_fields inner)) body
   fields_any-Times number body =
-      ap (λ given. list_any test (command_fields given)) (sym (rolls-Times number body))
-      ∙ (ap (list_any test) (fold-roll-Command (List Name) command_fields_step (h.Times number body)) ∙ list_any-joined test command_fields body)
+      ap (list_any test) (fold-Times_command command_fields_step number body) ∙ list_any-joined test command_fields body
 
   kernels_any-Times : (number : ℕ) (body : List Command) → list_any test (command_kernels (c.Times number body)) ≡ list_any (λ inner. list_any test (command_kernels inner)) body
   kernels_any-Times number body =
-      ap (λ given. list_any test (command_kernels given)) (sym (rolls-Times number body))
-      ∙ (ap (list_any test) (fold-roll-Command (List Name) command_kernels_step (h.Times number body)) ∙ list_any-joined test command_kernels body)
+      ap (list_any test) (fold-Times_command command_kernels_step number body) ∙ list_any-joined test command_kernels body
 
 -- three tests of the elements of a list, in one
 exchange : (a b c x y z : Bool) → ((a || x) || ((b || y) || (c || z))) ≡ ((a || (b || c)) || (x || (y || z)))
@@ -159,7 +151,7 @@ module _ (on_layout on_field on_kernel : Name → Bool) where
       ∙ any-of_three (λ inner. list_any on_layout (command_layouts inner)) (λ inner. list_any on_field (command_fields inner)) (λ inner. list_any on_kernel (command_kernels inner)) body))
 
 pub command_count-Times : (number : ℕ) (body : List Command) → command_count (c.Times number body) ≡ 1 + sum (map command_count body)
-command_count-Times number body = ap command_count (sym (rolls-Times number body)) ∙ fold-roll-Command ℕ commands_step (h.Times number body)
+command_count-Times number body = fold-Times_command commands_step number body
 
 module _ (test : Name → Bool) where
   -- a constant that a node's sizes name

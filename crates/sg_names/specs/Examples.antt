@@ -18,6 +18,7 @@ use Rattle.sg_names.specs.declared.fault.NameFault.TheVariants.{Unknown, Twice, 
 use Rattle.sg_names.specs.Tables.{Tables, field_named, layout_named, layout_name_of}
 use Rattle.sg_names.specs.Uses.{sizes_used}
 use Rattle.sg_names.specs.Declares.{constant_of}
+use Rattle.sg_names.specs.Limits.{most_layouts, most_program_fields, most_kernels, most_commands}
 use Rattle.sg_names.specs.Names.{first_past, tables_of}
 use Rattle.sg_names.specs.Shapes.{size_number, shape_of}
 
@@ -175,7 +176,7 @@ seventeen_fields : tables_of (program (item.Layout (layout a (i ∷ []) four (ma
 seventeen_fields = refl
 
 -- the limits, and the order in which they are tested
-up_to_the_limits : first_past 8 16 16 64 ≡ None
+up_to_the_limits : first_past most_layouts most_program_fields most_kernels most_commands ≡ None
 up_to_the_limits = refl
 
 past_all_limits : first_past 9 17 17 65 ≡ Some Layouts

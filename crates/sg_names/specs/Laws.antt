@@ -25,17 +25,17 @@ abbrev pub commands_before : List Item → ℕ → ℕ
 commands_before items place = sum_by commands_in (take place items)
 
 -- what is wrong with the item at a place, as seen from the items before it
-abbrev pub fault_at : List Item → ℕ → Item → Option NameFault
-fault_at items place item = fault_in (tables_before items place) (commands_before items place) (suc place) item
+abbrev pub item_fault : List Item → ℕ → Item → Option NameFault
+item_fault items place item = fault_in (tables_before items place) (commands_before items place) (suc place) item
 
 -- no item has a fault
 abbrev pub NoFault : List Item → Type 0
-NoFault items = (place : ℕ) (item : Item) → slice_get items place ≡ Some item → fault_at items place item ≡ None
+NoFault items = (place : ℕ) (item : Item) → slice_get items place ≡ Some item → item_fault items place item ≡ None
 
 -- no item before this place has one
 abbrev pub NoFaultBefore : List Item → ℕ → Type 0
 NoFaultBefore items end =
-    (place : ℕ) (item : Item) → place < end → slice_get items place ≡ Some item → fault_at items place item ≡ None
+    (place : ℕ) (item : Item) → place < end → slice_get items place ≡ Some item → item_fault items place item ≡ None
 
 -- a program has tables exactly where none of its items has a fault, and they are what its items declare, one after
 -- the other
@@ -45,43 +45,47 @@ AcceptedIsFaultless program =
     (tables_of program ≡ Ok tables) ↔ (NoFault program.items × (tables ≡ fold declare no_tables program.items))
 
 -- the item at this place has the fault, and none before it has one
-pub record IsFirstFault (items : List Item) (fault : NameFault) (place : ℕ) (item : Item) : Type 0 where
+pub record IsFirstItemFault (items : List Item) (fault : NameFault) (place : ℕ) (item : Item) : Type 0 where
   pub there : slice_get items place ≡ Some item
   pub before : NoFaultBefore items place
-  pub has : fault_at items place item ≡ Some fault
+  pub has : item_fault items place item ≡ Some fault
 
 -- a program is refused with a fault exactly where that is the fault of its first item that has one
 abbrev pub RefusedIsFirst : Program → Type 0
 RefusedIsFirst program =
     (fault : NameFault) →
-    (tables_of program ≡ Err fault) ↔ ((place : ℕ) × (item : Item) × IsFirstFault program.items fault place item)
+    (tables_of program ≡ Err fault) ↔ ((place : ℕ) × (item : Item) × IsFirstItemFault program.items fault place item)
 
--- the declaration of a constant, a layout or a kernel that an item is
+-- the constant that an item declares
 abbrev pub as_const : Item → Option ConstDecl
 as_const (item.Const decl) = Some decl
 as_const (item.Layout decl) = None
 as_const (item.Kernel decl) = None
 as_const (item.Command command) = None
 
+-- the layout that an item declares
 abbrev pub as_layout : Item → Option LayoutDecl
 as_layout (item.Const decl) = None
 as_layout (item.Layout decl) = Some decl
 as_layout (item.Kernel decl) = None
 as_layout (item.Command command) = None
 
+-- the kernel that an item declares
 abbrev pub as_kernel : Item → Option KernelDecl
 as_kernel (item.Const decl) = None
 as_kernel (item.Layout decl) = None
 as_kernel (item.Kernel decl) = Some decl
 as_kernel (item.Command command) = None
 
--- the declarations of a kind, in order
+-- the constants that items declare, in order
 abbrev pub const_decls : List Item → List ConstDecl
 const_decls = filter_map as_const
 
+-- the layouts that items declare
 abbrev pub layout_decls : List Item → List LayoutDecl
 layout_decls = filter_map as_layout
 
+-- the kernels that items declare
 abbrev pub kernel_decls : List Item → List KernelDecl
 kernel_decls = filter_map as_kernel
 

@@ -1,3 +1,4 @@
+pub mod Limits
 pub mod Tables
 pub mod Uses
 pub mod Declares
@@ -5,3 +6,4 @@ pub mod Names
 pub mod Shapes
 pub mod Examples
 pub mod Laws
+pub mod steps

@@ -1,5 +1,5 @@
 -- The tables of a program, or what is wrong with its names.
-use Rattle.std.specs.Prelude.{ℕ, ◌+◌, ◌^◌, ◌<◌, suc, Bool, true, false, not, ◌||◌, if◌then◌else◌, nat_lt, List, [], ◌∷◌, length, Option, Some, None, option_map, Result, Ok, Err, is_none}
+use Rattle.std.specs.Prelude.{ℕ, ◌+◌, suc, Bool, true, false, not, ◌||◌, if◌then◌else◌, nat_lt, List, [], ◌∷◌, length, Option, Some, None, option_map, Result, Ok, is_none}
 use Rattle.std.specs.List.{list_any}
 use Rattle.sg_words.specs.declared.operators.Ty.{Ty}
 use Rattle.sg_words.specs.declared.operators.Ty.TheVariants as ty
@@ -11,30 +11,37 @@ use Rattle.sg_names.specs.declared.fault.Which.TheVariants.{Layouts, Fields, Ker
 use Rattle.sg_names.specs.declared.fault.NameFault.{NameFault}
 use Rattle.sg_names.specs.declared.fault.NameFault.TheVariants.{Unknown, Twice, TooMany}
 use Rattle.sg_names.specs.declared.tables.Constant.{Constant}
-use Rattle.sg_names.specs.Tables.{Tables, no_tables, same_name, constant_named, layout_named, field_named, kernel_named, is_known}
+use Rattle.sg_ast.specs.Token.{same_name}
+use Rattle.sg_names.specs.Tables.{Tables, no_tables, constant_named, layout_named, field_named, kernel_named, is_known}
+use Rattle.sg_names.specs.Limits.{most_layouts, most_program_fields, most_kernels, most_commands}
+use Rattle.sg_words.specs.Results.{fault_or}
 use Rattle.sg_names.specs.Uses.{sizes_used, layouts_used, fields_used, kernels_used}
 use Rattle.sg_names.specs.Declares.{declared_names, axes_declared, commands_in, declare}
 
--- a constant serves as a size: its type is I32
-abbrev pub is_signed : Ty → Bool
-is_signed ty.I32 = true
-is_signed ty.U32 = false
-is_signed ty.Bool = false
+-- the type of a constant that serves as a size: I32
+abbrev pub is_size_ty : Ty → Bool
+is_size_ty ty.I32 = true
+is_size_ty ty.U32 = false
+is_size_ty ty.Bool = false
 
-abbrev pub is_size : Option Constant → Bool
-is_size None = false
-is_size (Some constant) = is_signed constant.ty
+-- a constant is there, and serves as a size
+abbrev pub serves_as_size : Option Constant → Bool
+serves_as_size None = false
+serves_as_size (Some constant) = is_size_ty constant.ty
 
--- a name is not what a use needs: no constant that serves as a size, no layout, no field, no kernel
+-- a name is not what a use needs: no constant that serves as a size
 abbrev pub is_no_size : Tables → Name → Bool
-is_no_size before name = not (is_size (constant_named before name))
+is_no_size before name = not (serves_as_size (constant_named before name))
 
+-- no layout
 abbrev pub is_no_layout : Tables → Name → Bool
 is_no_layout before name = is_none (layout_named before name)
 
+-- no field
 abbrev pub is_no_field : Tables → Name → Bool
 is_no_field before name = is_none (field_named before name)
 
+-- no kernel
 abbrev pub is_no_kernel : Tables → Name → Bool
 is_no_kernel before name = is_none (kernel_named before name)
 
@@ -54,24 +61,17 @@ abbrev pub declares_twice : Tables → Item → Bool
 declares_twice before item =
     list_any (is_known before) (declared_names item) || (has_repeat (declared_names item) || has_repeat (axes_declared item))
 
--- the first of four numbers that passes its limit: 8 layouts, 16 fields, 16 kernels, 64 commands
+-- the first of four numbers that passes its limit: of layouts, fields, kernels, commands
 abbrev pub first_past : ℕ → ℕ → ℕ → ℕ → Option Which
 first_past layouts fields kernels commands =
-    if nat_lt 8 layouts then Some Layouts
-    else (if nat_lt 16 fields then Some Fields
-    else (if nat_lt 16 kernels then Some Kernels
-    else (if nat_lt 64 commands then Some Commands else None)))
+    if nat_lt most_layouts layouts then Some Layouts
+    else (if nat_lt most_program_fields fields then Some Fields
+    else (if nat_lt most_kernels kernels then Some Kernels
+    else (if nat_lt most_commands commands then Some Commands else None)))
 
 -- what there is too much of
 abbrev pub too_many : Tables → ℕ → Option Which
 too_many tables commands = first_past (length tables.layouts) (length tables.fields) (length tables.kernels) commands
-
--- the numbers of things fit 32 bits
-pub record AreFew (tables : Tables) : Type 0 where
-  pub constants : length tables.constants < 2 ^ 32
-  pub layouts : length tables.layouts < 2 ^ 32
-  pub fields : length tables.fields < 2 ^ 32
-  pub kernels : length tables.kernels < 2 ^ 32
 
 -- what is wrong with the item of a number, where the tables of the items before it and the number of their commands are given
 abbrev pub fault_in : Tables → ℕ → ℕ → Item → Option NameFault
@@ -80,17 +80,12 @@ fault_in before commands number item =
     else (if declares_twice before item then Some (Twice number)
     else option_map TooMany (too_many (declare before item) (commands + commands_in item)))
 
--- a fault, or what comes after where there is none
-abbrev pub unless_fault : Option NameFault → Result Tables NameFault → Result Tables NameFault
-unless_fault (Some fault) after = Err fault
-unless_fault None after = after
-
 -- the tables of the items of a program, where some items came before: their tables, their number of commands, and the number of the
 -- next item are given
 abbrev pub tables_from : Tables → ℕ → ℕ → List Item → Result Tables NameFault
 tables_from before commands number [] = Ok before
 tables_from before commands number (item ∷ items) =
-    unless_fault (fault_in before commands number item) (tables_from (declare before item) (commands + commands_in item) (suc number) items)
+    fault_or (fault_in before commands number item) (tables_from (declare before item) (commands + commands_in item) (suc number) items)
 
 -- the tables of a program, or the fault of its first item that has one
 abbrev pub tables_of : Program → Result Tables NameFault

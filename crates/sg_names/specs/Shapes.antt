@@ -16,7 +16,8 @@ use Rattle.sg_layout.specs.declared.shape.Size.{Size}
 use Rattle.sg_layout.specs.declared.shape.NodeShape.{NodeShape}
 use Rattle.sg_layout.specs.declared.shape.Shape.{Shape}
 use Rattle.sg_names.specs.declared.tables.Constant.{Constant}
-use Rattle.sg_names.specs.Tables.{Tables, same_name, constant_named}
+use Rattle.sg_ast.specs.Token.{same_name}
+use Rattle.sg_names.specs.Tables.{Tables, constant_named}
 
 -- the number of a constant as a size: its word read as I32; 0 where there is none
 abbrev pub number_of : Option Constant → ℤ
@@ -47,17 +48,17 @@ abbrev pub axis_size : Tables → List Name → AxisDecl → Size
 axis_size tables axes axis = record { axis = axis_number axes axis.name; extent = size_number tables axis.size }
 
 -- the kind of a node
-abbrev pub kind_of : NodeKind → Kind
-kind_of node.Dense = Dense
-kind_of node.Bitmasked = Bitmasked
-kind_of node.Pointer = Pointer
-kind_of node.Hash = Hash
-kind_of node.Dynamic = Dynamic
+abbrev pub node_kind : NodeKind → Kind
+node_kind node.Dense = Dense
+node_kind node.Bitmasked = Bitmasked
+node_kind node.Pointer = Pointer
+node_kind node.Hash = Hash
+node_kind node.Dynamic = Dynamic
 
 -- a node, in a layout with the given axes
 abbrev pub node_shape : Tables → List Name → NodeDecl → NodeShape
 node_shape tables axes given = record {
-  kind = kind_of given.kind;
+  kind = node_kind given.kind;
   sizes = map (axis_size tables axes) given.axes;
   cap = optional_number tables given.cap;
   chunk = optional_number tables given.chunk;

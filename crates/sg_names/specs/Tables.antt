@@ -1,6 +1,7 @@
 -- The tables of names that a program declares, and what is looked up in them.
-use Rattle.std.specs.Prelude.{ℕ, Bool, ◌||◌, List, [], Option, option_map, is_some, find, position, slice_get, bytes_eq}
+use Rattle.std.specs.Prelude.{ℕ, Bool, ◌||◌, List, [], Option, option_map, is_some, find, position, slice_get}
 use Rattle.sg_ast.specs.declared.token.Name.{Name}
+use Rattle.sg_ast.specs.Token.{same_name}
 use Rattle.sg_names.specs.declared.tables.Constant.{Constant}
 use Rattle.sg_names.specs.declared.tables.FieldAt.{FieldAt}
 use Rattle.sg_names.specs.declared.tables.NamedConstant.{NamedConstant}
@@ -19,21 +20,21 @@ pub record Tables : Type 0 where
 abbrev pub no_tables : Tables
 no_tables = record { constants = []; layouts = []; fields = []; kernels = [] }
 
--- two names have the same bytes
-abbrev pub same_name : Name → Name → Bool
-same_name x y = bytes_eq x.text y.text
+-- What a name stands for. Numbers are places in order of declaration, from 0.
 
--- what a name stands for: a constant, the number of a layout, a field, the number of a kernel; numbers are places in order of
--- declaration, from 0
+-- the constant of a name
 abbrev pub constant_named : Tables → Name → Option Constant
 constant_named tables name = option_map (λ named. named.constant) (find (λ named. same_name name named.name) tables.constants)
 
+-- the number of the layout of a name
 abbrev pub layout_named : Tables → Name → Option ℕ
 layout_named tables name = position (λ named. same_name name named.name) tables.layouts
 
+-- where the field of a name is
 abbrev pub field_named : Tables → Name → Option FieldAt
 field_named tables name = option_map (λ named. named.at) (find (λ named. same_name name named.name) tables.fields)
 
+-- the number of the kernel of a name
 abbrev pub kernel_named : Tables → Name → Option ℕ
 kernel_named tables name = position (same_name name) tables.kernels
 
@@ -41,13 +42,15 @@ kernel_named tables name = position (same_name name) tables.kernels
 abbrev pub constant_number_of : Tables → Name → Option ℕ
 constant_number_of tables name = position (λ named. same_name name named.name) tables.constants
 
--- the name of what has a number
+-- the name of the layout with a number
 abbrev pub layout_name_of : Tables → ℕ → Option Name
 layout_name_of tables number = option_map (λ named. named.name) (slice_get tables.layouts number)
 
+-- the name of the field with a number
 abbrev pub field_name_of : Tables → ℕ → Option Name
 field_name_of tables number = option_map (λ named. named.name) (slice_get tables.fields number)
 
+-- the name of the kernel with a number
 abbrev pub kernel_name_of : Tables → ℕ → Option Name
 kernel_name_of tables number = slice_get tables.kernels number
 

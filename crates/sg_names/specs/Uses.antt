@@ -57,11 +57,12 @@ fields_step (s.For name range body) = range_reads range ++ joined body
 abbrev pub stmt_fields : Stmt → List Name
 stmt_fields = fold-Stmt (List Name) fields_step
 
--- the layout that a kernel's loop names, and the fields that the bounds of its ranges read
+-- the layout that a kernel's loop names
 abbrev pub domain_layouts : DomainDecl → List Name
 domain_layouts (domain.Layout name) = name ∷ []
 domain_layouts (domain.Ranges ranges) = []
 
+-- the fields that the bounds of a loop read
 abbrev pub domain_fields : DomainDecl → List Name
 domain_fields (domain.Layout name) = []
 domain_fields (domain.Ranges ranges) = flat_map range_reads ranges
@@ -71,6 +72,7 @@ abbrev pub size_names : SizeDecl → List Name
 size_names (size.Number value) = []
 size_names (size.Name name) = name ∷ []
 
+-- the constant that a cap or chunk names, where there is one
 abbrev pub optional_size_names : Option SizeDecl → List Name
 optional_size_names None = []
 optional_size_names (Some given) = size_names given
@@ -79,7 +81,7 @@ optional_size_names (Some given) = size_names given
 abbrev pub node_sizes : NodeDecl → List Name
 node_sizes node = flat_map (λ axis. size_names axis.size) node.axes ++ (optional_size_names node.chunk ++ optional_size_names node.cap)
 
--- one layer of a command, where the layouts, the fields or the kernels that the commands in it need are given
+-- one layer of a command, where what the commands in it need is given: for layouts
 abbrev pub command_layouts_step : Command-F (List Name) → List Name
 command_layouts_step (c.Load field) = []
 command_layouts_step (c.Run kernel) = []
@@ -90,6 +92,7 @@ command_layouts_step (c.Stats layout) = layout ∷ []
 command_layouts_step (c.Prune layout) = layout ∷ []
 command_layouts_step (c.Clear layout) = layout ∷ []
 
+-- one layer of a command, for fields
 abbrev pub command_fields_step : Command-F (List Name) → List Name
 command_fields_step (c.Load field) = field ∷ []
 command_fields_step (c.Run kernel) = []
@@ -100,6 +103,7 @@ command_fields_step (c.Stats layout) = []
 command_fields_step (c.Prune layout) = []
 command_fields_step (c.Clear layout) = []
 
+-- one layer of a command, for kernels
 abbrev pub command_kernels_step : Command-F (List Name) → List Name
 command_kernels_step (c.Load field) = []
 command_kernels_step (c.Run kernel) = kernel ∷ []
@@ -110,35 +114,40 @@ command_kernels_step (c.Stats layout) = []
 command_kernels_step (c.Prune layout) = []
 command_kernels_step (c.Clear layout) = []
 
--- the layouts, the fields and the kernels that a command needs
+-- the layouts that a command needs
 abbrev pub command_layouts : Command → List Name
 command_layouts = fold-Command (List Name) command_layouts_step
 
+-- the fields that a command needs
 abbrev pub command_fields : Command → List Name
 command_fields = fold-Command (List Name) command_fields_step
 
+-- the kernels that a command needs
 abbrev pub command_kernels : Command → List Name
 command_kernels = fold-Command (List Name) command_kernels_step
 
--- the names that an item uses as sizes, as layouts, as fields and as kernels
+-- the names that an item uses as sizes
 abbrev pub sizes_used : Item → List Name
 sizes_used (item.Const decl) = []
 sizes_used (item.Layout decl) = flat_map node_sizes decl.nodes
 sizes_used (item.Kernel decl) = []
 sizes_used (item.Command command) = []
 
+-- the names that an item uses as layouts
 abbrev pub layouts_used : Item → List Name
 layouts_used (item.Const decl) = []
 layouts_used (item.Layout decl) = []
 layouts_used (item.Kernel decl) = domain_layouts decl.domain
 layouts_used (item.Command command) = command_layouts command
 
+-- the names that an item uses as fields
 abbrev pub fields_used : Item → List Name
 fields_used (item.Const decl) = []
 fields_used (item.Layout decl) = []
 fields_used (item.Kernel decl) = domain_fields decl.domain ++ flat_map stmt_fields decl.body
 fields_used (item.Command command) = command_fields command
 
+-- the names that an item uses as kernels
 abbrev pub kernels_used : Item → List Name
 kernels_used (item.Const decl) = []
 kernels_used (item.Layout decl) = []

@@ -3,7 +3,9 @@
 ghost use Rattle.std.specs.Prelude.{◌≡◌, ◌||◌, ◌≤◌, ◌<◌, ◌^◌, ◌-◌, min, map, length, IfOk};
 ghost use Rattle.std.specs.List.{list_any};
 ghost use Rattle.sg_ast.specs.declared.program.Item.TheVariants as item;
-ghost use Rattle.sg_names.specs.Tables.{is_known, same_name};
+ghost use Rattle.sg_ast.specs.Token.{same_name};
+ghost use Rattle.sg_names.specs.Limits.{most_commands};
+ghost use Rattle.sg_names.specs.Tables.{is_known};
 ghost use Rattle.sg_names.specs.Declares.{commands_in};
 ghost use Rattle.sg_names.specs.Names.{declares_twice, fault_in};
 
@@ -24,7 +26,7 @@ pub fn fault_of(
     number: u32,
     item: &Item,
 ) -> Result<Option<NameFault>, Memory>
-    requires { commands ≤ 64 }
+    requires { commands ≤ most_commands }
     ensures { IfOk result (λ fault. fault ≡ fault_in names.now commands number item.now) }
 {
     if uses_unknown(names, item) {
@@ -88,8 +90,5 @@ fn any_known(names: &Names, fields: &[FieldDecl]) -> bool
 fn is_among(name: &Name, fields: &[FieldDecl]) -> bool
     ensures { result ≡ list_any (λ field. same_name name.now field.name) fields.now }
 {
-    let bytes = name.text.as_slice();
-    fields
-        .iter()
-        .any(|field| bytes == field.name.text.as_slice())
+    fields.iter().any(|field| name.is(&field.name))
 }

@@ -9,11 +9,10 @@ pub mod names;
 mod repeats;
 pub mod shape;
 mod sizes;
-pub mod table;
+mod table;
 pub mod tables;
 mod uses;
 
 pub use fault::{NameFault, Which};
 pub use names::{Names, name_tables};
-pub use table::{Named, Table};
 pub use tables::{Constant, FieldAt, NamedConstant, NamedField, NamedLayout};

@@ -1,10 +1,13 @@
 ghost use Rattle.std.specs.Prelude.{◌≡◌, ◌+◌, ◌^◌, ◌≤◌, ◌<◌, ◌++◌, false, map, length, find, None, Some, IfOk, OnOk};
 ghost use Rattle.std.specs.List.{AllByRecursion};
 ghost use Rattle.sg_ast.specs.declared.program.Item.TheVariants as item;
+ghost use Rattle.sg_ast.specs.Limits.{most_tokens};
 ghost use Rattle.sg_words.specs.Answers.{Answers};
-ghost use Rattle.sg_names.specs.Tables.{no_tables, same_name, is_known, constant_named, layout_named, field_named, kernel_named, constant_number_of, layout_name_of, field_name_of, kernel_name_of, axes_of};
+ghost use Rattle.sg_ast.specs.Token.{same_name};
+ghost use Rattle.sg_names.specs.Tables.{no_tables, is_known, constant_named, layout_named, field_named, kernel_named, constant_number_of, layout_name_of, field_name_of, kernel_name_of, axes_of};
 ghost use Rattle.sg_names.specs.Declares.{constant_of, declare, fields_from};
-ghost use Rattle.sg_names.specs.Names.{tables_of, is_no_size, is_no_layout, is_no_field, is_no_kernel, has_repeat, declares_twice, first_past, too_many, AreFew};
+ghost use Rattle.sg_names.specs.Names.{tables_of, is_no_size, is_no_layout, is_no_field, is_no_kernel, has_repeat, declares_twice, first_past, too_many};
+ghost use Rattle.sg_names.specs.steps.Room.{AreFew};
 
 use crate::check::{commands_in, fault_of};
 use crate::fault::{NameFault, Which};
@@ -14,6 +17,15 @@ use sg_ast::{ConstDecl, FieldDecl, Item, LayoutDecl, Name, Program};
 use sg_words::{Items, Memory, Stop, Ty, UnOp, apply_un};
 use std::alloc::Global;
 use std::marker::Model;
+
+/// How many layouts, fields, kernels and commands a program may have.
+const MOST_LAYOUTS: usize = 8;
+
+const MOST_FIELDS: usize = 16;
+
+const MOST_KERNELS: usize = 16;
+
+const MOST_COMMANDS: u32 = 64;
 
 /// The constants, layouts, fields and kernels of a program, in order of declaration.
 #[derive(Drop)]
@@ -34,7 +46,7 @@ impl Model for Names {
 
 /// The names of a program, or its first fault: that of the first item that has one, in it `Unknown`, then `Twice`, then `TooMany`.
 pub fn name_tables(alloc: Global, program: &Program) -> Result<Names, Stop<NameFault>>
-    requires { length program.now.items ≤ 16384 }
+    requires { length program.now.items ≤ most_tokens }
     ensures { Answers result (tables_of program.now) }
 {
     let mut names = Names::new(alloc);
@@ -230,13 +242,13 @@ impl Names {
 fn first_past(layouts: usize, fields: usize, kernels: usize, commands: u32) -> Option<Which>
     ensures { result ≡ first_past layouts fields kernels commands }
 {
-    if layouts > 8 {
+    if layouts > MOST_LAYOUTS {
         Some(Which::Layouts)
-    } else if fields > 16 {
+    } else if fields > MOST_FIELDS {
         Some(Which::Fields)
-    } else if kernels > 16 {
+    } else if kernels > MOST_KERNELS {
         Some(Which::Kernels)
-    } else if commands > 64 {
+    } else if commands > MOST_COMMANDS {
         Some(Which::Commands)
     } else {
         None

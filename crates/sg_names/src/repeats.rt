@@ -7,7 +7,7 @@ use sg_words::Memory;
 use std::alloc::Global;
 
 /// Whether two of the things have the same name.
-pub fn has_repeat<T: Named>(alloc: Global, things: &[T]) -> Result<bool, Memory>
+pub(crate) fn has_repeat<T: Named>(alloc: Global, things: &[T]) -> Result<bool, Memory>
     ensures { IfOk result (λ repeat. repeat ≡ has_repeat (map T.name_of things.now)) }
 {
     let mut seen = IndexSet::new(alloc);

@@ -1,8 +1,8 @@
 //! Declared layouts with their sizes as numbers.
 
 ghost use Rattle.std.specs.Prelude.{◌≡◌, ◌<◌, map, length, position, IfOk, IfSome};
-ghost use Rattle.sg_names.specs.Tables.{same_name};
-ghost use Rattle.sg_names.specs.Shapes.{shape_of, node_shape, axis_size, axis_number, size_number, optional_number, kind_of};
+ghost use Rattle.sg_ast.specs.Token.{same_name};
+ghost use Rattle.sg_names.specs.Shapes.{shape_of, node_shape, axis_size, axis_number, size_number, optional_number, node_kind};
 
 use crate::names::Names;
 use sg_ast::{AxisDecl, FieldDecl, LayoutDecl, Name, NodeDecl, NodeKind, SizeDecl};
@@ -35,7 +35,7 @@ impl Names {
         ensures { IfOk result (λ shape. shape ≡ node_shape self.now axes.now node.now) }
     {
         Ok(NodeShape {
-            kind: kind_of(node.kind),
+            kind: node_kind(node.kind),
             sizes: self.sizes(alloc, axes, node.axes.as_slice())?,
             cap: self.optional_number(&node.cap),
             chunk: self.optional_number(&node.chunk),
@@ -94,8 +94,7 @@ fn axis_place(axes: &[Name], name: &Name) -> Option<usize>
     ensures value { result ≡ position (same_name name.now) axes.now }
     ensures within { IfSome result (λ place. place < length axes.now) }
 {
-    let bytes = name.text.as_slice();
-    axes.iter().position(|axis| bytes == axis.text.as_slice())
+    axes.iter().position(|axis| name.is(axis))
 }
 
 fn types_of(alloc: Global, fields: &[FieldDecl]) -> Result<Items<Ty>, Memory>
@@ -108,8 +107,8 @@ fn types_of(alloc: Global, fields: &[FieldDecl]) -> Result<Items<Ty>, Memory>
     Ok(types)
 }
 
-fn kind_of(kind: NodeKind) -> Kind
-    ensures { result ≡ kind_of kind }
+fn node_kind(kind: NodeKind) -> Kind
+    ensures { result ≡ node_kind kind }
 {
     match kind {
         NodeKind::Dense => Kind::Dense,

@@ -1,7 +1,7 @@
 ghost use Rattle.std.specs.Prelude.{◌≡◌, ◌+◌, ◌<◌, ◌++◌, ◌∷◌, [], ◌^◌, length, None, Some, find, position, slice_get, IfSome, OnOk};
 ghost use Rattle.std.specs.Option.{option_copied};
 ghost use Rattle.sg_ast.specs.declared.token.Name.{Name};
-ghost use Rattle.sg_names.specs.Tables.{same_name};
+ghost use Rattle.sg_ast.specs.Token.{same_name};
 
 use indexmap::IndexMap;
 use sg_ast::Name;
@@ -10,7 +10,7 @@ use std::alloc::Global;
 use std::marker::Model;
 
 /// What has a name.
-pub trait Named {
+pub(crate) trait Named {
     ghost name_of: { Self → Name };
 
     fn name(&self) -> &Name
@@ -19,7 +19,7 @@ pub trait Named {
 
 /// Things with names, in the order in which they were put in, and found by their names. Contracts see the list of them.
 #[derive(Drop)]
-pub struct Table<T: Named> {
+pub(crate) struct Table<T: Named> {
     entries: IndexMap<Vec<u8>, T>,
 }
 

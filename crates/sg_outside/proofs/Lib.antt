@@ -1,3 +1,4 @@
+pub mod Uses
 pub mod Fails
 pub mod Names
 pub mod Written

@@ -14,17 +14,19 @@ use Rattle.sg_ast.specs.declared.command.Command.TheVariants as command
 use Rattle.sg_ast.specs.Token.{is_name, is_number}
 use Rattle.sg_ast.specs.Command.{magnitude_token, bound_tokens, named_tokens, command_tokens}
 use Rattle.sg_ast.specs.Grammar.{is_bound, is_simple, is_command}
-use Rattle.sg_ast.proofs.CommandVariants.{by_command_variant, command_tokens-Load, command_tokens-Run, command_tokens-Dump, command_tokens-Stats, command_tokens-Prune, command_tokens-Clear, is_simple-Load, is_simple-Run, is_simple-Times, is_simple-Dump, is_simple-Image, is_simple-Stats, is_simple-Prune, is_simple-Clear, is_command-Load, is_command-Run, is_command-Times, is_command-Dump, is_command-Image, is_command-Stats, is_command-Prune, is_command-Clear}
-use Rattle.sg_parser.specs.Steps.{only_if, after_sign, next_name, repeated}
-use Rattle.sg_parser.specs.ReadItem.{next_plain, ending, is_marked, next_magnitude, whole_on, next_whole, read_named, read_image, about, simple_worded, read_simple, read_times}
+use Rattle.sg_ast.proofs.Uses.{by_command_variant, command_tokens-Load, command_tokens-Run, command_tokens-Dump, command_tokens-Stats, command_tokens-Prune, command_tokens-Clear, is_simple-Load, is_simple-Run, is_simple-Times, is_simple-Dump, is_simple-Image, is_simple-Stats, is_simple-Prune, is_simple-Clear, is_command-Load, is_command-Run, is_command-Times, is_command-Dump, is_command-Image, is_command-Stats, is_command-Prune, is_command-Clear}
+use Rattle.sg_parser.specs.steps.Front.{after_sign, next_name, list_to_end}
+use Rattle.sg_words.specs.Options.{only_if}
+use Rattle.sg_parser.specs.steps.ReadItem.{next_plain, ending, is_marked, next_magnitude, whole_on, next_whole, read_named, read_image, name_command, word_simple, read_simple, read_times}
 use Rattle.sg_parser.proofs.StepLemmas.{bind_some, only_if_some, after_sign_is, next_name_is}
-use Rattle.sg_parser.proofs.Lists.{IsSoundReader, repeated_sound}
+use Rattle.sg_parser.proofs.ListLemmas.{IsSoundReader, repeated_sound}
 use Rattle.sg_parser.proofs.StmtSound.{made_is}
 use Rattle.sg_parser.proofs.ItemParts.{IsGood, all_pass, image_parts, times_parts, plain_sound, ending_sound}
+use Rattle.sg_ast.specs.Limits.{max_number}
 
-marked_is : (unsigned : Bool) (value : ℕ) → is_marked unsigned value ≡ true → unsigned ≡ nat_lt 2147483648 value
+marked_is : (unsigned : Bool) (value : ℕ) → is_marked unsigned value ≡ true → unsigned ≡ nat_lt (max_number false) value
 marked_is true value h = sym h
-marked_is false value h = sym (not-true (nat_lt 2147483648 value) h)
+marked_is false value h = sym (not-true (nat_lt (max_number false) value) h)
 
 magnitude_sound : (tokens rest : List Token) (n : ℕ) → next_magnitude tokens ≡ Some (n, rest) → (is_number n true ≡ true) × (tokens ≡ magnitude_token n ∷ rest)
 magnitude_sound [] rest n h = absurd (cc)
@@ -65,7 +67,7 @@ named_sound tokens name rest h =
     rw (← end.0) (read.1, cc (read.0, end.1))
 
 about_sound : (make : Name → Command) (word : Word) → ((name : Name) → command_tokens (make name) ≡ named_tokens word name) → ((name : Name) → is_simple (make name) ≡ is_name name)
-    → (tokens : List Token) (a : Command) (rest : List Token) → about make tokens ≡ Some (a, rest) → IsSimpleRead (t.Word word ∷ tokens) a rest
+    → (tokens : List Token) (a : Command) (rest : List Token) → name_command make tokens ≡ Some (a, rest) → IsSimpleRead (t.Word word ∷ tokens) a rest
 about_sound make word spelled simple tokens a rest h =
     let p = bind_some (read_named tokens) (λ (name : Name × List Token). Some (make name.0, name.1)) (a, rest) h in
     let read = named_sound tokens p.0.0 p.0.1 p.1 in
@@ -87,7 +89,7 @@ image_sound tokens a rest h =
       rw (image_parts p.0.0 q.0.0 r.0.0 rest) (cc (name.0, lo.1, hi.1, end.1)),
     )
 
-pub simple_worded_sound : (word : Word) (tokens : List Token) (a : Command) (rest : List Token) → simple_worded word tokens ≡ Some (a, rest) → IsSimpleRead (t.Word word ∷ tokens) a rest
+pub simple_worded_sound : (word : Word) (tokens : List Token) (a : Command) (rest : List Token) → word_simple word tokens ≡ Some (a, rest) → IsSimpleRead (t.Word word ∷ tokens) a rest
 simple_worded_sound w.Load tokens a rest h = about_sound command.Load w.Load command_tokens-Load is_simple-Load tokens a rest h
 simple_worded_sound w.Run tokens a rest h = about_sound command.Run w.Run command_tokens-Run is_simple-Run tokens a rest h
 simple_worded_sound w.Dump tokens a rest h = about_sound command.Dump w.Dump command_tokens-Dump is_simple-Dump tokens a rest h
@@ -108,7 +110,7 @@ unfolding read_times
 times_sound tokens a rest h =
     let p = bind_some (next_plain tokens) _ (a, rest) h in
     let q = bind_some (after_sign s.OpenBrace p.0.1) _ (a, rest) p.2 in
-    let r = bind_some (repeated (after_sign s.CloseBrace) read_simple q.0) _ (a, rest) q.2 in
+    let r = bind_some (list_to_end (after_sign s.CloseBrace) read_simple q.0) _ (a, rest) q.2 in
     let y = only_if_some (nat_le 1 (length r.0.0)) (Some (command.Times p.0.0 r.0.0, r.0.1)) (a, rest) r.2 in
     let number = plain_sound tokens p.0.1 p.0.0 p.1 in
     let brace = after_sign_is s.OpenBrace p.0.1 q.0 q.1 in

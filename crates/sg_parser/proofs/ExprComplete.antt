@@ -18,13 +18,15 @@ use Rattle.sg_ast.specs.declared.expr.Callee.TheVariants as c
 use Rattle.sg_ast.specs.declared.expr.Expr.{Expr}
 use Rattle.sg_ast.specs.declared.expr.Expr.TheVariants as e
 use Rattle.sg_ast.specs.Token.{is_name, is_number}
-use Rattle.sg_ast.specs.Expr.{tokens_of, separated, op_token, un_token, callee_token, depth, largest, level, levelled, op_level, left_needs, right_needs, un_level}
-use Rattle.sg_ast.specs.Grammar.{is_formed, is_infix, arity, is_expr, max_depth, one_or_more}
-use Rattle.sg_ast.proofs.Variants.{by_variant, tokens_of-Number, tokens_of-Truth, tokens_of-Name, tokens_of-Read, tokens_of-Paren, tokens_of-Un, tokens_of-Bin, tokens_of-Call, depth-Number, depth-Truth, depth-Name, depth-Read, depth-Paren, depth-Un, depth-Bin, depth-Call, level-Number, level-Truth, level-Name, level-Read, level-Paren, level-Un, level-Bin, level-Call, levelled-Read, levelled-Paren, levelled-Un, levelled-Bin, levelled-Call, is_formed-Number, is_formed-Name, is_formed-Read, is_formed-Paren, is_formed-Un, is_formed-Bin, is_formed-Call, op_level-un_level, op_level-left_needs}
-use Rattle.sg_parser.specs.Steps.{Reader, ◌>>=◌, after_sign, next_op}
-use Rattle.sg_parser.specs.ReadExpr.{goes_on, indices, named, call, paren, unary, prefix, climb, climb_on, expr_at}
+use Rattle.sg_ast.specs.Expr.{tokens_of, with_commas, op_token, un_token, callee_token, depth, largest, level, levelled, op_level, left_needs, right_needs, un_level}
+use Rattle.sg_ast.specs.Limits.{max_depth}
+use Rattle.sg_ast.specs.Grammar.{is_formed, is_infix, arity, is_expr, one_or_more}
+use Rattle.sg_ast.proofs.Uses.{by_variant, depth_some, tokens_of-Number, tokens_of-Truth, tokens_of-Name, tokens_of-Read, tokens_of-Paren, tokens_of-Un, tokens_of-Bin, tokens_of-Call, depth-Read, depth-Paren, depth-Un, depth-Bin, depth-Call, level-Number, level-Truth, level-Name, level-Read, level-Paren, level-Un, level-Bin, level-Call, levelled-Read, levelled-Paren, levelled-Un, levelled-Bin, levelled-Call, is_formed-Number, is_formed-Name, is_formed-Read, is_formed-Paren, is_formed-Un, is_formed-Bin, is_formed-Call, op_level-un_level, op_level-left_needs}
+use Rattle.sg_parser.specs.steps.Front.{Reader, after_sign, next_op}
+use Rattle.sg_words.specs.Options.{◌>>=◌}
+use Rattle.sg_parser.specs.steps.ReadExpr.{goes_on, read_indices, read_name_expr, read_call_expr, paren_expr, unary_expr, prefix, climb, climb_on, expr_at}
 use Rattle.sg_parser.proofs.StepLemmas.{only_if_true, next_op-at, op-no_bracket, infix_level}
-use Rattle.sg_parser.proofs.Lists.{listed_complete}
+use Rattle.sg_parser.proofs.ListLemmas.{listed_complete}
 use Rattle.sg_parser.proofs.ExprSound.{Fit}
 
 -- what may stand behind an expression of at least a level: no operator that would go on with it, and no `[`
@@ -79,17 +81,6 @@ cases_bin P on_high on_bin = by_variant P
     on_bin
     (λ callee arguments. on_high (e.Call callee arguments) (omega (arith, level-Call callee arguments)))
 
-depth_some : (a : Expr) → 1 ≤ depth a
-depth_some = by_variant (λ a. 1 ≤ depth a)
-    (λ value unsigned. omega (arith, depth-Number value unsigned))
-    (λ truth. omega (arith, depth-Truth truth))
-    (λ name. omega (arith, depth-Name name))
-    (λ field index. omega (arith, depth-Read field index))
-    (λ inner. omega (arith, depth-Paren inner))
-    (λ op operand. omega (arith, depth-Un op operand))
-    (λ op left right. omega (arith, depth-Bin op left right))
-    (λ callee arguments. omega (arith, depth-Call callee arguments))
-
 -- the parts of what is formed and levelled, where an operator stands between two
 pub record Parts (limit : ℕ) (op : BinOp) (left right : Expr) : Type 0 where
   pub between : is_infix op ≡ true
@@ -140,29 +131,29 @@ module _ (d : ℕ) (expr : ℕ → Reader Expr) (complete : IsComplete d expr) w
   one_complete a rest fit ends = complete 1 a rest (lit≤ tt) fit ends
 
   pub indices_complete : (index : List Expr) (rest : List Token) → 1 ≤ length index → AllByRecursion (Fit 1 d) index
-      → indices expr (separated (map tokens_of index) ++ t.Sign s.CloseBracket ∷ rest) ≡ Some (index, rest)
-  unfolding indices
+      → read_indices expr (with_commas (map tokens_of index) ++ t.Sign s.CloseBracket ∷ rest) ≡ Some (index, rest)
+  unfolding read_indices
   indices_complete index rest some good =
       rw (listed_complete Expr (expr 1) tokens_of (Fit 1 d) (Ends 1) one_complete (ends_comma 1) index (t.Sign s.CloseBracket ∷ rest) some good (ends_bracket 1 rest) (omega arith) refl) refl
 
   read_complete : (field : Name) (index : List Expr) (rest : List Token) → Fit un_level (suc d) (e.Read field index) → prefix expr (tokens_of (e.Read field index) ++ rest) ≡ Some (e.Read field index, rest)
-  unfolding prefix named
+  unfolding prefix read_name_expr
   read_complete field index rest fit =
       let f = and_parts (is_name field) (one_or_more is_formed index) (sym (is_formed-Read field index) ∙ fit.formed) in
       let g = and_parts (nat_le 1 (length index)) (list_all is_formed index) f.1 in
       let below = fit.shallow in
       let good = all_fit d index g.1 (sym (levelled-Read field index) ∙ fit.even) (omega (arith, depth-Read field index)) in
-      rw (tokens_of-Read field index, append_assoc (separated (map tokens_of index)) (t.Sign s.CloseBracket ∷ []) rest, f.0, indices_complete index rest (leb-true 1 (length index) g.0) good) refl
+      rw (tokens_of-Read field index, append_assoc (with_commas (map tokens_of index)) (t.Sign s.CloseBracket ∷ []) rest, f.0, indices_complete index rest (leb-true 1 (length index) g.0) good) refl
 
   name_complete : (name : Name) (rest : List Token) → Fit un_level (suc d) (e.Name name) → after_sign s.OpenBracket rest ≡ None → prefix expr (tokens_of (e.Name name) ++ rest) ≡ Some (e.Name name, rest)
-  unfolding prefix named
+  unfolding prefix read_name_expr
   name_complete name rest fit no_bracket =
       let good : is_name name ≡ true = sym (is_formed-Name name) ∙ fit.formed in
       rw (tokens_of-Name name, good, no_bracket) refl
 
   call_complete : (callee : Callee) (arguments : List Expr) (rest : List Token) → is_formed (e.Call callee arguments) ≡ true → levelled (e.Call callee arguments) ≡ true → depth (e.Call callee arguments) ≤ suc d
-      → 1 ≤ arity callee → call expr callee (t.Sign s.OpenParen ∷ (separated (map tokens_of arguments) ++ t.Sign s.CloseParen ∷ rest)) ≡ Some (e.Call callee arguments, rest)
-  unfolding call
+      → 1 ≤ arity callee → read_call_expr expr callee (t.Sign s.OpenParen ∷ (with_commas (map tokens_of arguments) ++ t.Sign s.CloseParen ∷ rest)) ≡ Some (e.Call callee arguments, rest)
+  unfolding read_call_expr
   call_complete callee arguments rest formed even shallow some =
       let f = and_parts (length arguments == arity callee) (list_all is_formed arguments) (sym (is_formed-Call callee arguments) ∙ formed) in
       let count = eqb-true (length arguments) (arity callee) f.0 in
@@ -170,7 +161,7 @@ module _ (d : ℕ) (expr : ℕ → Reader Expr) (complete : IsComplete d expr) w
       rw (listed_complete Expr (expr 1) tokens_of (Fit 1 d) (Ends 1) one_complete (ends_comma 1) arguments (t.Sign s.CloseParen ∷ rest) (omega arith) good (ends_close 1 rest) (omega arith) refl, f.0) refl
 
   called : (callee : Callee) (arguments : List Expr) (rest : List Token) → Fit un_level (suc d) (e.Call callee arguments)
-      → prefix expr (callee_token callee ∷ t.Sign s.OpenParen ∷ (separated (map tokens_of arguments) ++ t.Sign s.CloseParen ∷ rest)) ≡ Some (e.Call callee arguments, rest)
+      → prefix expr (callee_token callee ∷ t.Sign s.OpenParen ∷ (with_commas (map tokens_of arguments) ++ t.Sign s.CloseParen ∷ rest)) ≡ Some (e.Call callee arguments, rest)
   unfolding prefix
   called c.Min arguments rest fit = call_complete c.Min arguments rest fit.formed fit.even fit.shallow (lit≤ tt)
   called c.Max arguments rest fit = call_complete c.Max arguments rest fit.formed fit.even fit.shallow (lit≤ tt)
@@ -179,7 +170,7 @@ module _ (d : ℕ) (expr : ℕ → Reader Expr) (complete : IsComplete d expr) w
   called c.U32 arguments rest fit = call_complete c.U32 arguments rest fit.formed fit.even fit.shallow (lit≤ tt)
 
   paren_complete : (inner : Expr) (rest : List Token) → Fit un_level (suc d) (e.Paren inner) → prefix expr (tokens_of (e.Paren inner) ++ rest) ≡ Some (e.Paren inner, rest)
-  unfolding prefix paren
+  unfolding prefix paren_expr
   paren_complete inner rest fit =
       let formed : is_formed inner ≡ true = sym (is_formed-Paren inner) ∙ fit.formed in
       let below = fit.shallow in
@@ -190,8 +181,8 @@ module _ (d : ℕ) (expr : ℕ → Reader Expr) (complete : IsComplete d expr) w
       ) refl
 
   unary_complete : (op : UnOp) (operand : Expr) (rest : List Token) → is_formed (e.Un op operand) ≡ true → levelled (e.Un op operand) ≡ true → depth (e.Un op operand) ≤ suc d → after_sign s.OpenBracket rest ≡ None
-      → unary expr op (tokens_of operand ++ rest) ≡ Some (e.Un op operand, rest)
-  unfolding unary
+      → unary_expr expr op (tokens_of operand ++ rest) ≡ Some (e.Un op operand, rest)
+  unfolding unary_expr
   unary_complete op operand rest formed even shallow no_bracket =
       let v = and_parts (nat_le un_level (level operand)) (levelled operand) (sym (levelled-Un op operand) ∙ even) in
       rw (complete un_level operand rest (omega arith) (record { formed = sym (is_formed-Un op operand) ∙ formed; even = v.1; high = leb-true un_level (level operand) v.0; shallow = omega (arith, depth-Un op operand) }) (ends_un rest no_bracket)) refl
@@ -226,7 +217,7 @@ module _ (d : ℕ) (expr : ℕ → Reader Expr) (complete : IsComplete d expr) w
       (λ inner rest high fit no_bracket. paren_complete inner rest fit)
       (λ op operand rest high fit no_bracket. rw (tokens_of-Un op operand) (un_complete op operand rest fit no_bracket))
       (λ op left right rest high fit no_bracket. absurd (omega (arith, level-Bin op left right, op_level-un_level op)))
-      (λ callee arguments rest high fit no_bracket. rw (tokens_of-Call callee arguments, append_assoc (separated (map tokens_of arguments)) (t.Sign s.CloseParen ∷ []) rest) (called callee arguments rest fit))
+      (λ callee arguments rest high fit no_bracket. rw (tokens_of-Call callee arguments, append_assoc (with_commas (map tokens_of arguments)) (t.Sign s.CloseParen ∷ []) rest) (called callee arguments rest fit))
 
   -- reading comes to the place where the tree is what was read so far
   record Reached (least : ℕ) (tokens : List Token) (a : Expr) (rest : List Token) : Type 0 where

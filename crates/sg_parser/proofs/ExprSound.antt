@@ -19,13 +19,15 @@ use Rattle.sg_ast.specs.declared.expr.Callee.TheVariants as c
 use Rattle.sg_ast.specs.declared.expr.Expr.{Expr}
 use Rattle.sg_ast.specs.declared.expr.Expr.TheVariants as e
 use Rattle.sg_ast.specs.Token.{is_name, is_number}
-use Rattle.sg_ast.specs.Expr.{tokens_of, separated, op_token, un_token, callee_token, depth, largest, level, levelled, op_level, left_needs, right_needs, un_level}
-use Rattle.sg_ast.specs.Grammar.{is_formed, is_infix, arity, is_expr, max_depth}
-use Rattle.sg_ast.proofs.Variants.{tokens_of-Number, tokens_of-Truth, tokens_of-Name, tokens_of-Read, tokens_of-Paren, tokens_of-Un, tokens_of-Bin, tokens_of-Call, depth-Number, depth-Truth, depth-Name, depth-Read, depth-Paren, depth-Un, depth-Bin, depth-Call, level-Number, level-Truth, level-Name, level-Read, level-Paren, level-Un, level-Bin, level-Call, levelled-Number, levelled-Truth, levelled-Name, levelled-Read, levelled-Paren, levelled-Un, levelled-Bin, levelled-Call, is_formed-Number, is_formed-Truth, is_formed-Name, is_formed-Read, is_formed-Paren, is_formed-Un, is_formed-Bin, is_formed-Call, op_level-un_level}
-use Rattle.sg_parser.specs.Steps.{Reader, ◌>>=◌, only_if, after_sign, next_op, listed}
-use Rattle.sg_parser.specs.ReadExpr.{goes_on, indices, named, named_on, call, paren, unary, worded, signed, prefix, climb, climb_on, expr_at}
+use Rattle.sg_ast.specs.Expr.{tokens_of, with_commas, op_token, un_token, callee_token, depth, largest, level, levelled, op_level, left_needs, right_needs, un_level}
+use Rattle.sg_ast.specs.Limits.{max_depth}
+use Rattle.sg_ast.specs.Grammar.{is_formed, is_infix, arity, is_expr}
+use Rattle.sg_ast.proofs.Uses.{tokens_of-Number, tokens_of-Truth, tokens_of-Name, tokens_of-Read, tokens_of-Paren, tokens_of-Un, tokens_of-Bin, tokens_of-Call, depth-Number, depth-Truth, depth-Name, depth-Read, depth-Paren, depth-Un, depth-Bin, depth-Call, level-Number, level-Truth, level-Name, level-Read, level-Paren, level-Un, level-Bin, level-Call, levelled-Number, levelled-Truth, levelled-Name, levelled-Read, levelled-Paren, levelled-Un, levelled-Bin, levelled-Call, is_formed-Number, is_formed-Truth, is_formed-Name, is_formed-Read, is_formed-Paren, is_formed-Un, is_formed-Bin, is_formed-Call, op_level-un_level}
+use Rattle.sg_parser.specs.steps.Front.{Reader, after_sign, next_op, comma_list}
+use Rattle.sg_words.specs.Options.{only_if, ◌>>=◌}
+use Rattle.sg_parser.specs.steps.ReadExpr.{goes_on, read_indices, read_name_expr, read_name_expr_on, read_call_expr, paren_expr, unary_expr, word_expr, sign_expr, prefix, climb, climb_on, expr_at}
 use Rattle.sg_parser.proofs.StepLemmas.{bind_some, only_if_some, after_sign_is, next_op_is}
-use Rattle.sg_parser.proofs.Lists.{IsSoundReader, listed_sound}
+use Rattle.sg_parser.proofs.ListLemmas.{IsSoundReader, listed_sound}
 
 -- an expression of the grammar of at least a level and at most a depth
 pub record Fit (least limit : ℕ) (a : Expr) : Type 0 where
@@ -62,22 +64,22 @@ module _ (d : ℕ) (expr : ℕ → Reader Expr) (sound : IsSound d expr) where
   one_sound : IsSoundReader tokens_of (Fit 1 d) (expr 1)
   one_sound tokens x rest h = let taken = sound 1 tokens x rest (lit≤ tt) h in (taken.fit, taken.parts)
 
-  pub indices_sound : (tokens : List Token) (index : List Expr) (rest : List Token) → indices expr tokens ≡ Some (index, rest)
-      → (1 ≤ length index) × AllByRecursion (Fit 1 d) index × (tokens ≡ separated (map tokens_of index) ++ t.Sign s.CloseBracket ∷ rest)
-  unfolding indices
+  pub indices_sound : (tokens : List Token) (index : List Expr) (rest : List Token) → read_indices expr tokens ≡ Some (index, rest)
+      → (1 ≤ length index) × AllByRecursion (Fit 1 d) index × (tokens ≡ with_commas (map tokens_of index) ++ t.Sign s.CloseBracket ∷ rest)
+  unfolding read_indices
   indices_sound tokens index rest h =
-      let p = bind_some (listed (expr 1) tokens) _ (index, rest) h in
+      let p = bind_some (comma_list (expr 1) tokens) _ (index, rest) h in
       let q = bind_some (after_sign s.CloseBracket p.0.1) _ (index, rest) p.2 in
       let taken = listed_sound Expr (expr 1) tokens_of (Fit 1 d) one_sound tokens p.0.0 p.0.1 p.1 in
       let same = some_pair_parts p.0.0 index q.0 rest q.2 in
-      rw (← same.0) (taken.0, taken.1, taken.2 ∙ ap (λ r. separated (map tokens_of p.0.0) ++ r) (after_sign_is s.CloseBracket p.0.1 q.0 q.1 ∙ ap (λ r. t.Sign s.CloseBracket ∷ r) same.1))
+      rw (← same.0) (taken.0, taken.1, taken.2 ∙ ap (λ r. with_commas (map tokens_of p.0.0) ++ r) (after_sign_is s.CloseBracket p.0.1 q.0 q.1 ∙ ap (λ r. t.Sign s.CloseBracket ∷ r) same.1))
 
-  named_sound : (name : Name) (tokens : List Token) (a : Expr) (rest : List Token) → named expr name tokens ≡ Some (a, rest) → Taken un_level (suc d) (t.Name name ∷ tokens) a rest
-  unfolding named
+  named_sound : (name : Name) (tokens : List Token) (a : Expr) (rest : List Token) → read_name_expr expr name tokens ≡ Some (a, rest) → Taken un_level (suc d) (t.Name name ∷ tokens) a rest
+  unfolding read_name_expr
   named_sound name tokens a rest h =
-      let p = only_if_some (is_name name) (named_on expr name tokens (after_sign s.OpenBracket tokens)) (a, rest) h in
+      let p = only_if_some (is_name name) (read_name_expr_on expr name tokens (after_sign s.OpenBracket tokens)) (a, rest) h in
       go p.0 (after_sign s.OpenBracket tokens) refl p.1 where
-        go : is_name name ≡ true → (after : Option (List Token)) → after_sign s.OpenBracket tokens ≡ after → named_on expr name tokens after ≡ Some (a, rest)
+        go : is_name name ≡ true → (after : Option (List Token)) → after_sign s.OpenBracket tokens ≡ after → read_name_expr_on expr name tokens after ≡ Some (a, rest)
             → Taken un_level (suc d) (t.Name name ∷ tokens) a rest
         go good None is h = given un_level (suc d) (t.Name name ∷ tokens) (e.Name name) a tokens rest (record {
           fit = record {
@@ -89,7 +91,7 @@ module _ (d : ℕ) (expr : ℕ → Reader Expr) (sound : IsSound d expr) where
           parts = rw (tokens_of-Name name) refl;
         }) h
         go good (Some behind) is h =
-            let p = bind_some (indices expr behind) (λ (index : List Expr × List Token). Some (e.Read name index.0, index.1)) (a, rest) h in
+            let p = bind_some (read_indices expr behind) (λ (index : List Expr × List Token). Some (e.Read name index.0, index.1)) (a, rest) h in
             let taken = indices_sound behind p.0.0 p.0.1 p.1 in
             given un_level (suc d) (t.Name name ∷ tokens) (e.Read name p.0.0) a p.0.1 rest (record {
               fit = record {
@@ -98,15 +100,15 @@ module _ (d : ℕ) (expr : ℕ → Reader Expr) (sound : IsSound d expr) where
                 high = omega (arith, level-Read name p.0.0);
                 shallow = omega (arith, depth-Read name p.0.0, all_shallow 1 d p.0.0 taken.1);
               };
-              parts = rw (tokens_of-Read name p.0.0, append_assoc (separated (map tokens_of p.0.0)) (t.Sign s.CloseBracket ∷ []) p.0.1)
+              parts = rw (tokens_of-Read name p.0.0, append_assoc (with_commas (map tokens_of p.0.0)) (t.Sign s.CloseBracket ∷ []) p.0.1)
                   (ap (λ r. t.Name name ∷ r) (after_sign_is s.OpenBracket tokens behind is ∙ ap (λ r. t.Sign s.OpenBracket ∷ r) taken.2));
             }) p.2
 
-  call_sound : (callee : Callee) (tokens : List Token) (a : Expr) (rest : List Token) → call expr callee tokens ≡ Some (a, rest) → Taken un_level (suc d) (callee_token callee ∷ tokens) a rest
-  unfolding call
+  call_sound : (callee : Callee) (tokens : List Token) (a : Expr) (rest : List Token) → read_call_expr expr callee tokens ≡ Some (a, rest) → Taken un_level (suc d) (callee_token callee ∷ tokens) a rest
+  unfolding read_call_expr
   call_sound callee tokens a rest h =
       let p = bind_some (after_sign s.OpenParen tokens) _ (a, rest) h in
-      let q = bind_some (listed (expr 1) p.0) _ (a, rest) p.2 in
+      let q = bind_some (comma_list (expr 1) p.0) _ (a, rest) p.2 in
       let r = bind_some (after_sign s.CloseParen q.0.1) _ (a, rest) q.2 in
       let o = only_if_some (length q.0.0 == arity callee) (Some (e.Call callee q.0.0, r.0)) (a, rest) r.2 in
       let taken = listed_sound Expr (expr 1) tokens_of (Fit 1 d) one_sound p.0 q.0.0 q.0.1 q.1 in
@@ -117,13 +119,13 @@ module _ (d : ℕ) (expr : ℕ → Reader Expr) (sound : IsSound d expr) where
           high = omega (arith, level-Call callee q.0.0);
           shallow = omega (arith, depth-Call callee q.0.0, all_shallow 1 d q.0.0 taken.1);
         };
-        parts = rw (tokens_of-Call callee q.0.0, append_assoc (separated (map tokens_of q.0.0)) (t.Sign s.CloseParen ∷ []) r.0)
+        parts = rw (tokens_of-Call callee q.0.0, append_assoc (with_commas (map tokens_of q.0.0)) (t.Sign s.CloseParen ∷ []) r.0)
             (ap (λ r. callee_token callee ∷ r) (after_sign_is s.OpenParen tokens p.0 p.1
-            ∙ ap (λ r. t.Sign s.OpenParen ∷ r) (taken.2 ∙ ap (λ r. separated (map tokens_of q.0.0) ++ r) (after_sign_is s.CloseParen q.0.1 r.0 r.1))));
+            ∙ ap (λ r. t.Sign s.OpenParen ∷ r) (taken.2 ∙ ap (λ r. with_commas (map tokens_of q.0.0) ++ r) (after_sign_is s.CloseParen q.0.1 r.0 r.1))));
       }) o.1
 
-  paren_sound : (tokens : List Token) (a : Expr) (rest : List Token) → paren expr tokens ≡ Some (a, rest) → Taken un_level (suc d) (t.Sign s.OpenParen ∷ tokens) a rest
-  unfolding paren
+  paren_sound : (tokens : List Token) (a : Expr) (rest : List Token) → paren_expr expr tokens ≡ Some (a, rest) → Taken un_level (suc d) (t.Sign s.OpenParen ∷ tokens) a rest
+  unfolding paren_expr
   paren_sound tokens a rest h =
       let p = bind_some (expr 1 tokens) _ (a, rest) h in
       let q = bind_some (after_sign s.CloseParen p.0.1) _ (a, rest) p.2 in
@@ -139,8 +141,8 @@ module _ (d : ℕ) (expr : ℕ → Reader Expr) (sound : IsSound d expr) where
             (ap (λ r. t.Sign s.OpenParen ∷ r) (taken.parts ∙ ap (λ r. tokens_of p.0.0 ++ r) (after_sign_is s.CloseParen p.0.1 q.0 q.1)));
       }) q.2
 
-  unary_sound : (op : UnOp) (tokens : List Token) (a : Expr) (rest : List Token) → unary expr op tokens ≡ Some (a, rest) → Taken un_level (suc d) (un_token op ∷ tokens) a rest
-  unfolding unary
+  unary_sound : (op : UnOp) (tokens : List Token) (a : Expr) (rest : List Token) → unary_expr expr op tokens ≡ Some (a, rest) → Taken un_level (suc d) (un_token op ∷ tokens) a rest
+  unfolding unary_expr
   unary_sound op tokens a rest h =
       let p = bind_some (expr un_level tokens) _ (a, rest) h in
       let taken = sound un_level tokens p.0.0 p.0.1 (omega arith) p.1 in
@@ -166,7 +168,7 @@ module _ (d : ℕ) (expr : ℕ → Reader Expr) (sound : IsSound d expr) where
     parts = ap (λ r. r ++ tokens) is;
   }) h
 
-  worded_sound : (word : Word) (tokens : List Token) (a : Expr) (rest : List Token) → worded expr word tokens ≡ Some (a, rest) → Taken un_level (suc d) (t.Word word ∷ tokens) a rest
+  worded_sound : (word : Word) (tokens : List Token) (a : Expr) (rest : List Token) → word_expr expr word tokens ≡ Some (a, rest) → Taken un_level (suc d) (t.Word word ∷ tokens) a rest
   worded_sound w.True tokens a rest h = truth_sound true w.True tokens a rest (sym (tokens_of-Truth true)) h
   worded_sound w.False tokens a rest h = truth_sound false w.False tokens a rest (sym (tokens_of-Truth false)) h
   worded_sound w.Min tokens a rest h = call_sound c.Min tokens a rest h
@@ -176,7 +178,7 @@ module _ (d : ℕ) (expr : ℕ → Reader Expr) (sound : IsSound d expr) where
   worded_sound w.U32 tokens a rest h = call_sound c.U32 tokens a rest h
   worded_sound _ tokens a rest h = absurd (cc)
 
-  signed_sound : (sign : Sign) (tokens : List Token) (a : Expr) (rest : List Token) → signed expr sign tokens ≡ Some (a, rest) → Taken un_level (suc d) (t.Sign sign ∷ tokens) a rest
+  signed_sound : (sign : Sign) (tokens : List Token) (a : Expr) (rest : List Token) → sign_expr expr sign tokens ≡ Some (a, rest) → Taken un_level (suc d) (t.Sign sign ∷ tokens) a rest
   signed_sound s.OpenParen tokens a rest h = paren_sound tokens a rest h
   signed_sound s.Minus tokens a rest h = unary_sound u.Neg tokens a rest h
   signed_sound s.Tilde tokens a rest h = unary_sound u.Not tokens a rest h

@@ -32,21 +32,22 @@ use Rattle.sg_ast.specs.declared.program.ConstDecl.{ConstDecl}
 use Rattle.sg_ast.specs.declared.program.Item.{Item}
 use Rattle.sg_ast.specs.declared.program.Item.TheVariants as item
 use Rattle.sg_ast.specs.Token.{is_name, is_number}
-use Rattle.sg_ast.specs.Expr.{separated, each_more, tokens_of, depth, levelled}
+use Rattle.sg_ast.specs.Expr.{with_commas, each_more, tokens_of, depth, levelled}
 use Rattle.sg_ast.specs.Stmt.{joined, range_tokens, block_tokens, stmt_tokens, nesting}
 use Rattle.sg_ast.specs.Layout.{size_token, axis_tokens, kind_token, bound_by, node_tokens, ty_token, field_tokens, layout_tokens}
 use Rattle.sg_ast.specs.Kernel.{domain_tokens, kernel_tokens}
 use Rattle.sg_ast.specs.Command.{magnitude_token, bound_tokens, command_tokens}
 use Rattle.sg_ast.specs.Program.{const_tokens, item_tokens}
-use Rattle.sg_ast.specs.Grammar.{is_expr, is_formed, max_depth, one_to, one_or_more, is_size, is_axis, has_bounds, is_node, is_field_ty, is_field, is_layout, is_range, is_stmt, is_domain, is_kernel, is_bound, is_simple, is_command, is_const, is_item, max_nesting}
-use Rattle.sg_ast.proofs.Variants.{tokens_of-Name, depth-Name, levelled-Name, is_formed-Name}
-use Rattle.sg_ast.proofs.CommandVariants.{by_command_variant, command_tokens-Load, command_tokens-Run, command_tokens-Times, command_tokens-Dump, command_tokens-Image, command_tokens-Stats, command_tokens-Prune, command_tokens-Clear, is_simple-Load, is_simple-Run, is_simple-Times, is_simple-Dump, is_simple-Image, is_simple-Stats, is_simple-Prune, is_simple-Clear, is_command-Load, is_command-Run, is_command-Times, is_command-Dump, is_command-Image, is_command-Stats, is_command-Prune, is_command-Clear}
-use Rattle.sg_parser.specs.Steps.{◌>>=◌, after_sign, after_word, next_name}
-use Rattle.sg_parser.specs.ReadExpr.{read_expr}
-use Rattle.sg_parser.specs.ReadStmt.{read_range, read_block}
-use Rattle.sg_parser.specs.ReadItem.{read_value, read_const, next_size, read_axis, next_kind, has_chunk, has_cap, next_bound, node_head, node_bounds, read_node, next_ty, read_field, before_field, layout_head, layout_body, read_layout, lone_name, read_domain, kernel_head, kernel_loop, read_kernel, is_marked, next_magnitude, next_whole, read_named, read_image, about, read_simple, read_times, read_item}
+use Rattle.sg_ast.specs.Limits.{max_depth, max_nesting, max_number, most_listed_axes, most_listed_nodes}
+use Rattle.sg_ast.specs.Grammar.{is_expr, is_formed, one_to, one_or_more, is_size, is_axis, has_bounds, is_node, is_field_ty, is_field_decl, is_layout, is_range, is_stmt, is_domain, is_kernel, is_bound, is_simple, is_command, is_const, is_item}
+use Rattle.sg_ast.proofs.Uses.{tokens_of-Name, depth-Name, levelled-Name, is_formed-Name, by_command_variant, command_tokens-Load, command_tokens-Run, command_tokens-Times, command_tokens-Dump, command_tokens-Image, command_tokens-Stats, command_tokens-Prune, command_tokens-Clear, is_simple-Load, is_simple-Run, is_simple-Times, is_simple-Dump, is_simple-Image, is_simple-Stats, is_simple-Prune, is_simple-Clear, is_command-Load, is_command-Run, is_command-Times, is_command-Dump, is_command-Image, is_command-Stats, is_command-Prune, is_command-Clear}
+use Rattle.sg_parser.specs.steps.Front.{after_sign, after_word, next_name}
+use Rattle.sg_words.specs.Options.{◌>>=◌}
+use Rattle.sg_parser.specs.steps.ReadExpr.{read_expr}
+use Rattle.sg_parser.specs.steps.ReadStmt.{read_range, read_block}
+use Rattle.sg_parser.specs.steps.ReadItem.{read_const_value, read_const, next_size, read_axis, next_kind, has_chunk, has_cap, next_bound, node_head, read_bounds, read_node, next_ty, read_field, before_field, layout_head, layout_body, read_layout, lone_name, read_domain, kernel_head, kernel_loop, read_kernel, is_marked, next_magnitude, next_whole, read_named, read_image, name_command, read_simple, read_times, read_item}
 use Rattle.sg_parser.proofs.StepLemmas.{bind_some, only_if_true, after_sign_is, next_name_is}
-use Rattle.sg_parser.proofs.Lists.{listed_complete, repeated_complete}
+use Rattle.sg_parser.proofs.ListLemmas.{listed_complete, repeated_complete}
 use Rattle.sg_parser.proofs.ExprComplete.{Ends, ends_sign, ends_comma, ends_brace}
 use Rattle.sg_parser.proofs.StmtSound.{GoodExpr, GoodRange, range_parts, block_parts}
 use Rattle.sg_parser.proofs.StmtComplete.{expr_complete, range_complete, block_at_complete}
@@ -66,14 +67,14 @@ name_complete name rest good any = only_if_true (is_name name) (Some (name, rest
 
 -- constants
 value_complete : (name : Name) (minus : Bool) (value : ℕ) (unsigned : Bool) (rest : List Token) → is_number value unsigned ≡ true
-    → read_value name minus (t.Number value unsigned ∷ t.Sign s.Semicolon ∷ rest) ≡ Some (item.Const (record { name = name; minus = minus; value = value; unsigned = unsigned }), rest)
+    → read_const_value name minus (t.Number value unsigned ∷ t.Sign s.Semicolon ∷ rest) ≡ Some (item.Const (record { name = name; minus = minus; value = value; unsigned = unsigned }), rest)
 value_complete name minus value unsigned rest good = rw good refl
 
 const_complete : (name : Name) (minus : Bool) (value : ℕ) (unsigned : Bool) (rest : List Token) → is_name name ≡ true → is_number value unsigned ≡ true
     → read_const (t.Name name ∷ t.Sign s.Equal ∷ minus_front minus (t.Number value unsigned ∷ t.Sign s.Semicolon ∷ rest)) ≡ Some (item.Const (record { name = name; minus = minus; value = value; unsigned = unsigned }), rest)
 unfolding read_const
-const_complete name true value unsigned rest named good = rw (named, good) refl
-const_complete name false value unsigned rest named good = rw (named, good) refl
+const_complete name true value unsigned rest read_name_expr good = rw (read_name_expr, good) refl
+const_complete name false value unsigned rest read_name_expr good = rw (read_name_expr, good) refl
 
 -- layouts
 size_complete : (x : SizeDecl) (rest : List Token) → is_size x ≡ true → next_size (size_token x ∷ rest) ≡ Some (x, rest)
@@ -108,18 +109,18 @@ bounds_to kind.Dynamic (Some chunk) (Some cap) h = and_parts (is_size chunk) (is
 bounds_to _ _ _ h = absurd (cc)
 
 node_complete : (a : NodeDecl) (rest : List Token) → IsGood is_node a → Anything rest → read_node (node_tokens a ++ rest) ≡ Some (a, rest)
-unfolding read_node node_head node_bounds
+unfolding read_node node_head read_bounds
 node_complete a rest good any =
-    let p = and_parts (one_to 3 is_axis a.axes) (has_bounds a.kind a.chunk a.cap) good in
-    let q = and_parts (nat_le 1 (length a.axes) && nat_le (length a.axes) 3) (list_all is_axis a.axes) p.0 in
-    let r = and_parts (nat_le 1 (length a.axes)) (nat_le (length a.axes) 3) q.0 in
+    let p = and_parts (one_to most_listed_axes is_axis a.axes) (has_bounds a.kind a.chunk a.cap) good in
+    let q = and_parts (nat_le 1 (length a.axes) && nat_le (length a.axes) most_listed_axes) (list_all is_axis a.axes) p.0 in
+    let r = and_parts (nat_le 1 (length a.axes)) (nat_le (length a.axes) most_listed_axes) q.0 in
     let o = bounds_to a.kind a.chunk a.cap p.1 in
     let cap : List Token = bound_by w.Cap a.cap ++ t.Sign s.Semicolon ∷ rest in
     let chunk : List Token = bound_by w.Chunk a.chunk ++ cap in
     let close : List Token = t.Sign s.CloseParen ∷ chunk in
     ap read_node (node_parts a rest)
     ∙ rw (
-      kind_complete a.kind (t.Sign s.OpenParen ∷ (separated (map axis_tokens a.axes) ++ close)),
+      kind_complete a.kind (t.Sign s.OpenParen ∷ (with_commas (map axis_tokens a.axes) ++ close)),
       listed_complete AxisDecl read_axis axis_tokens (IsGood is_axis) Anything axis_complete (λ more. tt) a.axes close (leb-true 1 (length a.axes) r.0) (each_pass is_axis a.axes q.1) tt (omega arith) refl,
       bound_complete w.Chunk (has_chunk a.kind) a.chunk cap refl o.0 (λ more. refl),
       bound_complete w.Cap (has_cap a.kind) a.cap (t.Sign s.Semicolon ∷ rest) refl o.1 (λ more. refl),
@@ -131,7 +132,7 @@ ty_complete ty.I32 rest good = refl
 ty_complete ty.U32 rest good = refl
 ty_complete ty.Bool rest good = absurd (cc)
 
-field_complete : (a : FieldDecl) (rest : List Token) → IsGood is_field a → Anything rest → read_field (field_tokens a ++ rest) ≡ Some (a, rest)
+field_complete : (a : FieldDecl) (rest : List Token) → IsGood is_field_decl a → Anything rest → read_field (field_tokens a ++ rest) ≡ Some (a, rest)
 unfolding read_field
 field_complete a rest good any =
     let p = and_parts (is_name a.name) (is_field_ty a.ty) good in
@@ -152,15 +153,15 @@ fields_begin (a ∷ fields) more some = refl
 layout_complete : (a : LayoutDecl) (rest : List Token) → is_layout a ≡ true → read_item (layout_tokens a ++ rest) ≡ Some (item.Layout a, rest)
 unfolding read_item read_layout layout_head layout_body
 layout_complete a rest good =
-    let p = and_parts (is_name a.name && one_to 3 is_name a.axes) (one_to 6 is_node a.nodes && one_or_more is_field a.fields) good in
-    let q = and_parts (is_name a.name) (one_to 3 is_name a.axes) p.0 in
-    let r = and_parts (nat_le 1 (length a.axes) && nat_le (length a.axes) 3) (list_all is_name a.axes) q.1 in
-    let o = and_parts (nat_le 1 (length a.axes)) (nat_le (length a.axes) 3) r.0 in
-    let u = and_parts (one_to 6 is_node a.nodes) (one_or_more is_field a.fields) p.1 in
-    let v = and_parts (nat_le 1 (length a.nodes) && nat_le (length a.nodes) 6) (list_all is_node a.nodes) u.0 in
-    let x = and_parts (nat_le 1 (length a.fields)) (list_all is_field a.fields) u.1 in
+    let p = and_parts (is_name a.name && one_to most_listed_axes is_name a.axes) (one_to most_listed_nodes is_node a.nodes && one_or_more is_field_decl a.fields) good in
+    let q = and_parts (is_name a.name) (one_to most_listed_axes is_name a.axes) p.0 in
+    let r = and_parts (nat_le 1 (length a.axes) && nat_le (length a.axes) most_listed_axes) (list_all is_name a.axes) q.1 in
+    let o = and_parts (nat_le 1 (length a.axes)) (nat_le (length a.axes) most_listed_axes) r.0 in
+    let u = and_parts (one_to most_listed_nodes is_node a.nodes) (one_or_more is_field_decl a.fields) p.1 in
+    let v = and_parts (nat_le 1 (length a.nodes) && nat_le (length a.nodes) most_listed_nodes) (list_all is_node a.nodes) u.0 in
+    let x = and_parts (nat_le 1 (length a.fields)) (list_all is_field_decl a.fields) u.1 in
     let some = leb-true 1 (length a.fields) x.0 in
-    let counts = and_from (nat_le (length a.axes) 3) _ o.1 (and_from (nat_le 1 (length a.nodes) && nat_le (length a.nodes) 6) (nat_le 1 (length a.fields)) v.0 x.0) in
+    let counts = and_from (nat_le (length a.axes) most_listed_axes) _ o.1 (and_from (nat_le 1 (length a.nodes) && nat_le (length a.nodes) most_listed_nodes) (nat_le 1 (length a.fields)) v.0 x.0) in
     let last : List Token = t.Sign s.CloseBrace ∷ rest in
     let fields : List Token = joined (map field_tokens a.fields) ++ last in
     let close : List Token = t.Sign s.CloseParen ∷ t.Sign s.OpenBrace ∷ (joined (map node_tokens a.nodes) ++ fields) in
@@ -170,15 +171,15 @@ layout_complete a rest good =
       listed_complete Name next_name name_token (IsGood is_name) Anything name_complete (λ more. tt) a.axes close (leb-true 1 (length a.axes) o.0) (each_pass is_name a.axes r.1) tt (omega arith) refl,
       repeated_complete NodeDecl read_node node_tokens (IsGood is_node) Anything node_complete before_field (λ x more good. tt) (λ x more good. node_no_field x.kind _) (λ x good. omega arith) a.nodes fields fields (each_pass is_node a.nodes v.1) tt
           (omega (arith, length-append (joined (map field_tokens a.fields)) last)) (fields_begin a.fields last some),
-      repeated_complete FieldDecl read_field field_tokens (IsGood is_field) Anything field_complete (after_sign s.CloseBrace) (λ x more good. tt) (λ x more good. refl) (λ x good. omega arith) a.fields last rest (each_pass is_field a.fields x.1) tt (omega arith) refl,
+      repeated_complete FieldDecl read_field field_tokens (IsGood is_field_decl) Anything field_complete (after_sign s.CloseBrace) (λ x more good. tt) (λ x more good. refl) (λ x good. omega arith) a.fields last rest (each_pass is_field_decl a.fields x.1) tt (omega arith) refl,
       counts,
     ) refl
 
 -- kernels: a range does not begin with a name and a `{`, since it would be read as that name and as its first bound
 ranges_no_name : (lo : Expr) (tokens more rest : List Token) (name : Name) → GoodExpr lo → is_name name ≡ true → tokens ≡ tokens_of lo ++ t.Sign s.DotDot ∷ more → tokens ≡ t.Name name ∷ t.Sign s.OpenBrace ∷ rest → ⊥
-ranges_no_name lo tokens more rest name good named ranged lone =
+ranges_no_name lo tokens more rest name good read_name_expr ranged lone =
     let as_range = expr_complete lo (t.Sign s.DotDot ∷ more) good (ends_sign 1 s.DotDot more refl refl) in
-    let alone : IsGood is_expr (e.Name name) = and_from (is_formed (e.Name name)) _ (is_formed-Name name ∙ named) (and_from (levelled (e.Name name)) _ (levelled-Name name) (le-leb (depth (e.Name name)) max_depth (omega (arith, depth-Name name)))) in
+    let alone : IsGood is_expr (e.Name name) = and_from (is_formed (e.Name name)) _ (is_formed-Name name ∙ read_name_expr) (and_from (levelled (e.Name name)) _ (levelled-Name name) (le-leb (depth (e.Name name)) max_depth (omega (arith, depth-Name name)))) in
     let as_name = expr_complete (e.Name name) (t.Sign s.OpenBrace ∷ rest) alone (ends_brace 1 rest) in
     let spelled : tokens_of (e.Name name) ++ t.Sign s.OpenBrace ∷ rest ≡ tokens_of lo ++ t.Sign s.DotDot ∷ more = ap (λ k. k ++ t.Sign s.OpenBrace ∷ rest) (tokens_of-Name name) ∙ sym lone ∙ ranged in
     let same = some_pair_parts (e.Name name) lo (t.Sign s.OpenBrace ∷ rest) (t.Sign s.DotDot ∷ more) (sym as_name ∙ ap read_expr spelled ∙ as_range) in
@@ -198,7 +199,7 @@ no_lone_name lo more good = go (lone_name tokens) refl where
       let read = next_name_is (tokens_of lo ++ t.Sign s.DotDot ∷ more) p.0.1 p.0.0 p.1 in
       absurd (ranges_no_name lo (tokens_of lo ++ t.Sign s.DotDot ∷ more) more q.0 p.0.0 good read.1 refl (read.0 ∙ ap (λ k. t.Name p.0.0 ∷ k) (after_sign_is s.OpenBrace p.0.1 q.0 q.1)))
 
-ranges_no_lone : (ranges : List RangeDecl) (rest : List Token) → 1 ≤ length ranges → list_all is_range ranges ≡ true → lone_name (separated (map range_tokens ranges) ++ rest) ≡ None
+ranges_no_lone : (ranges : List RangeDecl) (rest : List Token) → 1 ≤ length ranges → list_all is_range ranges ≡ true → lone_name (with_commas (map range_tokens ranges) ++ rest) ≡ None
 ranges_no_lone [] rest some good = absurd (omega arith)
 ranges_no_lone (range ∷ ranges) rest some good =
     let p = and_parts (is_range range) (list_all is_range ranges) good in
@@ -210,8 +211,8 @@ domain_complete : (a : DomainDecl) (rest : List Token) → is_domain a ≡ true 
 unfolding read_domain
 domain_complete (domain.Layout name) rest good = rw good refl
 domain_complete (domain.Ranges ranges) rest good =
-    let p = and_parts (nat_le 1 (length ranges) && nat_le (length ranges) 3) (list_all is_range ranges) good in
-    let q = and_parts (nat_le 1 (length ranges)) (nat_le (length ranges) 3) p.0 in
+    let p = and_parts (nat_le 1 (length ranges) && nat_le (length ranges) most_listed_axes) (list_all is_range ranges) good in
+    let q = and_parts (nat_le 1 (length ranges)) (nat_le (length ranges) most_listed_axes) p.0 in
     let some = leb-true 1 (length ranges) q.0 in
     rw (
       ranges_no_lone ranges (t.Sign s.OpenBrace ∷ rest) some p.1,
@@ -222,10 +223,10 @@ domain_complete (domain.Ranges ranges) rest good =
 kernel_complete : (a : KernelDecl) (rest : List Token) → is_kernel a ≡ true → read_item (kernel_tokens a ++ rest) ≡ Some (item.Kernel a, rest)
 unfolding read_item read_kernel kernel_head kernel_loop
 kernel_complete a rest good =
-    let p = and_parts (is_name a.name && one_to 3 is_name a.vars) (is_domain a.domain && (list_all is_stmt a.body && nat_le (nesting a.body) max_nesting)) good in
-    let q = and_parts (is_name a.name) (one_to 3 is_name a.vars) p.0 in
-    let r = and_parts (nat_le 1 (length a.vars) && nat_le (length a.vars) 3) (list_all is_name a.vars) q.1 in
-    let o = and_parts (nat_le 1 (length a.vars)) (nat_le (length a.vars) 3) r.0 in
+    let p = and_parts (is_name a.name && one_to most_listed_axes is_name a.vars) (is_domain a.domain && (list_all is_stmt a.body && nat_le (nesting a.body) max_nesting)) good in
+    let q = and_parts (is_name a.name) (one_to most_listed_axes is_name a.vars) p.0 in
+    let r = and_parts (nat_le 1 (length a.vars) && nat_le (length a.vars) most_listed_axes) (list_all is_name a.vars) q.1 in
+    let o = and_parts (nat_le 1 (length a.vars)) (nat_le (length a.vars) most_listed_axes) r.0 in
     let u = and_parts (is_domain a.domain) (list_all is_stmt a.body && nat_le (nesting a.body) max_nesting) p.1 in
     let v = and_parts (list_all is_stmt a.body) (nat_le (nesting a.body) max_nesting) u.1 in
     let last : List Token = t.Sign s.CloseBrace ∷ rest in
@@ -233,7 +234,7 @@ kernel_complete a rest good =
     let over : List Token = t.Word w.In ∷ (domain_tokens a.domain ++ t.Sign s.OpenBrace ∷ inside) in
     let body : block_tokens a.body ++ last ≡ t.Sign s.OpenBrace ∷ inside = block_parts a.body last in
     let block : read_block (t.Sign s.OpenBrace ∷ inside) ≡ Some (a.body, last) = ap read_block (sym body) ∙ block_at_complete max_nesting a.body last (record { good = v.0; shallow = leb-true (nesting a.body) max_nesting v.1 }) in
-    ap read_item (kernel_parts a rest ∙ ap (λ k. t.Word w.Kernel ∷ t.Name a.name ∷ t.Sign s.OpenBrace ∷ t.Word w.For ∷ (separated (map name_token a.vars) ++ t.Word w.In ∷ (domain_tokens a.domain ++ k))) body)
+    ap read_item (kernel_parts a rest ∙ ap (λ k. t.Word w.Kernel ∷ t.Name a.name ∷ t.Sign s.OpenBrace ∷ t.Word w.For ∷ (with_commas (map name_token a.vars) ++ t.Word w.In ∷ (domain_tokens a.domain ++ k))) body)
     ∙ rw (
       q.0,
       listed_complete Name next_name name_token (IsGood is_name) Anything name_complete (λ more. tt) a.vars over (leb-true 1 (length a.vars) o.0) (each_pass is_name a.vars r.1) tt (omega arith) refl,
@@ -243,12 +244,12 @@ kernel_complete a rest good =
     ) refl
 
 -- commands
-marked_from : (value : ℕ) (mark : Bool) → nat_lt 2147483648 value ≡ mark → is_marked mark value ≡ true
+marked_from : (value : ℕ) (mark : Bool) → nat_lt (max_number false) value ≡ mark → is_marked mark value ≡ true
 marked_from value true is = is
-marked_from value false is = not_from_false (nat_lt 2147483648 value) is
+marked_from value false is = not_from_false (nat_lt (max_number false) value) is
 
 magnitude_complete : (value : ℕ) (rest : List Token) → is_number value true ≡ true → next_magnitude (magnitude_token value ∷ rest) ≡ Some (value, rest)
-magnitude_complete value rest good = only_if_true (is_marked (nat_lt 2147483648 value) value && is_number value true) (Some (value, rest)) (and_from (is_marked (nat_lt 2147483648 value) value) (is_number value true) (marked_from value (nat_lt 2147483648 value) refl) good)
+magnitude_complete value rest good = only_if_true (is_marked (nat_lt (max_number false) value) value && is_number value true) (Some (value, rest)) (and_from (is_marked (nat_lt (max_number false) value) value) (is_number value true) (marked_from value (nat_lt (max_number false) value) refl) good)
 
 whole_complete : (a : ℤ) (rest : List Token) → is_bound a ≡ true → next_whole (bound_tokens a ++ rest) ≡ Some (a, rest)
 unfolding next_whole
@@ -258,14 +259,14 @@ whole_complete (negsuc n) rest good =
     let same : n + 1 - 1 ≡ n = omega arith in
     rw (magnitude_complete (n + 1) rest good, above, same) refl
 
-about_complete : (make : Name → Command) (name : Name) (rest : List Token) → is_name name ≡ true → about make (t.Name name ∷ t.Sign s.Semicolon ∷ rest) ≡ Some (make name, rest)
+about_complete : (make : Name → Command) (name : Name) (rest : List Token) → is_name name ≡ true → name_command make (t.Name name ∷ t.Sign s.Semicolon ∷ rest) ≡ Some (make name, rest)
 unfolding read_named
 about_complete make name rest good = rw good refl
 
 image_complete : (field : Name) (lo hi : ℤ) (rest : List Token) → is_name field ≡ true → is_bound lo ≡ true → is_bound hi ≡ true
     → read_image (t.Name field ∷ (bound_tokens lo ++ (bound_tokens hi ++ t.Sign s.Semicolon ∷ rest))) ≡ Some (command.Image field lo hi, rest)
 unfolding read_image
-image_complete field lo hi rest named low high = rw (named, whole_complete lo (bound_tokens hi ++ t.Sign s.Semicolon ∷ rest) low, whole_complete hi (t.Sign s.Semicolon ∷ rest) high) refl
+image_complete field lo hi rest read_name_expr low high = rw (read_name_expr, whole_complete lo (bound_tokens hi ++ t.Sign s.Semicolon ∷ rest) low, whole_complete hi (t.Sign s.Semicolon ∷ rest) high) refl
 
 -- a simple command begins with a word, and that word is no sign
 abbrev SimpleReads : Command → Type 0

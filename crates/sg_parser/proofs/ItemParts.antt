@@ -17,18 +17,18 @@ use Rattle.sg_ast.specs.declared.kernel.KernelDecl.{KernelDecl}
 use Rattle.sg_ast.specs.declared.command.Command.{Command}
 use Rattle.sg_ast.specs.declared.command.Command.TheVariants as command
 use Rattle.sg_ast.specs.Token.{is_name, is_number}
-use Rattle.sg_ast.specs.Expr.{separated}
+use Rattle.sg_ast.specs.Expr.{with_commas}
 use Rattle.sg_ast.specs.Stmt.{joined, block_tokens}
 use Rattle.sg_ast.specs.Layout.{names_tokens, size_token, axis_tokens, kind_token, bound_by, node_tokens, field_tokens, layout_tokens}
 use Rattle.sg_ast.specs.Kernel.{domain_tokens, kernel_tokens}
 use Rattle.sg_ast.specs.Command.{bound_tokens, command_tokens}
 use Rattle.sg_ast.specs.Program.{const_tokens}
 use Rattle.sg_ast.specs.Grammar.{one_to, is_size}
-use Rattle.sg_ast.proofs.CommandVariants.{command_tokens-Times, command_tokens-Image}
-use Rattle.sg_parser.specs.Steps.{after_sign, next_name}
-use Rattle.sg_parser.specs.ReadItem.{next_number, next_plain, ending, next_size}
+use Rattle.sg_ast.proofs.Uses.{command_tokens-Times, command_tokens-Image}
+use Rattle.sg_parser.specs.steps.Front.{after_sign, next_name}
+use Rattle.sg_parser.specs.steps.ReadItem.{next_number, next_plain, ending, next_size}
 use Rattle.sg_parser.proofs.StepLemmas.{bind_some, only_if_some, after_sign_is, next_name_is}
-use Rattle.sg_parser.proofs.Lists.{IsSoundReader}
+use Rattle.sg_parser.proofs.ListLemmas.{IsSoundReader}
 use Rattle.sg_parser.proofs.StmtSound.{made_is}
 
 abbrev pub IsGood : {A : Type 0} → (A → Bool) → A → Type 0
@@ -55,16 +55,16 @@ const_parts name true value unsigned rest = refl
 const_parts name false value unsigned rest = refl
 
 pub node_parts : (node : NodeDecl) (rest : List Token) → node_tokens node ++ rest
-    ≡ kind_token node.kind ∷ t.Sign s.OpenParen ∷ (separated (map axis_tokens node.axes) ++ t.Sign s.CloseParen ∷ (bound_by w.Chunk node.chunk ++ (bound_by w.Cap node.cap ++ t.Sign s.Semicolon ∷ rest)))
+    ≡ kind_token node.kind ∷ t.Sign s.OpenParen ∷ (with_commas (map axis_tokens node.axes) ++ t.Sign s.CloseParen ∷ (bound_by w.Chunk node.chunk ++ (bound_by w.Cap node.cap ++ t.Sign s.Semicolon ∷ rest)))
 node_parts node rest = simp append_assoc
 
 pub layout_parts : (layout : LayoutDecl) (rest : List Token) → layout_tokens layout ++ rest
-    ≡ t.Word w.Layout ∷ t.Name layout.name ∷ t.Sign s.OpenParen ∷ (separated (map name_token layout.axes) ++ t.Sign s.CloseParen ∷ t.Sign s.OpenBrace
+    ≡ t.Word w.Layout ∷ t.Name layout.name ∷ t.Sign s.OpenParen ∷ (with_commas (map name_token layout.axes) ++ t.Sign s.CloseParen ∷ t.Sign s.OpenBrace
     ∷ (joined (map node_tokens layout.nodes) ++ (joined (map field_tokens layout.fields) ++ t.Sign s.CloseBrace ∷ rest)))
 layout_parts layout rest = simp append_assoc
 
 pub kernel_parts : (kernel : KernelDecl) (rest : List Token) → kernel_tokens kernel ++ rest
-    ≡ t.Word w.Kernel ∷ t.Name kernel.name ∷ t.Sign s.OpenBrace ∷ t.Word w.For ∷ (separated (map name_token kernel.vars) ++ t.Word w.In
+    ≡ t.Word w.Kernel ∷ t.Name kernel.name ∷ t.Sign s.OpenBrace ∷ t.Word w.For ∷ (with_commas (map name_token kernel.vars) ++ t.Word w.In
     ∷ (domain_tokens kernel.domain ++ (block_tokens kernel.body ++ t.Sign s.CloseBrace ∷ rest)))
 kernel_parts kernel rest =
     rw (

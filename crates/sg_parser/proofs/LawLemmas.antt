@@ -1,4 +1,4 @@
--- What `parsed` means, in words of the grammar alone.
+-- What `program_of` means, in words of the grammar alone.
 use Rattle.std.specs.Prelude.{◌≡◌, refl, ℕ, ◌+◌, Bool, true, false, List, [], ◌∷◌, ◌++◌, map, length, take, drop, Option, Some, None, Result, Ok, Err}
 use Rattle.std.specs.List.{AllByRecursion, list_all}
 use Rattle.std.proofs.Common.{sym, ◌∙◌, ap, arith, append_assoc, append-nil, take-append-drop}
@@ -11,12 +11,12 @@ use Rattle.sg_ast.specs.Stmt.{joined}
 use Rattle.sg_ast.specs.Program.{item_tokens, program_tokens}
 use Rattle.sg_ast.specs.Grammar.{is_item}
 use Rattle.sg_ast.specs.Items.{ends_item, open_after, in_front, cut_by, items_of, first_line, item_lines}
-use Rattle.sg_ast.proofs.ItemCuts.{cut_by-item}
+use Rattle.sg_ast.proofs.Uses.{cut_by-item}
 use Rattle.sg_parser.specs.declared.program.ParseFault.{ParseFault}
 use Rattle.sg_parser.specs.declared.program.ParseFault.TheVariants as fault
-use Rattle.sg_parser.specs.Steps.{kinds}
-use Rattle.sg_parser.specs.Parsed.{spelled, parsed_next, parsed_on}
-use Rattle.sg_parser.specs.Laws.{Found, Only, Spells, Fault, Unique}
+use Rattle.sg_ast.specs.Items.{kinds}
+use Rattle.sg_parser.specs.Parsed.{item_of, item_or_fault, program_from}
+use Rattle.sg_parser.specs.Laws.{SpellsItem, ParsedIsSpelled, SpelledIsParsed, FirstFaultIsNamed, TreeIsOne}
 use Rattle.sg_parser.proofs.ParsedLemmas.{token_of, spelled_is, is_spelled, kinds-take}
 
 joined-in_front : (ends : Bool) (x : Spanned) (cuts : List (List Spanned)) → joined (map kinds (in_front ends x cuts)) ≡ x.token ∷ joined (map kinds cuts)
@@ -39,14 +39,14 @@ record Accepted (items : List Item) (lines : List ℕ) (cuts : List (List Spanne
 same_ok : (a b : Program) → ◌≡◌ {A = Result Program ParseFault} (Ok a) (Ok b) → a ≡ b
 same_ok a b h = cc
 
-on_found : (number : ℕ) (items : List Item) (lines : List ℕ) (cuts : List (List Spanned)) (program : Program) → parsed_on number items lines cuts ≡ Ok program → Accepted items lines cuts program
-unfolding parsed_on
+on_found : (number : ℕ) (items : List Item) (lines : List ℕ) (cuts : List (List Spanned)) (program : Program) → program_from number items lines cuts ≡ Ok program → Accepted items lines cuts program
+unfolding program_from
 on_found number items lines [] program h =
     let same = same_ok (record { items = items; lines = lines }) program h in
     record { more = []; all = sym (ap (λ (p : Program). p.items) same) ∙ sym (append-nil items); places = sym (ap (λ (p : Program). p.lines) same) ∙ sym (append-nil lines); good = refl; parts = refl }
-on_found number items lines (cut ∷ cuts) program h = go (spelled cut) refl h (λ item. on_found (number + 1) (items ++ item ∷ []) (lines ++ first_line cut ∷ []) cuts program) where
-  go : (o : Option Item) → spelled cut ≡ o → parsed_next number (first_line cut) (λ item. parsed_on (number + 1) (items ++ item ∷ []) (lines ++ first_line cut ∷ []) cuts) o ≡ Ok program
-      → ((item : Item) → parsed_on (number + 1) (items ++ item ∷ []) (lines ++ first_line cut ∷ []) cuts ≡ Ok program → Accepted (items ++ item ∷ []) (lines ++ first_line cut ∷ []) cuts program)
+on_found number items lines (cut ∷ cuts) program h = go (item_of cut) refl h (λ item. on_found (number + 1) (items ++ item ∷ []) (lines ++ first_line cut ∷ []) cuts program) where
+  go : (o : Option Item) → item_of cut ≡ o → item_or_fault number (first_line cut) (λ item. program_from (number + 1) (items ++ item ∷ []) (lines ++ first_line cut ∷ []) cuts) o ≡ Ok program
+      → ((item : Item) → program_from (number + 1) (items ++ item ∷ []) (lines ++ first_line cut ∷ []) cuts ≡ Ok program → Accepted (items ++ item ∷ []) (lines ++ first_line cut ∷ []) cuts program)
       → Accepted items lines (cut ∷ cuts) program
   go None is h next = absurd (cc)
   go (Some item) is h next =
@@ -60,10 +60,14 @@ on_found number items lines (cut ∷ cuts) program h = go (spelled cut) refl h (
         parts = ap (λ k. k ++ joined (map item_tokens a.more)) (sym p.1) ∙ ap (λ k. kinds cut ++ k) a.parts;
       }
 
-pub found : Found
-found tokens program h =
+pub parsed_spelled : ParsedIsSpelled
+parsed_spelled tokens program h =
     let a = on_found 1 [] [] (items_of tokens) program h in
-    (ap (λ items. list_all is_item items) a.all ∙ a.good, ap (λ items. joined (map item_tokens items)) a.all ∙ a.parts ∙ joined-cuts 0 tokens, a.places)
+    record {
+      of_grammar = ap (λ items. list_all is_item items) a.all ∙ a.good;
+      tokens_are = ap (λ items. joined (map item_tokens items)) a.all ∙ a.parts ∙ joined-cuts 0 tokens;
+      lines_are = a.places;
+    }
 
 kinds-drop : (n : ℕ) (xs : List Spanned) (front rest : List Token) → kinds xs ≡ front ++ rest → length front ≡ n → kinds (drop n xs) ≡ rest
 kinds-drop n xs [] rest h is = rw (← is) h
@@ -78,8 +82,8 @@ abbrev accepted : List Item → List ℕ → Result Program ParseFault
 accepted items lines = Ok (record { items = items; lines = lines })
 
 only_from : (more : List Item) (tokens : List Spanned) → list_all is_item more ≡ true → kinds tokens ≡ joined (map item_tokens more) → (number : ℕ) (items : List Item) (lines : List ℕ)
-    → parsed_on number items lines (items_of tokens) ≡ Ok (record { items = items ++ more; lines = lines ++ item_lines tokens })
-unfolding parsed_on
+    → program_from number items lines (items_of tokens) ≡ Ok (record { items = items ++ more; lines = lines ++ item_lines tokens })
+unfolding program_from
 only_from [] [] good h number items lines = rw (append-nil items, append-nil lines) refl
 only_from [] (x ∷ xs) good h number items lines = absurd (cc)
 only_from (a ∷ more) tokens good h number items lines =
@@ -92,16 +96,16 @@ only_from (a ∷ more) tokens good h number items lines =
     let cut : items_of tokens ≡ front ∷ items_of rest = ap items_of (sym (take-append-drop n tokens)) ∙ cut_by-item token_of a front rest p.0 is in
     let next = only_from more rest p.1 left (number + 1) (items ++ a ∷ []) (lines ++ first_line front ∷ []) in
     let spells = is_spelled front a p.0 is in
-    ap (parsed_on number items lines) cut
-    ∙ ap (parsed_next number (first_line front) (λ item. parsed_on (number + 1) (items ++ item ∷ []) (lines ++ first_line front ∷ []) (items_of rest))) spells
+    ap (program_from number items lines) cut
+    ∙ ap (item_or_fault number (first_line front) (λ item. program_from (number + 1) (items ++ item ∷ []) (lines ++ first_line front ∷ []) (items_of rest))) spells
     ∙ next
     ∙ ap (λ (all : List Item). accepted all ((lines ++ first_line front ∷ []) ++ item_lines rest)) (append_assoc items (a ∷ []) more)
     ∙ ap (λ (places : List ℕ). accepted (items ++ a ∷ more) places) (append_assoc lines (first_line front ∷ []) (item_lines rest) ∙ ap (λ cuts. lines ++ map first_line cuts) (sym cut))
 
-pub only : Only
-only tokens program good spells places =
-    only_from program.items tokens good (sym spells) 1 [] []
-    ∙ ap (λ (lines : List ℕ). accepted program.items lines) (sym places)
+pub spelled_parsed : SpelledIsParsed
+spelled_parsed tokens program spells =
+    only_from program.items tokens spells.of_grammar (sym spells.tokens_are) 1 [] []
+    ∙ ap (λ (lines : List ℕ). accepted program.items lines) (sym spells.lines_are)
 
 -- the first that spells none among some cuts
 record Faulty (number : ℕ) (cuts : List (List Spanned)) (at line : ℕ) : Type 0 where
@@ -111,18 +115,18 @@ record Faulty (number : ℕ) (cuts : List (List Spanned)) (at line : ℕ) : Type
   parts : cuts ≡ before ++ here ∷ behind
   count : length before + number ≡ at
   place : first_line here ≡ line
-  good : AllByRecursion Spells before
-  none : Spells here → ⊥
+  good : AllByRecursion SpellsItem before
+  none : SpellsItem here → ⊥
 
 same_fault : (a b : ParseFault) → ◌≡◌ {A = Result Program ParseFault} (Err a) (Err b) → a ≡ b
 same_fault a b h = cc
 
-on_fault : (number : ℕ) (items : List Item) (lines : List ℕ) (cuts : List (List Spanned)) (at line : ℕ) → parsed_on number items lines cuts ≡ Err (fault.Syntax at line) → Faulty number cuts at line
-unfolding parsed_on
+on_fault : (number : ℕ) (items : List Item) (lines : List ℕ) (cuts : List (List Spanned)) (at line : ℕ) → program_from number items lines cuts ≡ Err (fault.Syntax at line) → Faulty number cuts at line
+unfolding program_from
 on_fault number items lines [] at line h = absurd (cc)
-on_fault number items lines (cut ∷ cuts) at line h = go (spelled cut) refl h (λ item. on_fault (number + 1) (items ++ item ∷ []) (lines ++ first_line cut ∷ []) cuts at line) where
-  go : (o : Option Item) → spelled cut ≡ o → parsed_next number (first_line cut) (λ item. parsed_on (number + 1) (items ++ item ∷ []) (lines ++ first_line cut ∷ []) cuts) o ≡ Err (fault.Syntax at line)
-      → ((item : Item) → parsed_on (number + 1) (items ++ item ∷ []) (lines ++ first_line cut ∷ []) cuts ≡ Err (fault.Syntax at line) → Faulty (number + 1) cuts at line)
+on_fault number items lines (cut ∷ cuts) at line h = go (item_of cut) refl h (λ item. on_fault (number + 1) (items ++ item ∷ []) (lines ++ first_line cut ∷ []) cuts at line) where
+  go : (o : Option Item) → item_of cut ≡ o → item_or_fault number (first_line cut) (λ item. program_from (number + 1) (items ++ item ∷ []) (lines ++ first_line cut ∷ []) cuts) o ≡ Err (fault.Syntax at line)
+      → ((item : Item) → program_from (number + 1) (items ++ item ∷ []) (lines ++ first_line cut ∷ []) cuts ≡ Err (fault.Syntax at line) → Faulty (number + 1) cuts at line)
       → Faulty number (cut ∷ cuts) at line
   go None is h next =
       let same = same_fault (fault.Syntax number (first_line cut)) (fault.Syntax at line) h in
@@ -153,23 +157,23 @@ on_fault number items lines (cut ∷ cuts) at line h = go (spelled cut) refl h (
         none = f.none;
       }
 
-pub faulty : Fault
-faulty tokens number line h =
+pub fault_named : FirstFaultIsNamed
+fault_named tokens number line h =
     let f = on_fault 1 [] [] (items_of tokens) number line h in
     record { before = f.before; here = f.here; behind = f.behind; parts = f.parts; count = f.count; at = f.place; spelled = f.good; none = f.none }
 
 -- tokens at no place
-abbrev placed : List Token → List Spanned
-placed [] = []
-placed (token ∷ tokens) = record { token = token; start = 0; end = 0; line = 0 } ∷ placed tokens
+abbrev at_no_place : List Token → List Spanned
+at_no_place [] = []
+at_no_place (token ∷ tokens) = record { token = token; start = 0; end = 0; line = 0 } ∷ at_no_place tokens
 
-kinds-placed : (tokens : List Token) → kinds (placed tokens) ≡ tokens
-kinds-placed [] = refl
-kinds-placed (token ∷ tokens) = ap (λ k. token ∷ k) (kinds-placed tokens)
+kinds-at_no_place : (tokens : List Token) → kinds (at_no_place tokens) ≡ tokens
+kinds-at_no_place [] = refl
+kinds-at_no_place (token ∷ tokens) = ap (λ k. token ∷ k) (kinds-at_no_place tokens)
 
-pub unique : Unique
-unique a b good other same =
-    let tokens : List Spanned = placed (program_tokens a) in
-    let first = only_from a.items tokens good (kinds-placed (program_tokens a)) 1 [] [] in
-    let second = only_from b.items tokens other (kinds-placed (program_tokens a) ∙ same) 1 [] [] in
+pub tree_one : TreeIsOne
+tree_one a b good other same =
+    let tokens : List Spanned = at_no_place (program_tokens a) in
+    let first = only_from a.items tokens good (kinds-at_no_place (program_tokens a)) 1 [] [] in
+    let second = only_from b.items tokens other (kinds-at_no_place (program_tokens a) ∙ same) 1 [] [] in
     ap (λ (p : Program). p.items) (same_ok (record { items = a.items; lines = item_lines tokens }) (record { items = b.items; lines = item_lines tokens }) (sym first ∙ second))

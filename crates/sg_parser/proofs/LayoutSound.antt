@@ -22,17 +22,18 @@ use Rattle.sg_ast.specs.declared.layout.LayoutDecl.{LayoutDecl}
 use Rattle.sg_ast.specs.declared.program.Item.{Item}
 use Rattle.sg_ast.specs.declared.program.Item.TheVariants as item
 use Rattle.sg_ast.specs.Token.{is_name}
-use Rattle.sg_ast.specs.Expr.{separated}
+use Rattle.sg_ast.specs.Expr.{with_commas}
 use Rattle.sg_ast.specs.Stmt.{joined}
 use Rattle.sg_ast.specs.Layout.{axis_tokens, kind_token, bound_by, node_tokens, ty_token, field_tokens}
 use Rattle.sg_ast.specs.Program.{item_tokens}
-use Rattle.sg_ast.specs.Grammar.{one_to, one_or_more, is_size, is_axis, has_bounds, is_node, is_field_ty, is_field, is_item}
-use Rattle.sg_parser.specs.Steps.{after_sign, after_word, next_name, listed, repeated}
-use Rattle.sg_parser.specs.ReadItem.{ending, next_size, read_axis, next_kind, has_chunk, has_cap, next_bound, node_head, node_bounds, read_node, next_ty, read_field, before_field, layout_head, layout_body, read_layout}
+use Rattle.sg_ast.specs.Grammar.{one_to, one_or_more, is_size, is_axis, has_bounds, is_node, is_field_ty, is_field_decl, is_item}
+use Rattle.sg_parser.specs.steps.Front.{after_sign, after_word, next_name, comma_list, list_to_end}
+use Rattle.sg_parser.specs.steps.ReadItem.{ending, next_size, read_axis, next_kind, has_chunk, has_cap, next_bound, node_head, read_bounds, read_node, next_ty, read_field, before_field, layout_head, layout_body, read_layout}
 use Rattle.sg_parser.proofs.StepLemmas.{bind_some, only_if_some, after_sign_is, after_word_is, next_name_is}
-use Rattle.sg_parser.proofs.Lists.{IsSoundReader, listed_sound, repeated_sound}
+use Rattle.sg_parser.proofs.ListLemmas.{IsSoundReader, listed_sound, repeated_sound}
 use Rattle.sg_parser.proofs.StmtSound.{made_is, made_two}
 use Rattle.sg_parser.proofs.ItemParts.{IsGood, all_pass, one_to_from, name_token, node_parts, layout_parts, ending_sound, size_sound, name_sound}
+use Rattle.sg_ast.specs.Limits.{most_listed_axes, most_listed_nodes}
 
 axis_sound : IsSoundReader axis_tokens (IsGood is_axis) read_axis
 unfolding read_axis
@@ -85,28 +86,28 @@ bound_sound word true tokens rest x h =
 -- `KIND(AXES)`, and what is behind it
 abbrev IsNodeHead : List Token → NodeKind → List AxisDecl → List Token → Type 0
 IsNodeHead tokens k axes rest = (1 ≤ length axes) × AllByRecursion (IsGood is_axis) axes
-    × (tokens ≡ kind_token k ∷ t.Sign s.OpenParen ∷ (separated (map axis_tokens axes) ++ t.Sign s.CloseParen ∷ rest))
+    × (tokens ≡ kind_token k ∷ t.Sign s.OpenParen ∷ (with_commas (map axis_tokens axes) ++ t.Sign s.CloseParen ∷ rest))
 
 node_head_sound : (tokens : List Token) (k : NodeKind) (axes : List AxisDecl) (rest : List Token) → node_head tokens ≡ Some (k, axes, rest) → IsNodeHead tokens k axes rest
 unfolding node_head
 node_head_sound tokens k axes rest h =
     let p = bind_some (next_kind tokens) _ (k, axes, rest) h in
     let q = bind_some (after_sign s.OpenParen p.0.1) _ (k, axes, rest) p.2 in
-    let r = bind_some (listed read_axis q.0) _ (k, axes, rest) q.2 in
+    let r = bind_some (comma_list read_axis q.0) _ (k, axes, rest) q.2 in
     let o = bind_some (after_sign s.CloseParen r.0.1) _ (k, axes, rest) r.2 in
     let kind = kind_sound tokens p.0.1 p.0.0 p.1 in
     let behind = after_sign_is s.OpenParen p.0.1 q.0 q.1 in
     let list = listed_sound AxisDecl read_axis axis_tokens (IsGood is_axis) axis_sound q.0 r.0.0 r.0.1 r.1 in
     let close = after_sign_is s.CloseParen r.0.1 o.0 o.1 in
     made_two (IsNodeHead tokens) p.0.0 k r.0.0 axes o.0 rest
-    (list.0, list.1, kind ∙ ap (λ r. kind_token p.0.0 ∷ r) (behind ∙ ap (λ r. t.Sign s.OpenParen ∷ r) (list.2 ∙ ap (λ more. separated (map axis_tokens r.0.0) ++ more) close))) o.2
+    (list.0, list.1, kind ∙ ap (λ r. kind_token p.0.0 ∷ r) (behind ∙ ap (λ r. t.Sign s.OpenParen ∷ r) (list.2 ∙ ap (λ more. with_commas (map axis_tokens r.0.0) ++ more) close))) o.2
 
 -- `chunk SIZE cap SIZE;`, and what is behind it
 abbrev IsNodeBounds : NodeKind → List Token → Option SizeDecl → Option SizeDecl → List Token → Type 0
 IsNodeBounds k tokens chunk cap rest = (has_bounds k chunk cap ≡ true) × (tokens ≡ bound_by w.Chunk chunk ++ (bound_by w.Cap cap ++ t.Sign s.Semicolon ∷ rest))
 
-node_bounds_sound : (k : NodeKind) (tokens : List Token) (chunk cap : Option SizeDecl) (rest : List Token) → node_bounds k tokens ≡ Some (chunk, cap, rest) → IsNodeBounds k tokens chunk cap rest
-unfolding node_bounds
+node_bounds_sound : (k : NodeKind) (tokens : List Token) (chunk cap : Option SizeDecl) (rest : List Token) → read_bounds k tokens ≡ Some (chunk, cap, rest) → IsNodeBounds k tokens chunk cap rest
+unfolding read_bounds
 node_bounds_sound k tokens chunk cap rest h =
     let p = bind_some (next_bound w.Chunk (has_chunk k) tokens) _ (chunk, cap, rest) h in
     let q = bind_some (next_bound w.Cap (has_cap k) p.0.1) _ (chunk, cap, rest) p.2 in
@@ -121,14 +122,14 @@ node_sound : IsSoundReader node_tokens (IsGood is_node) read_node
 unfolding read_node
 node_sound tokens a rest h =
     let p = bind_some (node_head tokens) _ (a, rest) h in
-    let q = bind_some (node_bounds p.0.0 p.0.2) _ (a, rest) p.2 in
+    let q = bind_some (read_bounds p.0.0 p.0.2) _ (a, rest) p.2 in
     let made : NodeDecl = record { kind = p.0.0; axes = p.0.1; chunk = q.0.0; cap = q.0.1 } in
-    let few = only_if_some (nat_le (length p.0.1) 3) (Some (made, q.0.2)) (a, rest) q.2 in
+    let few = only_if_some (nat_le (length p.0.1) most_listed_axes) (Some (made, q.0.2)) (a, rest) q.2 in
     let head = node_head_sound tokens p.0.0 p.0.1 p.0.2 p.1 in
     let bounds = node_bounds_sound p.0.0 p.0.2 q.0.0 q.0.1 q.0.2 q.1 in
     made_is (λ (a : NodeDecl) (rest : List Token). (is_node a ≡ true) × (tokens ≡ node_tokens a ++ rest)) made a q.0.2 rest (
-      and_from (one_to 3 is_axis p.0.1) (has_bounds p.0.0 q.0.0 q.0.1) (one_to_from 3 is_axis p.0.1 head.0 few.0 head.1) bounds.0,
-      rw (node_parts made q.0.2) (head.2 ∙ ap (λ more. kind_token p.0.0 ∷ t.Sign s.OpenParen ∷ (separated (map axis_tokens p.0.1) ++ t.Sign s.CloseParen ∷ more)) bounds.1),
+      and_from (one_to most_listed_axes is_axis p.0.1) (has_bounds p.0.0 q.0.0 q.0.1) (one_to_from most_listed_axes is_axis p.0.1 head.0 few.0 head.1) bounds.0,
+      rw (node_parts made q.0.2) (head.2 ∙ ap (λ more. kind_token p.0.0 ∷ t.Sign s.OpenParen ∷ (with_commas (map axis_tokens p.0.1) ++ t.Sign s.CloseParen ∷ more)) bounds.1),
     ) few.1
 
 ty_given : (word : Word) (of x : Ty) (more rest : List Token) → (is_field_ty of ≡ true) × (t.Word word ≡ ty_token of) → ◌≡◌ {A = Option (Ty × List Token)} (Some (of, more)) (Some (x, rest)) → (is_field_ty x ≡ true) × (t.Word word ∷ more ≡ ty_token x ∷ rest)
@@ -140,7 +141,7 @@ ty_sound (t.Word w.I32 ∷ more) rest x h = ty_given w.I32 ty.I32 x more rest (r
 ty_sound (t.Word w.U32 ∷ more) rest x h = ty_given w.U32 ty.U32 x more rest (refl, refl) h
 ty_sound (_ ∷ more) rest x h = absurd (cc)
 
-field_sound : IsSoundReader field_tokens (IsGood is_field) read_field
+field_sound : IsSoundReader field_tokens (IsGood is_field_decl) read_field
 unfolding read_field
 field_sound tokens a rest h =
     let p = bind_some (after_word w.Field tokens) _ (a, rest) h in
@@ -164,14 +165,14 @@ before_field_is tokens rest h = go (after_word w.Field tokens) h where
 -- `NAME(AXES) {`, and what is behind it
 abbrev IsLayoutHead : List Token → Name → List Name → List Token → Type 0
 IsLayoutHead tokens name axes rest = (is_name name ≡ true) × (1 ≤ length axes) × AllByRecursion (IsGood is_name) axes
-    × (tokens ≡ t.Name name ∷ t.Sign s.OpenParen ∷ (separated (map name_token axes) ++ t.Sign s.CloseParen ∷ t.Sign s.OpenBrace ∷ rest))
+    × (tokens ≡ t.Name name ∷ t.Sign s.OpenParen ∷ (with_commas (map name_token axes) ++ t.Sign s.CloseParen ∷ t.Sign s.OpenBrace ∷ rest))
 
 layout_head_sound : (tokens : List Token) (name : Name) (axes : List Name) (rest : List Token) → layout_head tokens ≡ Some (name, axes, rest) → IsLayoutHead tokens name axes rest
 unfolding layout_head
 layout_head_sound tokens name axes rest h =
     let p = bind_some (next_name tokens) _ (name, axes, rest) h in
     let q = bind_some (after_sign s.OpenParen p.0.1) _ (name, axes, rest) p.2 in
-    let r = bind_some (listed next_name q.0) _ (name, axes, rest) q.2 in
+    let r = bind_some (comma_list next_name q.0) _ (name, axes, rest) q.2 in
     let o = bind_some (after_sign s.CloseParen r.0.1) _ (name, axes, rest) r.2 in
     let u = bind_some (after_sign s.OpenBrace o.0) _ (name, axes, rest) o.2 in
     let first = next_name_is tokens p.0.1 p.0.0 p.1 in
@@ -184,21 +185,21 @@ layout_head_sound tokens name axes rest h =
       list.0,
       list.1,
       first.0 ∙ ap (λ k. t.Name p.0.0 ∷ k) (behind ∙ ap (λ k. t.Sign s.OpenParen ∷ k)
-          (list.2 ∙ ap (λ k. separated (map name_token r.0.0) ++ k) (close ∙ ap (λ k. t.Sign s.CloseParen ∷ k) brace))),
+          (list.2 ∙ ap (λ k. with_commas (map name_token r.0.0) ++ k) (close ∙ ap (λ k. t.Sign s.CloseParen ∷ k) brace))),
     ) u.2
 
 -- `NODES FIELDS }`, and what is behind it
 abbrev IsLayoutBody : List Token → List NodeDecl → List FieldDecl → List Token → Type 0
-IsLayoutBody tokens nodes fields rest = AllByRecursion (IsGood is_node) nodes × AllByRecursion (IsGood is_field) fields
+IsLayoutBody tokens nodes fields rest = AllByRecursion (IsGood is_node) nodes × AllByRecursion (IsGood is_field_decl) fields
     × (tokens ≡ joined (map node_tokens nodes) ++ (joined (map field_tokens fields) ++ t.Sign s.CloseBrace ∷ rest))
 
 layout_body_sound : (tokens : List Token) (nodes : List NodeDecl) (fields : List FieldDecl) (rest : List Token) → layout_body tokens ≡ Some (nodes, fields, rest) → IsLayoutBody tokens nodes fields rest
 unfolding layout_body
 layout_body_sound tokens nodes fields rest h =
-    let p = bind_some (repeated before_field read_node tokens) _ (nodes, fields, rest) h in
-    let q = bind_some (repeated (after_sign s.CloseBrace) read_field p.0.1) _ (nodes, fields, rest) p.2 in
+    let p = bind_some (list_to_end before_field read_node tokens) _ (nodes, fields, rest) h in
+    let q = bind_some (list_to_end (after_sign s.CloseBrace) read_field p.0.1) _ (nodes, fields, rest) p.2 in
     let first = repeated_sound NodeDecl read_node node_tokens (IsGood is_node) node_sound before_field tokens p.0.0 p.0.1 p.1 in
-    let second = repeated_sound FieldDecl read_field field_tokens (IsGood is_field) field_sound (after_sign s.CloseBrace) p.0.1 q.0.0 q.0.1 q.1 in
+    let second = repeated_sound FieldDecl read_field field_tokens (IsGood is_field_decl) field_sound (after_sign s.CloseBrace) p.0.1 q.0.0 q.0.1 q.1 in
     let left = before_field_is first.0 p.0.1 first.3 in
     let end = after_sign_is s.CloseBrace second.0 q.0.1 second.3 in
     made_two (IsLayoutBody tokens) p.0.0 nodes q.0.0 fields q.0.1 rest
@@ -210,15 +211,15 @@ layout_sound tokens a rest h =
     let p = bind_some (layout_head tokens) _ (a, rest) h in
     let q = bind_some (layout_body p.0.2) _ (a, rest) p.2 in
     let made : LayoutDecl = record { name = p.0.0; axes = p.0.1; nodes = q.0.0; fields = q.0.1 } in
-    let y = only_if_some (nat_le (length p.0.1) 3 && ((nat_le 1 (length q.0.0) && nat_le (length q.0.0) 6) && nat_le 1 (length q.0.1))) (Some (item.Layout made, q.0.2)) (a, rest) q.2 in
-    let few = and_parts (nat_le (length p.0.1) 3) _ y.0 in
-    let counts = and_parts (nat_le 1 (length q.0.0) && nat_le (length q.0.0) 6) (nat_le 1 (length q.0.1)) few.1 in
+    let y = only_if_some (nat_le (length p.0.1) most_listed_axes && ((nat_le 1 (length q.0.0) && nat_le (length q.0.0) most_listed_nodes) && nat_le 1 (length q.0.1))) (Some (item.Layout made, q.0.2)) (a, rest) q.2 in
+    let few = and_parts (nat_le (length p.0.1) most_listed_axes) _ y.0 in
+    let counts = and_parts (nat_le 1 (length q.0.0) && nat_le (length q.0.0) most_listed_nodes) (nat_le 1 (length q.0.1)) few.1 in
     let head = layout_head_sound tokens p.0.0 p.0.1 p.0.2 p.1 in
     let body = layout_body_sound p.0.2 q.0.0 q.0.1 q.0.2 q.1 in
     made_is (λ (a : Item) (rest : List Token). (is_item a ≡ true) × (t.Word w.Layout ∷ tokens ≡ item_tokens a ++ rest)) (item.Layout made) a q.0.2 rest (
-      and_from (is_name p.0.0 && one_to 3 is_name p.0.1) (one_to 6 is_node q.0.0 && one_or_more is_field q.0.1)
-          (and_from (is_name p.0.0) (one_to 3 is_name p.0.1) head.0 (one_to_from 3 is_name p.0.1 head.1 few.0 head.2))
-          (and_from (one_to 6 is_node q.0.0) (one_or_more is_field q.0.1) (and_from _ (list_all is_node q.0.0) counts.0 (all_pass is_node q.0.0 body.0)) (and_from _ (list_all is_field q.0.1) counts.1 (all_pass is_field q.0.1 body.1))),
+      and_from (is_name p.0.0 && one_to most_listed_axes is_name p.0.1) (one_to most_listed_nodes is_node q.0.0 && one_or_more is_field_decl q.0.1)
+          (and_from (is_name p.0.0) (one_to most_listed_axes is_name p.0.1) head.0 (one_to_from most_listed_axes is_name p.0.1 head.1 few.0 head.2))
+          (and_from (one_to most_listed_nodes is_node q.0.0) (one_or_more is_field_decl q.0.1) (and_from _ (list_all is_node q.0.0) counts.0 (all_pass is_node q.0.0 body.0)) (and_from _ (list_all is_field_decl q.0.1) counts.1 (all_pass is_field_decl q.0.1 body.1))),
       rw (layout_parts made q.0.2) (ap (λ k. t.Word w.Layout ∷ k)
-          (head.3 ∙ ap (λ k. t.Name p.0.0 ∷ t.Sign s.OpenParen ∷ (separated (map name_token p.0.1) ++ t.Sign s.CloseParen ∷ t.Sign s.OpenBrace ∷ k)) body.2)),
+          (head.3 ∙ ap (λ k. t.Name p.0.0 ∷ t.Sign s.OpenParen ∷ (with_commas (map name_token p.0.1) ++ t.Sign s.CloseParen ∷ t.Sign s.OpenBrace ∷ k)) body.2)),
     ) y.1

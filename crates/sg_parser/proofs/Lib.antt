@@ -1,5 +1,5 @@
 pub mod StepLemmas
-pub mod Lists
+pub mod ListLemmas
 pub mod ExprSound
 pub mod ExprComplete
 pub mod Turns

@@ -16,7 +16,8 @@ use Rattle.sg_ast.specs.declared.token.Token.TheVariants as t
 use Rattle.sg_ast.specs.Token.{is_name}
 use Rattle.sg_ast.specs.Expr.{op_token, op_level}
 use Rattle.sg_ast.specs.Grammar.{is_infix}
-use Rattle.sg_parser.specs.Steps.{◌>>=◌, only_if, after_sign, after_word, next_name, infix_of, next_op}
+use Rattle.sg_parser.specs.steps.Front.{after_sign, after_word, next_name, infix_of, next_op}
+use Rattle.sg_words.specs.Options.{only_if, ◌>>=◌}
 
 -- a value that came out of two steps
 pub bind_some : {A B : Type 0} (o : Option A) (f : A → Option B) (y : B) → (o >>= f) ≡ Some y → (x : A) × (o ≡ Some x) × (f x ≡ Some y)

@@ -18,14 +18,15 @@ use Rattle.sg_ast.specs.declared.stmt.Stmt.TheVariants as stmt
 use Rattle.sg_ast.specs.Token.{is_name}
 use Rattle.sg_ast.specs.Expr.{tokens_of, largest}
 use Rattle.sg_ast.specs.Stmt.{joined, range_tokens, way_tokens, stmt_tokens, block_tokens, stmt_nesting}
-use Rattle.sg_ast.specs.Grammar.{is_expr, one_or_more, is_range, is_stmt, max_depth}
-use Rattle.sg_ast.proofs.StmtVariants.{by_stmt_variant, stmt_tokens-Let, stmt_tokens-Assign, stmt_tokens-Write, stmt_tokens-If, stmt_tokens-For, stmt_nesting-If, stmt_nesting-For, is_stmt-Let, is_stmt-Assign, is_stmt-Write, is_stmt-If, is_stmt-For}
-use Rattle.sg_parser.specs.Steps.{Reader, after_sign, after_word}
-use Rattle.sg_parser.specs.ReadExpr.{expr_at, read_expr}
-use Rattle.sg_parser.specs.ReadStmt.{read_range, ended, next_way, assigned, read_let, read_write, placed, read_if, for_head, read_for, statement, block_at}
+use Rattle.sg_ast.specs.Limits.{max_depth}
+use Rattle.sg_ast.specs.Grammar.{is_expr, one_or_more, is_range, is_stmt}
+use Rattle.sg_ast.proofs.Uses.{by_stmt_variant, stmt_tokens-Let, stmt_tokens-Assign, stmt_tokens-Write, stmt_tokens-If, stmt_tokens-For, stmt_nesting-If, stmt_nesting-For, is_stmt-Let, is_stmt-Assign, is_stmt-Write, is_stmt-If, is_stmt-For}
+use Rattle.sg_parser.specs.steps.Front.{Reader, after_sign, after_word}
+use Rattle.sg_parser.specs.steps.ReadExpr.{expr_at, read_expr}
+use Rattle.sg_parser.specs.steps.ReadStmt.{read_range, value_to_end, next_way, assigned_value, read_let, read_write, assign_or_write, read_if, for_head, read_for, statement, block_at}
 use Rattle.sg_parser.proofs.ExprSound.{Fit}
 use Rattle.sg_parser.proofs.ExprComplete.{Ends, expr_at_complete, indices_complete, fit_of_expr, ends_semicolon, ends_dots, ends_brace}
-use Rattle.sg_parser.proofs.Lists.{repeated_complete}
+use Rattle.sg_parser.proofs.ListLemmas.{repeated_complete}
 use Rattle.sg_parser.proofs.StmtSound.{GoodExpr, GoodRange, GoodStmt, GoodBlock, range_parts, let_parts, assign_parts, write_parts, if_parts, for_parts, block_parts}
 
 -- what may stand behind a statement: no `else`
@@ -41,12 +42,12 @@ range_complete range rest good ends =
     let p = and_parts (is_expr range.lo) (is_expr range.hi) good in
     rw (range_parts range rest, expr_complete range.lo (t.Sign s.DotDot ∷ (tokens_of range.hi ++ rest)) p.0 (ends_dots 1 (tokens_of range.hi ++ rest)), expr_complete range.hi rest p.1 ends) refl
 
-pub ended_complete : (value : Expr) (rest : List Token) → GoodExpr value → ended (tokens_of value ++ t.Sign s.Semicolon ∷ rest) ≡ Some (value, rest)
-unfolding ended
+pub ended_complete : (value : Expr) (rest : List Token) → GoodExpr value → value_to_end (tokens_of value ++ t.Sign s.Semicolon ∷ rest) ≡ Some (value, rest)
+unfolding value_to_end
 ended_complete value rest good = rw (expr_complete value (t.Sign s.Semicolon ∷ rest) good (ends_semicolon 1 rest)) refl
 
-assigned_complete : (value : Expr) (rest : List Token) → GoodExpr value → assigned (t.Sign s.Equal ∷ (tokens_of value ++ t.Sign s.Semicolon ∷ rest)) ≡ Some (value, rest)
-unfolding assigned
+assigned_complete : (value : Expr) (rest : List Token) → GoodExpr value → assigned_value (t.Sign s.Equal ∷ (tokens_of value ++ t.Sign s.Semicolon ∷ rest)) ≡ Some (value, rest)
+unfolding assigned_value
 assigned_complete value rest good = ended_complete value rest good
 
 way_complete : (how : WayDecl) (rest : List Token) → next_way (way_tokens how ++ rest) ≡ Some (how, rest)
@@ -67,14 +68,14 @@ module _ (d : ℕ) (block : Reader (List Stmt)) (complete : (body : List Stmt) (
       rw (let_parts name value rest, p.0, assigned_complete value rest p.1) refl
 
   assign_complete : (name : Name) (value : Expr) (rest : List Token) → GoodStmt d (stmt.Assign name value) → statement block (stmt_tokens (stmt.Assign name value) ++ rest) ≡ Some (stmt.Assign name value, rest)
-  unfolding statement placed
+  unfolding statement assign_or_write
   assign_complete name value rest fit =
       let p = and_parts (is_name name) (is_expr value) (sym (is_stmt-Assign name value) ∙ fit.good) in
       rw (assign_parts name value rest, p.0, assigned_complete value rest p.1) refl
 
   write_complete : (field : Name) (index : List Expr) (how : WayDecl) (value : Expr) (rest : List Token) → GoodStmt d (stmt.Write field index how value)
       → statement block (stmt_tokens (stmt.Write field index how value) ++ rest) ≡ Some (stmt.Write field index how value, rest)
-  unfolding statement placed read_write
+  unfolding statement assign_or_write read_write
   write_complete field index how value rest fit =
       let p = and_parts (is_name field && one_or_more is_expr index) (is_expr value) (sym (is_stmt-Write field index how value) ∙ fit.good) in
       let q = and_parts (is_name field) (one_or_more is_expr index) p.0 in

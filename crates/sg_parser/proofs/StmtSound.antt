@@ -18,16 +18,18 @@ use Rattle.sg_ast.specs.declared.stmt.RangeDecl.{RangeDecl}
 use Rattle.sg_ast.specs.declared.stmt.Stmt.{Stmt}
 use Rattle.sg_ast.specs.declared.stmt.Stmt.TheVariants as stmt
 use Rattle.sg_ast.specs.Token.{is_name}
-use Rattle.sg_ast.specs.Expr.{tokens_of, separated, largest}
+use Rattle.sg_ast.specs.Expr.{tokens_of, with_commas, largest}
 use Rattle.sg_ast.specs.Stmt.{joined, range_tokens, way_tokens, else_tokens, stmt_tokens, block_tokens, stmt_nesting, nesting}
-use Rattle.sg_ast.specs.Grammar.{is_expr, one_or_more, is_range, is_stmt, max_depth}
-use Rattle.sg_ast.proofs.StmtVariants.{stmt_tokens-Let, stmt_tokens-Assign, stmt_tokens-Write, stmt_tokens-If, stmt_tokens-For, stmt_nesting-Let, stmt_nesting-Assign, stmt_nesting-Write, stmt_nesting-If, stmt_nesting-For, is_stmt-Let, is_stmt-Assign, is_stmt-Write, is_stmt-If, is_stmt-For}
-use Rattle.sg_parser.specs.Steps.{Reader, ◌>>=◌, after_sign, after_word, next_name, repeated}
-use Rattle.sg_parser.specs.ReadExpr.{expr_at, read_expr, indices}
-use Rattle.sg_parser.specs.ReadStmt.{read_range, ended, behind_equal, next_way, assigned, read_let, read_write, placed_on, placed, else_on, read_if, for_head, read_for, stmt_worded, statement, block_at}
+use Rattle.sg_ast.specs.Limits.{max_depth}
+use Rattle.sg_ast.specs.Grammar.{is_expr, one_or_more, is_range, is_stmt}
+use Rattle.sg_ast.proofs.Uses.{stmt_tokens-Let, stmt_tokens-Assign, stmt_tokens-Write, stmt_tokens-If, stmt_tokens-For, stmt_nesting-Let, stmt_nesting-Assign, stmt_nesting-Write, stmt_nesting-If, stmt_nesting-For, is_stmt-Let, is_stmt-Assign, is_stmt-Write, is_stmt-If, is_stmt-For}
+use Rattle.sg_parser.specs.steps.Front.{Reader, after_sign, after_word, next_name, list_to_end}
+use Rattle.sg_words.specs.Options.{◌>>=◌}
+use Rattle.sg_parser.specs.steps.ReadExpr.{expr_at, read_expr, read_indices}
+use Rattle.sg_parser.specs.steps.ReadStmt.{read_range, value_to_end, behind_equal, next_way, assigned_value, read_let, read_write, assign_or_write_on, assign_or_write, else_on, read_if, for_head, read_for, word_stmt, statement, block_at}
 use Rattle.sg_parser.proofs.StepLemmas.{bind_some, only_if_some, after_sign_is, after_word_is, next_name_is}
 use Rattle.sg_parser.proofs.ExprSound.{Fit, expr_at_sound, indices_sound, expr_of_fit}
-use Rattle.sg_parser.proofs.Lists.{IsSoundReader, repeated_sound}
+use Rattle.sg_parser.proofs.ListLemmas.{IsSoundReader, repeated_sound}
 
 abbrev pub GoodExpr : Expr → Type 0
 GoodExpr a = is_expr a ≡ true
@@ -49,7 +51,7 @@ pub record GoodBlock (limit : ℕ) (body : List Stmt) : Type 0 where
 pub made_is : {A : Type 0} (P : A → List Token → Type 0) (made a : A) (left rest : List Token) → P made left → ◌≡◌ {A = Option (A × List Token)} (Some (made, left)) (Some (a, rest)) → P a rest
 made_is {A} P made a left rest p h = subst (λ (q : A × List Token). P q.0 q.1) (same_Some {A = A × List Token} (made, left) (a, rest) h) p
 
--- the same of two values
+-- two values that are read are what they were said to be
 pub made_two : {A B : Type 0} (P : A → B → List Token → Type 0) (x a : A) (y b : B) (left rest : List Token) → P x y left
     → ◌≡◌ {A = Option (A × B × List Token)} (Some (x, y, left)) (Some (a, b, rest)) → P a b rest
 made_two {A} {B} P x a y b left rest p h = subst (λ (q : A × B × List Token). P q.0 q.1 q.2) (same_Some {A = A × B × List Token} (x, y, left) (a, b, rest) h) p
@@ -64,7 +66,7 @@ pub assign_parts : (name : Name) (value : Expr) (rest : List Token) → stmt_tok
 assign_parts name value rest = rw (stmt_tokens-Assign name value, append_assoc (tokens_of value) (t.Sign s.Semicolon ∷ []) rest) refl
 
 pub write_parts : (field : Name) (index : List Expr) (how : WayDecl) (value : Expr) (rest : List Token) → stmt_tokens (stmt.Write field index how value) ++ rest
-    ≡ t.Name field ∷ t.Sign s.OpenBracket ∷ (separated (map tokens_of index) ++ t.Sign s.CloseBracket ∷ (way_tokens how ++ (tokens_of value ++ t.Sign s.Semicolon ∷ rest)))
+    ≡ t.Name field ∷ t.Sign s.OpenBracket ∷ (with_commas (map tokens_of index) ++ t.Sign s.CloseBracket ∷ (way_tokens how ++ (tokens_of value ++ t.Sign s.Semicolon ∷ rest)))
 write_parts field index how value rest = rw (stmt_tokens-Write field index how value) (simp append_assoc)
 
 pub if_parts : (condition : Expr) (chosen : List Stmt) (otherwise : Option (List Stmt)) (rest : List Token) → stmt_tokens (stmt.If condition chosen otherwise) ++ rest
@@ -99,8 +101,8 @@ range_sound tokens a rest h =
     made_is (λ (a : RangeDecl) (rest : List Token). (GoodRange a) × (tokens ≡ range_tokens a ++ rest)) range a r.0.1 rest
     (and_from (is_expr p.0.0) (is_expr r.0.0) lo.0 hi.0, rw (range_parts range r.0.1) (cc (lo.1, hi.1, dots))) r.2
 
-pub ended_sound : (tokens : List Token) (a : Expr) (rest : List Token) → ended tokens ≡ Some (a, rest) → (is_expr a ≡ true) × (tokens ≡ tokens_of a ++ t.Sign s.Semicolon ∷ rest)
-unfolding ended
+pub ended_sound : (tokens : List Token) (a : Expr) (rest : List Token) → value_to_end tokens ≡ Some (a, rest) → (is_expr a ≡ true) × (tokens ≡ tokens_of a ++ t.Sign s.Semicolon ∷ rest)
+unfolding value_to_end
 ended_sound tokens a rest h =
     let p = bind_some (read_expr tokens) _ (a, rest) h in
     let q = bind_some (after_sign s.Semicolon p.0.1) _ (a, rest) p.2 in
@@ -108,8 +110,8 @@ ended_sound tokens a rest h =
     let semicolon = after_sign_is s.Semicolon p.0.1 q.0 q.1 in
     made_is (λ (a : Expr) (rest : List Token). (is_expr a ≡ true) × (tokens ≡ tokens_of a ++ t.Sign s.Semicolon ∷ rest)) p.0.0 a q.0 rest (value.0, cc (value.1, semicolon)) q.2
 
-pub assigned_sound : (tokens : List Token) (a : Expr) (rest : List Token) → assigned tokens ≡ Some (a, rest) → (is_expr a ≡ true) × (tokens ≡ t.Sign s.Equal ∷ (tokens_of a ++ t.Sign s.Semicolon ∷ rest))
-unfolding assigned
+pub assigned_sound : (tokens : List Token) (a : Expr) (rest : List Token) → assigned_value tokens ≡ Some (a, rest) → (is_expr a ≡ true) × (tokens ≡ t.Sign s.Equal ∷ (tokens_of a ++ t.Sign s.Semicolon ∷ rest))
+unfolding assigned_value
 assigned_sound tokens a rest h =
     let p = bind_some (after_sign s.Equal tokens) _ (a, rest) h in
     let equal = after_sign_is s.Equal tokens p.0 p.1 in
@@ -147,7 +149,7 @@ let_sound : (d : ℕ) (tokens : List Token) (a : Stmt) (rest : List Token) → r
 unfolding read_let
 let_sound d tokens a rest h =
     let p = bind_some (next_name tokens) _ (a, rest) h in
-    let q = bind_some (assigned p.0.1) _ (a, rest) p.2 in
+    let q = bind_some (assigned_value p.0.1) _ (a, rest) p.2 in
     let name = next_name_is tokens p.0.1 p.0.0 p.1 in
     let value = assigned_sound p.0.1 q.0.0 q.0.1 q.1 in
     made_is (λ (a : Stmt) (rest : List Token). GoodStmt d a × (t.Word w.Let ∷ tokens ≡ stmt_tokens a ++ rest)) (stmt.Let p.0.0 q.0.0) a q.0.1 rest (
@@ -161,30 +163,30 @@ let_sound d tokens a rest h =
 write_sound : (d : ℕ) (field : Name) (tokens : List Token) (a : Stmt) (rest : List Token) → is_name field ≡ true → read_write field tokens ≡ Some (a, rest)
     → GoodStmt d a × (t.Name field ∷ t.Sign s.OpenBracket ∷ tokens ≡ stmt_tokens a ++ rest)
 unfolding read_write
-write_sound d field tokens a rest named h =
-    let p = bind_some (indices (expr_at max_depth) tokens) _ (a, rest) h in
+write_sound d field tokens a rest read_name_expr h =
+    let p = bind_some (read_indices (expr_at max_depth) tokens) _ (a, rest) h in
     let q = bind_some (next_way p.0.1) _ (a, rest) p.2 in
-    let r = bind_some (ended q.0.1) _ (a, rest) q.2 in
+    let r = bind_some (value_to_end q.0.1) _ (a, rest) q.2 in
     let index = indices_sound max_depth (expr_at max_depth) (expr_at_sound max_depth) tokens p.0.0 p.0.1 p.1 in
     let how = way_sound p.0.1 q.0.0 q.0.1 q.1 in
     let value = ended_sound q.0.1 r.0.0 r.0.1 r.1 in
     made_is (λ (a : Stmt) (rest : List Token). GoodStmt d a × (t.Name field ∷ t.Sign s.OpenBracket ∷ tokens ≡ stmt_tokens a ++ rest)) (stmt.Write field p.0.0 q.0.0 r.0.0) a r.0.1 rest (
       record {
         good = is_stmt-Write field p.0.0 q.0.0 r.0.0 ∙ and_from (is_name field && one_or_more is_expr p.0.0) (is_expr r.0.0)
-            (and_from (is_name field) _ named (and_from (nat_le 1 (length p.0.0)) _ (le-leb 1 (length p.0.0) index.0) (all_exprs p.0.0 index.1))) value.0;
+            (and_from (is_name field) _ read_name_expr (and_from (nat_le 1 (length p.0.0)) _ (le-leb 1 (length p.0.0) index.0) (all_exprs p.0.0 index.1))) value.0;
         shallow = omega (arith, stmt_nesting-Write field p.0.0 q.0.0 r.0.0);
       },
       rw (write_parts field p.0.0 q.0.0 r.0.0 r.0.1) (cc (index.2, how, value.1)),
     ) r.2
 
-placed_sound : (d : ℕ) (name : Name) (tokens : List Token) (a : Stmt) (rest : List Token) → placed name tokens ≡ Some (a, rest) → GoodStmt d a × (t.Name name ∷ tokens ≡ stmt_tokens a ++ rest)
-unfolding placed
+placed_sound : (d : ℕ) (name : Name) (tokens : List Token) (a : Stmt) (rest : List Token) → assign_or_write name tokens ≡ Some (a, rest) → GoodStmt d a × (t.Name name ∷ tokens ≡ stmt_tokens a ++ rest)
+unfolding assign_or_write
 placed_sound d name tokens a rest h =
-    let p = only_if_some (is_name name) (placed_on name tokens (after_sign s.OpenBracket tokens)) (a, rest) h in
+    let p = only_if_some (is_name name) (assign_or_write_on name tokens (after_sign s.OpenBracket tokens)) (a, rest) h in
     go p.0 (after_sign s.OpenBracket tokens) refl p.1 where
-      go : is_name name ≡ true → (after : Option (List Token)) → after_sign s.OpenBracket tokens ≡ after → placed_on name tokens after ≡ Some (a, rest) → GoodStmt d a × (t.Name name ∷ tokens ≡ stmt_tokens a ++ rest)
+      go : is_name name ≡ true → (after : Option (List Token)) → after_sign s.OpenBracket tokens ≡ after → assign_or_write_on name tokens after ≡ Some (a, rest) → GoodStmt d a × (t.Name name ∷ tokens ≡ stmt_tokens a ++ rest)
       go good None is h =
-          let p = bind_some (assigned tokens) _ (a, rest) h in
+          let p = bind_some (assigned_value tokens) _ (a, rest) h in
           let value = assigned_sound tokens p.0.0 p.0.1 p.1 in
           made_is (λ (a : Stmt) (rest : List Token). GoodStmt d a × (t.Name name ∷ tokens ≡ stmt_tokens a ++ rest)) (stmt.Assign name p.0.0) a p.0.1 rest (
             record {
@@ -265,7 +267,7 @@ module _ (d : ℕ) (block : Reader (List Stmt)) (sound : IsSoundReader block_tok
         rw (for_parts p.0.0 p.0.1 q.0.0 q.0.1) (ap (λ r. t.Word w.For ∷ r) (head.2 ∙ ap (λ r. t.Name p.0.0 ∷ t.Word w.In ∷ (range_tokens p.0.1 ++ r)) body.1)),
       ) q.2
 
-  worded_stmt_sound : (word : Word) (tokens : List Token) (a : Stmt) (rest : List Token) → stmt_worded block word tokens ≡ Some (a, rest) → GoodStmt d a × (t.Word word ∷ tokens ≡ stmt_tokens a ++ rest)
+  worded_stmt_sound : (word : Word) (tokens : List Token) (a : Stmt) (rest : List Token) → word_stmt block word tokens ≡ Some (a, rest) → GoodStmt d a × (t.Word word ∷ tokens ≡ stmt_tokens a ++ rest)
   worded_stmt_sound w.Let tokens a rest h = let_sound d tokens a rest h
   worded_stmt_sound w.If tokens a rest h = if_sound tokens a rest h
   worded_stmt_sound w.For tokens a rest h = for_sound tokens a rest h
@@ -290,7 +292,7 @@ pub block_at_sound : (limit : ℕ) → IsSoundReader block_tokens (GoodBlock lim
 unfolding block_at
 block_at_sound zero tokens a rest h = absurd (cc)
 block_at_sound (suc d) tokens a rest h =
-    let p = bind_some (after_sign s.OpenBrace tokens) (λ (behind : List Token). repeated (after_sign s.CloseBrace) (statement (block_at d)) behind) (a, rest) h in
+    let p = bind_some (after_sign s.OpenBrace tokens) (λ (behind : List Token). list_to_end (after_sign s.CloseBrace) (statement (block_at d)) behind) (a, rest) h in
     let brace = after_sign_is s.OpenBrace tokens p.0 p.1 in
     let taken = repeated_sound Stmt (statement (block_at d)) stmt_tokens (GoodStmt d) (statement_sound d (block_at d) (block_at_sound d)) (after_sign s.CloseBrace) p.0 a rest p.2 in
     let close = after_sign_is s.CloseBrace taken.0 rest taken.3 in

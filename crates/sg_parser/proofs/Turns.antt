@@ -8,23 +8,23 @@ use Rattle.sg_ast.specs.declared.token.Token.{Token}
 use Rattle.sg_ast.specs.declared.expr.Expr.{Expr}
 use Rattle.sg_ast.specs.declared.expr.Expr.TheVariants as e
 use Rattle.sg_ast.specs.Expr.{depth, largest, right_needs}
-use Rattle.sg_parser.specs.Steps.{Reader, after_sign, next_op, listed_from, repeated_from}
-use Rattle.sg_parser.specs.ReadExpr.{goes_on, climb}
+use Rattle.sg_parser.specs.steps.Front.{Reader, after_sign, next_op, comma_list_from, list_to_end_from}
+use Rattle.sg_parser.specs.steps.ReadExpr.{goes_on, climb}
 
 -- a list with commas: on behind a comma, done where there is none, stuck where no item is read
 pub listed_turn : {A : Type 0} (one : Reader A) (m n : ℕ) (found : List A) (tokens : List Token) (x : A) (mid behind : List Token)
-    → m ≡ suc n → one tokens ≡ Some (x, mid) → after_sign s.Comma mid ≡ Some behind → listed_from one m found tokens ≡ listed_from one n (found ++ x ∷ []) behind
-unfolding listed_from
+    → m ≡ suc n → one tokens ≡ Some (x, mid) → after_sign s.Comma mid ≡ Some behind → comma_list_from one m found tokens ≡ comma_list_from one n (found ++ x ∷ []) behind
+unfolding comma_list_from
 listed_turn one m n found tokens x mid behind is read comma = rw (is, read, comma) refl
 
 pub listed_done : {A : Type 0} (one : Reader A) (m n : ℕ) (found : List A) (tokens : List Token) (x : A) (mid : List Token)
-    → m ≡ suc n → one tokens ≡ Some (x, mid) → after_sign s.Comma mid ≡ None → listed_from one m found tokens ≡ Some (found ++ x ∷ [], mid)
-unfolding listed_from
+    → m ≡ suc n → one tokens ≡ Some (x, mid) → after_sign s.Comma mid ≡ None → comma_list_from one m found tokens ≡ Some (found ++ x ∷ [], mid)
+unfolding comma_list_from
 listed_done one m n found tokens x mid is read comma = rw (is, read, comma) refl
 
 pub listed_stuck : {A : Type 0} (one : Reader A) (m n : ℕ) (found : List A) (tokens : List Token)
-    → m ≡ suc n → one tokens ≡ None → listed_from one m found tokens ≡ None
-unfolding listed_from
+    → m ≡ suc n → one tokens ≡ None → comma_list_from one m found tokens ≡ None
+unfolding comma_list_from
 listed_stuck one m n found tokens is read = rw (is, read) refl
 
 pub largest-push : (ns : List ℕ) (n : ℕ) → largest (ns ++ n ∷ []) ≡ max (largest ns) n
@@ -72,16 +72,16 @@ module _ (expr : ℕ → Reader Expr) (limit least : ℕ) where
 
 -- a list up to its end: one item more
 pub repeated_turn : {A : Type 0} (end : List Token → Option (List Token)) (one : Reader A) (m n : ℕ) (found : List A) (tokens : List Token) (x : A) (behind : List Token)
-    → m ≡ suc n → end tokens ≡ None → one tokens ≡ Some (x, behind) → repeated_from end one m found tokens ≡ repeated_from end one n (found ++ x ∷ []) behind
-unfolding repeated_from
+    → m ≡ suc n → end tokens ≡ None → one tokens ≡ Some (x, behind) → list_to_end_from end one m found tokens ≡ list_to_end_from end one n (found ++ x ∷ []) behind
+unfolding list_to_end_from
 repeated_turn end one m n found tokens x behind is no_end read = rw (is, no_end, read) refl
 
 pub repeated_done : {A : Type 0} (end : List Token → Option (List Token)) (one : Reader A) (m n : ℕ) (found : List A) (tokens rest : List Token)
-    → m ≡ suc n → end tokens ≡ Some rest → repeated_from end one m found tokens ≡ Some (found, rest)
-unfolding repeated_from
+    → m ≡ suc n → end tokens ≡ Some rest → list_to_end_from end one m found tokens ≡ Some (found, rest)
+unfolding list_to_end_from
 repeated_done end one m n found tokens rest is ends = rw (is, ends) refl
 
 pub repeated_stuck : {A : Type 0} (end : List Token → Option (List Token)) (one : Reader A) (m n : ℕ) (found : List A) (tokens : List Token)
-    → m ≡ suc n → end tokens ≡ None → one tokens ≡ None → repeated_from end one m found tokens ≡ None
-unfolding repeated_from
+    → m ≡ suc n → end tokens ≡ None → one tokens ≡ None → list_to_end_from end one m found tokens ≡ None
+unfolding list_to_end_from
 repeated_stuck end one m n found tokens is no_end read = rw (is, no_end, read) refl

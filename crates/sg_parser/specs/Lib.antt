@@ -1,6 +1,3 @@
-pub mod Steps
-pub mod ReadExpr
-pub mod ReadStmt
-pub mod ReadItem
+pub mod steps
 pub mod Parsed
 pub mod Laws

@@ -2,20 +2,22 @@
 
 ghost use Rattle.std.specs.Prelude.{◌≡◌, option_map};
 ghost use Rattle.sg_ast.specs.declared.token.Sign.TheVariants as s;
-ghost use Rattle.sg_parser.specs.Steps.{kinds, Gives, repeated};
-ghost use Rattle.sg_parser.specs.Steps as steps;
-ghost use Rattle.sg_parser.specs.ReadItem as read;
+ghost use Rattle.sg_ast.specs.Items.{kinds};
+ghost use Rattle.sg_parser.specs.steps.Front.{Gives};
+ghost use Rattle.sg_parser.specs.steps.Front as steps;
+ghost use Rattle.sg_parser.specs.steps.ReadItem as read;
 
-use crate::take::{Unread, after_sign, is_number, next_name, next_plain};
+use crate::lists::{Front, Listed, list_to_end};
+use crate::take::{MAX_SIGNED, Unread, after_sign, is_number, next_name, next_plain};
 use sg_ast::{Command, Name, Sign, Spanned, Token, Word};
-use sg_words::{Items, Stop};
+use sg_words::Stop;
 use std::alloc::Global;
 
-/// Whether a number of a bound has a `u` exactly where it is past 2147483648.
+/// Whether a number of a bound has a `u` exactly where it is past the limit without one.
 fn is_marked(unsigned: bool, value: u32) -> bool
     ensures { result ≡ read.is_marked unsigned value }
 {
-    let is_large = 2147483648 < value;
+    let is_large = MAX_SIGNED < value;
     if unsigned { is_large } else { !is_large }
 }
 
@@ -34,7 +36,7 @@ fn next_magnitude(tokens: &[Spanned]) -> Option<(u32, &[Spanned])>
 }
 
 /// A bound, and what follows it.
-#[tactic(auto, unfolding(crate::specs::ReadItem::next_whole))]
+#[tactic(auto, unfolding(crate::specs::steps::ReadItem::next_whole))]
 fn next_whole(tokens: &[Spanned]) -> Option<(i64, &[Spanned])>
     ensures { option_map (λ x. (x.0, kinds x.1.now)) result ≡ read.next_whole (kinds tokens.now) }
 {
@@ -54,7 +56,7 @@ fn next_whole(tokens: &[Spanned]) -> Option<(i64, &[Spanned])>
 }
 
 /// A name and `;`.
-#[tactic(auto, unfolding(crate::specs::ReadItem::read_named))]
+#[tactic(auto, unfolding(crate::specs::steps::ReadItem::read_named))]
 fn read_named(alloc: Global, tokens: &[Spanned]) -> Result<(Name, &[Spanned]), Stop<Unread>>
     ensures { Gives (λ x. (x.0, kinds x.1.now)) result (read.read_named (kinds tokens.now)) }
 {
@@ -66,7 +68,7 @@ fn read_named(alloc: Global, tokens: &[Spanned]) -> Result<(Name, &[Spanned]), S
 }
 
 /// `image NAME LO HI;`, behind its word.
-#[tactic(auto, unfolding(crate::specs::ReadItem::read_image))]
+#[tactic(auto, unfolding(crate::specs::steps::ReadItem::read_image))]
 fn read_image(alloc: Global, tokens: &[Spanned]) -> Result<(Command, &[Spanned]), Stop<Unread>>
     ensures { Gives (λ x. (x.0, kinds x.1.now)) result (read.read_image (kinds tokens.now)) }
 {
@@ -84,12 +86,12 @@ fn read_image(alloc: Global, tokens: &[Spanned]) -> Result<(Command, &[Spanned])
 }
 
 /// A command that is no `times`, behind its word.
-pub fn simple_worded(
+pub(crate) fn word_simple(
     alloc: Global,
     word: Word,
     tokens: &[Spanned],
 ) -> Result<(Command, &[Spanned]), Stop<Unread>>
-    ensures { Gives (λ x. (x.0, kinds x.1.now)) result (read.simple_worded word (kinds tokens.now)) }
+    ensures { Gives (λ x. (x.0, kinds x.1.now)) result (read.word_simple word (kinds tokens.now)) }
 {
     match word {
         Word::Load => {
@@ -122,7 +124,7 @@ pub fn simple_worded(
 }
 
 /// A command that is no `times`.
-#[tactic(auto, unfolding(crate::specs::ReadItem::read_simple))]
+#[tactic(auto, unfolding(crate::specs::steps::ReadItem::read_simple))]
 fn read_simple(alloc: Global, tokens: &[Spanned]) -> Result<(Command, &[Spanned]), Stop<Unread>>
     ensures { Gives (λ x. (x.0, kinds x.1.now)) result (read.read_simple (kinds tokens.now)) }
 {
@@ -130,36 +132,34 @@ fn read_simple(alloc: Global, tokens: &[Spanned]) -> Result<(Command, &[Spanned]
         return Err(Stop::Refused(Unread));
     };
     match &first.token {
-        Token::Word(word) => simple_worded(alloc, *word, rest),
+        Token::Word(word) => word_simple(alloc, *word, rest),
         _ => Err(Stop::Refused(Unread)),
     }
 }
 
-/// Commands, up to the `}` behind them.
-#[tactic(auto, unfolding(crate::specs::Steps::repeated_from))]
-fn read_simples(
-    alloc: Global,
-    tokens: &[Spanned],
-) -> Result<(Items<Command>, &[Spanned]), Stop<Unread>>
-    ensures { Gives (λ x. (x.0, kinds x.1.now)) result
-        (repeated (steps.after_sign s.CloseBrace) read.read_simple (kinds tokens.now)) }
-{
-    let mut found = Items::new(alloc);
-    let mut rest = tokens;
-    for _turn in 0..tokens.len() {
-        if let Some(end) = after_sign(rest, Sign::CloseBrace) {
-            return Ok((found, end));
-        }
-        let (next, behind) = read_simple(alloc, rest)?;
-        found.push(next)?;
-        rest = behind;
+impl Front for Command {
+    ghost reader = { read.read_simple };
+
+    fn read(alloc: Global, tokens: &[Spanned]) -> Result<(Command, &[Spanned]), Stop<Unread>> {
+        read_simple(alloc, tokens)
     }
-    Err(Stop::Refused(Unread))
+}
+
+/// Commands in a `times` stand up to the `}` behind them.
+impl Listed for Command {
+    ghost end = { steps.after_sign s.CloseBrace };
+
+    fn end(tokens: &[Spanned]) -> Option<&[Spanned]> {
+        after_sign(tokens, Sign::CloseBrace)
+    }
 }
 
 /// `times NUMBER { COMMANDS }`, behind its word.
-#[tactic(auto, unfolding(crate::specs::ReadItem::read_times))]
-pub fn read_times(alloc: Global, tokens: &[Spanned]) -> Result<(Command, &[Spanned]), Stop<Unread>>
+#[tactic(auto, unfolding(crate::specs::steps::ReadItem::read_times))]
+pub(crate) fn read_times(
+    alloc: Global,
+    tokens: &[Spanned],
+) -> Result<(Command, &[Spanned]), Stop<Unread>>
     ensures { Gives (λ x. (x.0, kinds x.1.now)) result (read.read_times (kinds tokens.now)) }
 {
     let Some((number, behind)) = next_plain(tokens) else {
@@ -168,7 +168,7 @@ pub fn read_times(alloc: Global, tokens: &[Spanned]) -> Result<(Command, &[Spann
     let Some(brace) = after_sign(behind, Sign::OpenBrace) else {
         return Err(Stop::Refused(Unread));
     };
-    let (body, rest) = read_simples(alloc, brace)?;
+    let (body, rest) = list_to_end(alloc, brace)?;
     if body.len() < 1 {
         return Err(Stop::Refused(Unread));
     }

@@ -4,8 +4,10 @@ ghost use Rattle.std.specs.Prelude.{◌≡◌, ◌+◌, ◌<◌, ◌≤◌, map,
 ghost use Rattle.sg_ast.specs.declared.expr.Expr.TheVariants as e;
 ghost use Rattle.sg_ast.specs.Expr as spell;
 ghost use Rattle.sg_ast.specs.Grammar as grammar;
-ghost use Rattle.sg_parser.specs.Steps.{listed, kinds, Gives};
-ghost use Rattle.sg_parser.specs.ReadExpr as read;
+ghost use Rattle.sg_ast.specs.Items.{kinds};
+ghost use Rattle.sg_ast.specs.Limits.{max_depth};
+ghost use Rattle.sg_parser.specs.steps.Front.{comma_list, Gives};
+ghost use Rattle.sg_parser.specs.steps.ReadExpr as read;
 
 use crate::names;
 use crate::take::{Unread, after_sign, is_number, next_op};
@@ -15,7 +17,7 @@ use std::alloc::{AllocError, Global};
 
 /// An expression with its depth, and the tokens behind it.
 #[derive(Drop)]
-pub struct Reading<'a> {
+pub(crate) struct Reading<'a> {
     pub tree: Expr,
     pub depth: usize,
     pub rest: &'a [Spanned],
@@ -23,7 +25,7 @@ pub struct Reading<'a> {
 
 /// Expressions with the depth of the deepest, and the tokens behind them.
 #[derive(Drop)]
-pub struct Readings<'a> {
+pub(crate) struct Readings<'a> {
     pub trees: Items<Expr>,
     pub depth: usize,
     pub rest: &'a [Spanned],
@@ -102,10 +104,15 @@ fn arity(callee: Callee) -> usize
 
 /// One expression or more, with a comma between each two.
 #[cycle(reading)]
-#[tactic(auto, unfolding(crate::specs::Steps::listed_from))]
-pub fn items(alloc: Global, inner: usize, tokens: &[Spanned]) -> Result<Readings<'_>, Stop<Unread>>
-    requires { inner ≤ 64 }
-    ensures value { Gives (λ x. (x.trees, kinds x.rest.now)) result (listed (read.expr_at inner 1) (kinds tokens.now)) }
+#[tactic(auto, unfolding(crate::specs::steps::Front::comma_list_from))]
+pub(crate) fn items(
+    alloc: Global,
+    inner: usize,
+    tokens: &[Spanned],
+) -> Result<Readings<'_>, Stop<Unread>>
+    requires { inner ≤ max_depth }
+    ensures value { Gives (λ x. (x.trees, kinds x.rest.now)) result
+        (comma_list (read.expr_at inner 1) (kinds tokens.now)) }
     ensures depth { IfOk result (λ x. x.depth ≡ spell.largest (map spell.depth x.trees)) }
     ensures within { IfOk result (λ x. x.depth ≤ inner) }
 {
@@ -127,14 +134,15 @@ pub fn items(alloc: Global, inner: usize, tokens: &[Spanned]) -> Result<Readings
 
 /// The indices of an access, behind its `[`.
 #[cycle(reading)]
-#[tactic(auto, unfolding(crate::specs::ReadExpr::indices))]
-pub fn indices(
+#[tactic(auto, unfolding(crate::specs::steps::ReadExpr::read_indices))]
+pub(crate) fn read_indices(
     alloc: Global,
     inner: usize,
     tokens: &[Spanned],
 ) -> Result<Readings<'_>, Stop<Unread>>
-    requires { inner ≤ 64 }
-    ensures value { Gives (λ x. (x.trees, kinds x.rest.now)) result (read.indices (read.expr_at inner) (kinds tokens.now)) }
+    requires { inner ≤ max_depth }
+    ensures value { Gives (λ x. (x.trees, kinds x.rest.now)) result
+        (read.read_indices (read.expr_at inner) (kinds tokens.now)) }
     ensures depth { IfOk result (λ x. x.depth ≡ spell.largest (map spell.depth x.trees)) }
     ensures within { IfOk result (λ x. x.depth ≤ inner) }
 {
@@ -151,15 +159,16 @@ pub fn indices(
 
 /// What a name begins: a read, or the name alone.
 #[cycle(reading)]
-#[tactic(auto, unfolding(crate::specs::ReadExpr::named))]
-fn named<'a>(
+#[tactic(auto, unfolding(crate::specs::steps::ReadExpr::read_name_expr))]
+fn read_name_expr<'a>(
     alloc: Global,
     inner: usize,
     name: &Name,
     tokens: &'a [Spanned],
 ) -> Result<Reading<'a>, Stop<Unread>>
-    requires { inner < 64 }
-    ensures value { Gives (λ x. (x.tree, kinds x.rest.now)) result (read.named (read.expr_at inner) name.now (kinds tokens.now)) }
+    requires { inner < max_depth }
+    ensures value { Gives (λ x. (x.tree, kinds x.rest.now)) result
+        (read.read_name_expr (read.expr_at inner) name.now (kinds tokens.now)) }
     ensures depth { IfOk result (λ x. x.depth ≡ spell.depth x.tree) }
     ensures within { IfOk result (λ x. x.depth ≤ inner + 1) }
 {
@@ -174,7 +183,7 @@ fn named<'a>(
             rest: tokens,
         });
     };
-    let index = indices(alloc, inner, behind)?;
+    let index = read_indices(alloc, inner, behind)?;
     Ok(Reading {
         tree: Expr::Read {
             field: own,
@@ -187,15 +196,16 @@ fn named<'a>(
 
 /// A call, behind its word.
 #[cycle(reading)]
-#[tactic(auto, unfolding(crate::specs::ReadExpr::call))]
-fn call(
+#[tactic(auto, unfolding(crate::specs::steps::ReadExpr::read_call_expr))]
+fn read_call_expr(
     alloc: Global,
     inner: usize,
     callee: Callee,
     tokens: &[Spanned],
 ) -> Result<Reading<'_>, Stop<Unread>>
-    requires { inner < 64 }
-    ensures value { Gives (λ x. (x.tree, kinds x.rest.now)) result (read.call (read.expr_at inner) callee (kinds tokens.now)) }
+    requires { inner < max_depth }
+    ensures value { Gives (λ x. (x.tree, kinds x.rest.now)) result
+        (read.read_call_expr (read.expr_at inner) callee (kinds tokens.now)) }
     ensures depth { IfOk result (λ x. x.depth ≡ spell.depth x.tree) }
     ensures within { IfOk result (λ x. x.depth ≤ inner + 1) }
 {
@@ -221,10 +231,11 @@ fn call(
 
 /// An expression in parentheses, behind the `(`.
 #[cycle(reading)]
-#[tactic(auto, unfolding(crate::specs::ReadExpr::paren))]
-fn paren(alloc: Global, inner: usize, tokens: &[Spanned]) -> Result<Reading<'_>, Stop<Unread>>
-    requires { inner < 64 }
-    ensures value { Gives (λ x. (x.tree, kinds x.rest.now)) result (read.paren (read.expr_at inner) (kinds tokens.now)) }
+#[tactic(auto, unfolding(crate::specs::steps::ReadExpr::paren_expr))]
+fn paren_expr(alloc: Global, inner: usize, tokens: &[Spanned]) -> Result<Reading<'_>, Stop<Unread>>
+    requires { inner < max_depth }
+    ensures value { Gives (λ x. (x.tree, kinds x.rest.now)) result
+        (read.paren_expr (read.expr_at inner) (kinds tokens.now)) }
     ensures depth { IfOk result (λ x. x.depth ≡ spell.depth x.tree) }
     ensures within { IfOk result (λ x. x.depth ≤ inner + 1) }
 {
@@ -241,15 +252,16 @@ fn paren(alloc: Global, inner: usize, tokens: &[Spanned]) -> Result<Reading<'_>,
 
 /// An operator before its operand, behind its sign.
 #[cycle(reading)]
-#[tactic(auto, unfolding(crate::specs::ReadExpr::unary))]
-fn unary(
+#[tactic(auto, unfolding(crate::specs::steps::ReadExpr::unary_expr))]
+fn unary_expr(
     alloc: Global,
     inner: usize,
     op: UnOp,
     tokens: &[Spanned],
 ) -> Result<Reading<'_>, Stop<Unread>>
-    requires { inner < 64 }
-    ensures value { Gives (λ x. (x.tree, kinds x.rest.now)) result (read.unary (read.expr_at inner) op (kinds tokens.now)) }
+    requires { inner < max_depth }
+    ensures value { Gives (λ x. (x.tree, kinds x.rest.now)) result
+        (read.unary_expr (read.expr_at inner) op (kinds tokens.now)) }
     ensures depth { IfOk result (λ x. x.depth ≡ spell.depth x.tree) }
     ensures within { IfOk result (λ x. x.depth ≤ inner + 1) }
 {
@@ -266,14 +278,15 @@ fn unary(
 
 /// What a word begins: a truth value, or a call.
 #[cycle(reading)]
-fn worded(
+fn word_expr(
     alloc: Global,
     inner: usize,
     word: Word,
     tokens: &[Spanned],
 ) -> Result<Reading<'_>, Stop<Unread>>
-    requires { inner < 64 }
-    ensures value { Gives (λ x. (x.tree, kinds x.rest.now)) result (read.worded (read.expr_at inner) word (kinds tokens.now)) }
+    requires { inner < max_depth }
+    ensures value { Gives (λ x. (x.tree, kinds x.rest.now)) result
+        (read.word_expr (read.expr_at inner) word (kinds tokens.now)) }
     ensures depth { IfOk result (λ x. x.depth ≡ spell.depth x.tree) }
     ensures within { IfOk result (λ x. x.depth ≤ inner + 1) }
 {
@@ -288,43 +301,45 @@ fn worded(
             depth: 1,
             rest: tokens,
         }),
-        Word::Min => call(alloc, inner, Callee::Min, tokens),
-        Word::Max => call(alloc, inner, Callee::Max, tokens),
-        Word::Mulq => call(alloc, inner, Callee::Mulq, tokens),
-        Word::I32 => call(alloc, inner, Callee::I32, tokens),
-        Word::U32 => call(alloc, inner, Callee::U32, tokens),
+        Word::Min => read_call_expr(alloc, inner, Callee::Min, tokens),
+        Word::Max => read_call_expr(alloc, inner, Callee::Max, tokens),
+        Word::Mulq => read_call_expr(alloc, inner, Callee::Mulq, tokens),
+        Word::I32 => read_call_expr(alloc, inner, Callee::I32, tokens),
+        Word::U32 => read_call_expr(alloc, inner, Callee::U32, tokens),
         _ => Err(Stop::Refused(Unread)),
     }
 }
 
 /// What a sign begins: parentheses, or an operator before its operand.
 #[cycle(reading)]
-fn signed(
+fn sign_expr(
     alloc: Global,
     inner: usize,
     sign: Sign,
     tokens: &[Spanned],
 ) -> Result<Reading<'_>, Stop<Unread>>
-    requires { inner < 64 }
-    ensures value { Gives (λ x. (x.tree, kinds x.rest.now)) result (read.signed (read.expr_at inner) sign (kinds tokens.now)) }
+    requires { inner < max_depth }
+    ensures value { Gives (λ x. (x.tree, kinds x.rest.now)) result
+        (read.sign_expr (read.expr_at inner) sign (kinds tokens.now)) }
     ensures depth { IfOk result (λ x. x.depth ≡ spell.depth x.tree) }
     ensures within { IfOk result (λ x. x.depth ≤ inner + 1) }
 {
     match sign {
-        Sign::OpenParen => paren(alloc, inner, tokens),
-        Sign::Minus => unary(alloc, inner, UnOp::Neg, tokens),
-        Sign::Tilde => unary(alloc, inner, UnOp::Not, tokens),
-        Sign::Not => unary(alloc, inner, UnOp::LNot, tokens),
+        Sign::OpenParen => paren_expr(alloc, inner, tokens),
+        Sign::Minus => unary_expr(alloc, inner, UnOp::Neg, tokens),
+        Sign::Tilde => unary_expr(alloc, inner, UnOp::Not, tokens),
+        Sign::Not => unary_expr(alloc, inner, UnOp::LNot, tokens),
         _ => Err(Stop::Refused(Unread)),
     }
 }
 
 /// An expression up to its first operator between two operands.
 #[cycle(reading)]
-#[tactic(auto, unfolding(crate::specs::ReadExpr::prefix))]
+#[tactic(auto, unfolding(crate::specs::steps::ReadExpr::prefix))]
 fn prefix(alloc: Global, inner: usize, tokens: &[Spanned]) -> Result<Reading<'_>, Stop<Unread>>
-    requires { inner < 64 }
-    ensures value { Gives (λ x. (x.tree, kinds x.rest.now)) result (read.prefix (read.expr_at inner) (kinds tokens.now)) }
+    requires { inner < max_depth }
+    ensures value { Gives (λ x. (x.tree, kinds x.rest.now)) result
+        (read.prefix (read.expr_at inner) (kinds tokens.now)) }
     ensures depth { IfOk result (λ x. x.depth ≡ spell.depth x.tree) }
     ensures within { IfOk result (λ x. x.depth ≤ inner + 1) }
 {
@@ -345,15 +360,15 @@ fn prefix(alloc: Global, inner: usize, tokens: &[Spanned]) -> Result<Reading<'_>
                 rest,
             })
         }
-        Token::Name(name) => named(alloc, inner, name, rest),
-        Token::Word(word) => worded(alloc, inner, *word, rest),
-        Token::Sign(sign) => signed(alloc, inner, *sign, rest),
+        Token::Name(name) => read_name_expr(alloc, inner, name, rest),
+        Token::Word(word) => word_expr(alloc, inner, *word, rest),
+        Token::Sign(sign) => sign_expr(alloc, inner, *sign, rest),
     }
 }
 
 /// What was read so far, with all operators of at least a level behind it.
 #[cycle(reading)]
-#[tactic(auto, unfolding(crate::specs::ReadExpr::climb))]
+#[tactic(auto, unfolding(crate::specs::steps::ReadExpr::climb))]
 fn climb(
     alloc: Global,
     inner: usize,
@@ -393,8 +408,8 @@ fn climb(
 
 /// An expression of at least a level and at most a depth.
 #[cycle(reading)]
-#[tactic(auto, unfolding(crate::specs::ReadExpr::expr_at))]
-pub fn expr(
+#[tactic(auto, unfolding(crate::specs::steps::ReadExpr::expr_at))]
+pub(crate) fn expr(
     alloc: Global,
     limit: usize,
     least: u8,

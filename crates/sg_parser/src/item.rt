@@ -1,10 +1,11 @@
 //! Items: constants, layouts, kernels and commands.
 
 ghost use Rattle.std.specs.Prelude.{◌≡◌, option_map};
-ghost use Rattle.sg_parser.specs.Steps.{kinds, Gives};
-ghost use Rattle.sg_parser.specs.ReadItem as read;
+ghost use Rattle.sg_ast.specs.Items.{kinds};
+ghost use Rattle.sg_parser.specs.steps.Front.{Gives};
+ghost use Rattle.sg_parser.specs.steps.ReadItem as read;
 
-use crate::command::{read_times, simple_worded};
+use crate::command::{read_times, word_simple};
 use crate::kernel::read_kernel;
 use crate::layout::read_layout;
 use crate::take::{Unread, after_sign, next_name, next_number};
@@ -13,8 +14,8 @@ use sg_words::Stop;
 use std::alloc::Global;
 
 /// The value of a constant, behind its `-` if it has one.
-fn read_value(name: Name, minus: bool, tokens: &[Spanned]) -> Option<(Item, &[Spanned])>
-    ensures { option_map (λ x. (x.0, kinds x.1.now)) result ≡ read.read_value name minus (kinds tokens.now) }
+fn read_const_value(name: Name, minus: bool, tokens: &[Spanned]) -> Option<(Item, &[Spanned])>
+    ensures { option_map (λ x. (x.0, kinds x.1.now)) result ≡ read.read_const_value name minus (kinds tokens.now) }
 {
     let Some(((value, unsigned), behind)) = next_number(tokens) else {
         return None;
@@ -32,7 +33,7 @@ fn read_value(name: Name, minus: bool, tokens: &[Spanned]) -> Option<(Item, &[Sp
 }
 
 /// `const NAME = -NUMBER;`, behind its word.
-#[tactic(auto, unfolding(crate::specs::ReadItem::read_const))]
+#[tactic(auto, unfolding(crate::specs::steps::ReadItem::read_const))]
 fn read_const(alloc: Global, tokens: &[Spanned]) -> Result<(Item, &[Spanned]), Stop<Unread>>
     ensures { Gives (λ x. (x.0, kinds x.1.now)) result (read.read_const (kinds tokens.now)) }
 {
@@ -41,11 +42,11 @@ fn read_const(alloc: Global, tokens: &[Spanned]) -> Result<(Item, &[Spanned]), S
         return Err(Stop::Refused(Unread));
     };
     match after_sign(equal, Sign::Minus) {
-        Some(minus) => match read_value(name, true, minus) {
+        Some(minus) => match read_const_value(name, true, minus) {
             Some(read) => Ok(read),
             None => Err(Stop::Refused(Unread)),
         },
-        None => match read_value(name, false, equal) {
+        None => match read_const_value(name, false, equal) {
             Some(read) => Ok(read),
             None => Err(Stop::Refused(Unread)),
         },
@@ -53,12 +54,12 @@ fn read_const(alloc: Global, tokens: &[Spanned]) -> Result<(Item, &[Spanned]), S
 }
 
 /// An item, behind its first word.
-fn item_worded(
+fn word_item(
     alloc: Global,
     word: Word,
     tokens: &[Spanned],
 ) -> Result<(Item, &[Spanned]), Stop<Unread>>
-    ensures { Gives (λ x. (x.0, kinds x.1.now)) result (read.item_worded word (kinds tokens.now)) }
+    ensures { Gives (λ x. (x.0, kinds x.1.now)) result (read.word_item word (kinds tokens.now)) }
 {
     match word {
         Word::Const => read_const(alloc, tokens),
@@ -69,22 +70,25 @@ fn item_worded(
             Ok((Item::Command(command), rest))
         }
         _ => {
-            let (command, rest) = simple_worded(alloc, word, tokens)?;
+            let (command, rest) = word_simple(alloc, word, tokens)?;
             Ok((Item::Command(command), rest))
         }
     }
 }
 
 /// An item at the front.
-#[tactic(auto, unfolding(crate::specs::ReadItem::read_item))]
-pub fn read_item(alloc: Global, tokens: &[Spanned]) -> Result<(Item, &[Spanned]), Stop<Unread>>
+#[tactic(auto, unfolding(crate::specs::steps::ReadItem::read_item))]
+pub(crate) fn read_item(
+    alloc: Global,
+    tokens: &[Spanned],
+) -> Result<(Item, &[Spanned]), Stop<Unread>>
     ensures { Gives (λ x. (x.0, kinds x.1.now)) result (read.read_item (kinds tokens.now)) }
 {
     let [first, rest @ ..] = tokens else {
         return Err(Stop::Refused(Unread));
     };
     match &first.token {
-        Token::Word(word) => item_worded(alloc, *word, rest),
+        Token::Word(word) => word_item(alloc, *word, rest),
         _ => Err(Stop::Refused(Unread)),
     }
 }

@@ -1,12 +1,14 @@
 //! Kernels: their variables and what they go over.
 
 ghost use Rattle.std.specs.Prelude.{◌≡◌};
-ghost use Rattle.sg_parser.specs.Steps.{kinds, Gives, listed};
-ghost use Rattle.sg_parser.specs.ReadStmt as statements;
-ghost use Rattle.sg_parser.specs.ReadItem as read;
+ghost use Rattle.sg_ast.specs.Items.{kinds};
+ghost use Rattle.sg_parser.specs.steps.Front.{Gives};
+ghost use Rattle.sg_parser.specs.steps.ReadStmt as statements;
+ghost use Rattle.sg_parser.specs.steps.ReadItem as read;
 
+use crate::lists::{Front, comma_list};
 use crate::statement::{MAX_NESTING, block, read_range};
-use crate::take::{Unread, after_sign, after_word, next_name, read_names};
+use crate::take::{MOST_AXES, Unread, after_sign, after_word, next_name};
 use sg_ast::{DomainDecl, Item, KernelDecl, Name, RangeDecl, Sign, Spanned, Stmt, Word};
 use sg_words::{Items, Stop};
 use std::alloc::Global;
@@ -22,30 +24,16 @@ fn lone_name(alloc: Global, tokens: &[Spanned]) -> Result<(Name, &[Spanned]), St
     }
 }
 
-/// Ranges, with a comma between each two.
-#[tactic(auto, unfolding(crate::specs::Steps::listed_from))]
-fn read_ranges(
-    alloc: Global,
-    tokens: &[Spanned],
-) -> Result<(Items<RangeDecl>, &[Spanned]), Stop<Unread>>
-    ensures { Gives (λ x. (x.0, kinds x.1.now)) result (listed statements.read_range (kinds tokens.now)) }
-{
-    let mut found = Items::new(alloc);
-    let mut rest = tokens;
-    for _turn in 0..tokens.len() {
-        let (next, end) = read_range(alloc, rest)?;
-        found.push(next)?;
-        rest = end;
-        let Some(behind) = after_sign(rest, Sign::Comma) else {
-            return Ok((found, rest));
-        };
-        rest = behind;
+impl Front for RangeDecl {
+    ghost reader = { statements.read_range };
+
+    fn read(alloc: Global, tokens: &[Spanned]) -> Result<(RangeDecl, &[Spanned]), Stop<Unread>> {
+        read_range(alloc, tokens)
     }
-    Err(Stop::Refused(Unread))
 }
 
 /// What a kernel goes over.
-#[tactic(auto, unfolding(crate::specs::ReadItem::read_domain))]
+#[tactic(auto, unfolding(crate::specs::steps::ReadItem::read_domain))]
 fn read_domain(alloc: Global, tokens: &[Spanned]) -> Result<(DomainDecl, &[Spanned]), Stop<Unread>>
     ensures { Gives (λ x. (x.0, kinds x.1.now)) result (read.read_domain (kinds tokens.now)) }
 {
@@ -53,8 +41,8 @@ fn read_domain(alloc: Global, tokens: &[Spanned]) -> Result<(DomainDecl, &[Spann
         Ok((name, rest)) => Ok((DomainDecl::Layout(name), rest)),
         Err(Stop::Memory) => Err(Stop::Memory),
         Err(Stop::Refused(_)) => {
-            let (ranges, rest) = read_ranges(alloc, tokens)?;
-            if ranges.len() > 3 {
+            let (ranges, rest) = comma_list(alloc, tokens)?;
+            if ranges.len() > MOST_AXES {
                 return Err(Stop::Refused(Unread));
             }
             Ok((DomainDecl::Ranges(ranges), rest))
@@ -63,7 +51,7 @@ fn read_domain(alloc: Global, tokens: &[Spanned]) -> Result<(DomainDecl, &[Spann
 }
 
 /// `NAME { for VARIABLES in`, behind the word `kernel`.
-#[tactic(auto, unfolding(crate::specs::ReadItem::kernel_head))]
+#[tactic(auto, unfolding(crate::specs::steps::ReadItem::kernel_head))]
 fn kernel_head(
     alloc: Global,
     tokens: &[Spanned],
@@ -77,7 +65,7 @@ fn kernel_head(
     let Some(behind) = after_word(brace, Word::For) else {
         return Err(Stop::Refused(Unread));
     };
-    let (vars, end) = read_names(alloc, behind)?;
+    let (vars, end) = comma_list(alloc, behind)?;
     let Some(rest) = after_word(end, Word::In) else {
         return Err(Stop::Refused(Unread));
     };
@@ -85,7 +73,7 @@ fn kernel_head(
 }
 
 /// `DOMAIN BLOCK }`.
-#[tactic(auto, unfolding(crate::specs::ReadItem::kernel_loop))]
+#[tactic(auto, unfolding(crate::specs::steps::ReadItem::kernel_loop))]
 fn kernel_loop(
     alloc: Global,
     tokens: &[Spanned],
@@ -101,13 +89,16 @@ fn kernel_loop(
 }
 
 /// `kernel NAME { for VARIABLES in DOMAIN BLOCK }`, behind its word.
-#[tactic(auto, unfolding(crate::specs::ReadItem::read_kernel))]
-pub fn read_kernel(alloc: Global, tokens: &[Spanned]) -> Result<(Item, &[Spanned]), Stop<Unread>>
+#[tactic(auto, unfolding(crate::specs::steps::ReadItem::read_kernel))]
+pub(crate) fn read_kernel(
+    alloc: Global,
+    tokens: &[Spanned],
+) -> Result<(Item, &[Spanned]), Stop<Unread>>
     ensures { Gives (λ x. (x.0, kinds x.1.now)) result (read.read_kernel (kinds tokens.now)) }
 {
     let (name, vars, behind) = kernel_head(alloc, tokens)?;
     let (domain, body, rest) = kernel_loop(alloc, behind)?;
-    if vars.len() > 3 {
+    if vars.len() > MOST_AXES {
         return Err(Stop::Refused(Unread));
     }
     let kernel = KernelDecl {

@@ -2,18 +2,24 @@
 
 ghost use Rattle.std.specs.Prelude.{◌≡◌, ◌&&◌, nat_le, option_map};
 ghost use Rattle.sg_ast.specs.declared.token.Sign.TheVariants as s;
-ghost use Rattle.sg_parser.specs.Steps.{kinds, Gives, listed, repeated};
-ghost use Rattle.sg_parser.specs.Steps as steps;
-ghost use Rattle.sg_parser.specs.ReadItem as read;
+ghost use Rattle.sg_ast.specs.Limits.{most_listed_axes, most_listed_nodes};
+ghost use Rattle.sg_ast.specs.Items.{kinds};
+ghost use Rattle.sg_parser.specs.steps.Front.{Gives};
+ghost use Rattle.sg_parser.specs.steps.Front as steps;
+ghost use Rattle.sg_parser.specs.steps.ReadItem as read;
 
+use crate::lists::{Front, Listed, comma_list, list_to_end};
 use crate::names;
-use crate::take::{Unread, after_sign, after_word, is_number, next_name, read_names};
+use crate::take::{MOST_AXES, Unread, after_sign, after_word, is_number, next_name};
 use sg_ast::{
     AxisDecl, FieldDecl, Item, LayoutDecl, Name, NodeDecl, NodeKind, Sign, SizeDecl, Spanned,
     Token, Word,
 };
 use sg_words::{Items, Stop, Ty};
 use std::alloc::Global;
+
+/// The most nodes of a layout.
+const MOST_NODES: usize = 6;
 
 /// A number without `u`, or a name, and what follows it.
 fn next_size(alloc: Global, tokens: &[Spanned]) -> Result<(SizeDecl, &[Spanned]), Stop<Unread>>
@@ -33,7 +39,7 @@ fn next_size(alloc: Global, tokens: &[Spanned]) -> Result<(SizeDecl, &[Spanned])
 }
 
 /// `NAME: SIZE`.
-#[tactic(auto, unfolding(crate::specs::ReadItem::read_axis))]
+#[tactic(auto, unfolding(crate::specs::steps::ReadItem::read_axis))]
 fn read_axis(alloc: Global, tokens: &[Spanned]) -> Result<(AxisDecl, &[Spanned]), Stop<Unread>>
     ensures { Gives (λ x. (x.0, kinds x.1.now)) result (read.read_axis (kinds tokens.now)) }
 {
@@ -43,28 +49,6 @@ fn read_axis(alloc: Global, tokens: &[Spanned]) -> Result<(AxisDecl, &[Spanned])
     };
     let (size, rest) = next_size(alloc, colon)?;
     Ok((AxisDecl { name, size }, rest))
-}
-
-/// Axes, with a comma between each two.
-#[tactic(auto, unfolding(crate::specs::Steps::listed_from))]
-fn read_axes(
-    alloc: Global,
-    tokens: &[Spanned],
-) -> Result<(Items<AxisDecl>, &[Spanned]), Stop<Unread>>
-    ensures { Gives (λ x. (x.0, kinds x.1.now)) result (listed read.read_axis (kinds tokens.now)) }
-{
-    let mut found = Items::new(alloc);
-    let mut rest = tokens;
-    for _turn in 0..tokens.len() {
-        let (next, end) = read_axis(alloc, rest)?;
-        found.push(next)?;
-        rest = end;
-        let Some(behind) = after_sign(rest, Sign::Comma) else {
-            return Ok((found, rest));
-        };
-        rest = behind;
-    }
-    Err(Stop::Refused(Unread))
 }
 
 /// The kind of node that a word begins.
@@ -135,7 +119,7 @@ fn next_bound(
 }
 
 /// `KIND(AXES)`.
-#[tactic(auto, unfolding(crate::specs::ReadItem::node_head))]
+#[tactic(auto, unfolding(crate::specs::steps::ReadItem::node_head))]
 fn node_head(
     alloc: Global,
     tokens: &[Spanned],
@@ -148,7 +132,7 @@ fn node_head(
     let Some(behind) = after_sign(start, Sign::OpenParen) else {
         return Err(Stop::Refused(Unread));
     };
-    let (axes, end) = read_axes(alloc, behind)?;
+    let (axes, end) = comma_list(alloc, behind)?;
     let Some(rest) = after_sign(end, Sign::CloseParen) else {
         return Err(Stop::Refused(Unread));
     };
@@ -156,13 +140,13 @@ fn node_head(
 }
 
 /// `chunk SIZE cap SIZE;`, as the kind has them.
-#[tactic(auto, unfolding(crate::specs::ReadItem::node_bounds))]
-fn node_bounds(
+#[tactic(auto, unfolding(crate::specs::steps::ReadItem::read_bounds))]
+fn read_bounds(
     alloc: Global,
     kind: NodeKind,
     tokens: &[Spanned],
 ) -> Result<(Option<SizeDecl>, Option<SizeDecl>, &[Spanned]), Stop<Unread>>
-    ensures { Gives (λ x. (x.0, x.1, kinds x.2.now)) result (read.node_bounds kind (kinds tokens.now)) }
+    ensures { Gives (λ x. (x.0, x.1, kinds x.2.now)) result (read.read_bounds kind (kinds tokens.now)) }
 {
     let (chunk, behind) = next_bound(alloc, Word::Chunk, has_chunk(kind), tokens)?;
     let (cap, end) = next_bound(alloc, Word::Cap, has_cap(kind), behind)?;
@@ -173,13 +157,13 @@ fn node_bounds(
 }
 
 /// `KIND(AXES) chunk SIZE cap SIZE;`.
-#[tactic(auto, unfolding(crate::specs::ReadItem::read_node))]
+#[tactic(auto, unfolding(crate::specs::steps::ReadItem::read_node))]
 fn read_node(alloc: Global, tokens: &[Spanned]) -> Result<(NodeDecl, &[Spanned]), Stop<Unread>>
     ensures { Gives (λ x. (x.0, kinds x.1.now)) result (read.read_node (kinds tokens.now)) }
 {
     let (kind, axes, behind) = node_head(alloc, tokens)?;
-    let (chunk, cap, rest) = node_bounds(alloc, kind, behind)?;
-    if axes.len() > 3 {
+    let (chunk, cap, rest) = read_bounds(alloc, kind, behind)?;
+    if axes.len() > MOST_AXES {
         return Err(Stop::Refused(Unread));
     }
     let node = NodeDecl {
@@ -206,7 +190,7 @@ fn next_ty(tokens: &[Spanned]) -> Option<(Ty, &[Spanned])>
 }
 
 /// `field NAME: TYPE;`.
-#[tactic(auto, unfolding(crate::specs::ReadItem::read_field))]
+#[tactic(auto, unfolding(crate::specs::steps::ReadItem::read_field))]
 fn read_field(alloc: Global, tokens: &[Spanned]) -> Result<(FieldDecl, &[Spanned]), Stop<Unread>>
     ensures { Gives (λ x. (x.0, kinds x.1.now)) result (read.read_field (kinds tokens.now)) }
 {
@@ -226,51 +210,53 @@ fn read_field(alloc: Global, tokens: &[Spanned]) -> Result<(FieldDecl, &[Spanned
     Ok((FieldDecl { name, ty }, rest))
 }
 
-/// Nodes, up to the first field.
-#[tactic(auto, unfolding(crate::specs::Steps::repeated_from))]
-fn read_nodes(
-    alloc: Global,
-    tokens: &[Spanned],
-) -> Result<(Items<NodeDecl>, &[Spanned]), Stop<Unread>>
-    ensures { Gives (λ x. (x.0, kinds x.1.now)) result (repeated read.before_field read.read_node (kinds tokens.now)) }
-{
-    let mut found = Items::new(alloc);
-    let mut rest = tokens;
-    for _turn in 0..tokens.len() {
-        if let Some(_field) = after_word(rest, Word::Field) {
-            return Ok((found, rest));
-        }
-        let (next, behind) = read_node(alloc, rest)?;
-        found.push(next)?;
-        rest = behind;
+impl Front for AxisDecl {
+    ghost reader = { read.read_axis };
+
+    fn read(alloc: Global, tokens: &[Spanned]) -> Result<(AxisDecl, &[Spanned]), Stop<Unread>> {
+        read_axis(alloc, tokens)
     }
-    Err(Stop::Refused(Unread))
 }
 
-/// Fields, up to the `}` behind them.
-#[tactic(auto, unfolding(crate::specs::Steps::repeated_from))]
-fn read_fields(
-    alloc: Global,
-    tokens: &[Spanned],
-) -> Result<(Items<FieldDecl>, &[Spanned]), Stop<Unread>>
-    ensures { Gives (λ x. (x.0, kinds x.1.now)) result
-        (repeated (steps.after_sign s.CloseBrace) read.read_field (kinds tokens.now)) }
-{
-    let mut found = Items::new(alloc);
-    let mut rest = tokens;
-    for _turn in 0..tokens.len() {
-        if let Some(end) = after_sign(rest, Sign::CloseBrace) {
-            return Ok((found, end));
-        }
-        let (next, behind) = read_field(alloc, rest)?;
-        found.push(next)?;
-        rest = behind;
+impl Front for NodeDecl {
+    ghost reader = { read.read_node };
+
+    fn read(alloc: Global, tokens: &[Spanned]) -> Result<(NodeDecl, &[Spanned]), Stop<Unread>> {
+        read_node(alloc, tokens)
     }
-    Err(Stop::Refused(Unread))
+}
+
+/// Nodes stand up to the first field, which is left there.
+impl Listed for NodeDecl {
+    ghost end = { read.before_field };
+
+    fn end(tokens: &[Spanned]) -> Option<&[Spanned]> {
+        match after_word(tokens, Word::Field) {
+            Some(_field) => Some(tokens),
+            None => None,
+        }
+    }
+}
+
+impl Front for FieldDecl {
+    ghost reader = { read.read_field };
+
+    fn read(alloc: Global, tokens: &[Spanned]) -> Result<(FieldDecl, &[Spanned]), Stop<Unread>> {
+        read_field(alloc, tokens)
+    }
+}
+
+/// Fields stand up to the `}` behind them.
+impl Listed for FieldDecl {
+    ghost end = { steps.after_sign s.CloseBrace };
+
+    fn end(tokens: &[Spanned]) -> Option<&[Spanned]> {
+        after_sign(tokens, Sign::CloseBrace)
+    }
 }
 
 /// `NAME(AXES) {`, behind the word `layout`.
-#[tactic(auto, unfolding(crate::specs::ReadItem::layout_head))]
+#[tactic(auto, unfolding(crate::specs::steps::ReadItem::layout_head))]
 fn layout_head(
     alloc: Global,
     tokens: &[Spanned],
@@ -281,7 +267,7 @@ fn layout_head(
     let Some(behind) = after_sign(start, Sign::OpenParen) else {
         return Err(Stop::Refused(Unread));
     };
-    let (axes, end) = read_names(alloc, behind)?;
+    let (axes, end) = comma_list(alloc, behind)?;
     let Some(close) = after_sign(end, Sign::CloseParen) else {
         return Err(Stop::Refused(Unread));
     };
@@ -292,21 +278,24 @@ fn layout_head(
 }
 
 /// `NODES FIELDS }`.
-#[tactic(auto, unfolding(crate::specs::ReadItem::layout_body))]
+#[tactic(auto, unfolding(crate::specs::steps::ReadItem::layout_body))]
 fn layout_body(
     alloc: Global,
     tokens: &[Spanned],
 ) -> Result<(Items<NodeDecl>, Items<FieldDecl>, &[Spanned]), Stop<Unread>>
     ensures { Gives (λ x. (x.0, x.1, kinds x.2.now)) result (read.layout_body (kinds tokens.now)) }
 {
-    let (nodes, behind) = read_nodes(alloc, tokens)?;
-    let (fields, rest) = read_fields(alloc, behind)?;
+    let (nodes, behind) = list_to_end(alloc, tokens)?;
+    let (fields, rest) = list_to_end(alloc, behind)?;
     Ok((nodes, fields, rest))
 }
 
 /// `layout NAME(AXES) { NODES FIELDS }`, behind its word.
-#[tactic(auto, unfolding(crate::specs::ReadItem::read_layout))]
-pub fn read_layout(alloc: Global, tokens: &[Spanned]) -> Result<(Item, &[Spanned]), Stop<Unread>>
+#[tactic(auto, unfolding(crate::specs::steps::ReadItem::read_layout))]
+pub(crate) fn read_layout(
+    alloc: Global,
+    tokens: &[Spanned],
+) -> Result<(Item, &[Spanned]), Stop<Unread>>
     ensures { Gives (λ x. (x.0, kinds x.1.now)) result (read.read_layout (kinds tokens.now)) }
 {
     let (name, axes, behind) = layout_head(alloc, tokens)?;
@@ -325,7 +314,7 @@ pub fn read_layout(alloc: Global, tokens: &[Spanned]) -> Result<(Item, &[Spanned
 
 /// Whether a layout has at most so many axes, so many nodes, and a field at least.
 fn counts_hold(axes: usize, nodes: usize, fields: usize) -> bool
-    ensures { result ≡ (nat_le axes 3 && ((nat_le 1 nodes && nat_le nodes 6) && nat_le 1 fields)) }
+    ensures { result ≡ (nat_le axes most_listed_axes && ((nat_le 1 nodes && nat_le nodes most_listed_nodes) && nat_le 1 fields)) }
 {
-    axes <= 3 && 1 <= nodes && nodes <= 6 && 1 <= fields
+    axes <= MOST_AXES && 1 <= nodes && nodes <= MOST_NODES && 1 <= fields
 }

@@ -7,15 +7,10 @@ mod item;
 mod kernel;
 pub mod laws;
 mod layout;
+mod lists;
 mod names;
 pub mod program;
-#[cfg(test)]
-mod refusals;
-#[cfg(test)]
-mod spelled;
 mod statement;
 mod take;
-#[cfg(test)]
-mod tests;
 
 pub use program::{ParseFault, parse};

@@ -45,7 +45,7 @@ const RESERVED: [&[u8]; 33] = [
 ];
 
 /// How many bytes a name has at most.
-const LONGEST: usize = 32;
+const NAME_BYTES: usize = 32;
 
 fn begins_name(byte: u8) -> bool
     ensures { result ≡ spec.begins_name byte }
@@ -84,9 +84,9 @@ fn is_reserved(text: &[u8]) -> bool
 
 /// Whether the bytes are those of a name: of its form, not too long, and no reserved word.
 #[tactic(auto, unfolding(sg_ast::specs::Token::is_name))]
-pub fn is_name(name: &Name) -> bool
+pub(crate) fn is_name(name: &Name) -> bool
     ensures { result ≡ spec.is_name name.now }
 {
     let text = name.text.as_slice();
-    is_name_form(text) && text.len() <= LONGEST && !is_reserved(text)
+    is_name_form(text) && text.len() <= NAME_BYTES && !is_reserved(text)
 }

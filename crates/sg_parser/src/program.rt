@@ -2,8 +2,11 @@
 
 ghost use Rattle.std.specs.Prelude.{◌≡◌, ◌≤◌, ◌<◌, length, drop, IfOk};
 ghost use Rattle.sg_words.specs.Answers.{Answers};
-ghost use Rattle.sg_parser.specs.Steps.{kinds, Gives};
-ghost use Rattle.sg_parser.specs.Parsed.{counted, parsed};
+ghost use Rattle.sg_ast.specs.Items.{kinds};
+ghost use Rattle.sg_ast.specs.Limits.{most_tokens};
+ghost use Rattle.sg_parser.specs.steps.Front.{Gives};
+ghost use Rattle.sg_parser.specs.Parsed.{program_of};
+ghost use Rattle.sg_parser.specs.steps.Counted.{counted_item};
 
 use crate::item::read_item;
 use crate::take::Unread;
@@ -19,7 +22,7 @@ pub enum ParseFault {
 
 /// The item at the front, and how many tokens it has.
 fn front_item(alloc: Global, tokens: &[Spanned]) -> Result<(Item, usize), Stop<Unread>>
-    ensures value { Gives (λ x. x) result (counted (kinds tokens.now)) }
+    ensures value { Gives (λ x. x) result (counted_item (kinds tokens.now)) }
     ensures some { IfOk result (λ x. 0 < x.1) }
     ensures within { IfOk result (λ x. x.1 ≤ length tokens.now) }
 {
@@ -41,8 +44,8 @@ fn behind(tokens: &[Spanned], taken: usize) -> &[Spanned]
 ///
 /// `Syntax` where an item spells none: the first such item. `Stop::Memory` where memory runs out.
 pub fn parse(alloc: Global, tokens: &Tokens) -> Result<Program, Stop<ParseFault>>
-    requires { length tokens.now.list ≤ 16384 }
-    ensures { Answers result (parsed tokens.now.list) }
+    requires { length tokens.now.list ≤ most_tokens }
+    ensures { Answers result (program_of tokens.now.list) }
 {
     let mut items = Items::new(alloc);
     let mut lines = Items::new(alloc);

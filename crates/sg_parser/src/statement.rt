@@ -2,12 +2,13 @@
 
 ghost use Rattle.std.specs.Prelude.{◌≡◌, option_map};
 ghost use Rattle.sg_ast.specs.declared.token.Sign.TheVariants as s;
-ghost use Rattle.sg_parser.specs.Steps.{kinds, Gives, repeated};
-ghost use Rattle.sg_parser.specs.Steps as steps;
-ghost use Rattle.sg_parser.specs.ReadExpr as expressions;
-ghost use Rattle.sg_parser.specs.ReadStmt as read;
+ghost use Rattle.sg_ast.specs.Items.{kinds};
+ghost use Rattle.sg_parser.specs.steps.Front.{Gives, list_to_end};
+ghost use Rattle.sg_parser.specs.steps.Front as steps;
+ghost use Rattle.sg_parser.specs.steps.ReadExpr as expressions;
+ghost use Rattle.sg_parser.specs.steps.ReadStmt as read;
 
-use crate::expression::{expr, indices};
+use crate::expression::{expr, read_indices};
 use crate::names;
 use crate::take::{Unread, after_sign, after_word, next_name};
 use sg_ast::{Expr, Name, RangeDecl, Sign, Spanned, Stmt, Token, WayDecl, Word};
@@ -18,7 +19,7 @@ use std::alloc::Global;
 const MAX_DEPTH: usize = 64;
 
 /// How deep blocks may nest, that of a kernel's loop counted.
-pub const MAX_NESTING: usize = 16;
+pub(crate) const MAX_NESTING: usize = 16;
 
 /// An expression of the grammar.
 fn read_expr(alloc: Global, tokens: &[Spanned]) -> Result<(Expr, &[Spanned]), Stop<Unread>>
@@ -29,8 +30,8 @@ fn read_expr(alloc: Global, tokens: &[Spanned]) -> Result<(Expr, &[Spanned]), St
 }
 
 /// `LO..HI`.
-#[tactic(auto, unfolding(crate::specs::ReadStmt::read_range))]
-pub fn read_range(
+#[tactic(auto, unfolding(crate::specs::steps::ReadStmt::read_range))]
+pub(crate) fn read_range(
     alloc: Global,
     tokens: &[Spanned],
 ) -> Result<(RangeDecl, &[Spanned]), Stop<Unread>>
@@ -45,9 +46,9 @@ pub fn read_range(
 }
 
 /// An expression and `;`.
-#[tactic(auto, unfolding(crate::specs::ReadStmt::ended))]
-fn ended(alloc: Global, tokens: &[Spanned]) -> Result<(Expr, &[Spanned]), Stop<Unread>>
-    ensures { Gives (λ x. (x.0, kinds x.1.now)) result (read.ended (kinds tokens.now)) }
+#[tactic(auto, unfolding(crate::specs::steps::ReadStmt::value_to_end))]
+fn value_to_end(alloc: Global, tokens: &[Spanned]) -> Result<(Expr, &[Spanned]), Stop<Unread>>
+    ensures { Gives (λ x. (x.0, kinds x.1.now)) result (read.value_to_end (kinds tokens.now)) }
 {
     let (value, behind) = read_expr(alloc, tokens)?;
     let Some(rest) = after_sign(behind, Sign::Semicolon) else {
@@ -57,14 +58,14 @@ fn ended(alloc: Global, tokens: &[Spanned]) -> Result<(Expr, &[Spanned]), Stop<U
 }
 
 /// `= VALUE ;`.
-#[tactic(auto, unfolding(crate::specs::ReadStmt::assigned))]
-fn assigned(alloc: Global, tokens: &[Spanned]) -> Result<(Expr, &[Spanned]), Stop<Unread>>
-    ensures { Gives (λ x. (x.0, kinds x.1.now)) result (read.assigned (kinds tokens.now)) }
+#[tactic(auto, unfolding(crate::specs::steps::ReadStmt::assigned_value))]
+fn assigned_value(alloc: Global, tokens: &[Spanned]) -> Result<(Expr, &[Spanned]), Stop<Unread>>
+    ensures { Gives (λ x. (x.0, kinds x.1.now)) result (read.assigned_value (kinds tokens.now)) }
 {
     let Some(equal) = after_sign(tokens, Sign::Equal) else {
         return Err(Stop::Refused(Unread));
     };
-    ended(alloc, equal)
+    value_to_end(alloc, equal)
 }
 
 /// `=` behind the word `min` or `max`, and what follows it.
@@ -94,17 +95,17 @@ fn next_way(tokens: &[Spanned]) -> Option<(WayDecl, &[Spanned])>
 }
 
 /// `let NAME = VALUE;`, behind its word.
-#[tactic(auto, unfolding(crate::specs::ReadStmt::read_let))]
+#[tactic(auto, unfolding(crate::specs::steps::ReadStmt::read_let))]
 fn read_let(alloc: Global, tokens: &[Spanned]) -> Result<(Stmt, &[Spanned]), Stop<Unread>>
     ensures { Gives (λ x. (x.0, kinds x.1.now)) result (read.read_let (kinds tokens.now)) }
 {
     let (name, behind) = next_name(alloc, tokens)?;
-    let (value, rest) = assigned(alloc, behind)?;
+    let (value, rest) = assigned_value(alloc, behind)?;
     Ok((Stmt::Let { name, value }, rest))
 }
 
 /// A write, behind the `[` of its access.
-#[tactic(auto, unfolding(crate::specs::ReadStmt::read_write))]
+#[tactic(auto, unfolding(crate::specs::steps::ReadStmt::read_write))]
 fn read_write(
     alloc: Global,
     field: Name,
@@ -112,11 +113,11 @@ fn read_write(
 ) -> Result<(Stmt, &[Spanned]), Stop<Unread>>
     ensures { Gives (λ x. (x.0, kinds x.1.now)) result (read.read_write field (kinds tokens.now)) }
 {
-    let index = indices(alloc, MAX_DEPTH, tokens)?;
+    let index = read_indices(alloc, MAX_DEPTH, tokens)?;
     let Some((way, behind)) = next_way(index.rest) else {
         return Err(Stop::Refused(Unread));
     };
-    let (value, rest) = ended(alloc, behind)?;
+    let (value, rest) = value_to_end(alloc, behind)?;
     Ok((
         Stmt::Write {
             field,
@@ -129,27 +130,27 @@ fn read_write(
 }
 
 /// What a name begins: a write, or an assignment.
-#[tactic(auto, unfolding(crate::specs::ReadStmt::placed))]
-fn placed<'a>(
+#[tactic(auto, unfolding(crate::specs::steps::ReadStmt::assign_or_write))]
+fn assign_or_write<'a>(
     alloc: Global,
     name: &Name,
     tokens: &'a [Spanned],
 ) -> Result<(Stmt, &'a [Spanned]), Stop<Unread>>
-    ensures { Gives (λ x. (x.0, kinds x.1.now)) result (read.placed name.now (kinds tokens.now)) }
+    ensures { Gives (λ x. (x.0, kinds x.1.now)) result (read.assign_or_write name.now (kinds tokens.now)) }
 {
     if !names::is_name(name) {
         return Err(Stop::Refused(Unread));
     }
     let own = name.copy(alloc)?;
     let Some(behind) = after_sign(tokens, Sign::OpenBracket) else {
-        let (value, rest) = assigned(alloc, tokens)?;
+        let (value, rest) = assigned_value(alloc, tokens)?;
         return Ok((Stmt::Assign { name: own, value }, rest));
     };
     read_write(alloc, own, behind)
 }
 
 /// `NAME in LO..HI`, behind the word `for`.
-#[tactic(auto, unfolding(crate::specs::ReadStmt::for_head))]
+#[tactic(auto, unfolding(crate::specs::steps::ReadStmt::for_head))]
 fn for_head(
     alloc: Global,
     tokens: &[Spanned],
@@ -166,7 +167,7 @@ fn for_head(
 
 /// `if CONDITION BLOCK else BLOCK`, behind its word.
 #[cycle(blocks)]
-#[tactic(auto, unfolding(crate::specs::ReadStmt::read_if))]
+#[tactic(auto, unfolding(crate::specs::steps::ReadStmt::read_if))]
 fn read_if(
     alloc: Global,
     inner: usize,
@@ -199,7 +200,7 @@ fn read_if(
 
 /// `for NAME in LO..HI BLOCK`, behind its word.
 #[cycle(blocks)]
-#[tactic(auto, unfolding(crate::specs::ReadStmt::read_for))]
+#[tactic(auto, unfolding(crate::specs::steps::ReadStmt::read_for))]
 fn read_for(
     alloc: Global,
     inner: usize,
@@ -214,7 +215,7 @@ fn read_for(
 
 /// A statement.
 #[cycle(blocks)]
-#[tactic(auto, unfolding(crate::specs::ReadStmt::statement))]
+#[tactic(auto, unfolding(crate::specs::steps::ReadStmt::statement))]
 fn statement(
     alloc: Global,
     inner: usize,
@@ -226,7 +227,7 @@ fn statement(
         return Err(Stop::Refused(Unread));
     };
     match &first.token {
-        Token::Name(name) => placed(alloc, name, rest),
+        Token::Name(name) => assign_or_write(alloc, name, rest),
         Token::Word(Word::Let) => read_let(alloc, rest),
         Token::Word(Word::If) => read_if(alloc, inner, rest),
         Token::Word(Word::For) => read_for(alloc, inner, rest),
@@ -236,14 +237,14 @@ fn statement(
 
 /// The statements of a block, behind its `{`, up to its `}`.
 #[cycle(blocks)]
-#[tactic(auto, unfolding(crate::specs::Steps::repeated_from))]
+#[tactic(auto, unfolding(crate::specs::steps::Front::list_to_end_from))]
 fn statements(
     alloc: Global,
     inner: usize,
     tokens: &[Spanned],
 ) -> Result<(Items<Stmt>, &[Spanned]), Stop<Unread>>
     ensures { Gives (λ x. (x.0, kinds x.1.now)) result
-        (repeated (steps.after_sign s.CloseBrace) (read.statement (read.block_at inner)) (kinds tokens.now)) }
+        (list_to_end (steps.after_sign s.CloseBrace) (read.statement (read.block_at inner)) (kinds tokens.now)) }
 {
     let mut found = Items::new(alloc);
     let mut rest = tokens;
@@ -260,8 +261,8 @@ fn statements(
 
 /// A block, where blocks nest at most so deep.
 #[cycle(blocks)]
-#[tactic(auto, unfolding(crate::specs::ReadStmt::block_at))]
-pub fn block(
+#[tactic(auto, unfolding(crate::specs::steps::ReadStmt::block_at))]
+pub(crate) fn block(
     alloc: Global,
     limit: usize,
     tokens: &[Spanned],

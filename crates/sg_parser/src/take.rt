@@ -2,21 +2,23 @@
 
 ghost use Rattle.std.specs.Prelude.{◌≡◌, option_map};
 ghost use Rattle.sg_ast.specs.Token as spec;
-ghost use Rattle.sg_parser.specs.Steps as read;
-ghost use Rattle.sg_parser.specs.Steps.{kinds, Gives, listed};
-ghost use Rattle.sg_parser.specs.ReadItem as numbers;
+ghost use Rattle.sg_parser.specs.steps.Front as read;
+ghost use Rattle.sg_ast.specs.Items.{kinds};
+ghost use Rattle.sg_parser.specs.steps.Front.{Gives};
+ghost use Rattle.sg_parser.specs.steps.ReadItem as numbers;
 
+use crate::lists::Front;
 use crate::names;
 use sg_ast::{Name, Sign, Spanned, Token, Word};
-use sg_words::{BinOp, Items, Stop};
+use sg_words::{BinOp, Stop};
 use std::alloc::Global;
 
 /// The tokens at the front spell nothing of what was asked for.
 #[derive(Clone, Copy)]
-pub struct Unread;
+pub(crate) struct Unread;
 
 /// What follows a sign.
-pub fn after_sign(tokens: &[Spanned], sign: Sign) -> Option<&[Spanned]>
+pub(crate) fn after_sign(tokens: &[Spanned], sign: Sign) -> Option<&[Spanned]>
     ensures { option_map (λ rest. kinds rest.now) result ≡ read.after_sign sign (kinds tokens.now) }
 {
     let [first, rest @ ..] = tokens else {
@@ -29,7 +31,7 @@ pub fn after_sign(tokens: &[Spanned], sign: Sign) -> Option<&[Spanned]>
 }
 
 /// What follows a word.
-pub fn after_word(tokens: &[Spanned], word: Word) -> Option<&[Spanned]>
+pub(crate) fn after_word(tokens: &[Spanned], word: Word) -> Option<&[Spanned]>
     ensures { option_map (λ rest. kinds rest.now) result ≡ read.after_word word (kinds tokens.now) }
 {
     let [first, rest @ ..] = tokens else {
@@ -42,7 +44,10 @@ pub fn after_word(tokens: &[Spanned], word: Word) -> Option<&[Spanned]>
 }
 
 /// A name, and what follows it.
-pub fn next_name(alloc: Global, tokens: &[Spanned]) -> Result<(Name, &[Spanned]), Stop<Unread>>
+pub(crate) fn next_name(
+    alloc: Global,
+    tokens: &[Spanned],
+) -> Result<(Name, &[Spanned]), Stop<Unread>>
     ensures { Gives (λ next. (next.0, kinds next.1.now)) result (read.next_name (kinds tokens.now)) }
 {
     let [first, rest @ ..] = tokens else {
@@ -82,7 +87,7 @@ fn infix_of(sign: Sign) -> Option<BinOp>
 }
 
 /// An operator between two operands, and what follows it.
-pub fn next_op(tokens: &[Spanned]) -> Option<(BinOp, &[Spanned])>
+pub(crate) fn next_op(tokens: &[Spanned]) -> Option<(BinOp, &[Spanned])>
     ensures { option_map (λ next. (next.0, kinds next.1.now)) result ≡ read.next_op (kinds tokens.now) }
 {
     let [first, rest @ ..] = tokens else {
@@ -97,15 +102,21 @@ pub fn next_op(tokens: &[Spanned]) -> Option<(BinOp, &[Spanned])>
     }
 }
 
+/// The greatest number without `u`.
+pub(crate) const MAX_SIGNED: u32 = 2_147_483_648;
+
+/// The most axes of a layout or node, variables of a kernel, and ranges of its box.
+pub(crate) const MOST_AXES: usize = 3;
+
 /// Whether a number is within its limit, which is greater where a `u` stands behind it.
-pub fn is_number(value: u32, unsigned: bool) -> bool
+pub(crate) fn is_number(value: u32, unsigned: bool) -> bool
     ensures { result ≡ spec.is_number value unsigned }
 {
-    unsigned || value <= 2147483648
+    unsigned || value <= MAX_SIGNED
 }
 
 /// A number, whether a `u` stands behind it, and what follows.
-pub fn next_number(tokens: &[Spanned]) -> Option<((u32, bool), &[Spanned])>
+pub(crate) fn next_number(tokens: &[Spanned]) -> Option<((u32, bool), &[Spanned])>
     ensures { option_map (λ x. (x.0, kinds x.1.now)) result ≡ numbers.next_number (kinds tokens.now) }
 {
     let [first, rest @ ..] = tokens else {
@@ -121,7 +132,7 @@ pub fn next_number(tokens: &[Spanned]) -> Option<((u32, bool), &[Spanned])>
 }
 
 /// A number without `u`, and what follows it.
-pub fn next_plain(tokens: &[Spanned]) -> Option<(u32, &[Spanned])>
+pub(crate) fn next_plain(tokens: &[Spanned]) -> Option<(u32, &[Spanned])>
     ensures { option_map (λ x. (x.0, kinds x.1.now)) result ≡ numbers.next_plain (kinds tokens.now) }
 {
     let [first, rest @ ..] = tokens else {
@@ -135,24 +146,10 @@ pub fn next_plain(tokens: &[Spanned]) -> Option<(u32, &[Spanned])>
     }
 }
 
-/// Names, with a comma between each two.
-#[tactic(auto, unfolding(crate::specs::Steps::listed_from))]
-pub fn read_names(
-    alloc: Global,
-    tokens: &[Spanned],
-) -> Result<(Items<Name>, &[Spanned]), Stop<Unread>>
-    ensures { Gives (λ x. (x.0, kinds x.1.now)) result (listed read.next_name (kinds tokens.now)) }
-{
-    let mut found = Items::new(alloc);
-    let mut rest = tokens;
-    for _turn in 0..tokens.len() {
-        let (next, end) = next_name(alloc, rest)?;
-        found.push(next)?;
-        rest = end;
-        let Some(behind) = after_sign(rest, Sign::Comma) else {
-            return Ok((found, rest));
-        };
-        rest = behind;
+impl Front for Name {
+    ghost reader = { read.next_name };
+
+    fn read(alloc: Global, tokens: &[Spanned]) -> Result<(Name, &[Spanned]), Stop<Unread>> {
+        next_name(alloc, tokens)
     }
-    Err(Stop::Refused(Unread))
 }

@@ -1,19 +1,19 @@
 -- The start of a kernel's body: the loop's variables, declared one after the other.
 use Rattle.std.proofs.Common.{◌≡◌, ℕ, zero, suc, ◌+◌, ◌<◌, ◌++◌, Bool, true, false, take, get_or, fold, List, [], ◌∷◌, length, Some, None, refl, sym, ap, ◌∙◌, length-append, arith}
 use Rattle.std.specs.List.{list_any}
-use Rattle.std.proofs.lemmas.Slice.Eq.{bytes_eq-Decides}
 use Rattle.std.proofs.lemmas.Bool.{false_from_ne_true, or_parts, or_from}
 use Rattle.sg_words.specs.declared.operators.Ty.TheVariants as ty
 use Rattle.sg_ast.specs.declared.token.Name.{Name}
-use Rattle.sg_names.specs.Tables.{same_name}
+use Rattle.sg_ast.specs.Token.{same_name}
+use Rattle.sg_ast.proofs.Uses.{same_name-symm}
 use Rattle.sg_names.specs.Names.{has_repeat}
 use Rattle.sg_types.specs.Scopes.{NamedLocal, local_named}
-use Rattle.sg_types.specs.Statements.{Reached, declared}
+use Rattle.sg_types.specs.Statements.{Reached, with_variable}
 use Rattle.sg_types.specs.Programs.{first_reached}
 
 -- a variable of the loop is declared
 abbrev pub one : Reached → Name → Reached
-one at name = declared name ty.I32 true at
+one at name = with_variable name ty.I32 true at
 
 abbrev pub begun : Reached → List Name → Reached
 begun at names = fold one at names
@@ -25,12 +25,6 @@ number_begun at (name ∷ names) = number_begun (one at name) names
 pub length_begun : (at : Reached) (names : List Name) → length (begun at names).types ≡ length at.types + length names
 length_begun at [] = omega arith
 length_begun at (name ∷ names) = omega (arith, length_begun (one at name) names, length-append at.types (ty.I32 ∷ []))
-
-same_name-symmetric : (x y : Name) → same_name x y ≡ false → same_name y x ≡ false
-same_name-symmetric x y h = false_from_ne_true (same_name y x) (λ e.
-    let equal = (bytes_eq-Decides y.text x.text).0 e in
-    let other : same_name x y ≡ true = (bytes_eq-Decides x.text y.text).1 (sym equal) in
-    let clash : true ≡ false = sym other ∙ h in cc)
 
 -- the name isn't among those of a scope
 not_found : (name : Name) (scope : List NamedLocal) (last : NamedLocal) → local_named scope name ≡ None → same_name name last.name ≡ false → local_named (scope ++ last ∷ []) name ≡ None
@@ -61,7 +55,7 @@ earlier_differ (first ∷ names) zero name h is r = refl
 earlier_differ (first ∷ names) (suc i) name h is r =
     let parts = or_parts (list_any (same_name first) names) (has_repeat names) r in
     or_from (same_name name first) (list_any (same_name name) (take i names))
-    (same_name-symmetric first name (none_passes (same_name first) names i name (omega arith) is parts.0))
+    (same_name-symm name first ∙ (none_passes (same_name first) names i name (omega arith) is parts.0))
     (earlier_differ names i name (omega arith) is parts.1)
 
 pub fresh_begun : (names : List Name) (i : ℕ) (name : Name) → i < length names → name ≡ get_or names i name → has_repeat names ≡ false → local_named (first_reached (take i names)).scope name ≡ None

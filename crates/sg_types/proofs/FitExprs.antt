@@ -18,20 +18,21 @@ use Rattle.sg_ast.specs.declared.expr.Expr.TheVariants as e
 use Rattle.sg_names.specs.declared.tables.Constant.{Constant}
 use Rattle.sg_names.specs.declared.tables.FieldAt.{FieldAt}
 use Rattle.sg_names.specs.declared.tables.NamedConstant.{NamedConstant}
-use Rattle.sg_names.specs.Tables.{same_name, field_named, axes_of}
+use Rattle.sg_ast.specs.Token.{same_name}
+use Rattle.sg_names.specs.Tables.{field_named, axes_of}
 use Rattle.sg_types.specs.declared.scope.Local.{Local}
 use Rattle.sg_types.specs.declared.typed.TypedExpr.{TypedExpr}
 use Rattle.sg_types.specs.declared.typed.Form.TheVariants as form
 use Rattle.sg_types.specs.TypeTable.{is_numeric, is_signed, same_ty, bin_ty, un_ty}
-use Rattle.sg_types.specs.Scopes.{Known, NamedLocal, local_named, earlier, named_expr}
-use Rattle.sg_types.specs.Expressions.{typed_expr, counts, field_axes, is_number, number_ty, all_some, un_expr, bin_expr, mulq_expr, convert_expr, call_expr, read_expr, on_one, on_two, on_three, is_signed_expr}
+use Rattle.sg_types.specs.Scopes.{Known, NamedLocal, local_named, earlier_constant, local_or_constant}
+use Rattle.sg_types.specs.Expressions.{typed_expr, counts, field_axes, equals_some, number_ty, all_some, un_expr, bin_expr, mulq_expr, convert_expr, call_expr, access_expr, on_one, on_two, on_three, is_signed_expr}
 use Rattle.sg_types.specs.WellTyped.{Visible, Setting, setting, is_well_typed, is_ty, field_in, axes_in, is_visible, is_local}
 use Rattle.sg_types.specs.Laws.{TablesFit}
 use Rattle.sg_types.proofs.Standing.{find_good}
 use Rattle.sg_types.proofs.Outcomes.{some_same, option_and_then_some, option_map_some, if_some}
 use Rattle.sg_types.proofs.ExprWords.{typed-Number, typed-Truth, typed-Name, typed-Read, typed-Paren, typed-Un, typed-Bin, typed-Call, counts-Read, counts-Paren, counts-Un, counts-Bin, counts-Call}
 use Rattle.sg_types.proofs.FitWords.{fits-Literal, fits-Constant, fits-Var, fits-Read, fits-Paren, fits-Un, fits-Bin, fits-Mulq, fits-Convert}
-use Rattle.sg_types.proofs.ExprInduction.{by_exprs}
+use Rattle.sg_ast.proofs.Uses.{by_exprs}
 
 pub same_ty-same : (given : Ty) → same_ty given given ≡ true
 same_ty-same ty.I32 = refl
@@ -89,27 +90,27 @@ both_all p q (x ∷ xs) h g =
     let gs = and_parts (q x) (list_all q xs) g in
     and_from (p x && q x) (list_all (λ x. p x && q x) xs) (and_from (p x) (q x) hs.0 gs.0) (both_all p q xs hs.1 gs.1)
 
-pub number_of_axes : (found : Option ℕ) (n : ℕ) → is_number found n ≡ true → (m : ℕ) × (found ≡ Some m) × ((m == n) ≡ true)
+pub number_of_axes : (found : Option ℕ) (n : ℕ) → equals_some found n ≡ true → (m : ℕ) × (found ≡ Some m) × ((m == n) ≡ true)
 number_of_axes None n h = let clash : false ≡ true = h in absurd (cc)
 number_of_axes (Some m) n h = (m, refl, h)
 
 module _ (known : Known) (shapes : List Shape) (fit : TablesFit known.tables shapes) where
-  constant_numeric : (name : Name) (constant : Constant) → earlier known name ≡ Some constant → is_numeric constant.ty ≡ true
+  constant_numeric : (name : Name) (constant : Constant) → earlier_constant known name ≡ Some constant → is_numeric constant.ty ≡ true
   constant_numeric name constant h =
       let found = option_map_some (λ (named : NamedConstant). named.constant) (find (λ named. same_name name named.name) (take known.constants known.tables.constants)) constant h in
       ap (λ (it : Constant). is_numeric it.ty) (sym found.2)
       ∙ find_good (λ named. same_name name named.name) (λ named. is_numeric named.constant.ty) (take known.constants known.tables.constants) found.0
       (list_all-take (λ named. is_numeric named.constant.ty) known.constants known.tables.constants fit.constants) found.1
 
-  pub axes_fit : (layout n : ℕ) → is_number (axes_of known.tables layout) n ≡ true → is_number (axes_in shapes layout) n ≡ true
+  pub axes_fit : (layout n : ℕ) → equals_some (axes_of known.tables layout) n ≡ true → equals_some (axes_in shapes layout) n ≡ true
   axes_fit layout n h =
       let found = number_of_axes (axes_of known.tables layout) n h in
-      ap (λ (o : Option ℕ). is_number o n) (fit.axes layout found.0 found.1) ∙ found.2
+      ap (λ (o : Option ℕ). equals_some o n) (fit.axes layout found.0 found.1) ∙ found.2
 
   -- the layout of a field has as many axes
-  pub field_axes_fit : (field : Name) (at : FieldAt) (n : ℕ) → field_named known.tables field ≡ Some at → is_number (field_axes known.tables field) n ≡ true → is_number (axes_in shapes at.layout) n ≡ true
+  pub field_axes_fit : (field : Name) (at : FieldAt) (n : ℕ) → field_named known.tables field ≡ Some at → equals_some (field_axes known.tables field) n ≡ true → equals_some (axes_in shapes at.layout) n ≡ true
   field_axes_fit field at n is h =
-      axes_fit at.layout n (ap (λ (o : Option FieldAt). is_number (option_and_then (λ at. axes_of known.tables at.layout) o) n) (sym is) ∙ h)
+      axes_fit at.layout n (ap (λ (o : Option FieldAt). equals_some (option_and_then (λ at. axes_of known.tables at.layout) o) n) (sym is) ∙ h)
 
   module _ (types : List Ty) (scope : List NamedLocal) (visible : List Visible) (all_seen : AllSeen types visible scope) where
     abbrev at : Setting
@@ -122,9 +123,9 @@ module _ (known : Known) (shapes : List Shape) (fit : TablesFit known.tables sha
     same x typed h g = ap (is_well_typed at) (sym (some_same x typed h)) ∙ g
 
     name_fits : (name : Name) → FitsWell (e.Name name)
-    name_fits name typed h g = go (local_named scope name) refl (earlier known name) refl (sym (typed-Name known scope name) ∙ h)
+    name_fits name typed h g = go (local_named scope name) refl (earlier_constant known name) refl (sym (typed-Name known scope name) ∙ h)
       where
-        go : (local : Option Local) → local_named scope name ≡ local → (constant : Option Constant) → earlier known name ≡ constant → named_expr local constant ≡ Some typed → is_well_typed at typed ≡ true
+        go : (local : Option Local) → local_named scope name ≡ local → (constant : Option Constant) → earlier_constant known name ≡ constant → local_or_constant local constant ≡ Some typed → is_well_typed at typed ≡ true
         go (Some local) p constant q r =
             let sees = found_sees types visible name local scope all_seen p in
             same (record { ty = local.ty; form = form.Var local.var }) typed r
@@ -147,24 +148,24 @@ module _ (known : Known) (shapes : List Shape) (fit : TablesFit known.tables sha
 
     -- indices of I32 that are well typed, as many as the layout has axes
     pub index_fits : (field : Name) (place : FieldAt) (index : List Expr) (typed : List TypedExpr) → field_named known.tables field ≡ Some place
-        → is_number (field_axes known.tables field) (length index) ≡ true → list_all is_signed_expr typed ≡ true → list_all (is_well_typed at) typed ≡ true → length typed ≡ length index
-        → (is_number (axes_in shapes place.layout) (length typed) && list_all (λ part. is_signed part.ty && is_well_typed at part) typed) ≡ true
+        → equals_some (field_axes known.tables field) (length index) ≡ true → list_all is_signed_expr typed ≡ true → list_all (is_well_typed at) typed ≡ true → length typed ≡ length index
+        → (equals_some (axes_in shapes place.layout) (length typed) && list_all (λ part. is_signed part.ty && is_well_typed at part) typed) ≡ true
     index_fits field place index typed is n signed well same_length =
-        and_from (is_number (axes_in shapes place.layout) (length typed)) (list_all (λ part. is_signed part.ty && is_well_typed at part) typed)
-        (field_axes_fit field place (length typed) is (ap (is_number (field_axes known.tables field)) same_length ∙ n))
+        and_from (equals_some (axes_in shapes place.layout) (length typed)) (list_all (λ part. is_signed part.ty && is_well_typed at part) typed)
+        (field_axes_fit field place (length typed) is (ap (equals_some (field_axes known.tables field)) same_length ∙ n))
         (both_all is_signed_expr (is_well_typed at) typed signed well)
 
     read_fits : (field : Name) (index : List Expr) → AllByRecursion FitsWell index → FitsWell (e.Read field index)
     read_fits field index all typed h g =
-        let found = option_and_then_some (λ place. option_and_then (read_expr place) (all_some (map (typed_expr known scope) index))) (field_named known.tables field) typed (sym (typed-Read known scope field index) ∙ h) in
+        let found = option_and_then_some (λ place. option_and_then (access_expr place) (all_some (map (typed_expr known scope) index))) (field_named known.tables field) typed (sym (typed-Read known scope field index) ∙ h) in
         let place = found.0 in
-        let parts = option_and_then_some (read_expr place) (all_some (map (typed_expr known scope) index)) typed found.2 in
+        let parts = option_and_then_some (access_expr place) (all_some (map (typed_expr known scope) index)) typed found.2 in
         let signed = if_some (list_all is_signed_expr parts.0) (record { ty = place.ty; form = form.Read place.layout place.place parts.0 }) typed parts.2 in
-        let counted = and_parts (is_number (field_axes known.tables field) (length index)) (list_all (counts known.tables) index) (sym (counts-Read known.tables field index) ∙ g) in
+        let counted = and_parts (equals_some (field_axes known.tables field) (length index)) (list_all (counts known.tables) index) (sym (counts-Read known.tables field index) ∙ g) in
         let well = all_fit index all parts.0 parts.1 counted.1 in
         ap (is_well_typed at) (sym signed.1)
         ∙ (fits-Read at place.ty place.layout place.place parts.0
-        ∙ and_from (is_ty (field_in shapes place.layout place.place) place.ty) (is_number (axes_in shapes place.layout) (length parts.0) && list_all (λ part. is_signed part.ty && is_well_typed at part) parts.0)
+        ∙ and_from (is_ty (field_in shapes place.layout place.place) place.ty) (equals_some (axes_in shapes place.layout) (length parts.0) && list_all (λ part. is_signed part.ty && is_well_typed at part) parts.0)
         (is_ty-some (field_in shapes place.layout place.place) place.ty (fit.fields field place found.1))
         (index_fits field place index parts.0 found.1 counted.0 signed.0 well.0 well.1))
 

@@ -22,12 +22,14 @@ use Rattle.sg_types.specs.declared.typed.TypedDomain.TheVariants as typed
 use Rattle.sg_types.specs.declared.typed.TypedKernel.{TypedKernel}
 use Rattle.sg_types.specs.declared.typed.Typed.{Typed}
 use Rattle.sg_types.specs.Scopes.{Known}
-use Rattle.sg_types.specs.Expressions.{is_number, all_some}
-use Rattle.sg_types.specs.Statements.{Reached, and_then, fault_at, counts_range, typed_range, in_turn, typed_stmt, typed_block}
-use Rattle.sg_types.specs.Programs.{counts_domain, typed_domain, loop_wrongs, loop_part, first_reached, typed_kernel, with_first, typed_items}
+use Rattle.sg_types.specs.Expressions.{equals_some, all_some}
+use Rattle.sg_types.specs.Statements.{Reached, stmt_fault, counts_range, typed_range, in_turn, typed_stmt, typed_block}
+use Rattle.sg_words.specs.Results.{◌>>=◌}
+use Rattle.sg_types.specs.Programs.{counts_domain, typed_domain, loop_wrongs, loop_part, first_reached, typed_kernel, typed_items}
 use Rattle.sg_types.specs.WellTyped.{Visible, setting, is_ty, is_visible, all_fit, fitting, is_well_typed_range, is_well_typed_domain, loop_scope, is_well_typed_kernel}
 use Rattle.sg_types.specs.Laws.{TablesFit, TypedIsWellTyped}
-use Rattle.sg_types.proofs.Outcomes.{and_then_ok, fault_at_ok, judged_ok, ok_same, option_and_then_some, option_map_some, some_same}
+use Rattle.sg_types.proofs.Outcomes.{then_ok, stmt_fault_ok, judged_ok, ok_same, option_and_then_some, option_map_some, some_same}
+use Rattle.sg_types.proofs.Walk.{kernel_parts}
 use Rattle.sg_types.proofs.Moves.{over_statements}
 use Rattle.sg_types.proofs.Beginnings.{one, begun}
 use Rattle.sg_types.proofs.FitExprs.{is_ty-some, AllSeen, axes_fit}
@@ -101,7 +103,7 @@ module _ (known : Known) (shapes : List Shape) (fit : TablesFit known.tables sha
   domain_fits (domain.Layout name) vars loop h g =
       let found = option_map_some typed.Walk (layout_named known.tables name) loop h in
       ap (is_well_typed_domain shapes vars) (sym found.2)
-      ∙ axes_fit known shapes fit found.0 vars (ap (λ (o : Option ℕ). is_number (option_and_then (axes_of known.tables) o) vars) (sym found.1) ∙ g)
+      ∙ axes_fit known shapes fit found.0 vars (ap (λ (o : Option ℕ). equals_some (option_and_then (axes_of known.tables) o) vars) (sym found.1) ∙ g)
   domain_fits (domain.Ranges ranges) vars loop h g =
       let found = option_map_some typed.Ranges (all_some (map (typed_range known []) ranges)) loop h in
       let parts = and_parts (length ranges == vars) (list_all (counts_range known) ranges) g in
@@ -112,34 +114,22 @@ module _ (known : Known) (shapes : List Shape) (fit : TablesFit known.tables sha
   pub kernel_fits : (decl : KernelDecl) (kernel : TypedKernel) → typed_kernel known decl ≡ Ok kernel → is_well_typed_kernel shapes kernel ≡ true
   kernel_fits decl kernel h =
       let n = length decl.vars in
-      let body = map (typed_stmt known) decl.body in
       let start = first_reached decl.vars in
-      let part = and_then_ok (fault_at known 0 (loop_part known decl))
-      (λ (loop : TypedDomain). and_then (typed_block known decl.body start) (λ d. Ok (record { vars = n; domain = loop; types = d.1.types; body = d.0 }))) kernel h in
-      let loop = part.0 in
-      let says = judged_ok (loop_wrongs known decl) (typed_domain known decl.domain) loop (fault_at_ok known 0 (loop_part known decl) loop part.1) in
-      let block = and_then_ok (typed_block known decl.body start) (λ d. Ok (record { vars = n; domain = loop; types = d.1.types; body = d.0 })) kernel part.2 in
-      let inside = and_then_ok (in_turn body start) (λ d. Ok (d.0, record d.1 { scope = start.scope })) block.0 block.1 in
-      let after : Reached = inside.0.1 in
-      let typed_is : ◌≡◌ {A = List TypedStmt × Reached} (inside.0.0, record after { scope = start.scope }) block.0 = ok_same (inside.0.0, record after { scope = start.scope }) block.0 inside.2 in
-      let kernel_is : ◌≡◌ {A = TypedKernel} (record { vars = n; domain = loop; types = after.types; body = inside.0.0 }) kernel =
-      ap (λ (d : List TypedStmt × Reached). record { vars = n; domain = loop; types = d.1.types; body = d.0 }) typed_is
-      ∙ ok_same (record { vars = n; domain = loop; types = block.0.1.types; body = block.0.0 }) kernel block.2 in
-      let moved = over_statements known decl.body start inside.0.0 after inside.1 in
+      let parts = kernel_parts known decl kernel h in
+      let loop = parts.loop in
+      let says = parts.fits in
+      let after = parts.last in
+      let moved = over_statements known decl.body start parts.body after parts.in_body in
       let types_are : after.types ≡ replicate n ty.I32 ++ moved.new_types = moved.types ∙ ap (λ (xs : List Ty). xs ++ moved.new_types) (begun_types (record { number = 1; types = []; scope = [] }) decl.vars) in
       let each : (k : ℕ) → k < n → slice_get after.types (0 + k) ≡ Some ty.I32 = λ k below. ap (slice_get after.types) (omega arith) ∙ (ap (λ (xs : List Ty). slice_get xs k) types_are ∙ slice_get-replicate n k ty.I32 moved.new_types below) in
       let all = begun_seen after.types (loop_scope 0 n) (record { number = 1; types = []; scope = [] }) decl.vars each (visible_loop 0 n) tt in
-      let body_fits = statements_fit known shapes fit after.types decl.body start inside.0.0 after (loop_scope 0 n) [] inside.1 (sym (append-nil after.types)) all in
-      ap (is_well_typed_kernel shapes) (sym kernel_is)
+      let body_fits = statements_fit known shapes fit after.types decl.body start parts.body after (loop_scope 0 n) [] parts.in_body (sym (append-nil after.types)) all in
+      ap (is_well_typed_kernel shapes) (sym parts.is)
       ∙ and_from (is_well_typed_domain shapes n loop && list_all (λ var. is_ty (slice_get after.types var) ty.I32) (range_with_len 0 n))
-      (all_fit (map (fitting shapes after.types) inside.0.0) (loop_scope 0 n)).0
+      (all_fit (map (fitting shapes after.types) parts.body) (loop_scope 0 n)).0
       (and_from (is_well_typed_domain shapes n loop) (list_all (λ var. is_ty (slice_get after.types var) ty.I32) (range_with_len 0 n))
       (domain_fits decl.domain n loop says.is (not_false (counts_domain known n decl.domain) says.counted))
       (all_from (λ var. is_ty (slice_get after.types var) ty.I32) 0 n (λ k below. is_ty-some (slice_get after.types (0 + k)) ty.I32 (each k below)))) body_fits
-
-with_first_ok : (kernel : TypedKernel) (r : Result (List TypedKernel) TypeFault) (kernels : List TypedKernel) → with_first kernel r ≡ Ok kernels → (more : List TypedKernel) × (r ≡ Ok more) × (kernel ∷ more ≡ kernels)
-with_first_ok kernel (Ok more) kernels h = (more, refl, ok_same (kernel ∷ more) kernels h)
-with_first_ok kernel (Err fault) kernels h = let no_such : ◌≡◌ {A = Result (List TypedKernel) TypeFault} (Err fault) (Ok kernels) = h in absurd (cc)
 
 items_fit : (tables : Tables) (shapes : List Shape) → TablesFit tables shapes → (number constants : ℕ) (items : List Item) (kernels : List TypedKernel) → typed_items tables number constants items ≡ Ok kernels → list_all (is_well_typed_kernel shapes) kernels ≡ true
 items_fit tables shapes fit number constants [] kernels h = ap (list_all (is_well_typed_kernel shapes)) (sym (ok_same [] kernels h))
@@ -147,14 +137,14 @@ items_fit tables shapes fit number constants (item.Const decl ∷ items) kernels
 items_fit tables shapes fit number constants (item.Layout decl ∷ items) kernels h = items_fit tables shapes fit number constants items kernels h
 items_fit tables shapes fit number constants (item.Kernel decl ∷ items) kernels h =
     let known : Known = record { kernel = number; tables = tables; constants = constants } in
-    let one = and_then_ok (typed_kernel known decl) (λ kernel. with_first kernel (typed_items tables (suc number) constants items)) kernels h in
-    let rest = with_first_ok one.0 (typed_items tables (suc number) constants items) kernels one.2 in
-    ap (list_all (is_well_typed_kernel shapes)) (sym rest.2)
+    let one = then_ok (typed_kernel known decl) _ kernels h in
+    let rest = then_ok (typed_items tables (suc number) constants items) _ kernels one.2 in
+    ap (list_all (is_well_typed_kernel shapes)) (sym (ok_same (one.0 ∷ rest.0) kernels rest.2))
     ∙ and_from (is_well_typed_kernel shapes one.0) (list_all (is_well_typed_kernel shapes) rest.0) (kernel_fits known shapes fit decl one.0 one.1) (items_fit tables shapes fit (suc number) constants items rest.0 rest.1)
 items_fit tables shapes fit number constants (item.Command command ∷ items) kernels h = items_fit tables shapes fit number constants items kernels h
 
 pub typed_is_well_typed : TypedIsWellTyped
 typed_is_well_typed tables shapes program given fit h =
-    let done = and_then_ok (typed_items tables 0 0 program.items) (λ kernels. Ok (record { kernels = kernels })) given h in
+    let done = then_ok (typed_items tables 0 0 program.items) (λ kernels. Ok (record { kernels = kernels })) given h in
     ap (λ (t : Typed). list_all (is_well_typed_kernel shapes) t.kernels) (sym (ok_same (record { kernels = done.0 }) given done.2))
     ∙ items_fit tables shapes fit 0 0 program.items done.0 done.1

@@ -23,7 +23,7 @@ use Rattle.sg_types.specs.declared.typed.TypedKind.TheOpen as k
 use Rattle.sg_types.specs.declared.typed.TypedKind.TheOpen.{TypedStmt-F}
 use Rattle.sg_types.specs.declared.typed.TypedStmt.{TypedStmt}
 use Rattle.sg_types.specs.TypeTable.{is_numeric, is_signed, is_truth, same_ty, bin_ty, un_ty}
-use Rattle.sg_types.specs.Expressions.{is_number}
+use Rattle.sg_types.specs.Expressions.{equals_some}
 use Rattle.sg_types.specs.WellTyped.{Visible, Setting, setting, Judged, form_step, is_index, judged_expr, is_well_typed, is_ty, field_in, axes_in, is_visible, is_local, Fitting, all_fit, kind_fits, fitting, is_well_typed_range}
 use Rattle.sg_types.proofs.FoldWords.{fold-expr, fold-stmt}
 
@@ -60,9 +60,9 @@ module _ (at : Setting) (given : Ty) where
   fits-Var var = has_form (form.Var var) ∙ (ap has (sym (rolls-Var var)) ∙ ap (λ (it : Ty → Bool). it given) (fold-roll-Form (Ty → Bool) Judged (form_step at) shown_judged (f.Var var)))
 
   pub fits-Read : (layout place : ℕ) (index : List TypedExpr) → is_well_typed at (record { ty = given; form = form.Read layout place index })
-      ≡ (is_ty (field_in at.shapes layout place) given && (is_number (axes_in at.shapes layout) (length index) && list_all (λ part. is_signed part.ty && is_well_typed at part) index))
+      ≡ (is_ty (field_in at.shapes layout place) given && (equals_some (axes_in at.shapes layout) (length index) && list_all (λ part. is_signed part.ty && is_well_typed at part) index))
   fits-Read layout place index = has_form (form.Read layout place index) ∙ (ap has (sym (rolls-Read layout place index)) ∙ (ap (λ (it : Ty → Bool). it given) (fold-roll-Form (Ty → Bool) Judged (form_step at) shown_judged (f.Read layout place index))
-      ∙ (rw (length-map, list_all-map) refl ∙ ap (λ x. is_ty (field_in at.shapes layout place) given && (is_number (axes_in at.shapes layout) (length index) && x)) (list_all-same (λ part. is_index (judged_expr at part)) (λ part. is_signed part.ty && is_well_typed at part) index_is index))))
+      ∙ (rw (length-map, list_all-map) refl ∙ ap (λ x. is_ty (field_in at.shapes layout place) given && (equals_some (axes_in at.shapes layout) (length index) && x)) (list_all-same (λ part. is_index (judged_expr at part)) (λ part. is_signed part.ty && is_well_typed at part) index_is index))))
 
   pub fits-Paren : (inner : TypedExpr) → is_well_typed at (record { ty = given; form = form.Paren inner }) ≡ (same_ty inner.ty given && is_well_typed at inner)
   fits-Paren inner = has_form (form.Paren inner) ∙ (ap has (sym (rolls-Paren inner)) ∙ (ap (λ (it : Ty → Bool). it given) (fold-roll-Form (Ty → Bool) Judged (form_step at) shown_judged (f.Paren inner)) ∙ ap (λ (t : Ty). same_ty t given && is_well_typed at inner) (type_judged at inner)))
@@ -98,7 +98,7 @@ module _ (shapes : List Shape) (types : List Ty) (number : ℕ) where
   pub fitting-Write : (layout place : ℕ) (index : List TypedExpr) (way : Way) (value : TypedExpr) (scope : List Visible) → fitting shapes types (record { number = number; kind = kind.Write layout place index way value }) scope
       ≡ (
         (is_ty (field_in shapes layout place) value.ty && is_well_typed (setting shapes types scope) value)
-            && (is_number (axes_in shapes layout) (length index) && list_all (λ part. is_signed part.ty && is_well_typed (setting shapes types scope) part) index),
+            && (equals_some (axes_in shapes layout) (length index) && list_all (λ part. is_signed part.ty && is_well_typed (setting shapes types scope) part) index),
         scope,
       )
   fitting-Write layout place index way value scope = fits_kind (kind.Write layout place index way value) scope ∙ (ap (λ (it : TypedKind). fits_as it scope) (sym (rolls-Write layout place index way value)) ∙ ap (λ (it : Fitting). it scope) (fold-roll-TypedKind Fitting Fitting (kind_fits shapes types) shown_fitting (k.Write layout place index way value)))

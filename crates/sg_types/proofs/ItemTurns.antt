@@ -13,9 +13,9 @@ use Rattle.sg_names.specs.Tables.{Tables}
 use Rattle.sg_types.specs.declared.fault.TypeFault.{TypeFault}
 use Rattle.sg_types.specs.declared.typed.TypedKernel.{TypedKernel}
 use Rattle.sg_types.specs.Scopes.{Known}
-use Rattle.sg_types.specs.Statements.{and_then}
-use Rattle.sg_types.specs.Programs.{with_first, typed_items, typed_kernel, typed_program}
-use Rattle.sg_types.specs.Taking.{after, typed_after, Takes}
+use Rattle.sg_words.specs.Results.{◌>>=◌}
+use Rattle.sg_types.specs.Programs.{typed_items, typed_kernel, typed_program}
+use Rattle.sg_types.specs.steps.Taking.{after, typed_after, Takes}
 
 -- an error that is passed on answers as it did
 pub error_goes_on : {A B C D : Type 0} (r : Result A (Stop TypeFault)) (e : Stop TypeFault) (shown : C → D) (view : A → B) (meaning : Result D TypeFault) (whole : Result B TypeFault)
@@ -33,14 +33,14 @@ module _ (tables : Tables) (done : List TypedKernel) (constants : ℕ) where
   known_at = record { kernel = length done; tables = tables; constants = constants }
 
   -- a kernel is typed
-  kernel_next : (kernel : TypedKernel) (rest : Result (List TypedKernel) TypeFault) → after done (with_first kernel rest) ≡ after (done ++ kernel ∷ []) rest
+  kernel_next : (kernel : TypedKernel) (rest : Result (List TypedKernel) TypeFault) → after done (rest >>= (λ more. Ok (kernel ∷ more))) ≡ after (done ++ kernel ∷ []) rest
   kernel_next kernel (Ok more) = ap Ok (sym (append_assoc done (kernel ∷ []) more))
   kernel_next kernel (Err fault) = refl
 
   pub kernel_taken : (decl : KernelDecl) (kernel : TypedKernel) → typed_kernel known_at decl ≡ Ok kernel → (rest : List Item)
       → typed_after tables done constants (item.Kernel decl ∷ rest) ≡ typed_after tables (done ++ kernel ∷ []) constants rest
   kernel_taken decl kernel e rest =
-      ap (λ (r : Result TypedKernel TypeFault). after done (and_then r (λ kernel. with_first kernel (typed_items tables (suc (length done)) constants rest)))) e
+      ap (λ (r : Result TypedKernel TypeFault). after done (r >>= (λ kernel. typed_items tables (suc (length done)) constants rest >>= (λ more. Ok (kernel ∷ more))))) e
       ∙ (kernel_next kernel (typed_items tables (suc (length done)) constants rest)
       ∙ ap (λ (n : ℕ). after (done ++ kernel ∷ []) (typed_items tables n constants rest)) (omega (arith, length-append done (kernel ∷ []))))
 
@@ -48,7 +48,7 @@ module _ (tables : Tables) (done : List TypedKernel) (constants : ℕ) where
   pub kernel_fault : (decl : KernelDecl) (fault : TypeFault) → typed_kernel known_at decl ≡ Err fault → (rest : List Item)
       → typed_after tables done constants (item.Kernel decl ∷ rest) ≡ Err fault
   kernel_fault decl fault e rest =
-      ap (λ (r : Result TypedKernel TypeFault). after done (and_then r (λ kernel. with_first kernel (typed_items tables (suc (length done)) constants rest)))) e
+      ap (λ (r : Result TypedKernel TypeFault). after done (r >>= (λ kernel. typed_items tables (suc (length done)) constants rest >>= (λ more. Ok (kernel ∷ more))))) e
 
   pub constant_taken : (given : Item) (n : ℕ) → n ≡ constants + 1 → (is : (rest : List Item) → typed_items tables (length done) constants (given ∷ rest) ≡ typed_items tables (length done) (suc constants) rest) → (rest : List Item)
       → typed_after tables done constants (given ∷ rest) ≡ typed_after tables done n rest
@@ -81,14 +81,14 @@ pub program_ok : (tables : Tables) (program : Program) (items : List Item) (kern
     → typed_program tables program ≡ Ok (record { kernels = kernels })
 program_ok tables program items kernels is h =
     let g = sym (after-none (typed_items tables 0 0 items)) ∙ h in
-    ap (λ (r : Result (List TypedKernel) TypeFault). and_then r (λ kernels. Ok (record { kernels = kernels })))
+    ap (λ (r : Result (List TypedKernel) TypeFault). (r >>= (λ kernels. Ok (record { kernels = kernels }))))
     (ap (typed_items tables 0 0) (sym is) ∙ g)
 
 pub program_fault : (tables : Tables) (program : Program) (items : List Item) (fault : TypeFault) → items ≡ program.items → typed_after tables [] 0 items ≡ Err fault
     → typed_program tables program ≡ Err fault
 program_fault tables program items fault is h =
     let g = sym (after-none (typed_items tables 0 0 items)) ∙ h in
-    ap (λ (r : Result (List TypedKernel) TypeFault). and_then r (λ kernels. Ok (record { kernels = kernels })))
+    ap (λ (r : Result (List TypedKernel) TypeFault). (r >>= (λ kernels. Ok (record { kernels = kernels }))))
     (ap (typed_items tables 0 0) (sym is) ∙ g)
 
 -- an error of an item is the program's

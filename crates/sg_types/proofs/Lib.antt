@@ -5,6 +5,7 @@ pub mod ExprWords
 pub mod Standing
 pub mod Outcomes
 pub mod StmtWords
+pub mod Walk
 pub mod Moves
 pub mod Turns
 pub mod Beginnings
@@ -14,7 +15,6 @@ pub mod ItemTurns
 pub mod FoldWords
 pub mod FormWords
 pub mod FitWords
-pub mod ExprInduction
 pub mod FitExprs
 pub mod FitStmts
 pub mod FitKernels

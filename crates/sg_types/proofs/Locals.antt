@@ -3,7 +3,7 @@ use Rattle.std.proofs.Common.{◌≡◌, ℕ, ◌++◌, List, [], ◌∷◌, map
 use Rattle.std.specs.Map.{lookup}
 use Rattle.std.proofs.lemmas.List.{take-map}
 use Rattle.sg_ast.specs.declared.token.Name.{Name}
-use Rattle.sg_names.specs.Tables.{same_name}
+use Rattle.sg_ast.specs.Token.{same_name}
 use Rattle.sg_types.specs.declared.scope.Local.{Local}
 use Rattle.sg_types.specs.Scopes.{NamedLocal, local_named}
 

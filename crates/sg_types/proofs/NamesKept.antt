@@ -4,7 +4,6 @@ use Rattle.std.specs.Option.{option_and_then}
 use Rattle.std.specs.List.{list_all, AllByRecursion}
 use Rattle.std.proofs.Math.Seq.{take-append_seam}
 use Rattle.std.proofs.lemmas.Bool.{or_parts}
-use Rattle.std.proofs.lemmas.Slice.Eq.{bytes_eq-Decides}
 use Rattle.sg_words.specs.declared.operators.Ty.{Ty}
 use Rattle.sg_words.specs.declared.operators.Ty.TheVariants as ty
 use Rattle.sg_words.specs.declared.operators.BinOp.{BinOp}
@@ -25,7 +24,8 @@ use Rattle.sg_ast.specs.declared.kernel.DomainDecl.{DomainDecl}
 use Rattle.sg_ast.specs.declared.kernel.DomainDecl.TheVariants as domain
 use Rattle.sg_names.specs.declared.tables.Constant.{Constant}
 use Rattle.sg_names.specs.declared.tables.FieldAt.{FieldAt}
-use Rattle.sg_names.specs.Tables.{same_name, field_named, layout_named}
+use Rattle.sg_ast.specs.Token.{same_name}
+use Rattle.sg_names.specs.Tables.{field_named, layout_named}
 use Rattle.sg_names.specs.Names.{has_repeat}
 use Rattle.sg_types.specs.declared.scope.Local.{Local}
 use Rattle.sg_types.specs.declared.typed.TypedExpr.{TypedExpr}
@@ -38,22 +38,19 @@ use Rattle.sg_types.specs.declared.typed.TypedDomain.{TypedDomain}
 use Rattle.sg_types.specs.declared.typed.TypedDomain.TheVariants as typed
 use Rattle.sg_types.specs.declared.typed.TypedKernel.{TypedKernel}
 use Rattle.sg_types.specs.TypeTable.{is_numeric, is_truth, same_ty, bin_ty, un_ty}
-use Rattle.sg_types.specs.Scopes.{Known, NamedLocal, local_named, earlier, is_taken, named_expr}
-use Rattle.sg_types.specs.Expressions.{typed_expr, number_ty, all_some, un_expr, bin_expr, mulq_expr, convert_expr, call_expr, read_expr, on_one, on_two, on_three, is_signed_expr}
-use Rattle.sg_types.specs.Statements.{Reached, Step, past, declared, and_then, fault_at, let_wrongs, assign_wrongs, write_wrongs, if_wrongs, for_wrongs, let_part, assign_part, write_part, if_part, for_part, assigned, written, way_of, only_if, typed_range, in_turn, in_block, in_else, typed_stmt, typed_block, plain_step}
-use Rattle.sg_types.specs.Programs.{any_earlier, typed_domain, loop_wrongs, loop_part, first_reached}
-use Rattle.sg_types.specs.NamesBack.{no_name, field_mark, marked_constant, marked_field, marked_layout, called, marked, marked_range, marked_stmt, marked_domain, stmt_names, block_names, else_names, variable_names, literal_expr, named, named_range, way_back, named_stmt, named_domain, named_kernel}
+use Rattle.sg_types.specs.Scopes.{Known, NamedLocal, local_named, earlier_constant, is_taken, local_or_constant}
+use Rattle.sg_types.specs.Expressions.{typed_expr, number_ty, all_some, un_expr, bin_expr, mulq_expr, convert_expr, call_expr, access_expr, on_one, on_two, on_three, is_signed_expr}
+use Rattle.sg_types.specs.Statements.{Reached, next_statement, with_variable, let_wrongs, if_wrongs, for_wrongs, assign_kind, write_kind, way_of, typed_range}
+use Rattle.sg_words.specs.Options.{only_where}
+use Rattle.sg_types.specs.Programs.{any_earlier, typed_domain, first_reached}
+use Rattle.sg_types.specs.NamesBack.{no_name, field_mark, marked_constant, marked_field, marked_layout, call_or_operator, marked_expr, marked_range, marked_stmt, marked_domain, stmt_names, block_names, else_names, variable_names, literal_expr, named_expr, named_range, way_back, named_stmt, named_domain, named_kernel}
 use Rattle.sg_types.specs.Laws.{NamesComeBack}
-use Rattle.sg_types.proofs.Outcomes.{and_then_ok, fault_at_ok, judged_ok, some_same, option_and_then_some, option_map_some, if_some, only_if_some, ok_same}
+use Rattle.sg_types.proofs.Outcomes.{Fits, some_same, option_and_then_some, option_map_some, if_some, only_where_some}
 use Rattle.sg_types.proofs.ExprWords.{typed-Number, typed-Truth, typed-Name, typed-Read, typed-Paren, typed-Un, typed-Bin, typed-Call}
-use Rattle.sg_types.proofs.ExprInduction.{by_exprs}
-use Rattle.sg_types.proofs.StmtWords.{typed-Let, typed-Assign, typed-Write, typed-If, typed-For, AllInElse, by_statements}
-use Rattle.sg_types.proofs.Moves.{first, second}
+use Rattle.sg_ast.proofs.Uses.{same_name-is, by_exprs}
+use Rattle.sg_types.proofs.Walk.{of_kind, block_end, Turn, Cases, walk_turn, kernel_parts}
 use Rattle.sg_types.proofs.Beginnings.{one, begun, length_begun}
 use Rattle.sg_types.proofs.NameWords.{marked-Number, marked-Truth, marked-Name, marked-Read, marked-Paren, marked-Un, marked-Bin, marked-Call, marked_stmt-Let, marked_stmt-Assign, marked_stmt-Write, marked_stmt-If, marked_stmt-For, names-Let, names-Assign, names-Write, names-If, names-For, named-Literal, named-Constant, named-Var, named-Read, named-Paren, named-Un, named-Bin, named-Mulq, named-Convert, named_stmt-Let, named_stmt-Assign, named_stmt-Write, named_stmt-If, named_stmt-For}
-
-same_name-same : (x y : Name) → same_name x y ≡ true → x ≡ y
-same_name-same x y h = ap (λ (text : List ℕ). record { text = text }) ((bytes_eq-Decides x.text y.text).0 h)
 
 none_of : {A : Type 0} (o : Option A) → is_some o ≡ false → o ≡ None
 none_of None h = refl
@@ -79,7 +76,7 @@ module _ (known : Known) (names : List Name) where
   -- a name in scope is that of its variable, and no earlier constant's
   record Called (it : NamedLocal) : Type 0 where
     there : slice_get names it.local.var ≡ Some it.name
-    apart : earlier known it.name ≡ None
+    apart : earlier_constant known it.name ≡ None
 
   abbrev AllCalled : List NamedLocal → Type 0
   AllCalled scope = AllByRecursion Called scope
@@ -89,30 +86,30 @@ module _ (known : Known) (names : List Name) where
   called_push (other ∷ scope) it all h = (all.0, called_push scope it all.1 h)
 
   found_at : (name : Name) (local : Local) (other : NamedLocal) (scope : List NamedLocal) (b : Bool) → same_name name other.name ≡ b → Called other
-      → (local_named scope name ≡ Some local → (slice_get names local.var ≡ Some name) × (earlier known name ≡ None))
-      → local_named (other ∷ scope) name ≡ Some local → (slice_get names local.var ≡ Some name) × (earlier known name ≡ None)
+      → (local_named scope name ≡ Some local → (slice_get names local.var ≡ Some name) × (earlier_constant known name ≡ None))
+      → local_named (other ∷ scope) name ≡ Some local → (slice_get names local.var ≡ Some name) × (earlier_constant known name ≡ None)
   found_at name local other scope true q h rest g =
       let found : Some other.local ≡ Some local = rw q at g in
       let same = some_same other.local local found in
-      let name_is = same_name-same name other.name q in
-      (ap (λ (it : Local). slice_get names it.var) (sym same) ∙ (h.there ∙ ap Some (sym name_is)), ap (earlier known) name_is ∙ h.apart)
+      let name_is = same_name-is name other.name q in
+      (ap (λ (it : Local). slice_get names it.var) (sym same) ∙ (h.there ∙ ap Some (sym name_is)), ap (earlier_constant known) name_is ∙ h.apart)
   found_at name local other scope false q h rest g = rest (rw q at g)
 
-  found_called : (scope : List NamedLocal) → AllCalled scope → (name : Name) (local : Local) → local_named scope name ≡ Some local → (slice_get names local.var ≡ Some name) × (earlier known name ≡ None)
+  found_called : (scope : List NamedLocal) → AllCalled scope → (name : Name) (local : Local) → local_named scope name ≡ Some local → (slice_get names local.var ≡ Some name) × (earlier_constant known name ≡ None)
   found_called [] all name local h = let no_such : ◌≡◌ {A = Option Local} None (Some local) = h in absurd (cc)
   found_called (other ∷ scope) all name local h = found_at name local other scope (same_name name other.name) refl all.0 (found_called scope all.1 name local) h
 
   module _ (scope : List NamedLocal) (all_called : AllCalled scope) where
     abbrev Kept : Expr → Type 0
-    Kept expr = (typed : TypedExpr) → typed_expr known scope expr ≡ Some typed → named names typed ≡ marked known expr
+    Kept expr = (typed : TypedExpr) → typed_expr known scope expr ≡ Some typed → named_expr names typed ≡ marked_expr known expr
 
-    same : (x typed : TypedExpr) (expr : Expr) → Some x ≡ Some typed → named names x ≡ marked known expr → named names typed ≡ marked known expr
-    same x typed expr h g = ap (named names) (sym (some_same x typed h)) ∙ g
+    same : (x typed : TypedExpr) (expr : Expr) → Some x ≡ Some typed → named_expr names x ≡ marked_expr known expr → named_expr names typed ≡ marked_expr known expr
+    same x typed expr h g = ap (named_expr names) (sym (some_same x typed h)) ∙ g
 
     name_kept : (name : Name) → Kept (e.Name name)
-    name_kept name typed h = go (local_named scope name) refl (earlier known name) refl (sym (typed-Name known scope name) ∙ h)
+    name_kept name typed h = go (local_named scope name) refl (earlier_constant known name) refl (sym (typed-Name known scope name) ∙ h)
       where
-        go : (local : Option Local) → local_named scope name ≡ local → (constant : Option Constant) → earlier known name ≡ constant → named_expr local constant ≡ Some typed → named names typed ≡ marked known (e.Name name)
+        go : (local : Option Local) → local_named scope name ≡ local → (constant : Option Constant) → earlier_constant known name ≡ constant → local_or_constant local constant ≡ Some typed → named_expr names typed ≡ marked_expr known (e.Name name)
         go (Some local) p constant q r =
             let found = found_called scope all_called name local p in
             same (record { ty = local.ty; form = form.Var local.var }) typed (e.Name name) r
@@ -123,74 +120,74 @@ module _ (known : Known) (names : List Name) where
             (named-Constant names constant.ty constant.word ∙ (ap (λ (o : Option Constant). e.Name (marked_constant name o)) (sym q) ∙ sym (marked-Name known name)))
         go None p None q r = let no_such : ◌≡◌ {A = Option TypedExpr} None (Some typed) = r in absurd (cc)
 
-    all_kept : (exprs : List Expr) → AllByRecursion Kept exprs → (typed : List TypedExpr) → all_some (map (typed_expr known scope) exprs) ≡ Some typed → map (named names) typed ≡ map (marked known) exprs
-    all_kept [] all typed h = ap (map (named names)) (sym (some_same [] typed h))
+    all_kept : (exprs : List Expr) → AllByRecursion Kept exprs → (typed : List TypedExpr) → all_some (map (typed_expr known scope) exprs) ≡ Some typed → map (named_expr names) typed ≡ map (marked_expr known) exprs
+    all_kept [] all typed h = ap (map (named_expr names)) (sym (some_same [] typed h))
     all_kept (expr ∷ exprs) all typed h =
         let one = option_and_then_some (λ a. option_map (λ more. a ∷ more) (all_some (map (typed_expr known scope) exprs))) (typed_expr known scope expr) typed h in
         let rest = option_map_some (λ more. one.0 ∷ more) (all_some (map (typed_expr known scope) exprs)) typed one.2 in
-        ap (map (named names)) (sym rest.2)
-        ∙ (ap (λ (x : Expr). x ∷ map (named names) rest.0) (all.0 one.0 one.1) ∙ ap (λ (xs : List Expr). marked known expr ∷ xs) (all_kept exprs all.1 rest.0 rest.1))
+        ap (map (named_expr names)) (sym rest.2)
+        ∙ (ap (λ (x : Expr). x ∷ map (named_expr names) rest.0) (all.0 one.0 one.1) ∙ ap (λ (xs : List Expr). marked_expr known expr ∷ xs) (all_kept exprs all.1 rest.0 rest.1))
 
     read_kept : (field : Name) (index : List Expr) → AllByRecursion Kept index → Kept (e.Read field index)
     read_kept field index all typed h =
-        let found = option_and_then_some (λ place. option_and_then (read_expr place) (all_some (map (typed_expr known scope) index))) (field_named known.tables field) typed (sym (typed-Read known scope field index) ∙ h) in
+        let found = option_and_then_some (λ place. option_and_then (access_expr place) (all_some (map (typed_expr known scope) index))) (field_named known.tables field) typed (sym (typed-Read known scope field index) ∙ h) in
         let place = found.0 in
-        let parts = option_and_then_some (read_expr place) (all_some (map (typed_expr known scope) index)) typed found.2 in
+        let parts = option_and_then_some (access_expr place) (all_some (map (typed_expr known scope) index)) typed found.2 in
         let signed = if_some (list_all is_signed_expr parts.0) (record { ty = place.ty; form = form.Read place.layout place.place parts.0 }) typed parts.2 in
-        ap (named names) (sym signed.1)
+        ap (named_expr names) (sym signed.1)
         ∙ (named-Read names place.ty place.layout place.place parts.0
         ∙ (ap (e.Read (field_mark place.layout place.place)) (all_kept index all parts.0 parts.1)
-        ∙ (ap (λ (o : Option FieldAt). e.Read (marked_field field o) (map (marked known) index)) (sym found.1) ∙ sym (marked-Read known field index))))
+        ∙ (ap (λ (o : Option FieldAt). e.Read (marked_field field o) (map (marked_expr known) index)) (sym found.1) ∙ sym (marked-Read known field index))))
 
     paren_kept : (inner : Expr) → Kept inner → Kept (e.Paren inner)
     paren_kept inner kept typed h =
         let found = option_map_some (λ (it : TypedExpr). record { ty = it.ty; form = form.Paren it }) (typed_expr known scope inner) typed (sym (typed-Paren known scope inner) ∙ h) in
-        ap (named names) (sym found.2) ∙ (named-Paren names found.0.ty found.0 ∙ (ap e.Paren (kept found.0 found.1) ∙ sym (marked-Paren known inner)))
+        ap (named_expr names) (sym found.2) ∙ (named-Paren names found.0.ty found.0 ∙ (ap e.Paren (kept found.0 found.1) ∙ sym (marked-Paren known inner)))
 
     un_kept : (op : UnOp) (operand : Expr) → Kept operand → Kept (e.Un op operand)
     un_kept op operand kept typed h =
         let found = option_and_then_some (un_expr op) (typed_expr known scope operand) typed (sym (typed-Un known scope op operand) ∙ h) in
         let made = option_map_some (λ given. record { ty = given; form = form.Un op found.0 }) (un_ty op found.0.ty) typed found.2 in
-        ap (named names) (sym made.2) ∙ (named-Un names made.0 op found.0 ∙ (ap (e.Un op) (kept found.0 found.1) ∙ sym (marked-Un known op operand)))
+        ap (named_expr names) (sym made.2) ∙ (named-Un names made.0 op found.0 ∙ (ap (e.Un op) (kept found.0 found.1) ∙ sym (marked-Un known op operand)))
 
-    made_bin : (op : BinOp) (left right typed : TypedExpr) → bin_expr op left right ≡ Some typed → named names typed ≡ e.Bin op (named names left) (named names right)
+    made_bin : (op : BinOp) (left right typed : TypedExpr) → bin_expr op left right ≡ Some typed → named_expr names typed ≡ e.Bin op (named_expr names left) (named_expr names right)
     made_bin op left right typed h =
         let made = option_map_some (λ given. record { ty = given; form = form.Bin op left right }) (bin_ty op left.ty right.ty) typed h in
-        ap (named names) (sym made.2) ∙ named-Bin names made.0 op left right
+        ap (named_expr names) (sym made.2) ∙ named-Bin names made.0 op left right
 
     bin_kept : (op : BinOp) (left right : Expr) → Kept left → Kept right → Kept (e.Bin op left right)
     bin_kept op left right l r typed h =
         let one = option_and_then_some (λ (x : TypedExpr). option_and_then (bin_expr op x) (typed_expr known scope right)) (typed_expr known scope left) typed (sym (typed-Bin known scope op left right) ∙ h) in
         let two = option_and_then_some (bin_expr op one.0) (typed_expr known scope right) typed one.2 in
         made_bin op one.0 two.0 typed two.2
-        ∙ (ap (λ (x : Expr). e.Bin op x (named names two.0)) (l one.0 one.1) ∙ (ap (e.Bin op (marked known left)) (r two.0 two.1) ∙ sym (marked-Bin known op left right)))
+        ∙ (ap (λ (x : Expr). e.Bin op x (named_expr names two.0)) (l one.0 one.1) ∙ (ap (e.Bin op (marked_expr known left)) (r two.0 two.1) ∙ sym (marked-Bin known op left right)))
 
-    min_kept : (op : BinOp) (parts : List TypedExpr) (typed : TypedExpr) (make : List Expr → Expr) → ((x y : Expr) → make (x ∷ y ∷ []) ≡ e.Bin op x y) → on_two (bin_expr op) parts ≡ Some typed → named names typed ≡ make (map (named names) parts)
+    min_kept : (op : BinOp) (parts : List TypedExpr) (typed : TypedExpr) (make : List Expr → Expr) → ((x y : Expr) → make (x ∷ y ∷ []) ≡ e.Bin op x y) → on_two (bin_expr op) parts ≡ Some typed → named_expr names typed ≡ make (map (named_expr names) parts)
     min_kept op [] typed make is h = let no_such : ◌≡◌ {A = Option TypedExpr} None (Some typed) = h in absurd (cc)
     min_kept op (x ∷ []) typed make is h = let no_such : ◌≡◌ {A = Option TypedExpr} None (Some typed) = h in absurd (cc)
-    min_kept op (x ∷ y ∷ []) typed make is h = made_bin op x y typed h ∙ sym (is (named names x) (named names y))
+    min_kept op (x ∷ y ∷ []) typed make is h = made_bin op x y typed h ∙ sym (is (named_expr names x) (named_expr names y))
     min_kept op (x ∷ y ∷ z ∷ more) typed make is h = let no_such : ◌≡◌ {A = Option TypedExpr} None (Some typed) = h in absurd (cc)
 
-    mulq_kept : (parts : List TypedExpr) (typed : TypedExpr) → on_three mulq_expr parts ≡ Some typed → named names typed ≡ called c.Mulq (map (named names) parts)
+    mulq_kept : (parts : List TypedExpr) (typed : TypedExpr) → on_three mulq_expr parts ≡ Some typed → named_expr names typed ≡ call_or_operator c.Mulq (map (named_expr names) parts)
     mulq_kept [] typed h = let no_such : ◌≡◌ {A = Option TypedExpr} None (Some typed) = h in absurd (cc)
     mulq_kept (x ∷ []) typed h = let no_such : ◌≡◌ {A = Option TypedExpr} None (Some typed) = h in absurd (cc)
     mulq_kept (x ∷ y ∷ []) typed h = let no_such : ◌≡◌ {A = Option TypedExpr} None (Some typed) = h in absurd (cc)
     mulq_kept (x ∷ y ∷ z ∷ []) typed h =
         let made = if_some _ (record { ty = ty.I32; form = form.Mulq x y z }) typed h in
-        ap (named names) (sym made.1) ∙ named-Mulq names ty.I32 x y z
+        ap (named_expr names) (sym made.1) ∙ named-Mulq names ty.I32 x y z
     mulq_kept (x ∷ y ∷ z ∷ w ∷ more) typed h = let no_such : ◌≡◌ {A = Option TypedExpr} None (Some typed) = h in absurd (cc)
 
     convert_kept : (to : Ty) (callee : Callee) (parts : List TypedExpr) (typed : TypedExpr)
-        → ((x : TypedExpr) → named names (record { ty = to; form = form.Convert x }) ≡ called callee (named names x ∷ [])) → on_one (convert_expr to) parts ≡ Some typed → named names typed ≡ called callee (map (named names) parts)
+        → ((x : TypedExpr) → named_expr names (record { ty = to; form = form.Convert x }) ≡ call_or_operator callee (named_expr names x ∷ [])) → on_one (convert_expr to) parts ≡ Some typed → named_expr names typed ≡ call_or_operator callee (map (named_expr names) parts)
     convert_kept to callee [] typed is h = let no_such : ◌≡◌ {A = Option TypedExpr} None (Some typed) = h in absurd (cc)
     convert_kept to callee (x ∷ []) typed is h =
         let made = if_some (is_numeric x.ty) (record { ty = to; form = form.Convert x }) typed h in
-        ap (named names) (sym made.1) ∙ is x
+        ap (named_expr names) (sym made.1) ∙ is x
     convert_kept to callee (x ∷ y ∷ more) typed is h = let no_such : ◌≡◌ {A = Option TypedExpr} None (Some typed) = h in absurd (cc)
 
-    made_call : (callee : Callee) (parts : List TypedExpr) (typed : TypedExpr) → call_expr callee parts ≡ Some typed → named names typed ≡ called callee (map (named names) parts)
-    made_call c.Min parts typed h = min_kept b.Min parts typed (called c.Min) (λ x y. refl) h
-    made_call c.Max parts typed h = min_kept b.Max parts typed (called c.Max) (λ x y. refl) h
+    made_call : (callee : Callee) (parts : List TypedExpr) (typed : TypedExpr) → call_expr callee parts ≡ Some typed → named_expr names typed ≡ call_or_operator callee (map (named_expr names) parts)
+    made_call c.Min parts typed h = min_kept b.Min parts typed (call_or_operator c.Min) (λ x y. refl) h
+    made_call c.Max parts typed h = min_kept b.Max parts typed (call_or_operator c.Max) (λ x y. refl) h
     made_call c.Mulq parts typed h = mulq_kept parts typed h
     made_call c.I32 parts typed h = convert_kept ty.I32 c.I32 parts typed (λ x. named-Convert names ty.I32 x) h
     made_call c.U32 parts typed h = convert_kept ty.U32 c.U32 parts typed (λ x. named-Convert names ty.U32 x) h
@@ -198,7 +195,7 @@ module _ (known : Known) (names : List Name) where
     call_kept : (callee : Callee) (arguments : List Expr) → AllByRecursion Kept arguments → Kept (e.Call callee arguments)
     call_kept callee arguments all typed h =
         let parts = option_and_then_some (call_expr callee) (all_some (map (typed_expr known scope) arguments)) typed (sym (typed-Call known scope callee arguments) ∙ h) in
-        made_call callee parts.0 typed parts.2 ∙ (ap (called callee) (all_kept arguments all parts.0 parts.1) ∙ sym (marked-Call known callee arguments))
+        made_call callee parts.0 typed parts.2 ∙ (ap (call_or_operator callee) (all_kept arguments all parts.0 parts.1) ∙ sym (marked-Call known callee arguments))
 
     expr_kept : (expr : Expr) → Kept expr
     expr_kept = by_exprs Kept
@@ -214,37 +211,32 @@ module _ (known : Known) (names : List Name) where
 
     range_kept : (range : RangeDecl) (bounds : TypedRange) → typed_range known scope range ≡ Some bounds → named_range names bounds ≡ marked_range known range
     range_kept range bounds h =
-        let outer = option_and_then_some (λ (low : TypedExpr). option_map (λ (high : TypedExpr). record { lo = low; hi = high }) (only_if is_signed_expr (typed_expr known scope range.hi))) (only_if is_signed_expr (typed_expr known scope range.lo)) bounds h in
+        let outer = option_and_then_some (λ (low : TypedExpr). option_map (λ (high : TypedExpr). record { lo = low; hi = high }) (only_where is_signed_expr (typed_expr known scope range.hi))) (only_where is_signed_expr (typed_expr known scope range.lo)) bounds h in
         let low = outer.0 in
-        let inner = option_map_some (λ (high : TypedExpr). record { lo = low; hi = high }) (only_if is_signed_expr (typed_expr known scope range.hi)) bounds outer.2 in
-        let low_is = only_if_some is_signed_expr (typed_expr known scope range.lo) low outer.1 in
-        let high_is = only_if_some is_signed_expr (typed_expr known scope range.hi) inner.0 inner.1 in
+        let inner = option_map_some (λ (high : TypedExpr). record { lo = low; hi = high }) (only_where is_signed_expr (typed_expr known scope range.hi)) bounds outer.2 in
+        let low_is = only_where_some is_signed_expr (typed_expr known scope range.lo) low outer.1 in
+        let high_is = only_where_some is_signed_expr (typed_expr known scope range.hi) inner.0 inner.1 in
         ap (named_range names) (sym inner.2)
-        ∙ (ap (λ (x : Expr). record { lo = x; hi = named names inner.0 }) (expr_kept range.lo low low_is.0)
-        ∙ ap (λ (x : Expr). record { lo = marked known range.lo; hi = x }) (expr_kept range.hi inner.0 high_is.0))
+        ∙ (ap (λ (x : Expr). record { lo = x; hi = named_expr names inner.0 }) (expr_kept range.lo low low_is.0)
+        ∙ ap (λ (x : Expr). record { lo = marked_expr known range.lo; hi = x }) (expr_kept range.hi inner.0 high_is.0))
 
   -- ---- statements
 
   -- what typing gives leads back, as many variables are declared as there are names, and all names are called so
-  record Back (typed declared : Stmt) (before now : List Name) (after : Reached) : Type 0 where
-    same : typed ≡ declared
+  record Back {A : Type 0} (typed given : A) (before now : List Name) (after : Reached) : Type 0 where
+    same : typed ≡ given
     count : length after.types ≡ length (before ++ now)
     called : AllCalled after.scope
 
-  record AllBack (typed declared : List Stmt) (before now : List Name) (after : Reached) : Type 0 where
-    same : typed ≡ declared
-    count : length after.types ≡ length (before ++ now)
-    called : AllCalled after.scope
-
-  abbrev LeadsBack : Stmt → Type 0
-  LeadsBack statement = (before more : List Name) (at : Reached) (typed : TypedStmt) (after : Reached) → typed_stmt known statement at ≡ Ok (typed, after)
+  abbrev LeadsBack : Stmt → Reached → TypedStmt → Reached → Type 0
+  LeadsBack statement at typed after = (before more : List Name)
       → names ≡ before ++ (stmt_names statement ++ more) → length at.types ≡ length before → AllCalled at.scope
       → Back (named_stmt names typed) (marked_stmt known statement) before (stmt_names statement) after
 
-  back_at : (made typed : TypedStmt) (reached after : Reached) (statement : Stmt) (before now : List Name) → made ≡ typed → reached ≡ after
-      → Back (named_stmt names made) statement before now reached → Back (named_stmt names typed) statement before now after
-  back_at made typed reached after statement before now p q h =
-      subst (λ (t : TypedStmt). Back (named_stmt names t) statement before now after) p (subst (λ (r : Reached). Back (named_stmt names made) statement before now r) q h)
+  abbrev AllLeadBack : List Stmt → Reached → List TypedStmt → Reached → Type 0
+  AllLeadBack block at typed after = (before more : List Name)
+      → names ≡ before ++ (block_names block ++ more) → length at.types ≡ length before → AllCalled at.scope
+      → Back (map (named_stmt names) typed) (map (marked_stmt known) block) before (block_names block) after
 
   -- the next name is that of the next variable
   next_name : (before more : List Name) (name : Name) (at : Reached) → names ≡ before ++ name ∷ more → length at.types ≡ length before → slice_get names (length at.types) ≡ Some name
@@ -252,238 +244,174 @@ module _ (known : Known) (names : List Name) where
 
   -- a name that is declared is called so
   declares_called : (before more : List Name) (name : Name) (given : Ty) (is_loop : Bool) (at : Reached) → names ≡ before ++ name ∷ more → length at.types ≡ length before → is_taken known at.scope name ≡ false → AllCalled at.scope
-      → AllCalled (declared name given is_loop at).scope
+      → AllCalled (with_variable name given is_loop at).scope
   declares_called before more name given is_loop at is n free all =
       called_push at.scope (record { name = name; local = record { var = length at.types; ty = given; is_loop = is_loop } }) all
       (record {
         there = next_name before more name at is n;
-        apart = none_of (earlier known name) (or_parts (is_some (local_named at.scope name)) (is_some (earlier known name)) free).1;
+        apart = none_of (earlier_constant known name) (or_parts (is_some (local_named at.scope name)) (is_some (earlier_constant known name)) free).1;
       })
 
-  let_back : (name : Name) (value : Expr) → LeadsBack (stmt.Let name value)
-  let_back name value before more at typed after h is n all =
-      let g = ap (λ (step : Step). step at) (sym (typed-Let known name value)) ∙ h in
-      let done = and_then_ok (fault_at known at.number (let_part known at.scope name value)) (λ (t : TypedExpr). Ok (record { number = at.number; kind = kind.Let (length at.types) t }, declared name t.ty false (past at))) (typed, after) g in
-      let it = done.0 in
-      let part = judged_ok (let_wrongs known at.scope name value) (typed_expr known at.scope value) it (fault_at_ok known at.number (let_part known at.scope name value) it done.1) in
-      let made : TypedStmt = record { number = at.number; kind = kind.Let (length at.types) it } in
-      let reached = declared name it.ty false (past at) in
+  let_back : (name : Name) (value : Expr) (at : Reached) (it : TypedExpr) → Fits (let_wrongs known at.scope name value) (typed_expr known at.scope value) it
+      → LeadsBack (stmt.Let name value) at (of_kind at (kind.Let (length at.types) it)) (with_variable name it.ty false (next_statement at))
+  let_back name value at it part before more is n all =
       let is_there : names ≡ before ++ name ∷ more = is ∙ ap (λ (ns : List Name). before ++ (ns ++ more)) (names-Let name value) in
-      let made_back : Back (named_stmt names made) (marked_stmt known (stmt.Let name value)) before (stmt_names (stmt.Let name value)) reached = record {
+      record {
         same = named_stmt-Let names at.number (length at.types) it
-            ∙ (ap (λ (o : Option Name). stmt.Let (unwrap_or o no_name) (named names it)) (next_name before more name at is_there n)
+            ∙ (ap (λ (o : Option Name). stmt.Let (unwrap_or o no_name) (named_expr names it)) (next_name before more name at is_there n)
             ∙ (ap (stmt.Let name) (expr_kept at.scope all value it part.is) ∙ sym (marked_stmt-Let known name value)));
         count = length-append at.types (it.ty ∷ []) ∙ (ap (λ (m : ℕ). m + 1) n ∙ (sym (length-append before (name ∷ [])) ∙ ap (λ (ns : List Name). length (before ++ ns)) (sym (names-Let name value))));
-        called = declares_called before more name it.ty false (past at) is_there n part.once all;
-      } in
-      back_at made typed reached after (marked_stmt known (stmt.Let name value)) before (stmt_names (stmt.Let name value)) (first made typed reached after done.2) (second made typed reached after done.2) made_back
+        called = declares_called before more name it.ty false (next_statement at) is_there n part.once all;
+      }
 
-  plain_back : (statement : Stmt) (part : Result TypedKind ℕ) (before : List Name) (at : Reached) (typed : TypedStmt) (after : Reached) → plain_step known part at ≡ Ok (typed, after)
-      → stmt_names statement ≡ [] → length at.types ≡ length before → AllCalled at.scope
-      → ((k : TypedKind) → part ≡ Ok k → named_stmt names (record { number = at.number; kind = k }) ≡ marked_stmt known statement)
-      → Back (named_stmt names typed) (marked_stmt known statement) before (stmt_names statement) after
-  plain_back statement part before at typed after h none n all says =
-      let done = and_then_ok (fault_at known at.number part) (λ (k : TypedKind). Ok (record { number = at.number; kind = k }, past at)) (typed, after) h in
-      let made : TypedStmt = record { number = at.number; kind = done.0 } in
-      let made_back : Back (named_stmt names made) (marked_stmt known statement) before (stmt_names statement) (past at) = record {
-        same = says done.0 (fault_at_ok known at.number part done.0 done.1);
-        count = n ∙ (ap (λ (ns : List Name). length ns) (sym (append-nil before)) ∙ ap (λ (ns : List Name). length (before ++ ns)) (sym none));
-        called = all;
-      } in
-      back_at made typed (past at) after (marked_stmt known statement) before (stmt_names statement) (first made typed (past at) after done.2) (second made typed (past at) after done.2) made_back
+  -- a statement that declares nothing
+  plain_back : (statement : Stmt) (at : Reached) (typed : TypedStmt) → named_stmt names typed ≡ marked_stmt known statement → stmt_names statement ≡ []
+      → LeadsBack statement at typed (next_statement at)
+  plain_back statement at typed same none before more is n all = record {
+    same = same;
+    count = n ∙ (ap (λ (ns : List Name). length ns) (sym (append-nil before)) ∙ ap (λ (ns : List Name). length (before ++ ns)) (sym none));
+    called = all;
+  }
 
-  assigned_back : (at : Reached) (name : Name) (value : Expr) → AllCalled at.scope → (found : Option Local) → local_named at.scope name ≡ found → (k : TypedKind) → assigned found (typed_expr known at.scope value) ≡ Some k
+  assigned_back : (at : Reached) (name : Name) (value : Expr) → AllCalled at.scope → (found : Option Local) → local_named at.scope name ≡ found → (k : TypedKind) → assign_kind found (typed_expr known at.scope value) ≡ Some k
       → named_stmt names (record { number = at.number; kind = k }) ≡ marked_stmt known (stmt.Assign name value)
   assigned_back at name value all None found k h = let no_such : ◌≡◌ {A = Option TypedKind} None (Some k) = h in absurd (cc)
   assigned_back at name value all (Some local) found k h =
-      let made = option_map_some (λ (t : TypedExpr). kind.Assign local.var t) (only_if (λ t. same_ty t.ty local.ty) (typed_expr known at.scope value)) k h in
-      let passed = only_if_some (λ t. same_ty t.ty local.ty) (typed_expr known at.scope value) made.0 made.1 in
+      let made = option_map_some (λ (t : TypedExpr). kind.Assign local.var t) (only_where (λ t. same_ty t.ty local.ty) (typed_expr known at.scope value)) k h in
+      let passed = only_where_some (λ t. same_ty t.ty local.ty) (typed_expr known at.scope value) made.0 made.1 in
       let it = found_called at.scope all name local found in
       ap (λ (k : TypedKind). named_stmt names (record { number = at.number; kind = k })) (sym made.2)
       ∙ (named_stmt-Assign names at.number local.var made.0
-      ∙ (ap (λ (o : Option Name). stmt.Assign (unwrap_or o no_name) (named names made.0)) it.0
+      ∙ (ap (λ (o : Option Name). stmt.Assign (unwrap_or o no_name) (named_expr names made.0)) it.0
       ∙ (ap (stmt.Assign name) (expr_kept at.scope all value made.0 passed.0) ∙ sym (marked_stmt-Assign known name value))))
 
-  assign_back : (name : Name) (value : Expr) → LeadsBack (stmt.Assign name value)
-  assign_back name value before more at typed after h is n all =
-      plain_back (stmt.Assign name value) (assign_part known at.scope name value) before at typed after (ap (λ (step : Step). step at) (sym (typed-Assign known name value)) ∙ h) (names-Assign name value) n all
-      (λ k p.
-      let part = judged_ok (assign_wrongs known at.scope name value) (assigned (local_named at.scope name) (typed_expr known at.scope value)) k p in
-      assigned_back at name value all (local_named at.scope name) refl k part.is)
-
   written_back : (at : Reached) (field : Name) (index : List Expr) (how : WayDecl) (value : Expr) → AllCalled at.scope → (place : Option FieldAt) → field_named known.tables field ≡ place
-      → (k : TypedKind) → written how place (all_some (map (typed_expr known at.scope) index)) (typed_expr known at.scope value) ≡ Some k
+      → (k : TypedKind) → write_kind how place (all_some (map (typed_expr known at.scope) index)) (typed_expr known at.scope value) ≡ Some k
       → named_stmt names (record { number = at.number; kind = k }) ≡ marked_stmt known (stmt.Write field index how value)
   written_back at field index how value all None found k h = let no_such : ◌≡◌ {A = Option TypedKind} None (Some k) = h in absurd (cc)
   written_back at field index how value all (Some place) found k h =
-      let outer = option_and_then_some (λ (is : List TypedExpr). option_map (λ (t : TypedExpr). kind.Write place.layout place.place is (way_of how) t) (only_if (λ t. same_ty t.ty place.ty) (typed_expr known at.scope value)))
+      let outer = option_and_then_some (λ (is : List TypedExpr). option_map (λ (t : TypedExpr). kind.Write place.layout place.place is (way_of how) t) (only_where (λ t. same_ty t.ty place.ty) (typed_expr known at.scope value)))
       (option_and_then (λ (is : List TypedExpr). if list_all is_signed_expr is then Some is else None) (all_some (map (typed_expr known at.scope) index))) k h in
       let is = outer.0 in
       let inner = option_and_then_some (λ (is : List TypedExpr). if list_all is_signed_expr is then Some is else None) (all_some (map (typed_expr known at.scope) index)) is outer.1 in
       let signed = if_some (list_all is_signed_expr inner.0) inner.0 is inner.2 in
-      let made = option_map_some (λ (t : TypedExpr). kind.Write place.layout place.place is (way_of how) t) (only_if (λ t. same_ty t.ty place.ty) (typed_expr known at.scope value)) k outer.2 in
+      let made = option_map_some (λ (t : TypedExpr). kind.Write place.layout place.place is (way_of how) t) (only_where (λ t. same_ty t.ty place.ty) (typed_expr known at.scope value)) k outer.2 in
       let it = made.0 in
-      let passed = only_if_some (λ t. same_ty t.ty place.ty) (typed_expr known at.scope value) it made.1 in
+      let passed = only_where_some (λ t. same_ty t.ty place.ty) (typed_expr known at.scope value) it made.1 in
       let index_is : all_some (map (typed_expr known at.scope) index) ≡ Some is = inner.1 ∙ ap Some signed.1 in
       let mark = field_mark place.layout place.place in
       ap (λ (k : TypedKind). named_stmt names (record { number = at.number; kind = k })) (sym made.2)
       ∙ (named_stmt-Write names at.number place.layout place.place is (way_of how) it
-      ∙ (ap (λ (xs : List Expr). stmt.Write mark xs (way_back (way_of how)) (named names it)) (all_kept at.scope all index (exprs_all at.scope all index) is index_is)
-      ∙ (ap (λ (w : WayDecl). stmt.Write mark (map (marked known) index) w (named names it)) (way_kept how)
-      ∙ (ap (stmt.Write mark (map (marked known) index) how) (expr_kept at.scope all value it passed.0)
-      ∙ (ap (λ (o : Option FieldAt). stmt.Write (marked_field field o) (map (marked known) index) how (marked known value)) (sym found) ∙ sym (marked_stmt-Write known field index how value))))))
+      ∙ (ap (λ (xs : List Expr). stmt.Write mark xs (way_back (way_of how)) (named_expr names it)) (all_kept at.scope all index (exprs_all at.scope all index) is index_is)
+      ∙ (ap (λ (w : WayDecl). stmt.Write mark (map (marked_expr known) index) w (named_expr names it)) (way_kept how)
+      ∙ (ap (stmt.Write mark (map (marked_expr known) index) how) (expr_kept at.scope all value it passed.0)
+      ∙ (ap (λ (o : Option FieldAt). stmt.Write (marked_field field o) (map (marked_expr known) index) how (marked_expr known value)) (sym found) ∙ sym (marked_stmt-Write known field index how value))))))
 
-  write_back : (field : Name) (index : List Expr) (how : WayDecl) (value : Expr) → LeadsBack (stmt.Write field index how value)
-  write_back field index how value before more at typed after h is n all =
-      plain_back (stmt.Write field index how value) (write_part known at.scope field index how value) before at typed after (ap (λ (step : Step). step at) (sym (typed-Write known field index how value)) ∙ h) (names-Write field index how value) n all
-      (λ k p.
-      let part = judged_ok (write_wrongs known at.scope field index how value) (written how (field_named known.tables field) (all_some (map (typed_expr known at.scope) index)) (typed_expr known at.scope value)) k p in
-      written_back at field index how value all (field_named known.tables field) refl k part.is)
-
-  turn_back : (block : List Stmt) → AllByRecursion LeadsBack block → (before more : List Name) (at : Reached) (typed : List TypedStmt) (after : Reached) → in_turn (map (typed_stmt known) block) at ≡ Ok (typed, after)
-      → names ≡ before ++ (block_names block ++ more) → length at.types ≡ length before → AllCalled at.scope
-      → AllBack (map (named_stmt names) typed) (map (marked_stmt known) block) before (block_names block) after
-  turn_back [] back before more at typed after h is n all =
-      let typed_is = first [] typed at after h in
-      let after_is = second [] typed at after h in
-      record {
-        same = ap (map (named_stmt names)) (sym typed_is);
-        count = ap (λ (r : Reached). length r.types) (sym after_is) ∙ (n ∙ ap (λ (ns : List Name). length ns) (sym (append-nil before)));
-        called = subst (λ (r : Reached). AllCalled r.scope) after_is all;
-      }
-  turn_back (statement ∷ block) back before more at typed after h is n all =
-      let one = and_then_ok (typed_stmt known statement at) (λ one. and_then (in_turn (map (typed_stmt known) block) one.1) (λ rest. Ok (one.0 ∷ rest.0, rest.1))) (typed, after) h in
-      let t = one.0.0 in
-      let between = one.0.1 in
-      let rest = and_then_ok (in_turn (map (typed_stmt known) block) between) (λ rest. Ok (t ∷ rest.0, rest.1)) (typed, after) one.2 in
-      let ts = rest.0.0 in
-      let typed_is = first (t ∷ ts) typed rest.0.1 after rest.2 in
-      let after_is = second (t ∷ ts) typed rest.0.1 after rest.2 in
-      let here = stmt_names statement in
-      let there = block_names block in
-      let is_here : names ≡ before ++ (here ++ (there ++ more)) = is ∙ ap (λ (ns : List Name). before ++ ns) (append_assoc here there more) in
-      let head = back.0 before (there ++ more) at t between one.1 is_here n all in
-      let is_there : names ≡ (before ++ here) ++ (there ++ more) = is_here ∙ sym (append_assoc before here (there ++ more)) in
-      let tail = turn_back block back.1 (before ++ here) more between ts rest.0.1 rest.1 is_there head.count head.called in
-      record {
-        same = ap (map (named_stmt names)) (sym typed_is)
-            ∙ (ap (λ (s : Stmt). s ∷ map (named_stmt names) ts) head.same ∙ ap (λ (ss : List Stmt). marked_stmt known statement ∷ ss) tail.same);
-        count = ap (λ (r : Reached). length r.types) (sym after_is) ∙ (tail.count ∙ ap (λ (ns : List Name). length ns) (append_assoc before here there));
-        called = subst (λ (r : Reached). AllCalled r.scope) after_is tail.called;
-      }
-
-  block_back : (block : List Stmt) → AllByRecursion LeadsBack block → (before more : List Name) (at : Reached) (typed : List TypedStmt) (after : Reached) → in_block (map (typed_stmt known) block) at ≡ Ok (typed, after)
-      → names ≡ before ++ (block_names block ++ more) → length at.types ≡ length before → AllCalled at.scope
-      → AllBack (map (named_stmt names) typed) (map (marked_stmt known) block) before (block_names block) after
-  block_back block back before more at typed after h is n all =
-      let inside = and_then_ok (in_turn (map (typed_stmt known) block) at) (λ d. Ok (d.0, record d.1 { scope = at.scope })) (typed, after) h in
-      let left : Reached = record inside.0.1 { scope = at.scope } in
-      let typed_is = first inside.0.0 typed left after inside.2 in
-      let after_is = second inside.0.0 typed left after inside.2 in
-      let b = turn_back block back before more at inside.0.0 inside.0.1 inside.1 is n all in
-      record {
-        same = ap (map (named_stmt names)) (sym typed_is) ∙ b.same;
-        count = ap (λ (r : Reached). length r.types) (sym after_is) ∙ b.count;
-        called = subst (λ (r : Reached). AllCalled r.scope) after_is all;
-      }
-
+  -- the names of a block that comes first, of a part of the statement that comes after it
   abbrev back_else : Bool → List TypedStmt → Option (List Stmt)
   back_else has block = if has then Some (map (named_stmt names) block) else None
 
-  record ElseBack (typed : List TypedStmt) (has : Bool) (otherwise : Option (List Stmt)) (before : List Name) (after : Reached) : Type 0 where
-    same : back_else has typed ≡ option_map (map (marked_stmt known)) otherwise
-    count : length after.types ≡ length (before ++ else_names (option_map (map stmt_names) otherwise))
-    called : AllCalled after.scope
-
-  else_back : (otherwise : Option (List Stmt)) → AllInElse LeadsBack otherwise → (before more : List Name) (at : Reached) (typed : List TypedStmt) (has : Bool) (after : Reached)
-      → in_else (option_map (map (typed_stmt known)) otherwise) at ≡ Ok (typed, has, after) → names ≡ before ++ (else_names (option_map (map stmt_names) otherwise) ++ more) → length at.types ≡ length before → AllCalled at.scope
-      → ElseBack typed has otherwise before after
-  else_back None back before more at typed has after h is n all =
-      let same = ok_same ([], false, at) (typed, has, after) h in
-      subst (λ (p : List TypedStmt × Bool × Reached). ElseBack p.0 p.1 None before p.2) same
-      (record { same = refl; count = n ∙ ap (λ (ns : List Name). length ns) (sym (append-nil before)); called = all })
-  else_back (Some block) back before more at typed has after h is n all =
-      let inside = and_then_ok (in_block (map (typed_stmt known) block) at) (λ d. Ok (d.0, true, d.1)) (typed, has, after) h in
-      let same = ok_same (inside.0.0, true, inside.0.1) (typed, has, after) inside.2 in
-      let b = block_back block back before more at inside.0.0 inside.0.1 inside.1 is n all in
-      subst (λ (p : List TypedStmt × Bool × Reached). ElseBack p.0 p.1 (Some block) before p.2) same
-      (record { same = ap Some b.same; count = b.count; called = b.called })
-
-  if_back : (condition : Expr) (block : List Stmt) (otherwise : Option (List Stmt)) → AllByRecursion LeadsBack block → AllInElse LeadsBack otherwise → LeadsBack (stmt.If condition block otherwise)
-  if_back condition block otherwise back else_back_all before more at typed after h is n all =
-      let yes_of = in_block (map (typed_stmt known) block) (past at) in
-      let no_of = in_else (option_map (map (typed_stmt known)) otherwise) in
-      let g = ap (λ (step : Step). step at) (sym (typed-If known condition block otherwise)) ∙ h in
-      let part = and_then_ok (fault_at known at.number (if_part known at.scope condition))
-      (λ (t : TypedExpr). and_then yes_of (λ yes. and_then (no_of yes.1) (λ no. Ok (record { number = at.number; kind = kind.If t yes.0 no.0 no.1 }, no.2)))) (typed, after) g in
-      let it = part.0 in
-      let says = judged_ok (if_wrongs known at.scope condition) (only_if (λ t. is_truth t.ty) (typed_expr known at.scope condition)) it (fault_at_ok known at.number (if_part known at.scope condition) it part.1) in
-      let truth = only_if_some (λ t. is_truth t.ty) (typed_expr known at.scope condition) it says.is in
-      let yes = and_then_ok yes_of (λ yes. and_then (no_of yes.1) (λ no. Ok (record { number = at.number; kind = kind.If it yes.0 no.0 no.1 }, no.2))) (typed, after) part.2 in
-      let no = and_then_ok (no_of yes.0.1) (λ no. Ok (record { number = at.number; kind = kind.If it yes.0.0 no.0 no.1 }, no.2)) (typed, after) yes.2 in
-      let made : TypedStmt = record { number = at.number; kind = kind.If it yes.0.0 no.0.0 no.0.1 } in
-      let here = block_names block in
-      let there = else_names (option_map (map stmt_names) otherwise) in
+  -- a condition before blocks that lead back
+  branch_back : (condition : Expr) (block : List Stmt) (otherwise : Option (List Stmt)) (at : Reached) (it : TypedExpr) (ys ns : List TypedStmt) (has : Bool) (before : List Name) (last : Reached)
+      → Fits (if_wrongs known at.scope condition) (only_where (λ typed. is_truth typed.ty) (typed_expr known at.scope condition)) it → AllCalled at.scope
+      → map (named_stmt names) ys ≡ map (marked_stmt known) block → back_else has ns ≡ option_map (map (marked_stmt known)) otherwise
+      → length last.types ≡ length ((before ++ block_names block) ++ else_names (option_map (map stmt_names) otherwise))
+      → Back (named_stmt names (of_kind at (kind.If it ys ns has))) (marked_stmt known (stmt.If condition block otherwise)) before (stmt_names (stmt.If condition block otherwise)) (block_end at last)
+  branch_back condition block otherwise at it ys ns has before last says all b o count =
+      let truth = only_where_some (λ t. is_truth t.ty) (typed_expr known at.scope condition) it says.is in
       let whole = names-If condition block otherwise in
-      let is_here : names ≡ before ++ (here ++ (there ++ more)) = is ∙ (ap (λ (ns : List Name). before ++ (ns ++ more)) whole ∙ ap (λ (ns : List Name). before ++ ns) (append_assoc here there more)) in
-      let b = block_back block back before (there ++ more) (past at) yes.0.0 yes.0.1 yes.1 is_here n all in
-      let is_there : names ≡ (before ++ here) ++ (there ++ more) = is_here ∙ sym (append_assoc before here (there ++ more)) in
-      let o = else_back otherwise else_back_all (before ++ here) more yes.0.1 no.0.0 no.0.1 no.0.2 no.1 is_there b.count b.called in
-      let made_back : Back (named_stmt names made) (marked_stmt known (stmt.If condition block otherwise)) before (stmt_names (stmt.If condition block otherwise)) no.0.2 = record {
-        same = named_stmt-If names at.number it yes.0.0 no.0.0 no.0.1
-            ∙ (ap (λ (x : Expr). stmt.If x (map (named_stmt names) yes.0.0) (back_else no.0.1 no.0.0)) (expr_kept at.scope all condition it truth.0)
-            ∙ (ap (λ (ss : List Stmt). stmt.If (marked known condition) ss (back_else no.0.1 no.0.0)) b.same
-            ∙ (ap (stmt.If (marked known condition) (map (marked_stmt known) block)) o.same ∙ sym (marked_stmt-If known condition block otherwise))));
-        count = o.count ∙ (ap (λ (ns : List Name). length ns) (append_assoc before here there) ∙ ap (λ (ns : List Name). length (before ++ ns)) (sym whole));
-        called = o.called;
-      } in
-      back_at made typed no.0.2 after (marked_stmt known (stmt.If condition block otherwise)) before (stmt_names (stmt.If condition block otherwise)) (first made typed no.0.2 after no.2) (second made typed no.0.2 after no.2) made_back
+      record {
+        same = named_stmt-If names at.number it ys ns has
+            ∙ (ap (λ (x : Expr). stmt.If x (map (named_stmt names) ys) (back_else has ns)) (expr_kept at.scope all condition it truth.0)
+            ∙ (ap (λ (ss : List Stmt). stmt.If (marked_expr known condition) ss (back_else has ns)) b
+            ∙ (ap (stmt.If (marked_expr known condition) (map (marked_stmt known) block)) o ∙ sym (marked_stmt-If known condition block otherwise))));
+        count = count
+            ∙ (ap (λ (ns : List Name). length ns) (append_assoc before (block_names block) (else_names (option_map (map stmt_names) otherwise))) ∙ ap (λ (ns : List Name). length (before ++ ns)) (sym whole));
+        called = all;
+      }
 
-  for_back : (name : Name) (range : RangeDecl) (body : List Stmt) → AllByRecursion LeadsBack body → LeadsBack (stmt.For name range body)
-  for_back name range body back before more at typed after h is n all =
-      let start = declared name ty.I32 true (past at) in
-      let g = ap (λ (step : Step). step at) (sym (typed-For known name range body)) ∙ h in
-      let part = and_then_ok (fault_at known at.number (for_part known at.scope name range))
-      (λ (t : TypedRange). and_then (in_turn (map (typed_stmt known) body) start) (λ d. Ok (record { number = at.number; kind = kind.For (length at.types) t d.0 }, record d.1 { scope = at.scope }))) (typed, after) g in
-      let bounds = part.0 in
-      let says = judged_ok (for_wrongs known at.scope name range) (typed_range known at.scope range) bounds (fault_at_ok known at.number (for_part known at.scope name range) bounds part.1) in
-      let inside = and_then_ok (in_turn (map (typed_stmt known) body) start) (λ d. Ok (record { number = at.number; kind = kind.For (length at.types) bounds d.0 }, record d.1 { scope = at.scope })) (typed, after) part.2 in
-      let made : TypedStmt = record { number = at.number; kind = kind.For (length at.types) bounds inside.0.0 } in
-      let behind : Reached = record inside.0.1 { scope = at.scope } in
+  if_back : (condition : Expr) (block : List Stmt) (at : Reached) (it : TypedExpr) (ys : List TypedStmt) (mid : Reached)
+      → Fits (if_wrongs known at.scope condition) (only_where (λ typed. is_truth typed.ty) (typed_expr known at.scope condition)) it
+      → Turn known LeadsBack AllLeadBack block (next_statement at) ys mid
+      → LeadsBack (stmt.If condition block None) at (of_kind at (kind.If it ys [] false)) (block_end at mid)
+  if_back condition block at it ys mid says inside before more is n all =
+      let here = block_names block in
+      let whole = names-If condition block None in
+      let is_here : names ≡ before ++ (here ++ more) = is ∙ ap (λ (ns : List Name). before ++ (ns ++ more)) (whole ∙ append-nil here) in
+      let b = inside.holds before more is_here n all in
+      branch_back condition block None at it ys [] false before mid says all b.same refl (b.count ∙ ap (λ (ns : List Name). length ns) (sym (append-nil (before ++ here))))
+
+  if_else_back : (condition : Expr) (block otherwise : List Stmt) (at : Reached) (it : TypedExpr) (ys : List TypedStmt) (mid : Reached) (ns : List TypedStmt) (last : Reached)
+      → Fits (if_wrongs known at.scope condition) (only_where (λ typed. is_truth typed.ty) (typed_expr known at.scope condition)) it
+      → Turn known LeadsBack AllLeadBack block (next_statement at) ys mid → Turn known LeadsBack AllLeadBack otherwise (block_end at mid) ns last
+      → LeadsBack (stmt.If condition block (Some otherwise)) at (of_kind at (kind.If it ys ns true)) (block_end at last)
+  if_else_back condition block otherwise at it ys mid ns last says inside outside before more is n all =
+      let here = block_names block in
+      let there = block_names otherwise in
+      let whole = names-If condition block (Some otherwise) in
+      let is_here : names ≡ before ++ (here ++ (there ++ more)) = is ∙ (ap (λ (ns : List Name). before ++ (ns ++ more)) whole ∙ ap (λ (ns : List Name). before ++ ns) (append_assoc here there more)) in
+      let b = inside.holds before (there ++ more) is_here n all in
+      let is_there : names ≡ (before ++ here) ++ (there ++ more) = is_here ∙ sym (append_assoc before here (there ++ more)) in
+      let o = outside.holds (before ++ here) more is_there b.count all in
+      branch_back condition block (Some otherwise) at it ys ns true before last says all b.same (ap Some o.same) o.count
+
+  for_back : (name : Name) (range : RangeDecl) (body : List Stmt) (at : Reached) (bounds : TypedRange) (typed : List TypedStmt) (last : Reached)
+      → Fits (for_wrongs known at.scope name range) (typed_range known at.scope range) bounds
+      → Turn known LeadsBack AllLeadBack body (with_variable name ty.I32 true (next_statement at)) typed last
+      → LeadsBack (stmt.For name range body) at (of_kind at (kind.For (length at.types) bounds typed)) (block_end at last)
+  for_back name range body at bounds typed last says inside before more is n all =
       let there = block_names body in
       let whole = names-For name range body in
       let is_here : names ≡ before ++ name ∷ (there ++ more) = is ∙ ap (λ (ns : List Name). before ++ (ns ++ more)) whole in
       let is_there : names ≡ (before ++ name ∷ []) ++ (there ++ more) = is_here ∙ sym (append_assoc before (name ∷ []) (there ++ more)) in
-      let count_there : length start.types ≡ length (before ++ name ∷ []) = length-append at.types (ty.I32 ∷ []) ∙ (ap (λ (m : ℕ). m + 1) n ∙ sym (length-append before (name ∷ []))) in
-      let b = turn_back body back (before ++ name ∷ []) more start inside.0.0 inside.0.1 inside.1 is_there count_there
-      (declares_called before (there ++ more) name ty.I32 true (past at) is_here n says.once all) in
-      let made_back : Back (named_stmt names made) (marked_stmt known (stmt.For name range body)) before (stmt_names (stmt.For name range body)) behind = record {
-        same = named_stmt-For names at.number (length at.types) bounds inside.0.0
-            ∙ (ap (λ (o : Option Name). stmt.For (unwrap_or o no_name) (named_range names bounds) (map (named_stmt names) inside.0.0)) (next_name before (there ++ more) name at is_here n)
-            ∙ (ap (λ (r : RangeDecl). stmt.For name r (map (named_stmt names) inside.0.0)) (range_kept at.scope all range bounds says.is)
+      let count_there : length (at.types ++ ty.I32 ∷ []) ≡ length (before ++ name ∷ []) = length-append at.types (ty.I32 ∷ []) ∙ (ap (λ (m : ℕ). m + 1) n ∙ sym (length-append before (name ∷ []))) in
+      let b = inside.holds (before ++ name ∷ []) more is_there count_there (declares_called before (there ++ more) name ty.I32 true (next_statement at) is_here n says.once all) in
+      record {
+        same = named_stmt-For names at.number (length at.types) bounds typed
+            ∙ (ap (λ (o : Option Name). stmt.For (unwrap_or o no_name) (named_range names bounds) (map (named_stmt names) typed)) (next_name before (there ++ more) name at is_here n)
+            ∙ (ap (λ (r : RangeDecl). stmt.For name r (map (named_stmt names) typed)) (range_kept at.scope all range bounds says.is)
             ∙ (ap (stmt.For name (marked_range known range)) b.same ∙ sym (marked_stmt-For known name range body))));
         count = b.count ∙ (ap (λ (ns : List Name). length ns) (append_assoc before (name ∷ []) there) ∙ ap (λ (ns : List Name). length (before ++ ns)) (sym whole));
         called = all;
-      } in
-      back_at made typed behind after (marked_stmt known (stmt.For name range body)) before (stmt_names (stmt.For name range body)) (first made typed behind after inside.2) (second made typed behind after inside.2) made_back
+      }
 
-  stmt_back : (statement : Stmt) → LeadsBack statement
-  stmt_back = by_statements LeadsBack let_back assign_back write_back if_back for_back
-
-  stmts_back : (block : List Stmt) → AllByRecursion LeadsBack block
-  stmts_back [] = tt
-  stmts_back (statement ∷ block) = (stmt_back statement, stmts_back block)
+  leading : Cases known LeadsBack AllLeadBack
+  leading = record {
+    on_none = λ at before more is n all.
+        record { same = refl; count = n ∙ ap (λ (ns : List Name). length ns) (sym (append-nil before)); called = all };
+    on_more = λ statement block at t mid ts last one_is one rest before more is n all.
+        let here = stmt_names statement in
+        let there = block_names block in
+        let is_here : names ≡ before ++ (here ++ (there ++ more)) = is ∙ ap (λ (ns : List Name). before ++ ns) (append_assoc here there more) in
+        let head = one before (there ++ more) is_here n all in
+        let is_there : names ≡ (before ++ here) ++ (there ++ more) = is_here ∙ sym (append_assoc before here (there ++ more)) in
+        let tail = rest.holds (before ++ here) more is_there head.count head.called in
+        record {
+          same = ap (λ (s : Stmt). s ∷ map (named_stmt names) ts) head.same ∙ ap (λ (ss : List Stmt). marked_stmt known statement ∷ ss) tail.same;
+          count = tail.count ∙ ap (λ (ns : List Name). length ns) (append_assoc before here there);
+          called = tail.called;
+        };
+    on_let = let_back;
+    on_assign = λ name value at it part before more is n all.
+        plain_back (stmt.Assign name value) at (of_kind at it) (assigned_back at name value all (local_named at.scope name) refl it part.is) (names-Assign name value) before more is n all;
+    on_write = λ field index how value at it part before more is n all.
+        plain_back (stmt.Write field index how value) at (of_kind at it) (written_back at field index how value all (field_named known.tables field) refl it part.is)
+        (names-Write field index how value) before more is n all;
+    on_if = if_back;
+    on_if_else = if_else_back;
+    on_for = for_back;
+  }
 
   -- ---- kernels
 
   begun_called : (before more : List Name) (at : Reached) (vars : List Name) → names ≡ before ++ (vars ++ more) → length at.types ≡ length before → any_earlier known vars ≡ false → AllCalled at.scope → AllCalled (begun at vars).scope
   begun_called before more at [] is n free all = all
   begun_called before more at (name ∷ vars) is n free all =
-      let parts = or_parts (is_some (earlier known name)) (any_earlier known vars) free in
+      let parts = or_parts (is_some (earlier_constant known name)) (any_earlier known vars) free in
       begun_called (before ++ name ∷ []) more (one at name) vars (is ∙ sym (append_assoc before (name ∷ []) (vars ++ more)))
       (length-append at.types (ty.I32 ∷ []) ∙ (ap (λ (m : ℕ). m + 1) n ∙ sym (length-append before (name ∷ [])))) parts.1
       (called_push at.scope (record { name = name; local = record { var = length at.types; ty = ty.I32; is_loop = true } }) all
-      (record { there = next_name before (vars ++ more) name at is n; apart = none_of (earlier known name) parts.0 }))
+      (record { there = next_name before (vars ++ more) name at is n; apart = none_of (earlier_constant known name) parts.0 }))
 
   ranges_kept : (ranges : List RangeDecl) (bounds : List TypedRange) → all_some (map (typed_range known []) ranges) ≡ Some bounds → map (named_range names) bounds ≡ map (marked_range known) ranges
   ranges_kept [] bounds h = ap (map (named_range names)) (sym (some_same [] bounds h))
@@ -505,23 +433,18 @@ pub names_come_back : NamesComeBack
 names_come_back known decl kernel h =
     let names = variable_names decl in
     let n = length decl.vars in
-    let body = map (typed_stmt known) decl.body in
     let start = first_reached decl.vars in
     let empty : Reached = record { number = 1; types = []; scope = [] } in
-    let part = and_then_ok (fault_at known 0 (loop_part known decl))
-    (λ (loop : TypedDomain). and_then (typed_block known decl.body start) (λ d. Ok (record { vars = n; domain = loop; types = d.1.types; body = d.0 }))) kernel h in
-    let loop = part.0 in
-    let says = judged_ok (loop_wrongs known decl) (typed_domain known decl.domain) loop (fault_at_ok known 0 (loop_part known decl) loop part.1) in
-    let block = and_then_ok (typed_block known decl.body start) (λ d. Ok (record { vars = n; domain = loop; types = d.1.types; body = d.0 })) kernel part.2 in
-    let kernel_is = ok_same (record { vars = n; domain = loop; types = block.0.1.types; body = block.0.0 }) kernel block.2 in
+    let parts = kernel_parts known decl kernel h in
+    let says = parts.fits in
     let free = or_parts (has_repeat decl.vars) (any_earlier known decl.vars) says.once in
     let count : length start.types ≡ length decl.vars = omega (arith, length_begun empty decl.vars) in
     let called = begun_called known names [] (block_names decl.body) empty decl.vars refl refl free.1 tt in
     let is : names ≡ decl.vars ++ (block_names decl.body ++ []) = ap (λ (ns : List Name). decl.vars ++ ns) (sym (append-nil (block_names decl.body))) in
-    let b = block_back known names decl.body (stmts_back known names decl.body) decl.vars [] start block.0.0 block.0.1 block.1 is count called in (
-      ap (λ (k : TypedKernel). length k.types) (sym kernel_is) ∙ b.count,
-      ap (named_kernel decl.name names) (sym kernel_is)
-          ∙ (ap (λ (vars : List Name). record { name = decl.name; vars = vars; domain = named_domain names loop; body = map (named_stmt names) block.0.0 }) (take-append_seam decl.vars (block_names decl.body))
-          ∙ (ap (λ (d : DomainDecl). record { name = decl.name; vars = decl.vars; domain = d; body = map (named_stmt names) block.0.0 }) (domain_kept known names decl.domain loop says.is)
+    let b = walk_turn known (LeadsBack known names) (AllLeadBack known names) (leading known names) decl.body start parts.body parts.last parts.in_body decl.vars [] is count called in (
+      ap (λ (k : TypedKernel). length k.types) (sym parts.is) ∙ b.count,
+      ap (named_kernel decl.name names) (sym parts.is)
+          ∙ (ap (λ (vars : List Name). record { name = decl.name; vars = vars; domain = named_domain names parts.loop; body = map (named_stmt names) parts.body }) (take-append_seam decl.vars (block_names decl.body))
+          ∙ (ap (λ (d : DomainDecl). record { name = decl.name; vars = decl.vars; domain = d; body = map (named_stmt names) parts.body }) (domain_kept known names decl.domain parts.loop says.is)
           ∙ ap (λ (ss : List Stmt). record { name = decl.name; vars = decl.vars; domain = marked_domain known decl.domain; body = ss }) b.same)),
     )

@@ -21,10 +21,10 @@ use Rattle.sg_ast.specs.Layout.{names_tokens}
 use Rattle.sg_ast.specs.Kernel.{kernel_tokens, domain_tokens}
 use Rattle.sg_ast.specs.Command.{command_tokens}
 use Rattle.sg_ast.specs.Program.{item_tokens}
-use Rattle.sg_ast.proofs.StmtVariants.{stmt_tokens-Let, stmt_tokens-Assign, stmt_tokens-Write, stmt_tokens-If, stmt_tokens-For}
-use Rattle.sg_ast.proofs.CommandVariants.{by_command_variant, command_tokens-Load, command_tokens-Run, command_tokens-Times, command_tokens-Dump, command_tokens-Image, command_tokens-Stats, command_tokens-Prune, command_tokens-Clear}
-use Rattle.sg_types.specs.Counting.{stmt_count, block_count, else_count, kernel_size, item_size}
-use Rattle.sg_types.proofs.StmtWords.{count-Let, count-Assign, count-Write, count-If, count-For, AllInElse, by_statements}
+use Rattle.sg_ast.proofs.Uses.{stmt_tokens-Let, stmt_tokens-Assign, stmt_tokens-Write, stmt_tokens-If, stmt_tokens-For, by_command_variant, command_tokens-Load, command_tokens-Run, command_tokens-Times, command_tokens-Dump, command_tokens-Image, command_tokens-Stats, command_tokens-Prune, command_tokens-Clear, AllInElse, by_statements}
+use Rattle.sg_types.specs.Counting.{stmt_count, block_count, else_count}
+use Rattle.sg_types.specs.steps.Sizes.{kernel_size, item_size}
+use Rattle.sg_types.proofs.StmtWords.{count-Let, count-Assign, count-Write, count-If, count-For}
 
 -- a statement has a token for itself and each one in it
 abbrev IsLong : Stmt → Type 0

@@ -5,8 +5,9 @@ use Rattle.std.proofs.lemmas.Bool.{and_parts, ltb-true}
 use Rattle.sg_ast.specs.declared.token.Name.{Name}
 use Rattle.sg_names.specs.declared.tables.FieldAt.{FieldAt}
 use Rattle.sg_names.specs.declared.tables.NamedField.{NamedField}
-use Rattle.sg_names.specs.Tables.{Tables, same_name, field_named}
-use Rattle.sg_types.specs.Standing.{fields_stand}
+use Rattle.sg_ast.specs.Token.{same_name}
+use Rattle.sg_names.specs.Tables.{Tables, field_named}
+use Rattle.sg_types.specs.steps.Standing.{fields_stand}
 
 module _ {X : Type 0} (test good : X → Bool) where
   found_good : (x : X) (xs : List X) (y : X) (b : Bool) → test x ≡ b → good x ≡ true → (find test xs ≡ Some y → good y ≡ true) → find test (x ∷ xs) ≡ Some y → good y ≡ true

@@ -11,8 +11,9 @@ use Rattle.sg_names.specs.declared.fault.NameFault.{NameFault}
 use Rattle.sg_names.specs.declared.tables.NamedField.{NamedField}
 use Rattle.sg_names.specs.Tables.{Tables, no_tables}
 use Rattle.sg_names.specs.Declares.{declare, fields_from, commands_in}
-use Rattle.sg_names.specs.Names.{tables_of, tables_from, unless_fault, fault_in}
-use Rattle.sg_types.specs.Standing.{fields_stand}
+use Rattle.sg_names.specs.Names.{tables_of, tables_from, fault_in}
+use Rattle.sg_words.specs.Results.{fault_or}
+use Rattle.sg_types.specs.steps.Standing.{fields_stand}
 
 -- fields stand in the first layouts
 abbrev stand_below : ℕ → List NamedField → Bool
@@ -42,7 +43,7 @@ declares_stand tables (item.Layout decl) h =
 declares_stand tables (item.Kernel decl) h = h
 declares_stand tables (item.Command command) h = h
 
-no_fault_left : (fault : Option NameFault) (after : Result Tables NameFault) (tables : Tables) → unless_fault fault after ≡ Ok tables → after ≡ Ok tables
+no_fault_left : (fault : Option NameFault) (after : Result Tables NameFault) (tables : Tables) → fault_or fault after ≡ Ok tables → after ≡ Ok tables
 no_fault_left None after tables h = h
 no_fault_left (Some fault) after tables h = cc
 

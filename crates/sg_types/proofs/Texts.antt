@@ -20,7 +20,7 @@ use Rattle.sg_types.specs.declared.typed.TypedKind.TheVariants.{rolls-Let, rolls
 use Rattle.sg_types.specs.declared.typed.TypedKind.TheOpen as k
 use Rattle.sg_types.specs.declared.typed.TypedKind.TheOpen.{TypedKind-F, TypedStmt-F}
 use Rattle.sg_types.specs.declared.typed.TypedStmt.{TypedStmt, fold-TypedStmt}
-use Rattle.sg_types.specs.Values.{World, Moment, coord_of, value_of}
+use Rattle.sg_types.specs.Values.{World, Moment, coord_of, expr_word}
 use Rattle.sg_types.specs.Iterations.{Action, set_var, run_all, range_numbers, action_of, first_moment}
 use Rattle.sg_ast.specs.Stmt.{joined}
 use Rattle.sg_types.specs.Written.{TextWrite, text_step, text_writes, kernel_writes, same_acc, same_way, is_of, is_written}
@@ -166,11 +166,11 @@ module _ (world : World) (texts : List TextWrite) where
   keeps_write : (number layout place : ℕ) (index : List TypedExpr) (way : Way) (value : TypedExpr) → KeepsWithin (record { number = number; kind = kind.Write layout place index way value })
   keeps_write number layout place index way value among now h =
       let text : TextWrite = record { stmt = number; layout = layout; place = place; indices = length index; way = way } in
-      let write : Write = record { layout = layout; place = place; stmt = number; at = coord_of (map (value_of world now) index); way = way; value = value_of world now value } in
-      let count : (length (map (value_of world now) index) == length index) ≡ true = ap (λ (n : ℕ). n == length index) (length-map index (value_of world now)) ∙ same_number (length index) in
-      let is : is_of write text ≡ true = and_from ((number == number) && ((layout == layout) && (place == place))) ((length (map (value_of world now) index) == length index) && same_way way way)
+      let write : Write = record { layout = layout; place = place; stmt = number; at = coord_of (map (expr_word world now) index); way = way; value = expr_word world now value } in
+      let count : (length (map (expr_word world now) index) == length index) ≡ true = ap (λ (n : ℕ). n == length index) (length-map index (expr_word world now)) ∙ same_number (length index) in
+      let is : is_of write text ≡ true = and_from ((number == number) && ((layout == layout) && (place == place))) ((length (map (expr_word world now) index) == length index) && same_way way way)
       (and_from (number == number) ((layout == layout) && (place == place)) (same_number number) (and_from (layout == layout) (place == place) (same_number layout) (same_number place)))
-      (and_from (length (map (value_of world now) index) == length index) (same_way way way) count (same_way-same way)) in
+      (and_from (length (map (expr_word world now) index) == length index) (same_way way way) count (same_way-same way)) in
       let stands : is_written texts write ≡ true = among write (ap (λ (xs : List TextWrite). is_written xs write) (text-Write number layout place index way value) ∙ or_left (is_of write text) false is) in
       ap (λ (m : Moment). list_all (is_written texts) m.writes) (action-Write world number layout place index way value now)
       ∙ (list_all-append (is_written texts) now.writes (write ∷ []) ∙ and_from (list_all (is_written texts) now.writes) (is_written texts write && true) h (and_from (is_written texts write) true stands refl))
@@ -196,7 +196,7 @@ module _ (world : World) (texts : List TextWrite) where
         let o = keeps_block otherwise (parts otherwise (omega (arith, depth-If condition block otherwise has_else, le-max_right (largest (map stmt_depth block)) (largest (map stmt_depth otherwise)))))
         (among_back (joined (map text_writes block)) (joined (map text_writes otherwise)) texts within) in
         ap (λ (m : Moment). list_all (is_written texts) m.writes) (action-If world number condition block otherwise has_else now)
-        ∙ either (value_of world now condition == 0) (map (action_of world) block) (map (action_of world) otherwise) b o now stands)
+        ∙ either (expr_word world now condition == 0) (map (action_of world) block) (map (action_of world) otherwise) b o now stands)
         (λ var range body h among now stands.
         let within : Among (joined (map text_writes body)) texts =
         λ write w. among write (ap (λ (xs : List TextWrite). is_written xs write) (text-For number var range body) ∙ w) in

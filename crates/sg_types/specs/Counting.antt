@@ -1,10 +1,7 @@
 -- How many statements there are, themselves and those in their blocks counted.
-use Rattle.std.specs.Prelude.{ℕ, ◌+◌, List, [], ◌∷◌, map, length, Option, Some, None}
+use Rattle.std.specs.Prelude.{ℕ, ◌+◌, List, [], ◌∷◌, map, Option, Some, None}
 use Rattle.sg_ast.specs.declared.stmt.Stmt.{Stmt, fold-Stmt}
 use Rattle.sg_ast.specs.declared.stmt.Stmt.TheOpen as s
-use Rattle.sg_ast.specs.declared.kernel.KernelDecl.{KernelDecl}
-use Rattle.sg_ast.specs.declared.program.Item.{Item}
-use Rattle.sg_ast.specs.declared.program.Item.TheVariants as item
 use Rattle.sg_ast.specs.declared.stmt.Stmt.TheOpen.{Stmt-F}
 
 -- the sum of some numbers
@@ -12,6 +9,7 @@ abbrev pub total : List ℕ → ℕ
 total [] = 0
 total (n ∷ ns) = n + total ns
 
+-- the sum of the numbers of an `else`, where there is one
 abbrev pub else_sum : Option (List ℕ) → ℕ
 else_sum None = 0
 else_sum (Some counts) = total counts
@@ -32,17 +30,7 @@ stmt_count = fold-Stmt ℕ count_step
 abbrev pub block_count : List Stmt → ℕ
 block_count block = total (map stmt_count block)
 
+-- how many statements an `else` has, where there is one
 abbrev pub else_count : Option (List Stmt) → ℕ
 else_count None = 0
 else_count (Some block) = block_count block
-
--- the variables and statements of a kernel, its loop counted
-abbrev pub kernel_size : KernelDecl → ℕ
-kernel_size kernel = length kernel.vars + (1 + block_count kernel.body)
-
--- the same of an item, 0 where it is no kernel
-abbrev pub item_size : Item → ℕ
-item_size (item.Const decl) = 0
-item_size (item.Layout decl) = 0
-item_size (item.Kernel kernel) = kernel_size kernel
-item_size (item.Command command) = 0

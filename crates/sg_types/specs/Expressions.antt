@@ -18,7 +18,7 @@ use Rattle.sg_names.specs.Tables.{Tables, field_named, axes_of}
 use Rattle.sg_types.specs.declared.typed.TypedExpr.{TypedExpr}
 use Rattle.sg_types.specs.declared.typed.Form.TheVariants as form
 use Rattle.sg_types.specs.TypeTable.{is_numeric, is_signed, bin_ty, un_ty}
-use Rattle.sg_types.specs.Scopes.{Known, NamedLocal, is_taken, plain}
+use Rattle.sg_types.specs.Scopes.{Known, NamedLocal, is_taken, name_expr}
 
 -- ---- names
 
@@ -44,16 +44,16 @@ abbrev pub field_axes : Tables → Name → Option ℕ
 field_axes tables field = option_and_then (λ at. axes_of tables at.layout) (field_named tables field)
 
 -- a number is there, and is this one
-abbrev pub is_number : Option ℕ → ℕ → Bool
-is_number None n = false
-is_number (Some m) n = m == n
+abbrev pub equals_some : Option ℕ → ℕ → Bool
+equals_some None n = false
+equals_some (Some m) n = m == n
 
 -- one layer of an expression, where for each part it is given whether its accesses have the right number of indices
 abbrev pub counts_step : Tables → Expr-F Bool → Bool
 counts_step tables (e.Number value unsigned) = true
 counts_step tables (e.Truth truth) = true
 counts_step tables (e.Name name) = true
-counts_step tables (e.Read field index) = is_number (field_axes tables field) (length index) && list_all (λ part. part) index
+counts_step tables (e.Read field index) = equals_some (field_axes tables field) (length index) && list_all (λ part. part) index
 counts_step tables (e.Paren inner) = inner
 counts_step tables (e.Un op operand) = operand
 counts_step tables (e.Bin op left right) = left && right
@@ -75,6 +75,7 @@ abbrev pub number_ty : Bool → Ty
 number_ty true = ty.U32
 number_ty false = ty.I32
 
+-- an expression is an I32
 abbrev pub is_signed_expr : TypedExpr → Bool
 is_signed_expr expr = is_signed expr.ty
 
@@ -82,6 +83,7 @@ is_signed_expr expr = is_signed expr.ty
 abbrev pub un_expr : UnOp → TypedExpr → Option TypedExpr
 un_expr op operand = option_map (λ given. record { ty = given; form = form.Un op operand }) (un_ty op operand.ty)
 
+-- an operator between two typed operands, where it takes their types
 abbrev pub bin_expr : BinOp → TypedExpr → TypedExpr → Option TypedExpr
 bin_expr op left right = option_map (λ given. record { ty = given; form = form.Bin op left right }) (bin_ty op left.ty right.ty)
 
@@ -99,10 +101,12 @@ abbrev pub on_one : (TypedExpr → Option TypedExpr) → List TypedExpr → Opti
 on_one takes (inner ∷ []) = takes inner
 on_one takes _ = None
 
+-- what takes two arguments, on a list of two
 abbrev pub on_two : (TypedExpr → TypedExpr → Option TypedExpr) → List TypedExpr → Option TypedExpr
 on_two takes (left ∷ right ∷ []) = takes left right
 on_two takes _ = None
 
+-- what takes three arguments, on a list of three
 abbrev pub on_three : (TypedExpr → TypedExpr → TypedExpr → Option TypedExpr) → List TypedExpr → Option TypedExpr
 on_three takes (first ∷ second ∷ third ∷ []) = takes first second third
 on_three takes _ = None
@@ -116,16 +120,16 @@ call_expr c.I32 arguments = on_one (convert_expr ty.I32) arguments
 call_expr c.U32 arguments = on_one (convert_expr ty.U32) arguments
 
 -- a read of a field at typed indices, which are I32
-abbrev pub read_expr : FieldAt → List TypedExpr → Option TypedExpr
-read_expr at index =
+abbrev pub access_expr : FieldAt → List TypedExpr → Option TypedExpr
+access_expr at index =
     if list_all is_signed_expr index then Some (record { ty = at.ty; form = form.Read at.layout at.place index }) else None
 
 -- one layer of an expression, where each part is given as a typed expression if its types fit
 abbrev pub typed_step : Known → List NamedLocal → Expr-F (Option TypedExpr) → Option TypedExpr
 typed_step known scope (e.Number value unsigned) = Some (record { ty = number_ty unsigned; form = form.Literal value })
 typed_step known scope (e.Truth truth) = Some (record { ty = ty.Bool; form = form.Literal (flag truth) })
-typed_step known scope (e.Name name) = plain known scope name
-typed_step known scope (e.Read field index) = option_and_then (λ at. option_and_then (read_expr at) (all_some index)) (field_named known.tables field)
+typed_step known scope (e.Name name) = name_expr known scope name
+typed_step known scope (e.Read field index) = option_and_then (λ at. option_and_then (access_expr at) (all_some index)) (field_named known.tables field)
 typed_step known scope (e.Paren inner) = option_map (λ typed. record { ty = typed.ty; form = form.Paren typed }) inner
 typed_step known scope (e.Un op operand) = option_and_then (un_expr op) operand
 typed_step known scope (e.Bin op left right) = option_and_then (λ l. option_and_then (bin_expr op l) right) left

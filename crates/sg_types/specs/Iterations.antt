@@ -15,7 +15,7 @@ use Rattle.sg_types.specs.declared.typed.TypedStmt.{TypedStmt, fold-TypedStmt}
 use Rattle.sg_types.specs.declared.typed.TypedDomain.{TypedDomain}
 use Rattle.sg_types.specs.declared.typed.TypedDomain.TheVariants as domain
 use Rattle.sg_types.specs.declared.typed.TypedKernel.{TypedKernel}
-use Rattle.sg_types.specs.Values.{World, Moment, coord_of, value_of}
+use Rattle.sg_types.specs.Values.{World, Moment, coord_of, expr_word}
 
 -- a variable gets a word
 abbrev pub set_var : ℕ → ℕ → Moment → Moment
@@ -35,24 +35,24 @@ run_all actions now = fold (λ reached action. action reached) now actions
 
 -- the numbers of a range, whose bounds are evaluated at the moment
 abbrev pub range_numbers : World → Moment → TypedRange → List ℤ
-range_numbers world now range = numbers (number ty.I32 (value_of world now range.lo)) (number ty.I32 (value_of world now range.hi))
+range_numbers world now range = numbers (number ty.I32 (expr_word world now range.lo)) (number ty.I32 (expr_word world now range.hi))
 
 -- One layer of a statement, where its number and what the statements in it do are given. The bounds of an inner loop are
 -- evaluated once, before its first turn.
 abbrev pub kind_step : World → TypedKind-F (ℕ → Action) Action → ℕ → Action
-kind_step world (k.Let var value) stmt now = set_var var (value_of world now value) now
-kind_step world (k.Assign var value) stmt now = set_var var (value_of world now value) now
+kind_step world (k.Let var value) stmt now = set_var var (expr_word world now value) now
+kind_step world (k.Assign var value) stmt now = set_var var (expr_word world now value) now
 kind_step world (k.Write layout place index way value) stmt now =
     add_write (record {
       layout = layout;
       place = place;
       stmt = stmt;
-      at = coord_of (map (value_of world now) index);
+      at = coord_of (map (expr_word world now) index);
       way = way;
-      value = value_of world now value;
+      value = expr_word world now value;
     }) now
 kind_step world (k.If condition block otherwise has_else) stmt now =
-    run_all (if value_of world now condition == 0 then otherwise else block) now
+    run_all (if expr_word world now condition == 0 then otherwise else block) now
 kind_step world (k.For var range body) stmt now =
     fold (λ reached turn. run_all body (set_var var (word_of turn) reached)) now (range_numbers world now range)
 
@@ -80,7 +80,7 @@ before_all = record { words = λ var. 0; writes = [] }
 abbrev pub domain_of : World → TypedDomain → Domain
 domain_of world (domain.Walk layout) = Walk layout
 domain_of world (domain.Ranges ranges) =
-    Range (coord_of (map (λ range. value_of world before_all range.lo) ranges)) (coord_of (map (λ range. value_of world before_all range.hi) ranges))
+    Range (coord_of (map (λ range. expr_word world before_all range.lo) ranges)) (coord_of (map (λ range. expr_word world before_all range.hi) ranges))
 
 -- the effects of all iterations, each at the state at the start, in row order of their coordinates
 abbrev pub kernel_effects : World → TypedKernel → Effects

@@ -6,11 +6,9 @@ pub mod Expressions
 pub mod Statements
 pub mod Programs
 pub mod Counting
-pub mod Standing
-pub mod Views
-pub mod Taking
 pub mod WellTyped
 pub mod Written
 pub mod NamesBack
 pub mod Numbers
 pub mod Laws
+pub mod steps

@@ -19,6 +19,7 @@ inner_numbers (k.For var range body) = concat body
 abbrev pub stmt_numbers : TypedStmt → List ℕ
 stmt_numbers = fold-TypedStmt (List ℕ) (List ℕ) inner_numbers (λ stmt. stmt.number ∷ stmt.kind)
 
+-- the numbers of the statements of a kernel
 abbrev pub kernel_numbers : TypedKernel → List ℕ
 kernel_numbers kernel = concat (map stmt_numbers kernel.body)
 
@@ -34,6 +35,7 @@ var_step (k.For var range body) = var ∷ concat body
 abbrev pub stmt_vars : TypedStmt → List ℕ
 stmt_vars = fold-TypedStmt (List ℕ) (List ℕ) var_step (λ stmt. stmt.kind)
 
+-- the variables that the statements of a block declare
 abbrev pub block_vars : List TypedStmt → List ℕ
 block_vars block = concat (map stmt_vars block)
 

@@ -2,7 +2,8 @@
 use Rattle.std.specs.Prelude.{ℕ, Bool, ◌||◌, List, take, find, is_some, Option, Some, None, option_map}
 use Rattle.sg_ast.specs.declared.token.Name.{Name}
 use Rattle.sg_names.specs.declared.tables.Constant.{Constant}
-use Rattle.sg_names.specs.Tables.{Tables, same_name, constant_named}
+use Rattle.sg_ast.specs.Token.{same_name}
+use Rattle.sg_names.specs.Tables.{Tables, constant_named}
 use Rattle.sg_types.specs.declared.scope.Local.{Local}
 use Rattle.sg_types.specs.declared.typed.TypedExpr.{TypedExpr}
 use Rattle.sg_types.specs.declared.typed.Form.TheVariants as form
@@ -19,8 +20,8 @@ pub record NamedLocal : Type 0 where
   pub local : Local
 
 -- the constant of a name, where an earlier item declares it
-abbrev pub earlier : Known → Name → Option Constant
-earlier known name = constant_named (record known.tables { constants = take known.constants known.tables.constants }) name
+abbrev pub earlier_constant : Known → Name → Option Constant
+earlier_constant known name = constant_named (record known.tables { constants = take known.constants known.tables.constants }) name
 
 -- the local or variable of a name
 abbrev pub local_named : List NamedLocal → Name → Option Local
@@ -28,16 +29,18 @@ local_named scope name = option_map (λ named. named.local) (find (λ named. sam
 
 -- the name is in scope, in one of the three ways
 abbrev pub is_taken : Known → List NamedLocal → Name → Bool
-is_taken known scope name = is_some (local_named scope name) || is_some (earlier known name)
+is_taken known scope name = is_some (local_named scope name) || is_some (earlier_constant known name)
 
+-- a constant as an expression
 abbrev pub constant_expr : Option Constant → Option TypedExpr
 constant_expr None = None
 constant_expr (Some constant) = Some (record { ty = constant.ty; form = form.Constant constant.word })
 
 -- what a plain name stands for, as an expression
-abbrev pub named_expr : Option Local → Option Constant → Option TypedExpr
-named_expr (Some local) constant = Some (record { ty = local.ty; form = form.Var local.var })
-named_expr None constant = constant_expr constant
+abbrev pub local_or_constant : Option Local → Option Constant → Option TypedExpr
+local_or_constant (Some local) constant = Some (record { ty = local.ty; form = form.Var local.var })
+local_or_constant None constant = constant_expr constant
 
-abbrev pub plain : Known → List NamedLocal → Name → Option TypedExpr
-plain known scope name = named_expr (local_named scope name) (earlier known name)
+-- what a plain name stands for, as an expression: first as a local, then as a constant
+abbrev pub name_expr : Known → List NamedLocal → Name → Option TypedExpr
+name_expr known scope name = local_or_constant (local_named scope name) (earlier_constant known name)

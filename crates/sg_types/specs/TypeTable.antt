@@ -13,16 +13,19 @@ is_numeric ty.I32 = true
 is_numeric ty.U32 = true
 is_numeric ty.Bool = false
 
+-- the type of numbers with a sign
 abbrev pub is_signed : Ty → Bool
 is_signed ty.I32 = true
 is_signed ty.U32 = false
 is_signed ty.Bool = false
 
+-- the type of truth values
 abbrev pub is_truth : Ty → Bool
 is_truth ty.I32 = false
 is_truth ty.U32 = false
 is_truth ty.Bool = true
 
+-- two types are one
 abbrev pub same_ty : Ty → Ty → Bool
 same_ty ty.I32 other = is_signed other
 same_ty ty.U32 ty.U32 = true

@@ -33,6 +33,7 @@ coord_of words = record {
   c = number ty.I32 (get_or words 2 0);
 }
 
+-- a write that is no contribution
 abbrev pub is_own : Way → Bool
 is_own Own = true
 is_own (Acc op) = false
@@ -47,8 +48,9 @@ abbrev pub value_or_own : Option Write → ℕ → ℕ
 value_or_own None value = value
 value_or_own (Some write) value = write.value
 
-abbrev pub read_value : World → Moment → ℕ → ℕ → Coord → ℕ
-read_value world now layout place at = value_or_own (own_write layout place now.writes) (flat.value_of world.shapes world.state layout place at)
+-- what a read of a field gives in an iteration
+abbrev pub read_word : World → Moment → ℕ → ℕ → Coord → ℕ
+read_word world now layout place at = value_or_own (own_write layout place now.writes) (flat.value_of world.shapes world.state layout place at)
 
 -- the type of an expression beside its word
 abbrev pub TypedWord : Type 0
@@ -60,16 +62,17 @@ abbrev pub value_step : World → Moment → Form-F ℕ TypedWord → ℕ
 value_step world now (f.Literal word) = word
 value_step world now (f.Constant word) = word
 value_step world now (f.Var var) = now.words var
-value_step world now (f.Read layout place index) = read_value world now layout place (coord_of (map (λ part. part.1) index))
+value_step world now (f.Read layout place index) = read_word world now layout place (coord_of (map (λ part. part.1) index))
 value_step world now (f.Paren inner) = inner.1
 value_step world now (f.Un op operand) = applied_un op operand.1
 value_step world now (f.Bin op left right) = applied op left.0 left.1 right.1
 value_step world now (f.Mulq a b s) = mulq_of a.1 b.1 s.1
 value_step world now (f.Convert inner) = inner.1
 
+-- the type of an expression and the word that it gives at a moment
 abbrev pub typed_word : World → Moment → TypedExpr → TypedWord
 typed_word world now = fold-TypedExpr ℕ TypedWord (value_step world now) (λ expr. (expr.ty, expr.form))
 
 -- the word that an expression gives at a moment
-abbrev pub value_of : World → Moment → TypedExpr → ℕ
-value_of world now expr = (typed_word world now expr).1
+abbrev pub expr_word : World → Moment → TypedExpr → ℕ
+expr_word world now expr = (typed_word world now expr).1

@@ -15,7 +15,7 @@ use Rattle.sg_types.specs.declared.typed.TypedStmt.{TypedStmt, fold-TypedStmt}
 use Rattle.sg_types.specs.declared.typed.TypedDomain.{TypedDomain}
 use Rattle.sg_types.specs.declared.typed.TypedDomain.TheVariants as domain
 use Rattle.sg_types.specs.declared.typed.TypedKernel.{TypedKernel}
-use Rattle.sg_types.specs.Expressions.{is_number}
+use Rattle.sg_types.specs.Expressions.{equals_some}
 use Rattle.sg_types.specs.TypeTable.{is_numeric, is_signed, is_truth, same_ty, bin_ty, un_ty}
 
 -- a variable in scope, and whether it is a loop's
@@ -33,9 +33,11 @@ pub record Setting : Type 0 where
 abbrev pub axes_in : List Shape → ℕ → Option ℕ
 axes_in shapes layout = option_map (λ shape. shape.axes) (slice_get shapes layout)
 
+-- the type of the field at a place of a layout
 abbrev pub field_in : List Shape → ℕ → ℕ → Option Ty
 field_in shapes layout place = option_and_then (λ shape. slice_get shape.fields place) (slice_get shapes layout)
 
+-- a type is there, and is this one
 abbrev pub is_ty : Option Ty → Ty → Bool
 is_ty None given = false
 is_ty (Some it) given = same_ty it given
@@ -54,6 +56,7 @@ is_local scope var = list_any (λ seen. (seen.var == var) && not seen.is_loop) s
 abbrev pub Judged : Type 0
 Judged = Ty × Bool
 
+-- a part that may be an index: I32 and well typed
 abbrev pub is_index : Judged → Bool
 is_index part = is_signed part.0 && part.1
 
@@ -63,13 +66,14 @@ form_step at (f.Literal word) given = is_numeric given || nat_lt word 2
 form_step at (f.Constant word) given = is_numeric given
 form_step at (f.Var var) given = is_visible at.scope var && is_ty (slice_get at.types var) given
 form_step at (f.Read layout place index) given =
-    is_ty (field_in at.shapes layout place) given && (is_number (axes_in at.shapes layout) (length index) && list_all is_index index)
+    is_ty (field_in at.shapes layout place) given && (equals_some (axes_in at.shapes layout) (length index) && list_all is_index index)
 form_step at (f.Paren inner) given = same_ty inner.0 given && inner.1
 form_step at (f.Un op operand) given = is_ty (un_ty op operand.0) given && operand.1
 form_step at (f.Bin op left right) given = is_ty (bin_ty op left.0 right.0) given && (left.1 && right.1)
 form_step at (f.Mulq a b s) given = is_signed given && (is_index a && (is_index b && is_index s))
 form_step at (f.Convert inner) given = is_numeric given && (is_numeric inner.0 && inner.1)
 
+-- an expression with its type, judged
 abbrev pub judged_expr : Setting → TypedExpr → Judged
 judged_expr at = fold-TypedExpr (Ty → Bool) Judged (form_step at) (λ expr. (expr.ty, expr.form expr.ty))
 
@@ -89,9 +93,11 @@ all_fit [] scope = (true, scope)
 all_fit (statement ∷ more) scope =
     ((statement scope).0 && (all_fit more (statement scope).1).0, (all_fit more (statement scope).1).1)
 
+-- a setting of its parts
 abbrev pub setting : List Shape → List Ty → List Visible → Setting
 setting shapes types scope = record { shapes = shapes; types = types; scope = scope }
 
+-- bounds of I32 that are well typed
 abbrev pub is_well_typed_range : Setting → TypedRange → Bool
 is_well_typed_range at range = (is_signed range.lo.ty && is_well_typed at range.lo) && (is_signed range.hi.ty && is_well_typed at range.hi)
 
@@ -105,7 +111,7 @@ kind_fits shapes types (k.Assign var value) scope =
     (is_local scope var && (is_well_typed (setting shapes types scope) value && is_ty (slice_get types var) value.ty), scope)
 kind_fits shapes types (k.Write layout place index way value) scope = (
   (is_ty (field_in shapes layout place) value.ty && is_well_typed (setting shapes types scope) value)
-      && (is_number (axes_in shapes layout) (length index) && list_all (λ part. is_signed part.ty && is_well_typed (setting shapes types scope) part) index),
+      && (equals_some (axes_in shapes layout) (length index) && list_all (λ part. is_signed part.ty && is_well_typed (setting shapes types scope) part) index),
   scope,
 )
 kind_fits shapes types (k.If condition block otherwise has_else) scope =
@@ -116,13 +122,15 @@ kind_fits shapes types (k.For var range body) scope = (
   scope,
 )
 
+-- whether a statement fits, and the variables that are in scope behind it
 abbrev pub fitting : List Shape → List Ty → TypedStmt → Fitting
 fitting shapes types = fold-TypedStmt Fitting Fitting (kind_fits shapes types) (λ statement. statement.kind)
 
 -- ---- kernels
 
+-- a domain with as many axes as the loop has variables, and bounds that are well typed
 abbrev pub is_well_typed_domain : List Shape → ℕ → TypedDomain → Bool
-is_well_typed_domain shapes vars (domain.Walk layout) = is_number (axes_in shapes layout) vars
+is_well_typed_domain shapes vars (domain.Walk layout) = equals_some (axes_in shapes layout) vars
 is_well_typed_domain shapes vars (domain.Ranges ranges) = (length ranges == vars) && list_all (is_well_typed_range (setting shapes [] [])) ranges
 
 -- the variables of a loop, the first with the given number

@@ -32,15 +32,18 @@ text_step (k.For var range body) stmt = joined body
 abbrev pub text_writes : TypedStmt → List TextWrite
 text_writes = fold-TypedStmt (ℕ → List TextWrite) (List TextWrite) text_step (λ stmt. stmt.kind stmt.number)
 
+-- the writes that stand in the text of a kernel
 abbrev pub kernel_writes : TypedKernel → List TextWrite
 kernel_writes kernel = joined (map text_writes kernel.body)
 
+-- two accumulations are one
 abbrev pub same_acc : AccOp → AccOp → Bool
 same_acc acc.Add acc.Add = true
 same_acc acc.Min acc.Min = true
 same_acc acc.Max acc.Max = true
 same_acc _ _ = false
 
+-- two ways of writing are one
 abbrev pub same_way : Way → Way → Bool
 same_way Own Own = true
 same_way (Acc x) (Acc y) = same_acc x y
@@ -52,5 +55,6 @@ is_of write text =
     ((write.stmt == text.stmt) && ((write.layout == text.layout) && (write.place == text.place)))
     && ((write.at.n == text.indices) && same_way write.way text.way)
 
+-- a write of an iteration is one of those in the text
 abbrev pub is_written : List TextWrite → Write → Bool
 is_written texts write = list_any (is_of write) texts

@@ -3,26 +3,26 @@
 ghost use Rattle.std.specs.Prelude.{◌≡◌, map, IfOk};
 ghost use Rattle.std.specs.List.{list_all, list_any};
 ghost use Rattle.sg_words.specs.Answers.{Answers};
-ghost use Rattle.sg_names.specs.Tables as tables;
+ghost use Rattle.sg_ast.specs.Token as tokens;
 ghost use Rattle.sg_names.specs.Names as repeats;
-ghost use Rattle.sg_types.specs.Expressions.{all_some, is_number};
+ghost use Rattle.sg_types.specs.Expressions.{all_some, equals_some};
 ghost use Rattle.sg_types.specs.Statements as stmts;
 ghost use Rattle.sg_types.specs.Programs as spec;
-ghost use Rattle.sg_types.specs.Views.{known_of};
+ghost use Rattle.sg_types.specs.steps.Views.{known_of};
 
 use crate::fault::TypeFault;
-use crate::known::Context;
+use crate::known::Known;
 use crate::scope::Scope;
 use crate::typed::{TypedDomain, TypedRange};
 use crate::wrongs::Wrongs;
 use sg_ast::{DomainDecl, KernelDecl, Name, RangeDecl};
 use sg_words::{Items, Memory, Stop};
 
-impl<'a> Context<'a> {
+impl<'a> Known<'a> {
     /// The loop of a kernel, which is statement 0.
     pub fn loop_part(&self, kernel: &KernelDecl) -> Result<TypedDomain, Stop<TypeFault>>
         ensures { Answers result
-            (stmts.fault_at (known_of self.now) 0 (spec.loop_part (known_of self.now) kernel.now)) }
+            (stmts.stmt_fault (known_of self.now) 0 (spec.loop_part (known_of self.now) kernel.now)) }
     {
         let vars = kernel.vars.as_slice();
         let typed = self.typed_domain(&kernel.domain)?;
@@ -39,7 +39,7 @@ impl<'a> Context<'a> {
         ensures { result ≡ spec.any_earlier (known_of self.now) names.now }
     {
         for name in names {
-            if self.earlier(name).is_some() {
+            if self.earlier_constant(name).is_some() {
                 return true;
             }
         }
@@ -80,7 +80,7 @@ impl<'a> Context<'a> {
     }
 
     fn layout_has_axes(&self, layout: &Name, count: usize) -> bool
-        ensures { result ≡ is_number (spec.layout_axes self.now.names.now layout.now) count }
+        ensures { result ≡ equals_some (spec.layout_axes self.now.names.now layout.now) count }
     {
         match self.names.layout(layout) {
             Some(number) => self.names.axes(number) as usize == count,
@@ -146,10 +146,10 @@ fn has_repeat(names: &[Name]) -> bool
 }
 
 fn has_name(names: &[Name], name: &Name) -> bool
-    ensures { result ≡ list_any (tables.same_name name.now) names.now }
+    ensures { result ≡ list_any (tokens.same_name name.now) names.now }
 {
     for other in names {
-        if name.text.as_slice() == other.text.as_slice() {
+        if name.is(other) {
             return true;
         }
     }

@@ -3,16 +3,16 @@
 ghost use Rattle.std.specs.Prelude.{◌≡◌, map, IfOk};
 ghost use Rattle.std.specs.List.{list_all};
 ghost use Rattle.sg_types.specs.Expressions as spec;
-ghost use Rattle.sg_types.specs.Views.{known_of};
+ghost use Rattle.sg_types.specs.steps.Views.{known_of};
 
-use crate::known::Context;
+use crate::known::Known;
 use crate::make;
 use crate::scope::Scope;
 use crate::typed::TypedExpr;
 use sg_ast::Expr;
 use sg_words::{Items, Memory};
 
-impl<'a> Context<'a> {
+impl<'a> Known<'a> {
     /// Whether every name in an expression is known.
     #[cycle(knows)]
     pub fn knows(&self, scope: &Scope, expr: &Expr) -> bool
@@ -82,7 +82,7 @@ impl<'a> Context<'a> {
         match expr {
             Expr::Number { value, unsigned } => Ok(Some(make::number(*value, *unsigned))),
             Expr::Truth(truth) => Ok(Some(make::truth(*truth))),
-            Expr::Name(name) => Ok(self.plain(scope, name)),
+            Expr::Name(name) => Ok(self.name_expr(scope, name)),
             Expr::Read { field, index } => {
                 let Some(index) = self.typed_all(scope, index.as_slice())? else {
                     return Ok(None);

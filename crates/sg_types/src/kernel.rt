@@ -4,27 +4,27 @@ ghost use Rattle.std.specs.Prelude.{◌≡◌, ◌<◌, ◌^◌, length, false, 
 ghost use Rattle.sg_words.specs.Answers.{Answers};
 ghost use Rattle.sg_names.specs.Names.{has_repeat};
 ghost use Rattle.sg_types.specs.Programs as spec;
-ghost use Rattle.sg_types.specs.Counting.{kernel_size};
-ghost use Rattle.sg_types.specs.Views.{known_of, reached_of};
+ghost use Rattle.sg_types.specs.steps.Sizes.{kernel_size};
+ghost use Rattle.sg_types.specs.steps.Views.{known_of, reached_of};
 
 use crate::fault::TypeFault;
-use crate::known::Context;
-use crate::progress::Progress;
+use crate::known::Known;
+use crate::reached::Reached;
 use crate::scope::Scope;
 use crate::typed::TypedKernel;
 use sg_ast::{KernelDecl, Name};
 use sg_words::{Items, Memory, Stop, Ty};
 
-impl<'a> Context<'a> {
+impl<'a> Known<'a> {
     /// The typed kernel, or its first fault.
     pub fn kernel(&self, decl: &'a KernelDecl) -> Result<TypedKernel, Stop<TypeFault>>
         requires { kernel_size decl.now < 2 ^ 32 }
         ensures { Answers result (spec.typed_kernel (known_of self.now) decl.now) }
     {
         let domain = self.loop_part(decl)?;
-        let mut at = self.first_progress(decl.vars.as_slice())?;
+        let mut at = self.first_reached(decl.vars.as_slice())?;
         let body = self.block(&mut at, decl.body.as_slice())?;
-        let Progress { types, .. } = at;
+        let Reached { types, .. } = at;
         Ok(TypedKernel {
             vars: decl.vars.len() as u32,
             domain,
@@ -34,12 +34,12 @@ impl<'a> Context<'a> {
     }
 
     /// The start of a body, where the loop's variables are declared.
-    fn first_progress(&self, vars: &'a [Name]) -> Result<Progress<'a>, Memory>
+    fn first_reached(&self, vars: &'a [Name]) -> Result<Reached<'a>, Memory>
         requires once { has_repeat vars.now ≡ false }
         requires room { length vars.now < 2 ^ 32 }
         ensures { IfOk result (λ at. reached_of at ≡ spec.first_reached vars.now) }
     {
-        let mut at = Progress {
+        let mut at = Reached {
             number: 1,
             types: Items::new(self.alloc),
             scope: Scope::new(self.alloc),

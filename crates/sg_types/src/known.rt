@@ -1,12 +1,12 @@
 ghost use Rattle.std.specs.Prelude.{IsTrue};
-ghost use Rattle.sg_types.specs.Standing.{fields_stand};
+ghost use Rattle.sg_types.specs.steps.Standing.{fields_stand};
 
 use sg_names::Names;
 use std::alloc::Global;
 
 /// What is known in a kernel before its loop: its number, the names of the program, and how many constants earlier items declare.
 #[derive(Clone, Copy)]
-pub(crate) struct Context<'a> {
+pub(crate) struct Known<'a> {
     pub alloc: Global,
     pub kernel: u32,
     pub names: &'a Names,

@@ -1,16 +1,16 @@
 //! Kernels with numbers for names and a type for each expression, and what their iterations write.
 #![tactic(auto)]
 
-mod context;
 mod domain;
 mod expression;
 pub mod fault;
 mod kernel;
 mod known;
+mod known_names;
 pub mod laws;
 mod make;
 mod part;
-mod progress;
+mod reached;
 mod scope;
 mod statement;
 mod type_table;

@@ -49,7 +49,7 @@ pub(crate) fn all_signed(exprs: &[TypedExpr]) -> bool
 
 /// A read of a field, where there is one.
 pub(crate) fn read(at: Option<FieldAt>, index: Items<TypedExpr>) -> Option<TypedExpr>
-    ensures { result ≡ option_and_then (λ at. spec.read_expr at index) at }
+    ensures { result ≡ option_and_then (λ at. spec.access_expr at index) at }
 {
     let at = at?;
     if all_signed(index.as_slice()) {

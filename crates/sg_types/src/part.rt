@@ -2,12 +2,13 @@
 
 ghost use Rattle.std.specs.Prelude.{◌≡◌, IfOk};
 ghost use Rattle.sg_words.specs.Answers.{Answers};
+ghost use Rattle.sg_words.specs.Options.{only_where};
 ghost use Rattle.sg_types.specs.TypeTable as table;
 ghost use Rattle.sg_types.specs.Statements as spec;
-ghost use Rattle.sg_types.specs.Views.{known_of};
+ghost use Rattle.sg_types.specs.steps.Views.{known_of};
 
 use crate::fault::TypeFault;
-use crate::known::Context;
+use crate::known::Known;
 use crate::make::{all_signed, is_signed_expr};
 use crate::scope::{Local, Scope};
 use crate::type_table::{is_truth, same_ty};
@@ -18,7 +19,7 @@ use sg_flat::Way;
 use sg_names::FieldAt;
 use sg_words::{Items, Memory, Stop};
 
-impl<'a> Context<'a> {
+impl<'a> Known<'a> {
     /// A part of the statement with this number, where nothing is wrong with it and its types fit.
     pub fn judge<T: Drop>(
         &self,
@@ -26,7 +27,7 @@ impl<'a> Context<'a> {
         wrongs: Wrongs,
         typed: Option<T>,
     ) -> Result<T, Stop<TypeFault>>
-        ensures { Answers result (spec.fault_at (known_of self.now) number (spec.judged wrongs typed)) }
+        ensures { Answers result (spec.stmt_fault (known_of self.now) number (spec.judged_part wrongs typed)) }
     {
         let code = match wrongs.first_code() {
             Some(code) => code,
@@ -51,7 +52,7 @@ impl<'a> Context<'a> {
         value: &Expr,
     ) -> Result<TypedExpr, Stop<TypeFault>>
         ensures { Answers result
-            (spec.fault_at (known_of self.now) number (spec.let_part
+            (spec.stmt_fault (known_of self.now) number (spec.let_part
             (known_of self.now) scope.now name.now value.now)) }
     {
         let typed = self.typed_expr(scope, value)?;
@@ -73,7 +74,7 @@ impl<'a> Context<'a> {
         value: &Expr,
     ) -> Result<TypedKind, Stop<TypeFault>>
         ensures { Answers result
-            (spec.fault_at (known_of self.now) number (spec.assign_part
+            (spec.stmt_fault (known_of self.now) number (spec.assign_part
             (known_of self.now) scope.now name.now value.now)) }
     {
         let typed = self.typed_expr(scope, value)?;
@@ -84,7 +85,7 @@ impl<'a> Context<'a> {
             fixed: may_not_assign(local),
             miscounted: !self.counts(value),
         };
-        self.judge(number, wrongs, assigned(local, typed))
+        self.judge(number, wrongs, assign_kind(local, typed))
     }
 
     /// An own write or an accumulation.
@@ -98,7 +99,7 @@ impl<'a> Context<'a> {
         value: &Expr,
     ) -> Result<TypedKind, Stop<TypeFault>>
         ensures { Answers result
-            (spec.fault_at (known_of self.now) number (spec.write_part
+            (spec.stmt_fault (known_of self.now) number (spec.write_part
             (known_of self.now) scope.now field.now index.now way value.now)) }
     {
         let typed_index = self.typed_all(scope, index)?;
@@ -112,7 +113,7 @@ impl<'a> Context<'a> {
                 && self.counts_all(index)
                 && self.counts(value)),
         };
-        self.judge(number, wrongs, written(way, at, typed_index, typed))
+        self.judge(number, wrongs, write_kind(way, at, typed_index, typed))
     }
 
     /// The condition of an `if`.
@@ -123,7 +124,7 @@ impl<'a> Context<'a> {
         cond: &Expr,
     ) -> Result<TypedExpr, Stop<TypeFault>>
         ensures { Answers result
-            (spec.fault_at (known_of self.now) number (spec.if_part (known_of self.now) scope.now cond.now)) }
+            (spec.stmt_fault (known_of self.now) number (spec.if_part (known_of self.now) scope.now cond.now)) }
     {
         let typed = self.typed_expr(scope, cond)?;
         let wrongs = Wrongs {
@@ -144,7 +145,7 @@ impl<'a> Context<'a> {
         range: &RangeDecl,
     ) -> Result<TypedRange, Stop<TypeFault>>
         ensures { Answers result
-            (spec.fault_at (known_of self.now) number (spec.for_part
+            (spec.stmt_fault (known_of self.now) number (spec.for_part
             (known_of self.now) scope.now name.now range.now)) }
     {
         let typed = self.typed_range(scope, range)?;
@@ -191,8 +192,8 @@ fn may_not_assign(local: Option<Local>) -> bool
     }
 }
 
-fn assigned(local: Option<Local>, value: Option<TypedExpr>) -> Option<TypedKind>
-    ensures { result ≡ spec.assigned local value }
+fn assign_kind(local: Option<Local>, value: Option<TypedExpr>) -> Option<TypedKind>
+    ensures { result ≡ spec.assign_kind local value }
 {
     let local = local?;
     let value = value?;
@@ -215,13 +216,13 @@ fn way_of(way: WayDecl) -> Way
     }
 }
 
-fn written(
+fn write_kind(
     way: WayDecl,
     at: Option<FieldAt>,
     index: Option<Items<TypedExpr>>,
     value: Option<TypedExpr>,
 ) -> Option<TypedKind>
-    ensures { result ≡ spec.written way at index value }
+    ensures { result ≡ spec.write_kind way at index value }
 {
     let at = at?;
     let index = index?;
@@ -239,7 +240,7 @@ fn written(
 }
 
 fn only_truth(typed: Option<TypedExpr>) -> Option<TypedExpr>
-    ensures { result ≡ spec.only_if (λ typed. table.is_truth typed.ty) typed }
+    ensures { result ≡ only_where (λ typed. table.is_truth typed.ty) typed }
 {
     let typed = typed?;
     if is_truth(typed.ty) {

@@ -4,19 +4,19 @@ ghost use Rattle.std.specs.Prelude.{◌≡◌, ◌+◌, map, option_map};
 ghost use Rattle.sg_words.specs.Answers.{AnswersAs};
 ghost use Rattle.sg_types.specs.Statements as spec;
 ghost use Rattle.sg_types.specs.Counting.{stmt_count, block_count, else_count};
-ghost use Rattle.sg_types.specs.Views.{known_of, reached_of, HasRoom};
+ghost use Rattle.sg_types.specs.steps.Views.{known_of, reached_of, HasRoom};
 
 use crate::fault::TypeFault;
-use crate::known::Context;
-use crate::progress::Progress;
+use crate::known::Known;
+use crate::reached::Reached;
 use crate::typed::{TypedKind, TypedStmt};
 use sg_ast::{Expr, Name, RangeDecl, Stmt, WayDecl};
 use sg_words::{Items, Stop, Ty};
 
-impl<'a> Context<'a> {
+impl<'a> Known<'a> {
     fn let_stmt(
         &self,
-        at: &mut Progress<'a>,
+        at: &mut Reached<'a>,
         name: &'a Name,
         value: &Expr,
     ) -> Result<TypedStmt, Stop<TypeFault>>
@@ -36,7 +36,7 @@ impl<'a> Context<'a> {
 
     fn assign_stmt(
         &self,
-        at: &mut Progress<'a>,
+        at: &mut Reached<'a>,
         name: &Name,
         value: &Expr,
     ) -> Result<TypedStmt, Stop<TypeFault>>
@@ -53,7 +53,7 @@ impl<'a> Context<'a> {
 
     fn write_stmt(
         &self,
-        at: &mut Progress<'a>,
+        at: &mut Reached<'a>,
         field: &Name,
         index: &[Expr],
         way: WayDecl,
@@ -73,7 +73,7 @@ impl<'a> Context<'a> {
     #[cycle(stmts)]
     fn if_stmt(
         &self,
-        at: &mut Progress<'a>,
+        at: &mut Reached<'a>,
         cond: &Expr,
         yes: &'a [Stmt],
         no: &'a Option<Items<Stmt>>,
@@ -102,7 +102,7 @@ impl<'a> Context<'a> {
     #[cycle(stmts)]
     fn else_block(
         &self,
-        at: &mut Progress<'a>,
+        at: &mut Reached<'a>,
         block: &'a Option<Items<Stmt>>,
     ) -> Result<(Items<TypedStmt>, bool), Stop<TypeFault>>
         requires { HasRoom (reached_of at.old) (else_count block.now) }
@@ -121,7 +121,7 @@ impl<'a> Context<'a> {
     #[cycle(stmts)]
     fn for_stmt(
         &self,
-        at: &mut Progress<'a>,
+        at: &mut Reached<'a>,
         name: &'a Name,
         range: &RangeDecl,
         body: &'a [Stmt],
@@ -145,7 +145,7 @@ impl<'a> Context<'a> {
     }
 
     #[cycle(stmts)]
-    fn stmt(&self, at: &mut Progress<'a>, stmt: &'a Stmt) -> Result<TypedStmt, Stop<TypeFault>>
+    fn stmt(&self, at: &mut Reached<'a>, stmt: &'a Stmt) -> Result<TypedStmt, Stop<TypeFault>>
         requires { HasRoom (reached_of at.old) (stmt_count stmt.now) }
         ensures { AnswersAs (λ typed. (typed, reached_of at.new)) result
             (spec.typed_stmt (known_of self.now) stmt.now (reached_of at.old)) }
@@ -167,7 +167,7 @@ impl<'a> Context<'a> {
     #[cycle(stmts)]
     fn stmts(
         &self,
-        at: &mut Progress<'a>,
+        at: &mut Reached<'a>,
         block: &'a [Stmt],
     ) -> Result<Items<TypedStmt>, Stop<TypeFault>>
         requires { HasRoom (reached_of at.old) (block_count block.now) }
@@ -186,7 +186,7 @@ impl<'a> Context<'a> {
     #[cycle(stmts)]
     pub fn block(
         &self,
-        at: &mut Progress<'a>,
+        at: &mut Reached<'a>,
         block: &'a [Stmt],
     ) -> Result<Items<TypedStmt>, Stop<TypeFault>>
         requires { HasRoom (reached_of at.old) (block_count block.now) }

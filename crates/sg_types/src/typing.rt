@@ -1,15 +1,16 @@
 ghost use Rattle.std.specs.Prelude.{◌≡◌, ◌≤◌, ◌<◌, ◌+◌, ◌^◌, IsTrue, Ok, length};
 ghost use Rattle.sg_words.specs.Answers.{Answers};
 ghost use Rattle.sg_ast.specs.Grammar.{is_program};
+ghost use Rattle.sg_ast.specs.Limits.{most_tokens};
 ghost use Rattle.sg_ast.specs.Program.{program_tokens};
 ghost use Rattle.sg_names.specs.Names.{tables_of};
-ghost use Rattle.sg_types.specs.Counting.{item_size};
+ghost use Rattle.sg_types.specs.steps.Sizes.{item_size};
 ghost use Rattle.sg_types.specs.Programs.{typed_program};
-ghost use Rattle.sg_types.specs.Standing.{fields_stand};
-ghost use Rattle.sg_types.specs.Taking.{Takes};
+ghost use Rattle.sg_types.specs.steps.Standing.{fields_stand};
+ghost use Rattle.sg_types.specs.steps.Taking.{Takes};
 
 use crate::fault::TypeFault;
-use crate::known::Context;
+use crate::known::Known;
 use crate::typed::{Typed, TypedKernel};
 use sg_ast::{Item, Program};
 use sg_names::Names;
@@ -24,7 +25,7 @@ pub fn type_program(
     names: &Names,
 ) -> Result<Typed, Stop<TypeFault>>
     requires grammar { IsTrue (is_program program.now) }
-    requires tokens { length (program_tokens program.now) ≤ 16384 }
+    requires tokens { length (program_tokens program.now) ≤ most_tokens }
     requires names { tables_of program.now ≡ Ok names.now }
     ensures { Answers result (typed_program names.now program.now) }
 {
@@ -55,7 +56,7 @@ fn take_item(
     match item {
         Item::Const(_) => *constants += 1,
         Item::Kernel(decl) => {
-            let context = Context {
+            let context = Known {
                 alloc,
                 kernel: kernels.len() as u32,
                 names,

@@ -1,3 +1,4 @@
 pub mod DivisionLemmas
 pub mod FoldLemmas
+pub mod Uses
 pub mod WordLemmas

@@ -11,7 +11,7 @@ use Rattle.sg_coord.specs.declared.coord.Coord.{Coord}
 use Rattle.sg_layout.specs.Axes.{count_of}
 use Rattle.sg_flat.specs.Domain.{parts_of, box_points}
 use Rattle.sparsegrid.specs.declared.points.Side.{Side}
-use Rattle.sparsegrid.specs.Evaluation.{parts, with_first, line_points, plane_points}
+use Rattle.sparsegrid.specs.steps.Evaluation.{parts, with_first, line_points, plane_points}
 
 -- ---- lists that grow by one item's part
 

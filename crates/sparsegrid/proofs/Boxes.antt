@@ -5,6 +5,7 @@ use Rattle.std.proofs.lemmas.Bool.{cases_lt}
 use Rattle.std.proofs.lemmas.Bool.Decides.{nat_tests}
 use Rattle.sg_ast.specs.declared.stmt.RangeDecl.{RangeDecl}
 use Rattle.sg_names.specs.Tables.{Tables}
+use Rattle.sparsegrid.specs.Limits.{most_turns}
 use Rattle.sparsegrid.specs.Built.{range_length, is_small_with, is_small_box}
 
 abbrev most : ℕ
@@ -32,7 +33,7 @@ min_times s m c = elim (cases_lt s m) [
 pub small_saturated : (tables : Tables) (size : ℕ) (ranges : List RangeDecl) → is_small_box tables (min size most) ranges ≡ is_small_box tables size ranges
 small_saturated tables size [] = below size
   where
-    below : (n : ℕ) → nat_le (min n most) (2 ^ 20) ≡ nat_le n (2 ^ 20)
+    below : (n : ℕ) → nat_le (min n most) most_turns ≡ nat_le n most_turns
     below n = grind (arith, nat_tests)
 small_saturated tables size (range ∷ ranges) = go (range_length tables range)
     (λ count. sym (small_saturated tables (min size most * count) ranges) ∙ ap (λ (n : ℕ). is_small_box tables n ranges) (min_times size most count) ∙ small_saturated tables (size * count) ranges)

@@ -6,7 +6,7 @@ use Rattle.sg_flat.specs.declared.effects.Write.{Write}
 use Rattle.sg_types.specs.declared.typed.TypedStmt.{TypedStmt}
 use Rattle.sg_types.specs.Values.{World, Moment}
 use Rattle.sg_types.specs.Iterations.{Action, action_of, run_all, set_var, add_write, part_words, first_moment, before_all}
-use Rattle.sparsegrid.specs.Evaluation.{StandsFor, run_turns}
+use Rattle.sparsegrid.specs.steps.Evaluation.{StandsFor, run_turns}
 use Rattle.sg_words.specs.Words.{word_of}
 use Rattle.sg_layout.specs.Axes.{count_of}
 use Rattle.sg_flat.specs.Domain.{numbers}

@@ -5,7 +5,7 @@ use Rattle.std.proofs.lemmas.List.{reverse-append, set_split}
 use Rattle.std.proofs.lemmas.Bool.{eqb-true, and_parts, and_from, eq-eqb}
 use Rattle.sg_flat.specs.declared.effects.Write.{Write}
 use Rattle.sg_types.specs.Values.{is_own, own_write}
-use Rattle.sparsegrid.specs.Written.{is_own_to, is_same_field, replaced, IsLatest}
+use Rattle.sparsegrid.specs.steps.Written.{is_own_to, is_same_field, replaced, IsLatest}
 use Rattle.sparsegrid.proofs.Going.{drop_item}
 
 -- the last own write, with one write more behind

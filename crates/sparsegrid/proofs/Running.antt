@@ -10,7 +10,7 @@ use Rattle.sparsegrid.specs.declared.output.PutFailed.{PutFailed}
 use Rattle.sparsegrid.specs.declared.session.Done.{Done}
 use Rattle.sparsegrid.specs.Commands.{Left, left_by_item}
 use Rattle.sparsegrid.specs.Meaning.{Meaning, refused_with, all_done, before, after_item, meaning_of_items}
-use Rattle.sparsegrid.specs.Outcome.{WentAlong, WentOn, FailedIn, ItemWent, state_of}
+use Rattle.sparsegrid.specs.steps.Along.{WentAlong, WentOn, FailedIn, ItemWent, state_of}
 use Rattle.sparsegrid.proofs.Writing.{CameTo, came_more, followed_by-nil, went_nowhere, items_end}
 
 module _ (compiled : Compiled) (items : List Item) where

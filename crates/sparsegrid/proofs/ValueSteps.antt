@@ -3,7 +3,7 @@ use Rattle.std.specs.Prelude.{◌≡◌, ℕ, suc, ◌<◌, ◌≤◌, List, [],
 use Rattle.std.proofs.Common.{sym, ◌∙◌, ap, arith}
 use Rattle.std.proofs.lemmas.List.{get_or-map, get_or_past}
 use Rattle.sg_words.specs.declared.operators.Ty.{Ty}
-use Rattle.sparsegrid.specs.Evaluation.{coord_from}
+use Rattle.sparsegrid.specs.steps.Evaluation.{coord_from}
 use Rattle.sg_words.specs.declared.operators.BinOp.{BinOp}
 use Rattle.sg_words.specs.declared.operators.UnOp.{UnOp}
 use Rattle.sg_words.specs.Words.{applied, applied_un, mulq_of}
@@ -12,7 +12,7 @@ use Rattle.sg_types.specs.declared.typed.Form.{Form, fold-Form, fold-roll-Form}
 use Rattle.sg_types.specs.declared.typed.Form.TheVariants as v
 use Rattle.sg_types.specs.declared.typed.Form.TheVariants.{rolls-Literal, rolls-Constant, rolls-Var, rolls-Read, rolls-Paren, rolls-Un, rolls-Bin, rolls-Mulq, rolls-Convert}
 use Rattle.sg_types.specs.declared.typed.Form.TheOpen as f
-use Rattle.sg_types.specs.Values.{World, Moment, TypedWord, coord_of, read_value, value_step, typed_word, value_of}
+use Rattle.sg_types.specs.Values.{World, Moment, TypedWord, coord_of, read_word, value_step, typed_word, expr_word}
 
 -- a fact about an answer that is Ok, weakened
 pub if_ok : {A E : Type 0} (P Q : A → Type 0) (answer : Result A E) → ((a : A) → P a → Q a) → IfOk answer P → IfOk answer Q
@@ -33,46 +33,46 @@ module _ (world : World) (now : Moment) where
   type_is : (x : TypedExpr) → (typed_word world now x).0 ≡ x.ty
   type_is x = ap (λ (w : TypedWord). w.0) (layer_is x)
 
-  by_form : (x : TypedExpr) (form : Form) → x.form ≡ form → value_of world now x ≡ form_value form
+  by_form : (x : TypedExpr) (form : Form) → x.form ≡ form → expr_word world now x ≡ form_value form
   by_form x form h = ap (λ (w : TypedWord). w.1) (layer_is x) ∙ ap form_value h
 
-  words_are : (index : List TypedExpr) → map (λ (w : TypedWord). w.1) (map (typed_word world now) index) ≡ map (value_of world now) index
+  words_are : (index : List TypedExpr) → map (λ (w : TypedWord). w.1) (map (typed_word world now) index) ≡ map (expr_word world now) index
   words_are [] = refl
-  words_are (x ∷ index) = ap (λ (ws : List ℕ). value_of world now x ∷ ws) (words_are index)
+  words_are (x ∷ index) = ap (λ (ws : List ℕ). expr_word world now x ∷ ws) (words_are index)
 
-  pub value-Literal : (x : TypedExpr) (word : ℕ) → x.form ≡ v.Literal word → value_of world now x ≡ word
+  pub value-Literal : (x : TypedExpr) (word : ℕ) → x.form ≡ v.Literal word → expr_word world now x ≡ word
   value-Literal x word h = by_form x (v.Literal word) h ∙ ap form_value (sym (rolls-Literal word)) ∙ fold-roll-Form ℕ TypedWord (value_step world now) (λ expr. (expr.ty, expr.form)) (f.Literal word)
 
-  pub value-Constant : (x : TypedExpr) (word : ℕ) → x.form ≡ v.Constant word → value_of world now x ≡ word
+  pub value-Constant : (x : TypedExpr) (word : ℕ) → x.form ≡ v.Constant word → expr_word world now x ≡ word
   value-Constant x word h = by_form x (v.Constant word) h ∙ ap form_value (sym (rolls-Constant word)) ∙ fold-roll-Form ℕ TypedWord (value_step world now) (λ expr. (expr.ty, expr.form)) (f.Constant word)
 
-  pub value-Var : (x : TypedExpr) (var : ℕ) → x.form ≡ v.Var var → value_of world now x ≡ now.words var
+  pub value-Var : (x : TypedExpr) (var : ℕ) → x.form ≡ v.Var var → expr_word world now x ≡ now.words var
   value-Var x var h = by_form x (v.Var var) h ∙ ap form_value (sym (rolls-Var var)) ∙ fold-roll-Form ℕ TypedWord (value_step world now) (λ expr. (expr.ty, expr.form)) (f.Var var)
 
   pub value-Read : (x : TypedExpr) (layout place : ℕ) (index : List TypedExpr) → x.form ≡ v.Read layout place index
-      → value_of world now x ≡ read_value world now layout place (coord_of (map (value_of world now) index))
+      → expr_word world now x ≡ read_word world now layout place (coord_of (map (expr_word world now) index))
   value-Read x layout place index h =
       by_form x (v.Read layout place index) h ∙ ap form_value (sym (rolls-Read layout place index))
       ∙ fold-roll-Form ℕ TypedWord (value_step world now) (λ expr. (expr.ty, expr.form)) (f.Read layout place index)
-      ∙ ap (λ (ws : List ℕ). read_value world now layout place (coord_of ws)) (words_are index)
+      ∙ ap (λ (ws : List ℕ). read_word world now layout place (coord_of ws)) (words_are index)
 
-  pub value-Paren : (x inner : TypedExpr) → x.form ≡ v.Paren inner → value_of world now x ≡ value_of world now inner
+  pub value-Paren : (x inner : TypedExpr) → x.form ≡ v.Paren inner → expr_word world now x ≡ expr_word world now inner
   value-Paren x inner h = by_form x (v.Paren inner) h ∙ ap form_value (sym (rolls-Paren inner)) ∙ fold-roll-Form ℕ TypedWord (value_step world now) (λ expr. (expr.ty, expr.form)) (f.Paren inner)
 
-  pub value-Convert : (x inner : TypedExpr) → x.form ≡ v.Convert inner → value_of world now x ≡ value_of world now inner
+  pub value-Convert : (x inner : TypedExpr) → x.form ≡ v.Convert inner → expr_word world now x ≡ expr_word world now inner
   value-Convert x inner h = by_form x (v.Convert inner) h ∙ ap form_value (sym (rolls-Convert inner)) ∙ fold-roll-Form ℕ TypedWord (value_step world now) (λ expr. (expr.ty, expr.form)) (f.Convert inner)
 
-  pub value-Un : (x : TypedExpr) (op : UnOp) (inner : TypedExpr) → x.form ≡ v.Un op inner → value_of world now x ≡ applied_un op (value_of world now inner)
+  pub value-Un : (x : TypedExpr) (op : UnOp) (inner : TypedExpr) → x.form ≡ v.Un op inner → expr_word world now x ≡ applied_un op (expr_word world now inner)
   value-Un x op inner h = by_form x (v.Un op inner) h ∙ ap form_value (sym (rolls-Un op inner)) ∙ fold-roll-Form ℕ TypedWord (value_step world now) (λ expr. (expr.ty, expr.form)) (f.Un op inner)
 
   pub value-Bin : (x : TypedExpr) (op : BinOp) (left right : TypedExpr) → x.form ≡ v.Bin op left right
-      → value_of world now x ≡ applied op left.ty (value_of world now left) (value_of world now right)
+      → expr_word world now x ≡ applied op left.ty (expr_word world now left) (expr_word world now right)
   value-Bin x op left right h =
       by_form x (v.Bin op left right) h ∙ ap form_value (sym (rolls-Bin op left right))
       ∙ fold-roll-Form ℕ TypedWord (value_step world now) (λ expr. (expr.ty, expr.form)) (f.Bin op left right)
-      ∙ ap (λ (t : Ty). applied op t (value_of world now left) (value_of world now right)) (type_is left)
+      ∙ ap (λ (t : Ty). applied op t (expr_word world now left) (expr_word world now right)) (type_is left)
 
-  pub value-Mulq : (x a b s : TypedExpr) → x.form ≡ v.Mulq a b s → value_of world now x ≡ mulq_of (value_of world now a) (value_of world now b) (value_of world now s)
+  pub value-Mulq : (x a b s : TypedExpr) → x.form ≡ v.Mulq a b s → expr_word world now x ≡ mulq_of (expr_word world now a) (expr_word world now b) (expr_word world now s)
   value-Mulq x a b s h = by_form x (v.Mulq a b s) h ∙ ap form_value (sym (rolls-Mulq a b s)) ∙ fold-roll-Form ℕ TypedWord (value_step world now) (λ expr. (expr.ty, expr.form)) (f.Mulq a b s)
 
 pub same_mulq : (a a' b b' s s' : ℕ) → a ≡ a' → b ≡ b' → s ≡ s' → mulq_of a b s ≡ mulq_of a' b' s'

@@ -15,10 +15,10 @@ use Rattle.sparsegrid.specs.declared.compile.Compiled.{Compiled}
 use Rattle.sparsegrid.specs.declared.output.PutFailed.{PutFailed}
 use Rattle.sparsegrid.specs.declared.session.Done.{Done}
 use Rattle.sparsegrid.specs.Lines.{refusal_last, read_last, file_bytes_last, words_last}
-use Rattle.sparsegrid.specs.Compiled.{spelled, compiled}
+use Rattle.sparsegrid.specs.Compiled.{spelled_program, compiled_program}
 use Rattle.sparsegrid.specs.Commands.{Left, left_by_item}
 use Rattle.sparsegrid.specs.Meaning.{Meaning, refused_with, before, after_item, meaning_of_items, meaning_of_compiled, meaning_of_program, meaning_of_reading, meaning_of_file, meaning, file_of, reading_in}
-use Rattle.sparsegrid.specs.Outcome.{GrewByPart, WentAlong}
+use Rattle.sparsegrid.specs.steps.Along.{GrewByPart, WentAlong}
 
 pub followed_by-nil : (told : Option (List ℕ)) → followed_by told [] ≡ told
 followed_by-nil None = refl
@@ -61,13 +61,13 @@ compiled_ends items (Ok c) = items_end c items (opening c.layouts.list) items
 compiled_ends items (Err refusal) = λ other. refused_ends None (refusal_last items refusal)
 
 pub program_ends : (answer : Result Program Refusal) → EndsInLine (meaning_of_program answer)
-program_ends (Ok program) = compiled_ends program.items (compiled program)
+program_ends (Ok program) = compiled_ends program.items (compiled_program program)
 program_ends (Err refusal) = λ other. refused_ends None (refusal_last [] refusal)
 
 reading_ends : (name : List ℕ) (read : Reading) → EndsInLine (meaning_of_reading name read)
 reading_ends name Missing = λ other. refused_ends None (read_last name)
 reading_ends name TooMany = λ other. refused_ends None file_bytes_last
-reading_ends name (Bytes bytes) = program_ends (spelled bytes)
+reading_ends name (Bytes bytes) = program_ends (spelled_program bytes)
 
 pub meaning_ends : (words : List (List ℕ)) (held : Held) (stop : Option ℕ) → EndsInLine (meaning words held stop)
 meaning_ends words held stop = go (file_of words) where

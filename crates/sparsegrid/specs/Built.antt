@@ -30,8 +30,10 @@ use Rattle.sg_layout.specs.Closure.{is_dense}
 use Rattle.sg_layout.specs.declared.layout.LayoutFault.{LayoutFault}
 use Rattle.sg_layout.specs.Rules.{is_declared, checked}
 use Rattle.sg_names.specs.declared.tables.Constant.{Constant}
-use Rattle.sg_names.specs.Tables.{Tables, same_name, constant_named}
+use Rattle.sg_ast.specs.Token.{same_name}
+use Rattle.sg_names.specs.Tables.{Tables, constant_named}
 use Rattle.sg_names.specs.Shapes.{shape_of}
+use Rattle.sparsegrid.specs.Limits.{most_built_points, most_turns}
 
 -- ---- layouts
 
@@ -46,10 +48,11 @@ is_one_node axes [] = false
 is_one_node axes (node ∷ []) = is_dense node.kind && (length node.sizes == axes)
 is_one_node axes (node ∷ other ∷ nodes) = false
 
--- A layout of one dense node that names each axis once, in any order, with at most 2^18 points. It has the counts of a declared layout, as every layout of a program has.
+-- A layout of one dense node that names each axis once, in any order, with few points. It has the counts of a declared layout, as
+-- every layout of a program has.
 abbrev pub is_built_shape : Shape → Bool
 is_built_shape shape =
-    (is_declared shape && is_one_node shape.axes shape.nodes) && (keeps_rules (checked shape) && nat_le (volume (bounds_of_shape shape)) (2 ^ 18))
+    (is_declared shape && is_one_node shape.axes shape.nodes) && (keeps_rules (checked shape) && nat_le (volume (bounds_of_shape shape)) most_built_points)
 
 -- what a check of a shape found: the layout of the shape where it is built, and none where it isn't
 abbrev pub FindsBuilt : Shape → Option Shape → Type 0
@@ -93,12 +96,12 @@ abbrev pub is_small_with : (ℕ → Bool) → Option ℕ → Bool
 is_small_with test None = false
 is_small_with test (Some count) = test count
 
--- a box of this many points and of these further ranges has built bounds and at most 2^20 points
+-- a box of this many points and of these further ranges has built bounds and few points
 abbrev pub is_small_box : Tables → ℕ → List RangeDecl → Bool
-is_small_box tables size [] = nat_le size (2 ^ 20)
+is_small_box tables size [] = nat_le size most_turns
 is_small_box tables size (range ∷ ranges) = is_small_with (λ count. is_small_box tables (size * count) ranges) (range_length tables range)
 
--- a box of built bounds with at most 2^20 points; a walk of a layout isn't built
+-- a box of built bounds with few points; a walk of a layout isn't built
 abbrev pub is_built_domain : Tables → DomainDecl → Bool
 is_built_domain tables (domain.Layout layout) = false
 is_built_domain tables (domain.Ranges ranges) = is_small_box tables 1 ranges
@@ -131,36 +134,38 @@ abbrev pub is_built_access : List Name → List Name → Name → List Expr → 
 is_built_access vars written field index = not (list_any (same_name field) written) || are_variables vars index
 
 -- one layer of an expression, where for each part it is given whether its reads are built
-abbrev pub reads_step : List Name → List Name → Expr-F (Expr × Bool) → Bool
-reads_step vars written (e.Number value unsigned) = true
-reads_step vars written (e.Truth truth) = true
-reads_step vars written (e.Name name) = true
-reads_step vars written (e.Read field index) = is_built_access vars written field (map (λ part. part.0) index) && list_all (λ part. part.1) index
-reads_step vars written (e.Paren inner) = inner.1
-reads_step vars written (e.Un op of) = of.1
-reads_step vars written (e.Bin op left right) = left.1 && right.1
-reads_step vars written (e.Call callee args) = list_all (λ part. part.1) args
+abbrev pub built_reads_step : List Name → List Name → Expr-F (Expr × Bool) → Bool
+built_reads_step vars written (e.Number value unsigned) = true
+built_reads_step vars written (e.Truth truth) = true
+built_reads_step vars written (e.Name name) = true
+built_reads_step vars written (e.Read field index) = is_built_access vars written field (map (λ part. part.0) index) && list_all (λ part. part.1) index
+built_reads_step vars written (e.Paren inner) = inner.1
+built_reads_step vars written (e.Un op of) = of.1
+built_reads_step vars written (e.Bin op left right) = left.1 && right.1
+built_reads_step vars written (e.Call callee args) = list_all (λ part. part.1) args
 
 -- all reads of an expression are built
 abbrev pub has_built_reads : List Name → List Name → Expr → Bool
-has_built_reads vars written = para-Expr Bool (reads_step vars written)
+has_built_reads vars written = para-Expr Bool (built_reads_step vars written)
 
 -- a write is an own write
-abbrev pub is_own : WayDecl → Bool
-is_own way.Own = true
-is_own (way.Acc op) = false
+abbrev pub is_own_decl : WayDecl → Bool
+is_own_decl way.Own = true
+is_own_decl (way.Acc op) = false
 
 -- one layer of a statement: a local, an assignment, or an own write to the iteration's cell
 abbrev pub is_built_layer : List Name → List Name → Stmt-F Stmt → Bool
 is_built_layer vars written (s.Let name value) = has_built_reads vars written value
 is_built_layer vars written (s.Assign name value) = has_built_reads vars written value
-is_built_layer vars written (s.Write field index how value) = (is_own how && are_variables vars index) && has_built_reads vars written value
+is_built_layer vars written (s.Write field index how value) = (is_own_decl how && are_variables vars index) && has_built_reads vars written value
 is_built_layer vars written (s.If condition block otherwise) = false
 is_built_layer vars written (s.For name range body) = false
 
+-- a statement is built, where the variables of its loop and the fields that its kernel writes are given
 abbrev pub is_built_stmt : List Name → List Name → Stmt → Bool
 is_built_stmt vars written stmt = is_built_layer vars written (out-Stmt stmt)
 
+-- a kernel is built: its domain and each statement
 abbrev pub is_built_kernel : Tables → KernelDecl → Bool
 is_built_kernel tables kernel =
     is_built_domain tables kernel.domain && list_all (is_built_stmt kernel.vars (fields_written kernel.body)) kernel.body
@@ -173,9 +178,11 @@ is_built_command_layer (c.Run kernel) = true
 is_built_command_layer (c.Dump field) = true
 is_built_command_layer _ = false
 
+-- a command is built
 abbrev pub is_built_command : Command → Bool
 is_built_command command = is_built_command_layer (out-Command command)
 
+-- an item is built
 abbrev pub is_built_item : Tables → Item → Bool
 is_built_item tables (item.Const decl) = true
 is_built_item tables (item.Layout decl) = is_built_shape (shape_of tables decl)

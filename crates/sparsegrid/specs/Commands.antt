@@ -25,6 +25,7 @@ abbrev pub kernel_numbered : List TypedKernel → Option ℕ → Option TypedKer
 kernel_numbered kernels None = None
 kernel_numbered kernels (Some number) = slice_get kernels number
 
+-- the kernel of a name
 abbrev pub kernel_of : Compiled → Name → Option TypedKernel
 kernel_of compiled name = kernel_numbered compiled.typed.kernels (kernel_named compiled.names name)
 

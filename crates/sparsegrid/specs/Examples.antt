@@ -8,11 +8,11 @@ use Rattle.sg_layout.specs.declared.shape.Size.{Size}
 use Rattle.sg_layout.specs.declared.shape.Shape.{Shape}
 use Rattle.sg_flat.specs.declared.effects.RunFault.TheVariants.{WriteOutside}
 use Rattle.sg_outside.specs.Files.{Held}
-use Rattle.sg_lexer.specs.Alphabet.{word_of, sign_at}
-use Rattle.sg_lexer.specs.Lexing.{lexed, piece, run_token, name, number, number_as}
-use Rattle.sg_parser.specs.Parsed.{parsed_on}
+use Rattle.sg_lexer.specs.Alphabet.{reserved_word, sign_at}
+use Rattle.sg_lexer.specs.Lexing.{token_list, piece, run_token, name_token, number_token, number_as}
+use Rattle.sg_parser.specs.Parsed.{program_from}
 use Rattle.sparsegrid.specs.Built.{is_built_shape}
-use Rattle.sparsegrid.specs.Compiled.{spelled, compiled}
+use Rattle.sparsegrid.specs.Compiled.{spelled_program, compiled_program}
 use Rattle.sparsegrid.specs.Lines.{words_last, run_last}
 use Rattle.sparsegrid.specs.Meaning.{refused, meaning, meaning_of_bytes, meaning_of_items}
 
@@ -21,11 +21,11 @@ no_words : (held : Held) (stop : Option ℕ) → meaning [] held stop ≡ refuse
 no_words held stop = refl
 
 empty_file : meaning_of_bytes [] ≡ record { text = []; status = 0; last = Some (record { layouts = [] }) }
-unfolding spelled lexed parsed_on compiled meaning_of_items
+unfolding spelled_program token_list program_from compiled_program meaning_of_items
 empty_file = refl
 
 a_bad_byte : meaning_of_bytes (codes "\n@") ≡ record { text = codes "refused: bad byte: line 2\n"; status = 4; last = None }
-unfolding spelled lexed piece run_token name number number_as word_of sign_at digits
+unfolding spelled_program token_list piece run_token name_token number_token number_as reserved_word sign_at digits
 a_bad_byte = refl
 
 a_write_outside : (run_last [] (record { text = codes "k" }) (WriteOutside 2 (record { n = 2; a = pos 3; b = pos 4; c = pos 0 }))).line ≡ codes "refused: write outside: kernel k statement 2 at 3 4"

@@ -1,11 +1,12 @@
 pub mod Texts
 pub mod GridText
 pub mod Lines
+pub mod Limits
 pub mod Built
 pub mod Compiled
 pub mod Commands
-pub mod Evaluation
-pub mod Written
 pub mod Meaning
 pub mod Outcome
+pub mod Laws
+pub mod steps
 pub mod Examples

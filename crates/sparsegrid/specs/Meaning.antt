@@ -8,10 +8,12 @@ use Rattle.sg_flat.specs.State.{opening}
 use Rattle.sparsegrid.specs.declared.last_line.LastLine.{LastLine}
 use Rattle.sparsegrid.specs.declared.refusal.Refusal.{Refusal}
 use Rattle.sparsegrid.specs.declared.compile.Compiled.{Compiled}
+use Rattle.sg_lexer.specs.Limits.{most_file_bytes}
 use Rattle.sparsegrid.specs.Lines.{words_last, read_last, file_bytes_last, refusal_last}
-use Rattle.sparsegrid.specs.Compiled.{spelled, compiled}
+use Rattle.sparsegrid.specs.Compiled.{spelled_program, compiled_program}
 use Rattle.sparsegrid.specs.Commands.{Left, left_by_item}
 
+-- what a run means: the text that it writes, its status, and the last state, where it leaves one
 pub record Meaning : Type 0 where
   pub text : List ℕ
   pub status : ℕ
@@ -44,17 +46,19 @@ meaning_of_items compiled items state [] = all_done state
 meaning_of_items compiled items state (item ∷ more) =
     after_item state (λ next. meaning_of_items compiled items next more) (left_by_item compiled items state item)
 
--- a compiled program runs from the opening state on
+-- a compiled_program program runs from the opening state on
 abbrev pub meaning_of_compiled : List Item → Result Compiled Refusal → Meaning
 meaning_of_compiled items (Err refusal) = refused (refusal_last items refusal)
 meaning_of_compiled items (Ok compiled) = meaning_of_items compiled items (opening compiled.layouts.list) items
 
+-- a program, or the refusal of the bytes that spell none
 abbrev pub meaning_of_program : Result Program Refusal → Meaning
 meaning_of_program (Err refusal) = refused (refusal_last [] refusal)
-meaning_of_program (Ok program) = meaning_of_compiled program.items (compiled program)
+meaning_of_program (Ok program) = meaning_of_compiled program.items (compiled_program program)
 
+-- the bytes of a file
 abbrev pub meaning_of_bytes : List ℕ → Meaning
-meaning_of_bytes bytes = meaning_of_program (spelled bytes)
+meaning_of_bytes bytes = meaning_of_program (spelled_program bytes)
 
 -- what a read of the file of this name gave
 abbrev pub meaning_of_reading : List ℕ → Reading → Meaning
@@ -80,8 +84,9 @@ stops_at (Some stop) turn = stop == turn
 
 -- what the read of this number gives: nothing where the run is stopped at it
 abbrev pub reading_in : Option ℕ → ℕ → Held → List ℕ → Reading
-reading_in stop turn held name = if stops_at stop turn then Missing else reading held name 65536
+reading_in stop turn held name = if stops_at stop turn then Missing else reading held name most_file_bytes
 
+-- the named file, where the read of the given number fails, if any; bad words name none
 abbrev pub meaning_of_file : Option (List ℕ) → Held → Option ℕ → Meaning
 meaning_of_file None held stop = refused words_last
 meaning_of_file (Some name) held stop = meaning_of_reading name (reading_in stop 1 held name)

@@ -1,11 +1,12 @@
 ghost use Rattle.std.specs.Prelude.{◌≡◌, ◌≤◌, ◌<◌, ◌^◌, ◌-ℤ◌, length, IfOk};
 ghost use Rattle.std.specs.List.{list_any, list_all};
+ghost use Rattle.sg_ast.specs.Limits.{most_tokens};
 ghost use Rattle.sg_words.specs.declared.operators.Ty.TheVariants as ty;
 ghost use Rattle.sg_words.specs.Words.{number};
 ghost use Rattle.sg_layout.specs.Axes.{count_of};
 ghost use Rattle.sg_layout.specs.Closure.{is_dense};
 ghost use Rattle.sg_ast.specs.declared.expr.Expr.{out-Expr};
-ghost use Rattle.sg_names.specs.Tables.{same_name};
+ghost use Rattle.sg_ast.specs.Token.{same_name};
 ghost use Rattle.sparsegrid.specs.Built.{is_one_node, FindsBuilt, plain_word, bound_word, range_length, is_small_box, is_built_domain, is_variable, are_variables, fields_written, is_built_kernel, is_built_command, is_built_item, first_not_built};
 
 use sg_ast::{Command, DomainDecl, Expr, Item, KernelDecl, Name, RangeDecl, Stmt, WayDecl};
@@ -22,7 +23,7 @@ const MOST_TURNS: u64 = 1 << 20;
 
 /// The number, from 1, of the first item that has a form that is not built.
 pub fn first_not_built(alloc: Global, names: &Names, items: &[Item]) -> Result<Option<u32>, Memory>
-    requires { length items.now ≤ 16384 }
+    requires { length items.now ≤ most_tokens }
     ensures { IfOk result (λ found. found ≡ first_not_built names.now 1 items.now) }
 {
     let mut number = 1;
@@ -258,7 +259,7 @@ impl<'a> Accesses<'a> {
     {
         for stmt in self.body {
             if let Stmt::Write { field: written, .. } = stmt {
-                if is_same(field, written) {
+                if field.is(written) {
                     return true;
                 }
             }
@@ -287,13 +288,7 @@ fn is_variable(var: &Name, expr: &Expr) -> bool
     ensures { result ≡ is_variable var.now (out-Expr expr.now) }
 {
     match expr {
-        Expr::Name(name) => is_same(var, name),
+        Expr::Name(name) => var.is(name),
         _ => false,
     }
-}
-
-fn is_same(x: &Name, y: &Name) -> bool
-    ensures { result ≡ same_name x.now y.now }
-{
-    x.text.as_slice() == y.text.as_slice()
 }

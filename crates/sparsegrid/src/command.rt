@@ -4,7 +4,7 @@ ghost use Rattle.sg_words.specs.Answers.{AnswersAs};
 ghost use Rattle.sg_flat.specs.State.{IsFlat};
 ghost use Rattle.sg_names.specs.Tables.{field_named};
 ghost use Rattle.sparsegrid.specs.Commands.{kernel_of, after_kernel, dump_of, left_by_run, left_by_command, left_by_item};
-ghost use Rattle.sparsegrid.specs.Outcome.{SendCause, ItemWent};
+ghost use Rattle.sparsegrid.specs.steps.Along.{SendCause, ItemWent};
 
 use crate::compile::Compiled;
 use crate::evaluate::kernel_effects;

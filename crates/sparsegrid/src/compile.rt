@@ -1,19 +1,20 @@
 ghost use Rattle.std.specs.Prelude.{◌≡◌, ◌≤◌, length, map, None, Ok, IfOk, IsTrue};
+ghost use Rattle.sg_ast.specs.Limits.{most_tokens};
 ghost use Rattle.sg_words.specs.Answers.{Answers, AnswersAs};
 ghost use Rattle.sg_names.specs.Laws.{layout_decls};
 ghost use Rattle.sg_names.specs.Names.{tables_of};
 ghost use Rattle.sg_names.specs.Shapes.{shape_of};
 ghost use Rattle.sparsegrid.specs.Built.{is_built_shape, first_not_built};
-ghost use Rattle.sparsegrid.specs.Compiled.{IsSpelled, spelled, built_layouts, typed_and_built, compiled};
+ghost use Rattle.sg_lexer.specs.Limits.{most_file_bytes};
+ghost use Rattle.sparsegrid.specs.Compiled.{IsSpelled, spelled_program, built_layouts, program_of_tables, compiled_program};
 
 use crate::built::{built_layout, first_not_built};
 use crate::refusal::Refusal;
 use sg_ast::laws::cut_gives_items;
 use sg_ast::{Item, LayoutDecl, Program};
 use sg_layout::{Layout, Layouts};
-use sg_lexer::{answers_few_tokens, lex};
+use sg_lexer::lex;
 use sg_names::{Names, name_tables};
-use sg_parser::laws::accepted_is_spelled;
 use sg_parser::parse;
 use sg_types::{Typed, type_program};
 use sg_words::{Items, Memory, Stop};
@@ -29,15 +30,15 @@ pub struct Compiled {
 
 /// The program that bytes spell, or why they spell none.
 pub fn spell(alloc: Global, bytes: &[u8]) -> Result<Program, Stop<Refusal>>
-    requires { length bytes.now ≤ 65536 }
-    ensures answer { Answers result (spelled bytes.now) }
+    requires { length bytes.now ≤ most_file_bytes }
+    ensures answer { Answers result (spelled_program bytes.now) }
     ensures spelled { IfOk result IsSpelled }
 {
     match lex(alloc, bytes) {
         Ok(tokens) => {
             // for the laws that they ensure
-            answers_few_tokens(bytes, &tokens);
-            accepted_is_spelled();
+            sg_lexer::laws::answered_are_few();
+            sg_parser::laws::parsed_is_spelled();
             cut_gives_items();
             match parse(alloc, &tokens) {
                 Ok(program) => Ok(program),
@@ -53,7 +54,7 @@ pub fn spell(alloc: Global, bytes: &[u8]) -> Result<Program, Stop<Refusal>>
 /// What a program is run from, or why it is refused: names, then types, then what is not built.
 pub fn compile(alloc: Global, program: &Program) -> Result<Compiled, Stop<Refusal>>
     requires { IsSpelled program.now }
-    ensures { Answers result (compiled program.now) }
+    ensures { Answers result (compiled_program program.now) }
 {
     match name_tables(alloc, program) {
         Ok(names) => with_names(alloc, program, names),
@@ -66,7 +67,7 @@ pub fn compile(alloc: Global, program: &Program) -> Result<Compiled, Stop<Refusa
 fn with_names(alloc: Global, program: &Program, names: Names) -> Result<Compiled, Stop<Refusal>>
     requires spelled { IsSpelled program.now }
     requires names { tables_of program.now ≡ Ok names }
-    ensures { Answers result (typed_and_built program.now names) }
+    ensures { Answers result (program_of_tables program.now names) }
 {
     match types_and_layouts(alloc, program, &names) {
         Ok((typed, layouts)) => Ok(Compiled {
@@ -87,7 +88,7 @@ fn types_and_layouts(
     requires spelled { IsSpelled program.now }
     requires names { tables_of program.now ≡ Ok names.now }
     ensures { AnswersAs (λ found. record { names = names.now; layouts = found.1; typed = found.0 }) result
-        (typed_and_built program.now names.now) }
+        (program_of_tables program.now names.now) }
 {
     match type_program(alloc, program, names) {
         Ok(typed) => match built_layouts(alloc, program, names) {
@@ -101,7 +102,7 @@ fn types_and_layouts(
 
 /// The layouts of a program, where no item is of a form that is not built.
 fn built_layouts(alloc: Global, program: &Program, names: &Names) -> Result<Layouts, Stop<Refusal>>
-    requires { length program.now.items ≤ 16384 }
+    requires { length program.now.items ≤ most_tokens }
     ensures { Answers result (built_layouts program.now names.now) }
 {
     let items = program.items.as_slice();

@@ -1,8 +1,8 @@
 ghost use Rattle.std.specs.Prelude.{◌≡◌, IfOk};
 ghost use Rattle.sg_types.specs.Iterations.{part_words, writes_at, domain_of, kernel_effects};
-ghost use Rattle.sparsegrid.specs.Evaluation.{world_of};
+ghost use Rattle.sparsegrid.specs.steps.Evaluation.{world_of};
 
-use crate::iteration::{End, Progress, Seen};
+use crate::iteration::{End, Moment, World};
 use crate::points::domain_points;
 use crate::written::Written;
 use sg_coord::Coord;
@@ -21,12 +21,12 @@ pub fn kernel_effects(
 ) -> Result<Effects, Memory>
     ensures { IfOk result (λ effects. effects ≡ kernel_effects (world_of layouts.now.list state.now) kernel.now) }
 {
-    let seen = Seen { layouts, state };
-    let domain = domain_of(alloc, seen, &kernel.domain)?;
+    let world = World { layouts, state };
+    let domain = domain_of(alloc, world, &kernel.domain)?;
     let points = domain_points(alloc, state, domain)?;
     let mut turns = Items::new(alloc);
     for at in points.as_slice() {
-        let writes = writes_at(alloc, seen, kernel, *at)?;
+        let writes = writes_at(alloc, world, kernel, *at)?;
         turns.push(Turn { at: *at, writes })?;
     }
     Ok(Effects { turns })
@@ -35,18 +35,18 @@ pub fn kernel_effects(
 /// The writes of the iteration at a coordinate.
 fn writes_at(
     alloc: Global,
-    seen: Seen<'_>,
+    world: World<'_>,
     kernel: &TypedKernel,
     at: Coord,
 ) -> Result<Items<Write>, Memory>
-    ensures { IfOk result (λ writes. writes ≡ writes_at (world_of seen.entry.layouts.now.list seen.entry.state.now) kernel.now at) }
+    ensures { IfOk result (λ writes. writes ≡ writes_at (world_of world.entry.layouts.now.list world.entry.state.now) kernel.now at) }
 {
-    let mut progress = Progress {
+    let mut moment = Moment {
         words: part_words(alloc, at)?,
         writes: Written::new(alloc),
     };
-    seen.run_all(&mut progress, kernel.body.as_slice())?;
-    Ok(progress.writes.into_list())
+    world.run_all(&mut moment, kernel.body.as_slice())?;
+    Ok(moment.writes.into_list())
 }
 
 /// The words of a coordinate's parts.
@@ -67,19 +67,19 @@ fn part_words(alloc: Global, at: Coord) -> Result<Vec<u32>, Memory>
 }
 
 /// What a kernel's loop visits.
-fn domain_of(alloc: Global, seen: Seen<'_>, domain: &TypedDomain) -> Result<Domain, Memory>
-    ensures { IfOk result (λ found. found ≡ domain_of (world_of seen.entry.layouts.now.list seen.entry.state.now) domain.now) }
+fn domain_of(alloc: Global, world: World<'_>, domain: &TypedDomain) -> Result<Domain, Memory>
+    ensures { IfOk result (λ found. found ≡ domain_of (world_of world.entry.layouts.now.list world.entry.state.now) domain.now) }
 {
     match domain {
         TypedDomain::Walk(layout) => Ok(Domain::Walk { layout: *layout }),
         TypedDomain::Ranges(ranges) => {
             // the bounds are taken before any iteration
-            let before = Progress {
+            let before = Moment {
                 words: Vec::new(alloc),
                 writes: Written::new(alloc),
             };
-            let lo = seen.corner(&before, ranges.as_slice(), End::Lower)?;
-            let hi = seen.corner(&before, ranges.as_slice(), End::Upper)?;
+            let lo = world.corner(&before, ranges.as_slice(), End::Lower)?;
+            let hi = world.corner(&before, ranges.as_slice(), End::Upper)?;
             Ok(Domain::Range { lo, hi })
         }
     }

@@ -1,9 +1,10 @@
 ghost use Rattle.std.specs.Prelude.{◌≡◌, ◌<◌, ◌^◌, ◌+ℤ◌, pos, map, get_or, IfOk, OnOk};
 ghost use Rattle.sg_words.specs.declared.operators.Ty.TheVariants as ty;
 ghost use Rattle.sg_words.specs.Words.{number, word_of};
-ghost use Rattle.sg_types.specs.Values.{Moment, coord_of, read_value, value_of};
+ghost use Rattle.sg_types.specs.Values as values;
+ghost use Rattle.sg_types.specs.Values.{coord_of, read_word, expr_word};
 ghost use Rattle.sg_types.specs.Iterations.{action_of, run_all, set_var, before_all};
-ghost use Rattle.sparsegrid.specs.Evaluation.{world_of, StandsFor, bound_at, coord_from, run_turns};
+ghost use Rattle.sparsegrid.specs.steps.Evaluation.{world_of, StandsFor, bound_at, coord_from, run_turns};
 ghost use Rattle.sg_flat.specs.Domain.{numbers};
 
 use crate::built::count_between;
@@ -23,19 +24,19 @@ pub enum End {
 
 /// What all iterations of a kernel run see: the layouts, and the state at the start.
 #[derive(Clone, Copy)]
-pub struct Seen<'a> {
+pub struct World<'a> {
     pub layouts: &'a Layouts,
     pub state: &'a FlatState,
 }
 
 /// How far an iteration has come: the words of its variables by their numbers (0 for those past the end), and its writes.
 #[derive(Drop)]
-pub struct Progress {
+pub struct Moment {
     pub words: Vec<u32>,
     pub writes: Written,
 }
 
-impl Progress {
+impl Moment {
     /// The word of a variable.
     fn word(&self, var: u32) -> u32
         ensures { result ≡ get_or self.now.words.items var 0 }
@@ -45,7 +46,7 @@ impl Progress {
 
     /// Gives a variable a word.
     fn set(&mut self, var: u32, word: u32) -> Result<(), Memory>
-        ensures { OnOk result ((now : Moment) → StandsFor self.old.words.items self.old.writes now →
+        ensures { OnOk result ((now : values.Moment) → StandsFor self.old.words.items self.old.writes now →
             StandsFor self.new.words.items self.new.writes (set_var var word now)) }
     {
         let place = var as usize;
@@ -57,12 +58,12 @@ impl Progress {
     }
 }
 
-impl<'a> Seen<'a> {
+impl<'a> World<'a> {
     /// The word of an expression.
     #[cycle(value)]
-    fn value(&self, at: &Progress, expr: &TypedExpr) -> Result<u32, Memory>
-        ensures { IfOk result (λ word. (now : Moment) → StandsFor at.now.words.items at.now.writes now →
-            word ≡ value_of (world_of self.now.layouts.now.list self.now.state.now) now expr.now) }
+    fn value(&self, at: &Moment, expr: &TypedExpr) -> Result<u32, Memory>
+        ensures { IfOk result (λ word. (now : values.Moment) → StandsFor at.now.words.items at.now.writes now →
+            word ≡ expr_word (world_of self.now.layouts.now.list self.now.state.now) now expr.now) }
     {
         match &expr.form {
             Form::Literal(word) | Form::Constant(word) => Ok(*word),
@@ -98,9 +99,9 @@ impl<'a> Seen<'a> {
 
     /// The coordinate that indices give.
     #[cycle(value)]
-    fn coord(&self, at: &Progress, index: &[TypedExpr]) -> Result<Coord, Memory>
-        ensures { IfOk result (λ coord. (now : Moment) → StandsFor at.now.words.items at.now.writes now →
-            coord ≡ coord_of (map (value_of (world_of self.now.layouts.now.list self.now.state.now) now) index.now)) }
+    fn coord(&self, at: &Moment, index: &[TypedExpr]) -> Result<Coord, Memory>
+        ensures { IfOk result (λ coord. (now : values.Moment) → StandsFor at.now.words.items at.now.writes now →
+            coord ≡ coord_of (map (expr_word (world_of self.now.layouts.now.list self.now.state.now) now) index.now)) }
     {
         let n = part_count(index.len())?;
         let a = self.part(at, index, 0)?;
@@ -111,9 +112,9 @@ impl<'a> Seen<'a> {
 
     /// The word of the index at a place, and 0 past the last.
     #[cycle(value)]
-    fn part(&self, at: &Progress, index: &[TypedExpr], place: usize) -> Result<u32, Memory>
-        ensures { IfOk result (λ word. (now : Moment) → StandsFor at.now.words.items at.now.writes now →
-            word ≡ get_or (map (value_of (world_of self.now.layouts.now.list self.now.state.now) now) index.now) place 0) }
+    fn part(&self, at: &Moment, index: &[TypedExpr], place: usize) -> Result<u32, Memory>
+        ensures { IfOk result (λ word. (now : values.Moment) → StandsFor at.now.words.items at.now.writes now →
+            word ≡ get_or (map (expr_word (world_of self.now.layouts.now.list self.now.state.now) now) index.now) place 0) }
     {
         if place < index.len() {
             self.value(at, &index[place])
@@ -123,9 +124,9 @@ impl<'a> Seen<'a> {
     }
 
     /// What a read of a field at a coordinate gives: the last own value of this iteration, or else the state's value.
-    fn read(&self, at: &Progress, layout: u32, place: u32, coord: Coord) -> u32
-        ensures { (now : Moment) → at.now.writes ≡ now.writes →
-            result ≡ read_value (world_of self.now.layouts.now.list self.now.state.now) now layout place coord }
+    fn read(&self, at: &Moment, layout: u32, place: u32, coord: Coord) -> u32
+        ensures { (now : values.Moment) → at.now.writes ≡ now.writes →
+            result ≡ read_word (world_of self.now.layouts.now.list self.now.state.now) now layout place coord }
     {
         match at.writes.own_write(layout, place) {
             Some(write) => write.value,
@@ -134,9 +135,9 @@ impl<'a> Seen<'a> {
     }
 
     /// The corner of the box of some ranges at one of their ends.
-    pub fn corner(&self, at: &Progress, ranges: &[TypedRange], end: End) -> Result<Coord, Memory>
-        ensures { IfOk result (λ coord. (now : Moment) → StandsFor at.now.words.items at.now.writes now →
-            coord ≡ coord_of (map (λ range. value_of (world_of self.now.layouts.now.list self.now.state.now) now (bound_at end range)) ranges.now)) }
+    pub fn corner(&self, at: &Moment, ranges: &[TypedRange], end: End) -> Result<Coord, Memory>
+        ensures { IfOk result (λ coord. (now : values.Moment) → StandsFor at.now.words.items at.now.writes now →
+            coord ≡ coord_of (map (λ range. expr_word (world_of self.now.layouts.now.list self.now.state.now) now (bound_at end range)) ranges.now)) }
     {
         let n = part_count(ranges.len())?;
         let a = self.bound(at, ranges, end, 0)?;
@@ -148,13 +149,13 @@ impl<'a> Seen<'a> {
     /// The word of the bound of the range at a place, and 0 past the last.
     fn bound(
         &self,
-        at: &Progress,
+        at: &Moment,
         ranges: &[TypedRange],
         end: End,
         place: usize,
     ) -> Result<u32, Memory>
-        ensures { IfOk result (λ word. (now : Moment) → StandsFor at.now.words.items at.now.writes now →
-            word ≡ get_or (map (λ range. value_of (world_of self.now.layouts.now.list self.now.state.now) now (bound_at end range)) ranges.now) place 0) }
+        ensures { IfOk result (λ word. (now : values.Moment) → StandsFor at.now.words.items at.now.writes now →
+            word ≡ get_or (map (λ range. expr_word (world_of self.now.layouts.now.list self.now.state.now) now (bound_at end range)) ranges.now) place 0) }
     {
         if place < ranges.len() {
             self.value(at, bound_at(&ranges[place], end))
@@ -165,8 +166,8 @@ impl<'a> Seen<'a> {
 
     /// Runs statements one after the other.
     #[cycle(statements)]
-    pub fn run_all(&self, at: &mut Progress, stmts: &[TypedStmt]) -> Result<(), Memory>
-        ensures { OnOk result ((now : Moment) → StandsFor at.old.words.items at.old.writes now →
+    pub fn run_all(&self, at: &mut Moment, stmts: &[TypedStmt]) -> Result<(), Memory>
+        ensures { OnOk result ((now : values.Moment) → StandsFor at.old.words.items at.old.writes now →
             StandsFor at.new.words.items at.new.writes
             (run_all (map (action_of (world_of self.now.layouts.now.list self.now.state.now)) stmts.now) now)) }
     {
@@ -178,8 +179,8 @@ impl<'a> Seen<'a> {
 
     /// Runs a statement.
     #[cycle(statements)]
-    fn run(&self, at: &mut Progress, stmt: &TypedStmt) -> Result<(), Memory>
-        ensures { OnOk result ((now : Moment) → StandsFor at.old.words.items at.old.writes now →
+    fn run(&self, at: &mut Moment, stmt: &TypedStmt) -> Result<(), Memory>
+        ensures { OnOk result ((now : values.Moment) → StandsFor at.old.words.items at.old.writes now →
             StandsFor at.new.words.items at.new.writes
             (action_of (world_of self.now.layouts.now.list self.now.state.now) stmt.now now)) }
     {
@@ -236,13 +237,13 @@ impl<'a> Seen<'a> {
     #[cycle(statements)]
     fn run_turns(
         &self,
-        at: &mut Progress,
+        at: &mut Moment,
         var: u32,
         lo: u32,
         hi: u32,
         body: &[TypedStmt],
     ) -> Result<(), Memory>
-        ensures { OnOk result ((now : Moment) → StandsFor at.old.words.items at.old.writes now →
+        ensures { OnOk result ((now : values.Moment) → StandsFor at.old.words.items at.old.writes now →
             StandsFor at.new.words.items at.new.writes
             (run_turns var (map (action_of (world_of self.now.layouts.now.list self.now.state.now)) body.now) now
             (numbers (number ty.I32 lo) (number ty.I32 hi)))) }

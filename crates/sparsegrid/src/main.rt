@@ -10,6 +10,7 @@ mod examples;
 mod grid_text;
 mod iteration;
 mod last_line;
+pub mod laws;
 mod output;
 mod points;
 mod refusal;

@@ -1,5 +1,5 @@
 ghost use Rattle.std.specs.Prelude.{◌≡◌, ℕ, List, Option, ◌<◌};
-ghost use Rattle.sparsegrid.specs.Outcome.{Sends, SendCause};
+ghost use Rattle.sparsegrid.specs.steps.Along.{Sends, SendCause};
 
 use sg_outside::{Put, Sink};
 use sg_words::Stop;

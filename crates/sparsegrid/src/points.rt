@@ -1,6 +1,6 @@
 ghost use Rattle.std.specs.Prelude.{◌≡◌, ◌++◌, IfOk, OnOk};
 ghost use Rattle.sg_flat.specs.Domain.{box_points, domain_points};
-ghost use Rattle.sparsegrid.specs.Evaluation.{line_points, plane_points};
+ghost use Rattle.sparsegrid.specs.steps.Evaluation.{line_points, plane_points};
 
 use sg_coord::Coord;
 use sg_flat::{Domain, FlatState};
@@ -98,7 +98,7 @@ struct Side {
 
 impl Side {
     ghost use Rattle.std.specs.Prelude.{◌≡◌, ◌<◌, Some, length, nat_le, slice_get};
-    ghost use Rattle.sparsegrid.specs.Evaluation.{parts};
+    ghost use Rattle.sparsegrid.specs.steps.Evaluation.{parts};
 
     fn first(lo: Coord, hi: Coord) -> Side
         ensures { result ≡ record { used = nat_le 1 lo.n; lo = lo.a; hi = hi.a } }

@@ -1,13 +1,14 @@
-ghost use Rattle.std.specs.Prelude.{◌≡◌, ◌≢◌, ℕ, ◌-◌, ◌^◌, ◌<◌, ◌≤◌, ◌⊎◌, ◌↔◌, List, [], length, map, Option, Some, None, Ok, IsTrue, IsSome, IfOk, IfSome};
+ghost use Rattle.std.specs.Prelude.{◌≡◌, ◌≢◌, ◌≤◌, ◌↔◌, length, Option, Some, None, IsSome, IfOk, IfSome};
 ghost use Rattle.std.specs.Option.{option_copied, option_map};
-ghost use Rattle.sg_outside.specs.Counts.{Rose, one_more};
 ghost use Rattle.sg_outside.specs.Files.{Held};
 ghost use Rattle.sg_flat.specs.State.{IsFlat, opening};
 ghost use Rattle.sparsegrid.specs.Texts.{texts};
 ghost use Rattle.sparsegrid.specs.Lines.{words_last, read_last, file_bytes_last, refusal_last};
-ghost use Rattle.sparsegrid.specs.Compiled.{IsSpelled, spelled, compiled};
+ghost use Rattle.sg_lexer.specs.Limits.{most_file_bytes};
+ghost use Rattle.sparsegrid.specs.Compiled.{IsSpelled, compiled_program};
 ghost use Rattle.sparsegrid.specs.Meaning.{meaning, meaning_of_bytes, meaning_of_compiled, meaning_of_items, file_of, refused, refused_with};
-ghost use Rattle.sparsegrid.specs.Outcome.{WentAlong, Followed, SendCause, ReadFault, Wrote, IsWhole, WroteFront, EndsAs, AskedFor, HasSession, IsEnd, IsEnding, ReadsIn, ReadsOnce, state_of};
+ghost use Rattle.sparsegrid.specs.Outcome.{outside, IsWhole, IsCutShort, IsEnding, HasSession, WroteMeaning, WroteStopped, WroteFront, EndsAs, ReadFaults, PutFaults, AskedFor, ReadCount};
+ghost use Rattle.sparsegrid.specs.steps.Along.{WentAlong, Followed, SendCause, ReadFault, ReadsIn, IsEnd};
 
 use crate::command::run_item;
 use crate::compile::{Compiled, compile, spell};
@@ -51,40 +52,29 @@ pub fn run<R: Threads + Sync, F: Files, S: Sink, G: Gate + Sync>(
     _gate: &G,
 ) -> Done
     // With any status but 2, 3 and 9 exactly the text of the meaning was written, and the status is its status.
-    ensures whole { IsWhole result.status → (held : Held) → F.holds files.old ≡ Some held →
-        Wrote (meaning (texts words.now) held None) (S.has out.old) (S.has out.new) result.status }
+    ensures whole { IsWhole result.status → WroteMeaning (texts words.now) None
+        (outside F.Files S.Sink files.old out.old) (outside F.Files S.Sink files.new out.new) result.status }
     // With status 2 the read that failed was the last one, and the meaning is that of the run in which it fails.
-    ensures stopped { result.status ≡ 2 → F.reads files.new < 2 ^ 64 - 1 → (held : Held) → F.holds files.old ≡ Some held →
-        Wrote (meaning (texts words.now) held (Some (F.reads files.new - F.reads files.old)))
-        (S.has out.old) (S.has out.new) result.status }
+    ensures stopped { result.status ≡ 2 → WroteStopped (texts words.now)
+        (outside F.Files S.Sink files.old out.old) (outside F.Files S.Sink files.new out.new) result.status }
     // With status 3 or 9 a front of the text was written, and with 3 not the whole of it, nor with 9 the whole of a last line.
-    ensures front { (result.status ≡ 3) ⊎ (result.status ≡ 9) → (held : Held) → F.holds files.old ≡ Some held →
-        WroteFront (meaning (texts words.now) held) (F.reads files.old) (F.reads files.new) (S.has out.old) (S.has out.new)
-        (F.faults files.old) (F.faults files.new) result.status }
+    ensures front { IsCutShort result.status → WroteFront (texts words.now)
+        (outside F.Files S.Sink files.old out.old) (outside F.Files S.Sink files.new out.new) result.status }
+    // Whatever the files and the sink tell, a run that came to its end ended as some reading of the named file means.
+    ensures ended { IsEnding result.status → EndsAs (file_of (texts words.now))
+        (outside F.Files S.Sink files.old out.old) (outside F.Files S.Sink files.new out.new) result.status }
 
-    // Whatever the files and the sink tell, a run that came to its end ended in one of these ways.
-    ensures ended { IsEnding result.status → EndsAs (file_of (texts words.now)) result.status (S.has out.old) (S.has out.new) }
-
-    // No fault is made up, and none is passed over.
-    ensures read_cause { result.status ≡ 2 → Rose (F.faults files.old) (F.faults files.new) }
-    ensures write_cause { result.status ≡ 3 → Rose (S.faults out.old) (S.faults out.new) }
-    ensures no_read_fault { IsWhole result.status → F.faults files.new ≡ F.faults files.old }
-    ensures no_write_fault { result.status ≢ 3 → S.faults out.new ≡ S.faults out.old }
-
-    ensures read_faults_stay { F.faults files.old ≤ F.faults files.new }
-    ensures write_faults_stay { S.faults out.old ≤ S.faults out.new }
-
-    // Where neither count of faults rose the run is that of the meaning, or wanted memory.
-    ensures complete { ¬ Rose (F.faults files.old) (F.faults files.new) → ¬ Rose (S.faults out.old) (S.faults out.new) →
-        result.status ≢ 9 →
-        (held : Held) → F.holds files.old ≡ Some held →
-        Wrote (meaning (texts words.now) held None) (S.has out.old) (S.has out.new) result.status }
+    // No fault is made up, and none is passed over or forgotten.
+    ensures read_faults { ReadFaults
+        (outside F.Files S.Sink files.old out.old) (outside F.Files S.Sink files.new out.new) result.status }
+    ensures put_faults { PutFaults
+        (outside F.Files S.Sink files.old out.old) (outside F.Files S.Sink files.new out.new) result.status }
 
     // The named file is read once, and no other, and none with bad words; the files stay as they are.
-    ensures reads { IsEnding result.status → ReadsOnce result.status (F.reads files.old) (F.reads files.new) }
-    ensures few_reads { (F.reads files.new ≡ F.reads files.old) ⊎ (F.reads files.new ≡ one_more (F.reads files.old)) }
-
-    ensures asked { AskedFor (file_of (texts words.now)) (F.asked files.old) (F.asked files.new) }
+    ensures asked { AskedFor (file_of (texts words.now))
+        (outside F.Files S.Sink files.old out.old) (outside F.Files S.Sink files.new out.new) }
+    ensures reads { ReadCount
+        (outside F.Files S.Sink files.old out.old) (outside F.Files S.Sink files.new out.new) result.status }
     ensures holds { F.holds files.new ≡ F.holds files.old }
 
     // With status 0 and 7 there is a session, with the last state.
@@ -116,17 +106,20 @@ fn answer<F: Files, S: Sink>(
     files: &mut F,
     out: &mut S,
 ) -> Result<Done, Stop<PutFailed>>
-    ensures followed { (held : Held) → F.holds files.old ≡ Some held →
-        Followed (meaning (texts words.now) held) (F.reads files.old) (F.reads files.new) (S.has out.old) (S.has out.new)
-        (F.faults files.old) (F.faults files.new) result }
-    ensures reads { ReadsIn result (F.reads files.old) (F.reads files.new) }
-    ensures asked { AskedFor (file_of (texts words.now)) (F.asked files.old) (F.asked files.new) }
+    ensures followed { (held : Held) → F.holds files.old ≡ Some held → Followed (meaning (texts words.now) held)
+        (outside F.Files S.Sink files.old out.old) (outside F.Files S.Sink files.new out.new) result }
+    ensures reads { ReadsIn
+        (outside F.Files S.Sink files.old out.old) (outside F.Files S.Sink files.new out.new) result }
+    ensures asked { AskedFor (file_of (texts words.now))
+        (outside F.Files S.Sink files.old out.old) (outside F.Files S.Sink files.new out.new) }
     ensures holds { F.holds files.new ≡ F.holds files.old }
-    ensures read_fault { ReadFault result (F.faults files.old) (F.faults files.new) }
+    ensures read_fault { ReadFault
+        (outside F.Files S.Sink files.old out.old) (outside F.Files S.Sink files.new out.new) result }
     ensures never_falls { F.faults files.old ≤ F.faults files.new }
     ensures cause { SendCause result (S.faults out.old) (S.faults out.new) }
     ensures end { IfOk result IsEnd }
-    ensures ended { IfOk result (λ done. EndsAs (file_of (texts words.now)) done.status (S.has out.old) (S.has out.new)) }
+    ensures ended { IfOk result (λ done. EndsAs (file_of (texts words.now))
+        (outside F.Files S.Sink files.old out.old) (outside F.Files S.Sink files.new out.new) done.status) }
 {
     match file_word(words) {
         None => refuse_words(alloc, out),
@@ -242,7 +235,7 @@ fn refuse_source<S: Sink>(
 
 /// Runs the program that these bytes spell.
 fn run_source<S: Sink>(alloc: Global, out: &mut S, bytes: &[u8]) -> Result<Done, Stop<PutFailed>>
-    requires { length bytes.now ≤ 65536 }
+    requires { length bytes.now ≤ most_file_bytes }
     ensures along { WentAlong (meaning_of_bytes bytes.now) (S.has out.old) (S.has out.new) result }
     ensures cause { SendCause result (S.faults out.old) (S.faults out.new) }
     ensures end { IfOk result IsEnd }
@@ -262,7 +255,7 @@ fn run_program<S: Sink>(
     program: &Program,
 ) -> Result<Done, Stop<PutFailed>>
     requires { IsSpelled program.now }
-    ensures along { WentAlong (meaning_of_compiled program.now.items (compiled program.now)) (S.has out.old) (S.has out.new) result }
+    ensures along { WentAlong (meaning_of_compiled program.now.items (compiled_program program.now)) (S.has out.old) (S.has out.new) result }
     ensures cause { SendCause result (S.faults out.old) (S.faults out.new) }
     ensures end { IfOk result IsEnd }
     ensures status { IfOk result (λ done. (done.status ≢ 1) × (done.status ≢ 2)) }

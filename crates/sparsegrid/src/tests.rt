@@ -7,4 +7,7 @@ mod not_built;
 mod refusals;
 mod runs;
 mod setting;
+mod syntax;
+mod tokens;
+mod trees;
 mod types;

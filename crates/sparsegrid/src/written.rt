@@ -1,6 +1,6 @@
 ghost use Rattle.std.specs.Prelude.{◌≡◌, ◌&&◌, ◌==◌, OnErr, OnOk};
 ghost use Rattle.sg_types.specs.Values.{is_own};
-ghost use Rattle.sparsegrid.specs.Written.{is_own_to, is_same_field, replaced};
+ghost use Rattle.sparsegrid.specs.steps.Written.{is_own_to, is_same_field, replaced};
 
 use sg_flat::{Way, Write};
 use sg_words::{Items, Memory};
@@ -17,7 +17,7 @@ pub struct Written {
 impl Model for Written {
     ghost use Rattle.std.specs.Prelude.{List};
     ghost use Rattle.sg_flat.specs.declared.effects.Write.{Write};
-    ghost use Rattle.sparsegrid.specs.Written.{IsLatest};
+    ghost use Rattle.sparsegrid.specs.steps.Written.{IsLatest};
 
     ghost Value = { List Write };
 

@@ -1,3 +1,4 @@
+use crate::compile::spell;
 use crate::{Done, run};
 use sg_outside::{FreeGate, MemFiles, MemSink, NamedBytes, Sink};
 use std::alloc::{AllocError, Global};
@@ -122,4 +123,61 @@ pub fn repeated(alloc: Global, piece: &str, count: u32) -> Result<String, AllocE
         text.push_str(piece)?;
     }
     Ok(text)
+}
+
+/// The program that a text spells, as it is printed, or why it spells none.
+pub fn program_of(alloc: Global, text: &str) -> Result<String, Fail> {
+    if 65_536 < text.len() {
+        return Ok(format!(in alloc; "too long")?);
+    }
+    Ok(match spell(alloc, text.as_bytes()) {
+        Ok(program) => format!(in alloc; "{program:?}")?,
+        Err(stop) => format!(in alloc; "{stop:?}")?,
+    })
+}
+
+/// `Ok`, or why a text spells no program.
+pub fn outcome(alloc: Global, text: &str) -> Result<String, Fail> {
+    if 65_536 < text.len() {
+        return Ok(format!(in alloc; "too long")?);
+    }
+    Ok(match spell(alloc, text.as_bytes()) {
+        Ok(_) => format!(in alloc; "Ok")?,
+        Err(stop) => format!(in alloc; "{stop:?}")?,
+    })
+}
+
+/// What is left out of the printed form of a tree, so that a table of trees can be read.
+static SHORTER: [(&str, &str); 22] = [
+    (" ", ""),
+    ("Items{items:[", "["),
+    ("]}", "]"),
+    ("Boxed{inner:", "{"),
+    ("op:", ""),
+    (",left:{", " {"),
+    (",right:{", " {"),
+    (",of:{", " {"),
+    ("ConstDecl{", ""),
+    ("Number{value:", ""),
+    (",unsigned:false}", ""),
+    (",unsigned:true}", "u"),
+    ("Name{text:[70]}", "F"),
+    ("Name{text:[71]}", "G"),
+    ("Name{text:[75]}", "K"),
+    ("Name{text:[76]}", "L"),
+    ("Name{text:[78]}", "N"),
+    ("Name{text:[105]}", "i"),
+    ("Name{text:[106]}", "j"),
+    ("Name{text:[120]}", "x"),
+    ("Name{text:[121]}", "y"),
+    (",", ", "),
+];
+
+/// A printed tree, shortened.
+pub fn shortened(alloc: Global, tree: String) -> Result<String, Fail> {
+    let mut shown = tree;
+    for (long, short) in &SHORTER {
+        shown = shown.replace(alloc, *long, *short)?;
+    }
+    Ok(shown)
 }

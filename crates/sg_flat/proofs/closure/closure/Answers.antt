@@ -14,7 +14,7 @@ use Rattle.sg_layout.specs.declared.shape.Shape.{Shape}
 use Rattle.sg_layout.specs.declared.shape.NodeShape.{NodeShape}
 use Rattle.sg_layout.specs.Axes.{bounds_of_shape}
 use Rattle.sg_layout.specs.Closure.{last_sparse, points, closure}
-use Rattle.sg_flat.specs.Blocks.{bounds_over, nodes_above, is_whole, is_row_reached}
+use Rattle.sg_flat.specs.steps.Blocks.{bounds_over, nodes_above, is_whole, is_row_reached}
 use Rattle.sg_flat.proofs.Overs.{split_at}
 use Rattle.sg_flat.proofs.Actives.{closure_of_dense, closure_of_sparse}
 use Rattle.sg_flat.proofs.closure.closure.Goals as goal

@@ -3,7 +3,7 @@ use Rattle.std.specs.Ordering.{nat_cmp}
 use Rattle.std.specs.BTreeMap.{get}
 use Rattle.std.specs.BTreeSet.{contains}
 use Rattle.sg_coord.specs.Bounds.{bounds_of, volume}
-use Rattle.sg_flat.specs.Blocks.{length_at, is_row_reached}
+use Rattle.sg_flat.specs.steps.Blocks.{length_at, is_row_reached}
 use Rattle.sg_flat.proofs.closure.live_rows.Given as goal
 
 abbrev pub invariant-loop-at : goal.invariant-loop-at

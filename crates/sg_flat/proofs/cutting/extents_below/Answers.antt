@@ -7,7 +7,8 @@ use Rattle.sg_layout.specs.declared.shape.Shape.{Shape}
 use Rattle.sg_layout.specs.Axes.{extent_in, extent_over}
 use Rattle.sg_layout.specs.Accepted.{IsAccepted}
 use Rattle.sg_layout.specs.Rules.{has_good_extents}
-use Rattle.sg_flat.proofs.Accepted.{good_at, good_extents, good_below}
+use Rattle.sg_flat.proofs.Accepted.{good_at}
+use Rattle.sg_layout.proofs.Uses.{all_good, good_below}
 use Rattle.sg_flat.proofs.Overs.{split_at, extent_fits, bounds_below}
 use Rattle.sg_flat.proofs.cutting.extents_below.Goals as goal
 
@@ -27,7 +28,7 @@ turns shape nodes above i node accepted same enough turn is =
     record {
       split = split;
       good = (good_at shape i node (drop (i + 1) shape.nodes) accepted split).extents;
-      below = good_below shape.nodes (i + 1) (good_extents shape accepted);
+      below = good_below shape.nodes (i + 1) (all_good shape accepted);
     }
 
 -- a node's extent is at most that over it and the nodes below it

@@ -7,7 +7,7 @@ use Rattle.sg_coord.specs.Bounds.{Bounds, bounds_of}
 use Rattle.sg_layout.specs.declared.shape.Shape.{Shape}
 use Rattle.sg_layout.specs.Axes.{bounds_of_shape}
 use Rattle.sg_flat.specs.Effects.{writes_of}
-use Rattle.sg_flat.specs.Landing.{stay_inside}
+use Rattle.sg_flat.specs.steps.Landing.{stay_inside}
 use Rattle.sg_flat.specs.Kernel.{field_after, fields_after}
 use Rattle.sg_flat.proofs.Pairs.{pair_turn, pair_end}
 use Rattle.sg_flat.proofs.AfterRuns.{fields_after-step, fields_after-end}

@@ -2,7 +2,7 @@ use Rattle.std.proofs.Common.{◌≡◌, ℕ, ◌+◌, ◌*◌, ◌≤◌, ◌^�
 use Rattle.std.proofs.lemmas.List.{drop_all}
 use Rattle.sg_layout.specs.Axes.{size_of}
 use Rattle.sg_layout.specs.StorageWords.{chunks_by}
-use Rattle.sg_layout.specs.WordSteps.{own_words, slots_next, counted}
+use Rattle.sg_layout.specs.steps.WordSteps.{own_words, slots_next, counted}
 use Rattle.sg_layout.proofs.Faultless.{no_fault}
 use Rattle.sg_layout.proofs.Counting.{counted_is}
 use Rattle.sg_layout.proofs.Tallies.{IsTally, tally_turn, tally_start, tally_cells, total_most}

@@ -1,5 +1,5 @@
 use Rattle.std.proofs.Common.{◌≡◌, ◌+◌, drop}
-use Rattle.sg_layout.specs.WordSteps.{counted}
+use Rattle.sg_layout.specs.steps.WordSteps.{counted}
 use Rattle.sg_layout.proofs.Tallies.{IsTally}
 use Rattle.sg_layout.proofs.words.words_of.Given as goal
 

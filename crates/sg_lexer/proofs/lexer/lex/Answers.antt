@@ -2,13 +2,13 @@ use Rattle.std.proofs.Common.{◌≡◌, ℕ, ◌+◌, ◌-◌, ◌<◌, ◌≤�
 use Rattle.std.proofs.lemmas.Grind.{common_steps}
 use Rattle.std.proofs.lemmas.List.{take_rest, length-take-le, length-drop}
 use Rattle.sg_ast.specs.declared.token.Spanned.{Spanned}
-use Rattle.sg_lexer.specs.Lexing.{piece, lexed, lexed_from, with_piece}
+use Rattle.sg_lexer.specs.Lexing.{piece, token_list, tokens_from, with_piece}
 use Rattle.sg_lexer.proofs.Passing.{turn, line_more, added, kept}
 use Rattle.sg_lexer.proofs.lexer.lex.Goals as goal
 use Rattle.sg_lexer.proofs.lexer.lex.Goals.{in-Some+in_ok-push, in_default}
 
 pub loop-at-init : goal.loop-at-init
-unfolding lexed
+unfolding token_list
 loop-at-init c = first_of (search rules, grind (arith, common_steps))
 
 pub loop-at-preserved : goal.loop-at-preserved
@@ -31,4 +31,4 @@ loop-at-preserved c =
     let gone = turn bytes at n c.loop-at.line c.loop-at.list t c.loop-at.invariant.1 within found some room in
     let lines = line_more bytes at n in
     let counted : count_by (λ b. b == 10) (take (at + n - at) (drop at bytes)) ≡ count_by (λ b. b == 10) (take n (drop at bytes)) = let e : at + n - at ≡ n = omega arith in ap (λ (k : ℕ). count_by (λ b. b == 10) (take k (drop at bytes))) e in
-    (ap (λ (done : List Spanned). lexed_from 0 (take (at + n) bytes) done (drop (at + n) bytes)) list ∙ sym gone ∙ c.loop-at.invariant.0, omega (arith, lines, counted, c.newlines.ensures.value), omega arith, omega arith)
+    (ap (λ (done : List Spanned). tokens_from 0 (take (at + n) bytes) done (drop (at + n) bytes)) list ∙ sym gone ∙ c.loop-at.invariant.0, omega (arith, lines, counted, c.newlines.ensures.value), omega arith, omega arith)

@@ -1,7 +1,7 @@
 use Rattle.std.proofs.Common.{◌∙◌, sym, ap, subst, refl, arith, ◌++◌, ◌∷◌, ◌+◌, drop, length, find}
 use Rattle.std.proofs.lemmas.List.{drop_more, at_drop_all}
 use Rattle.std.proofs.Common.{append-nil}
-use Rattle.sg_names.specs.Tables.{same_name}
+use Rattle.sg_ast.specs.Token.{same_name}
 use Rattle.sg_names.specs.Declares.{fields_from}
 use Rattle.sg_names.proofs.Declaring.{IsPushing, AreNew, pushing_more, same_pushed}
 use Rattle.sg_names.proofs.names.push_fields.Goals as goal

@@ -1,7 +1,8 @@
 use Rattle.std.proofs.Common.{◌≡◌, ◌+◌, ◌-◌, ◌*◌, length, []}
 use Rattle.sg_ast.specs.declared.token.Sign.TheVariants as s
-use Rattle.sg_parser.specs.Steps.{after_sign, repeated_from, kinds}
-use Rattle.sg_parser.specs.ReadStmt as read
+use Rattle.sg_ast.specs.Items.{kinds}
+use Rattle.sg_parser.specs.steps.Front.{after_sign, list_to_end_from}
+use Rattle.sg_parser.specs.steps.ReadStmt as read
 use Rattle.sg_parser.proofs.statement.+blocks.Given as goal
 
 abbrev pub decreases-block : goal.decreases-block
@@ -22,5 +23,5 @@ decreases-read_for l = 4 * l.inner + 1
 -- what is left to read, from what was found, is what the whole reads
 abbrev pub invariant-statements-loop-turn : goal.invariant-statements-loop-turn
 invariant-statements-loop-turn l =
-    repeated_from (after_sign s.CloseBrace) (read.statement (read.block_at l.inner)) (l._turn-end - l._turn) l.found (kinds l.rest)
-    ≡ repeated_from (after_sign s.CloseBrace) (read.statement (read.block_at l.inner)) (length (kinds l.tokens)) [] (kinds l.tokens)
+    list_to_end_from (after_sign s.CloseBrace) (read.statement (read.block_at l.inner)) (l._turn-end - l._turn) l.found (kinds l.rest)
+    ≡ list_to_end_from (after_sign s.CloseBrace) (read.statement (read.block_at l.inner)) (length (kinds l.tokens)) [] (kinds l.tokens)

@@ -1,6 +1,6 @@
 use Rattle.std.proofs.Common.{◌≡◌, drop}
 use Rattle.std.specs.List.{list_any}
-use Rattle.sg_names.specs.Tables.{same_name}
+use Rattle.sg_ast.specs.Token.{same_name}
 use Rattle.sg_types.proofs.domain.has_name.Given as goal
 
 abbrev pub invariant-loop-other : goal.invariant-loop-other

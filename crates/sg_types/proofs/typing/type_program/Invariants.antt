@@ -1,5 +1,5 @@
 use Rattle.std.proofs.Common.{◌≡◌, ◌≤◌, length, drop, []}
-use Rattle.sg_types.specs.Taking.{typed_after}
+use Rattle.sg_types.specs.steps.Taking.{typed_after}
 use Rattle.sg_types.proofs.typing.type_program.Given as goal
 
 -- the kernels so far, and those of the items that are left, are those of all

@@ -1,10 +1,11 @@
 use Rattle.std.proofs.Common.{◌≡◌, ◌+◌, ◌≤◌, drop, length}
 use Rattle.sparsegrid.specs.Built.{first_not_built}
+use Rattle.sg_ast.specs.Limits.{most_tokens}
 use Rattle.sparsegrid.proofs.built.first_not_built.Given as goal
 
 abbrev pub invariant-loop-item : goal.invariant-loop-item
 invariant-loop-item l = record {
   rest : first_not_built l.names l.number (drop l.item-index l.items) ≡ first_not_built l.names 1 l.items;
   count : l.number ≡ l.item-index + 1;
-  few : length l.items ≤ 16384;
+  few : length l.items ≤ most_tokens;
 }

@@ -6,7 +6,7 @@ returns-in-Ok-parse-clause-answer c = spelled_ok c.args.bytes.now c.in-Ok.tokens
 
 pub returns-in-Ok-parse-clause-spelled : goal.returns-in-Ok-parse-clause-spelled
 returns-in-Ok-parse-clause-spelled c =
-    is_spelled c.in-Ok.tokens c.in-Ok-parse.program c.accepted_is_spelled.ensures c.cut_gives_items.ensures (c.answers_few_tokens.ensures c.in-Ok.ensures) c.in-Ok-parse.ensures
+    is_spelled c.in-Ok.tokens c.in-Ok-parse.program c.parsed_is_spelled.ensures c.cut_gives_items.ensures (c.answered_are_few.ensures c.args.bytes.now c.in-Ok.tokens c.in-Ok.ensures) c.in-Ok-parse.ensures
 
 pub returns-in-Err-Refused-parse-clause-answer : goal.returns-in-Err-Refused-parse-clause-answer
 returns-in-Err-Refused-parse-clause-answer c =

@@ -1,5 +1,5 @@
 use Rattle.std.proofs.Common.{◌≡◌, ◌++◌, map, drop}
-use Rattle.sparsegrid.specs.Evaluation.{world_of, turn_at}
+use Rattle.sparsegrid.specs.steps.Evaluation.{world_of, turn_at}
 use Rattle.sparsegrid.proofs.evaluate.kernel_effects.Given as goal
 
 abbrev pub invariant-loop-at : goal.invariant-loop-at

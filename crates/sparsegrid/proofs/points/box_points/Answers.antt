@@ -4,7 +4,7 @@ use Rattle.sg_coord.specs.declared.coord.Coord.{Coord}
 use Rattle.std.proofs.Common.{◌++◌, [], ap, ◌∙◌, sym, arith, ℤ, pos, List}
 use Rattle.std.specs.List.{flat_map}
 use Rattle.std.proofs.lemmas.List.{take_all}
-use Rattle.sparsegrid.specs.Evaluation.{parts, with_first, plane_points}
+use Rattle.sparsegrid.specs.steps.Evaluation.{parts, with_first, plane_points}
 use Rattle.sparsegrid.proofs.BoxPoints.{same_point, flat_map_next, no_lines, no_cells, box_is}
 use Rattle.sparsegrid.proofs.points.box_points.Goals as goal
 

@@ -1,6 +1,6 @@
 use Rattle.std.proofs.Common.{◌≡◌, take}
 use Rattle.std.specs.List.{flat_map}
-use Rattle.sparsegrid.specs.Evaluation.{parts, with_first, plane_points}
+use Rattle.sparsegrid.specs.steps.Evaluation.{parts, with_first, plane_points}
 use Rattle.sparsegrid.proofs.points.box_points.Given as goal
 
 abbrev pub invariant-loop-k : goal.invariant-loop-k

@@ -3,7 +3,7 @@ use Rattle.std.specs.Prelude.{FitsSigned}
 use Rattle.sg_coord.specs.declared.coord.Coord.{Coord}
 use Rattle.std.proofs.Common.{◌++◌, ◌∷◌, [], ap, ◌∙◌, arith, ℤ, List, map}
 use Rattle.std.proofs.lemmas.List.{take_all}
-use Rattle.sparsegrid.specs.Evaluation.{parts, with_third}
+use Rattle.sparsegrid.specs.steps.Evaluation.{parts, with_third}
 use Rattle.sparsegrid.proofs.BoxPoints.{same_point, map_next}
 use Rattle.sparsegrid.proofs.points.push_line.Goals as goal
 

@@ -1,5 +1,5 @@
 use Rattle.std.proofs.Common.{◌≡◌, ◌++◌, map, take}
-use Rattle.sparsegrid.specs.Evaluation.{parts, with_third}
+use Rattle.sparsegrid.specs.steps.Evaluation.{parts, with_third}
 use Rattle.sparsegrid.proofs.points.push_line.Given as goal
 
 abbrev pub invariant-loop-k : goal.invariant-loop-k

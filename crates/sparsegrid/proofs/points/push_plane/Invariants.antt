@@ -1,6 +1,6 @@
 use Rattle.std.proofs.Common.{◌≡◌, ◌++◌, take}
 use Rattle.std.specs.List.{flat_map}
-use Rattle.sparsegrid.specs.Evaluation.{parts, with_second, line_points}
+use Rattle.sparsegrid.specs.steps.Evaluation.{parts, with_second, line_points}
 use Rattle.sparsegrid.proofs.points.push_plane.Given as goal
 
 abbrev pub invariant-loop-k : goal.invariant-loop-k

@@ -1,5 +1,5 @@
 use Rattle.std.proofs.Common.{sym, ap, ◌∙◌, arith}
-use Rattle.sparsegrid.specs.Written.{replaced}
+use Rattle.sparsegrid.specs.steps.Written.{replaced}
 use Rattle.sparsegrid.proofs.LatestWrites.{replaced_here, set_here}
 use Rattle.sparsegrid.proofs.written.remember.Goals as goal
 

@@ -1,5 +1,5 @@
 use Rattle.std.proofs.Common.{◌≡◌, ◌++◌, take, drop}
-use Rattle.sparsegrid.specs.Written.{replaced}
+use Rattle.sparsegrid.specs.steps.Written.{replaced}
 use Rattle.sparsegrid.proofs.written.remember.Given as goal
 
 abbrev pub invariant-loop-place : goal.invariant-loop-place

@@ -4,7 +4,7 @@ use Rattle.std.specs.Ordering.{nat_cmp}
 use Rattle.std.specs.BTreeSet.{contains}
 use Rattle.sg_coord.specs.Bounds.{bounds_of, volume}
 use Rattle.sg_coord.specs.Coord.{point_at}
-use Rattle.sg_flat.specs.Blocks.{block_of, place_of}
+use Rattle.sg_flat.specs.steps.Blocks.{block_of, place_of}
 use Rattle.sg_flat.proofs.Cuts.{cut_of}
 use Rattle.sg_flat.proofs.Reaches.{row_more, same_row}
 use Rattle.sg_flat.proofs.blocks.Blocks.add_rows.Goals as goal

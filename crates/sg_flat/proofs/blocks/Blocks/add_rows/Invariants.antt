@@ -3,7 +3,7 @@ use Rattle.std.specs.Ordering.{nat_cmp}
 use Rattle.std.specs.BTreeSet.{contains}
 use Rattle.sg_coord.specs.Bounds.{bounds_of, volume}
 use Rattle.sg_coord.specs.Coord.{point_at}
-use Rattle.sg_flat.specs.Blocks.{block_of, place_of}
+use Rattle.sg_flat.specs.steps.Blocks.{block_of, place_of}
 use Rattle.sg_flat.proofs.blocks.Blocks.add_rows.Given as goal
 
 abbrev pub invariant-loop-place : goal.invariant-loop-place

@@ -3,14 +3,14 @@ use Rattle.sg_coord.specs.Bounds.{Bounds}
 use Rattle.sg_layout.specs.declared.shape.Shape.{Shape}
 use Rattle.sg_layout.specs.Axes.{extent_over}
 use Rattle.sg_layout.specs.Accepted.{IsAccepted}
-use Rattle.sg_flat.proofs.Accepted.{good_extents, good_below, few_nodes}
+use Rattle.sg_layout.proofs.Uses.{all_good, good_below, few_nodes}
 use Rattle.sg_flat.proofs.Overs.{over_cut}
 use Rattle.sg_flat.proofs.blocks.Blocks.of_node.Goals as goal
 
 cuts : (shape : Shape) (axis k whole part : ℕ) → IsAccepted shape → whole ≡ extent_over shape.nodes axis → part ≡ extent_over (drop k shape.nodes) axis → whole / part * part ≡ whole
 cuts shape axis k whole part accepted is_whole is_part =
     ap (λ n. n / part * part) is_whole ∙ ap (λ n. extent_over shape.nodes axis / n * n) is_part
-    ∙ over_cut shape.nodes k axis (good_below shape.nodes k (good_extents shape accepted)) ∙ sym is_whole
+    ∙ over_cut shape.nodes k axis (good_below shape.nodes k (all_good shape accepted)) ∙ sym is_whole
 
 pub overflow_add-above : goal.overflow_add-above
 overflow_add-above c = let few = few_nodes c.args.layout.now c.shape-accepted.ensures.accepted in omega arith

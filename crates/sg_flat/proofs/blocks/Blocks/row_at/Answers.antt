@@ -2,7 +2,7 @@ use Rattle.std.proofs.Common.{ap, ◌∙◌, ◌≡◌, arith}
 use Rattle.std.proofs.lemmas.Int.{to_z-of_z}
 use Rattle.sg_coord.specs.Bounds.{bounds_of}
 use Rattle.sg_coord.specs.Coord.{row_of, count_of}
-use Rattle.sg_flat.specs.Blocks.{block_of, place_of}
+use Rattle.sg_flat.specs.steps.Blocks.{block_of, place_of}
 use Rattle.sg_flat.proofs.Cuts.{cut_of, is_further}
 use Rattle.sg_flat.proofs.blocks.Blocks.row_at.Goals as goal
 

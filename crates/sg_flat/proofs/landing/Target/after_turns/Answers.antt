@@ -1,7 +1,7 @@
 use Rattle.std.proofs.Common.{sym, subst, List, ℕ, take}
 use Rattle.sg_coord.specs.Bounds.{bounds_of, volume}
 use Rattle.sg_flat.specs.Effects.{writes_of}
-use Rattle.sg_flat.specs.Landing.{AreWordsBelow}
+use Rattle.sg_flat.specs.steps.Landing.{AreWordsBelow}
 use Rattle.sg_flat.proofs.Landings.{field_after-are_words, field_after-more_turns, field_after-all_turns, stay_inside-turn}
 use Rattle.sg_flat.proofs.landing.Target.after_turns.Goals as goal
 

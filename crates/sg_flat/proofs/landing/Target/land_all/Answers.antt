@@ -1,6 +1,6 @@
 use Rattle.std.proofs.Common.{sym, subst, List, ℕ, take}
 use Rattle.sg_coord.specs.Bounds.{bounds_of, volume}
-use Rattle.sg_flat.specs.Landing.{AreWordsBelow}
+use Rattle.sg_flat.specs.steps.Landing.{AreWordsBelow}
 use Rattle.sg_flat.proofs.Landings.{field_after-are_words, field_after-more, field_after-all}
 use Rattle.sg_flat.proofs.landing.Target.land_all.Goals as goal
 

@@ -1,5 +1,6 @@
 use Rattle.std.proofs.Common.{◌∙◌, sym, ap, find}
-use Rattle.sg_names.specs.Tables.{Tables, same_name}
+use Rattle.sg_ast.specs.Token.{same_name}
+use Rattle.sg_names.specs.Tables.{Tables}
 use Rattle.sg_names.specs.Names.{declares_twice}
 use Rattle.sg_names.proofs.Declaring.{new_kernel}
 use Rattle.sg_names.proofs.names.Names.declare.Goals as goal

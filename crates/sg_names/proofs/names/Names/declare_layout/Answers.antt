@@ -1,5 +1,6 @@
 use Rattle.std.proofs.Common.{◌∙◌, sym, ap, subst, arith, find, map, length}
-use Rattle.sg_names.specs.Tables.{Tables, same_name}
+use Rattle.sg_ast.specs.Token.{same_name}
+use Rattle.sg_names.specs.Tables.{Tables}
 use Rattle.sg_names.specs.Names.{has_repeat}
 use Rattle.sg_names.proofs.Declaring.{new_layout, AreNew, fields-Layout}
 use Rattle.sg_names.proofs.names.Names.declare_layout.Goals as goal

@@ -1,6 +1,6 @@
 use Rattle.std.proofs.Common.{◌∙◌, ap, find, bytes_eq, ◌∙◌}
 use Rattle.std.specs.Map.{lookup}
-use Rattle.sg_names.specs.Tables.{same_name}
+use Rattle.sg_ast.specs.Token.{same_name}
 use Rattle.sg_names.proofs.Keys.{lookup-names}
 use Rattle.sg_names.proofs.table.Table.get.Goals as goal
 

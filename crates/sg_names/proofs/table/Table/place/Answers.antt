@@ -1,6 +1,6 @@
 use Rattle.std.proofs.Common.{◌∙◌, ap, position, bytes_eq}
 use Rattle.std.specs.Map.{keys_of}
-use Rattle.sg_names.specs.Tables.{same_name}
+use Rattle.sg_ast.specs.Token.{same_name}
 use Rattle.sg_names.proofs.Keys.{position-names}
 use Rattle.sg_names.proofs.table.Table.place.Goals as goal
 

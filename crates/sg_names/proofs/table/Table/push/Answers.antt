@@ -1,6 +1,6 @@
 use Rattle.std.proofs.Common.{◌∙◌, ap, ◌++◌, ◌∷◌, [], find, subst, sym}
 use Rattle.std.specs.Map.{values_of}
-use Rattle.sg_names.specs.Tables.{same_name}
+use Rattle.sg_ast.specs.Token.{same_name}
 use Rattle.indexmap.proofs.CallerLemmas.{insert_entry-new}
 use Rattle.sg_names.proofs.Keys.{AreKeys, no_key, AreKeys-push, values-push, room-push}
 use Rattle.sg_names.proofs.table.Table.push.Goals as goal

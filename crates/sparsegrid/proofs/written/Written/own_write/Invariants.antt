@@ -1,5 +1,5 @@
 use Rattle.std.proofs.Common.{◌≡◌, drop, find}
-use Rattle.sparsegrid.specs.Written.{is_own_to}
+use Rattle.sparsegrid.specs.steps.Written.{is_own_to}
 use Rattle.sparsegrid.proofs.written.Written.own_write.Given as goal
 
 abbrev pub invariant-loop-write : goal.invariant-loop-write

@@ -1,0 +1,2 @@
+-- What serves proofs alone: no clause of a call that others use names these.
+pub mod Room

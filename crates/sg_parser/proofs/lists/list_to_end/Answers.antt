@@ -1,0 +1,11 @@
+use Rattle.std.proofs.Common.{◌+◌, ◌-◌, length, sym, ◌∙◌, arith}
+use Rattle.sg_ast.specs.Items.{kinds}
+use Rattle.sg_parser.proofs.Turns.{repeated_turn}
+use Rattle.sg_parser.proofs.lists.list_to_end.Goals as goal
+
+pub loop-turn-preserved : goal.loop-turn-preserved
+loop-turn-preserved g c =
+    let pushed = c.in_ok-push.ensures.ok in
+    let turn = repeated_turn g.T.Listed.end g.T.Front.reader (length c.args.tokens.now - c.loop-turn._turn) (length c.args.tokens.now - (c.loop-turn._turn + 1))
+    c.loop-turn.found (kinds c.loop-turn.rest.now) c.in_ok-next.next (kinds c.in_ok-next.behind.now) (omega arith) (sym c.in_default.ensures) c.in_ok-next.ensures in
+    rw pushed (sym turn ∙ c.loop-turn.invariant)

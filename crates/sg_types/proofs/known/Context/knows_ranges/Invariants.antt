@@ -1,8 +1,0 @@
-use Rattle.std.proofs.Common.{◌≡◌, drop}
-use Rattle.std.specs.List.{list_all}
-use Rattle.sg_types.specs.Statements.{knows_range}
-use Rattle.sg_types.specs.Views.{known_of}
-use Rattle.sg_types.proofs.known.Context.knows_ranges.Given as goal
-
-abbrev pub invariant-loop-range : goal.invariant-loop-range
-invariant-loop-range l = list_all (knows_range (known_of l.self) l.scope) (drop l.range-index l.ranges) ≡ list_all (knows_range (known_of l.self) l.scope) l.ranges

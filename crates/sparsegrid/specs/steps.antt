@@ -1,0 +1,4 @@
+-- What serves proofs alone: no clause of a call that others use names these.
+pub mod Evaluation
+pub mod Written
+pub mod Along
