@@ -1,0 +1,111 @@
+-- Worked equations: a store of pointer(i: 4) cap 2; dense(i: 4); and one of pointer(i: 4) cap 2; bitmasked(i: 4);
+use Rattle.std.specs.Prelude.{◌≡◌, true, false, [], ◌∷◌, Some, None, pos, replicate, refl}
+use Rattle.sg_layout.specs.declared.shape.Kind.TheVariants.{Bitmasked, Pointer}
+use Rattle.sg_layout.specs.Examples.{at1, blocks, masked_blocks, growing, node1, shape_of}
+use Rattle.sg_pool.specs.Numbers.{PoolNumbers}
+use Rattle.sg_store.specs.declared.node.NodeWords.{NodeWords}
+use Rattle.sg_store.specs.declared.spot.Spot.{Spot}
+use Rattle.sg_store.specs.StoreWords.{StoreWords, word_in}
+use Rattle.sg_store.specs.Walks.{is_on, cell_in, place_in}
+use Rattle.sg_store.specs.WellFormed.{is_built_shape, cell_count}
+use Rattle.sg_store.specs.Spots.{width_after, place_of}
+
+-- a pool of 19 numbers, of which the first two are live
+abbrev pub two_live : PoolNumbers
+two_live = record { live = true ∷ (true ∷ replicate 17 false) }
+
+abbrev pub no_numbers : PoolNumbers
+no_numbers = record { live = [] }
+
+-- block 0 has container 1, and block 2 has container 0
+abbrev pub two_links : NodeWords
+two_links = record { links = 2 ∷ (0 ∷ (1 ∷ (0 ∷ []))); masks = []; pool = two_live }
+
+abbrev pub no_words : NodeWords
+no_words = record { links = []; masks = []; pool = no_numbers }
+
+abbrev pub block_store : StoreWords
+block_store = record { shape = blocks; nodes = two_links ∷ (no_words ∷ []); fields = (0 ∷ (7 ∷ (0 ∷ (0 ∷ (5 ∷ []))))) ∷ [] }
+
+-- coordinate 9 is the second cell of block 2, whose container is 0
+nine_has_a_cell : cell_in block_store (at1 9) ≡ Some 1
+nine_has_a_cell = refl
+
+zero_has_a_cell : cell_in block_store (at1 0) ≡ Some 4
+zero_has_a_cell = refl
+
+five_has_none : cell_in block_store (at1 5) ≡ None
+five_has_none = refl
+
+outside_has_none : cell_in block_store (at1 16) ≡ None
+outside_has_none = refl
+
+nine_has_seven : word_in block_store 0 1 ≡ 7
+nine_has_seven = refl
+
+-- 19 containers of 4 cells
+block_cells : cell_count blocks ≡ 76
+block_cells = refl
+
+-- the links tell which blocks are on
+block_two_is_on : is_on blocks.nodes block_store.nodes 0 (2 ∷ []) ≡ true
+block_two_is_on = refl
+
+block_one_is_off : is_on blocks.nodes block_store.nodes 0 (1 ∷ []) ≡ false
+block_one_is_off = refl
+
+-- bits 0 to 3 are those of container 0, which is block 2, and bits 4 to 7 those of container 1
+abbrev pub masked_store : StoreWords
+masked_store = record {
+  shape = masked_blocks;
+  nodes = two_links ∷ (record { links = []; masks = 34 ∷ []; pool = no_numbers } ∷ []);
+  fields = [];
+}
+
+one_and_nine_are_marked : cell_in masked_store (at1 1) ≡ Some 5
+one_and_nine_are_marked = refl
+
+nine_is_marked : cell_in masked_store (at1 9) ≡ Some 1
+nine_is_marked = refl
+
+ten_is_not_marked : cell_in masked_store (at1 10) ≡ None
+ten_is_not_marked = refl
+
+-- its bit has a number all the same, since its container is live
+ten_has_a_bit : place_in masked_store 2 (at1 10) ≡ Some 2
+ten_has_a_bit = refl
+
+-- and coordinate 5 has none
+five_has_no_bit : place_in masked_store 2 (at1 5) ≡ None
+five_has_no_bit = refl
+
+-- a link stands under a bit that isn't set: it is on, and has no cell
+abbrev pub linked_below : StoreWords
+linked_below = record {
+  shape = shape_of 1 (node1 Bitmasked (pos 2) (pos 0) (pos 0) ∷ (node1 Pointer (pos 4) (pos 2) (pos 0) ∷ []));
+  nodes = record { links = []; masks = 1 ∷ []; pool = no_numbers }
+      ∷ (record { links = 0 ∷ (0 ∷ (0 ∷ (0 ∷ (0 ∷ (1 ∷ (0 ∷ (0 ∷ []))))))); masks = []; pool = two_live } ∷ []);
+  fields = [];
+}
+
+link_is_on : is_on linked_below.shape.nodes linked_below.nodes 0 (1 ∷ (1 ∷ [])) ≡ true
+link_is_on = refl
+
+link_has_no_cell : cell_in linked_below (at1 5) ≡ None
+link_has_no_cell = refl
+
+-- the spots of coordinate 9: slot 2 of the root, then container 0, then its cell 1
+width_of_blocks : width_after blocks.nodes 2 ≡ 4
+width_of_blocks = refl
+
+abbrev pub nine_spot : Spot
+nine_spot = record { node = 2; part = 0; slot = 1 }
+
+spot_is_cell : place_of blocks.nodes nine_spot ≡ 1
+spot_is_cell = refl
+
+blocks_are_built : is_built_shape blocks ≡ true
+blocks_are_built = refl
+
+chains_are_not : is_built_shape growing ≡ false
+chains_are_not = refl

@@ -1,0 +1,10 @@
+pub mod StoreWords
+pub mod Slots
+pub mod Walks
+pub mod WellFormed
+pub mod StandsFor
+pub mod Spots
+pub mod Reaching
+pub mod StoreLaws
+pub mod Examples
+pub mod steps

@@ -1,0 +1,24 @@
+-- What reaching coordinates answers, and the state between two of its levels.
+use Rattle.std.specs.Prelude.{◌≡◌, ℕ, nat_le, List, Option, Some, None, Result, Ok, Err, if◌then◌else◌}
+use Rattle.sg_coord.specs.declared.coord.Coord.{Coord}
+use Rattle.sg_layout.specs.Need.{FullNode}
+use Rattle.sg_store.specs.declared.reach.Full.{Full}
+use Rattle.sg_store.specs.StoreWords.{StoreWords}
+use Rattle.sg_store.specs.Walks.{cell_along}
+use Rattle.sg_store.specs.StandsFor.{HasLiveSlots}
+
+-- nothing where no node is too full, else the refusal that names it
+abbrev pub unless_full : Option FullNode → Result Unit Full
+unless_full None = Ok tt
+unless_full (Some full) = Err (record { node = full.node; cap = full.cap })
+
+-- the shape and the values stay, and what led to a cell still leads to it
+pub record KeepsCells (old now : StoreWords) : Type 0 where
+  pub same_shape : now.shape ≡ old.shape
+  pub same_fields : now.fields ≡ old.fields
+  pub same_cells : (slot : List ℕ) (cell : ℕ) → cell_along old slot ≡ Some cell → cell_along now slot ≡ Some cell
+
+-- the store is open through a node for a list of coordinates: the linked slots and set bits down to the node are those
+-- live for the list, and those below it are those live for the old one
+abbrev pub IsOpenThrough : StoreWords → List Coord → List Coord → ℕ → Type 0
+IsOpenThrough store old all through = HasLiveSlots store (λ number. if nat_le number through then all else old)

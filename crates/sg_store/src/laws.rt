@@ -1,0 +1,51 @@
+//! Laws of stores. Each function does nothing: what it ensures is the law, for whoever reasons about stores.
+ghost use Rattle.sg_store.specs.StoreWords.{StoreWords};
+ghost use Rattle.sg_store.specs.StoreLaws.{StandsForOne, CellsAreActive, CellsDiffer, LiveIsNeed, SameValues};
+
+use sg_coord::{Extents, numbering};
+use sg_layout::laws as layouts;
+
+// Any extents: the laws of coordinates are of all bounds.
+const ONE_POINT: Extents = Extents {
+    n: 1,
+    a: 1,
+    b: 1,
+    c: 1,
+};
+
+/// A store stands for at most one flat layout.
+pub fn stands_for_one()
+    ensures { (store : StoreWords) → StandsForOne store }
+{
+    // for the laws that they ensure
+    numbering(&ONE_POINT);
+    layouts::closure_members();
+    layouts::paths_tell();
+    layouts::last_sparse_decides();
+}
+
+/// The cells of a store that stands for a flat layout are those of its active coordinates, each of one alone.
+pub fn cells_are_active()
+    ensures active { (store : StoreWords) → CellsAreActive store }
+    ensures differ { (store : StoreWords) → CellsDiffer store }
+{
+    // for the laws that they ensure
+    numbering(&ONE_POINT);
+    layouts::closure_members();
+    layouts::paths_tell();
+    layouts::last_sparse_decides();
+}
+
+/// A pointer node of a store that stands for a flat layout has as many live containers as the layout needs there.
+pub fn live_is_need()
+    ensures { (store : StoreWords) → LiveIsNeed store }
+{
+    // for the laws that they ensure
+    layouts::paths_tell();
+    layouts::need_counts_live();
+}
+
+/// Stores that stand for the same flat layout have the same values.
+pub fn same_values()
+    ensures { (store other : StoreWords) → SameValues store other }
+{}

@@ -1,0 +1,113 @@
+ghost use Rattle.std.specs.Prelude.{◌≡◌, ◌≤◌, IfOk, IsTrue};
+ghost use Rattle.sg_layout.specs.StorageWords.{words_of_shape, most_words};
+ghost use Rattle.sg_flat.specs.State.{opening_layout};
+ghost use Rattle.sg_store.specs.WellFormed.{is_built, is_built_shape, IsWellFormed};
+ghost use Rattle.sg_store.specs.StandsFor.{StandsFor};
+
+use crate::fresh::{FreshNodes, fresh_nodes, zero_rows};
+use crate::node::NodeWords;
+use sg_layout::{Kind, Layout, laws as layouts};
+use sg_words::{Items, Memory};
+use std::alloc::Global;
+use std::marker::Model;
+
+/// The tree of containers of one layout, and the values of its fields in the cells.
+#[derive(Debug, Drop)]
+pub struct Store {
+    pub(crate) layout: Layout,
+    pub(crate) nodes: Vec<NodeWords>,
+    pub(crate) fields: Vec<Items<u32>>,
+}
+
+impl Model for Store {
+    ghost use Rattle.sg_store.specs.StoreWords.{StoreWords};
+    ghost use Rattle.sg_store.specs.WellFormed.{IsWellFormed};
+
+    ghost Value = { StoreWords };
+
+    ghost view = { λ store. record { shape = store.layout; nodes = store.nodes.items; fields = store.fields.items } };
+
+    ghost invariant = { λ store. IsWellFormed (record { shape = store.layout; nodes = store.nodes.items; fields = store.fields.items }) };
+}
+
+/// The stores of a program's layouts, in order of declaration.
+#[derive(Debug, Drop)]
+pub struct Stores {
+    pub list: Items<Store>,
+}
+
+/// Whether stores are built for all nodes of a layout: for dense, bitmasked and pointer nodes.
+pub fn is_built(layout: &Layout) -> bool
+    ensures { result ≡ is_built_shape layout.now }
+{
+    layout
+        .shape()
+        .nodes
+        .as_slice()
+        .iter()
+        .all(|node| is_built_kind(node.kind))
+}
+
+fn is_built_kind(kind: Kind) -> bool
+    ensures { result ≡ is_built kind }
+{
+    match kind {
+        Kind::Dense => true,
+        Kind::Bitmasked => true,
+        Kind::Pointer => true,
+        Kind::Hash => false,
+        Kind::Dynamic => false,
+    }
+}
+
+impl Store {
+    /// A store in which nothing is active but what is so without any write, and all values are 0.
+    pub fn make(alloc: Global, layout: &Layout) -> Result<Store, Memory>
+        requires built { IsTrue (is_built_shape layout.now) }
+        requires few_words { words_of_shape layout.now ≤ most_words }
+        ensures shape { IfOk result (λ store. store.shape ≡ layout.now) }
+        ensures opening { IfOk result (λ store. StandsFor store (opening_layout layout.now)) }
+        ensures well_formed { IfOk result IsWellFormed }
+    {
+        // for the laws that they ensure
+        layouts::rules_decide();
+        layouts::paths_tell();
+        layouts::closure_closes();
+        layouts::live_absorbs();
+        let _extents = layout.extents();
+        let shape = layout.shape();
+        let FreshNodes { words, cells } = fresh_nodes(alloc, layout)?;
+        Ok(Store {
+            layout: layout.copy(alloc)?,
+            nodes: words,
+            fields: zero_rows(alloc, shape.fields.len(), cells)?,
+        })
+    }
+
+    /// A copy of the store.
+    pub fn copy(&self, alloc: Global) -> Result<Store, Memory>
+        ensures { IfOk result (λ copy. copy ≡ self.now) }
+    {
+        let mut nodes = Vec::new(alloc);
+        for kept in &self.nodes {
+            nodes.push(kept.copy(alloc)?)?;
+        }
+        let mut fields = Vec::new(alloc);
+        for row in &self.fields {
+            fields.push(Items::from_slice(alloc, row.as_slice())?)?;
+        }
+        Ok(Store {
+            layout: self.layout.copy(alloc)?,
+            nodes,
+            fields,
+        })
+    }
+
+    /// The layout with which the store was made.
+    pub fn layout(&self) -> &Layout
+        ensures layout { result.now ≡ self.now.shape }
+        ensures well_formed { IsWellFormed self.now }
+    {
+        &self.layout
+    }
+}
