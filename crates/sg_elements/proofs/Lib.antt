@@ -1,0 +1,5 @@
+pub mod Growing
+pub mod Levels
+pub mod Lists
+pub mod Paths
+pub mod Rows

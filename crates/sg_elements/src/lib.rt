@@ -1,0 +1,7 @@
+//! The active coordinates of a store, as a list in row order.
+#![tactic(auto)]
+
+mod branches;
+pub mod listing;
+
+pub use listing::elements;

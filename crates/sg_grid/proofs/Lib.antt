@@ -1,0 +1,6 @@
+pub mod Accepting
+pub mod Dumps
+pub mod Firsts
+pub mod Lines
+pub mod Numerals
+pub mod Rows

@@ -1,0 +1,32 @@
+-- The text of a grid: a line `grid AXES COUNT`, then a line for each row with the parts of its coordinate and its value.
+use Rattle.std.specs.Prelude.{ℕ, ℤ, List, [], ◌∷◌, ◌++◌, length, if◌then◌else◌, nat_le, codes}
+use Rattle.std.specs.List.{flat_map}
+use Rattle.std.specs.Fmt.{decimal, signed_decimal}
+use Rattle.sg_coord.specs.declared.coord.Coord.{Coord}
+use Rattle.sg_words.specs.declared.operators.Ty.{Ty}
+use Rattle.sg_words.specs.Words.{number}
+use Rattle.sg_grid.specs.declared.grid.GridRow.{GridRow}
+
+-- a further part of a coordinate, behind a space, where the axis is there
+abbrev pub further_part : ℕ → Coord → ℤ → List ℕ
+further_part axis at part = if nat_le axis at.n then 32 ∷ signed_decimal part else []
+
+-- the parts of a coordinate with a space between them
+abbrev pub coordinate_text : Coord → List ℕ
+coordinate_text at = signed_decimal at.a ++ further_part 2 at at.b ++ further_part 3 at at.c
+
+-- the line of a row: its coordinate, a space, the number that its word stands for in the field's type, a newline
+abbrev pub row_text : Ty → GridRow → List ℕ
+row_text type row = coordinate_text row.at ++ 32 ∷ signed_decimal (number type row.word) ++ 10 ∷ []
+
+-- the lines of rows
+abbrev pub rows_text : Ty → List GridRow → List ℕ
+rows_text type rows = flat_map (row_text type) rows
+
+-- the first line up to the number of rows
+abbrev pub grid_head : ℕ → List ℕ
+grid_head axes = codes "grid " ++ decimal axes ++ 32 ∷ []
+
+-- the text of rows over so many axes
+abbrev pub grid_text : ℕ → Ty → List GridRow → List ℕ
+grid_text axes type rows = grid_head axes ++ decimal (length rows) ++ 10 ∷ rows_text type rows

@@ -1,0 +1,10 @@
+pub mod Limits
+pub mod GridText
+pub mod Fronts
+pub mod Reading
+pub mod Accepted
+pub mod Faults
+pub mod Laws
+pub mod Examples
+pub mod Dump
+pub mod steps

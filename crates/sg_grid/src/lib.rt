@@ -1,0 +1,17 @@
+//! Grid texts: the values of a field as lines of text, in both directions.
+#![tactic(auto)]
+
+pub mod dumping;
+pub mod grid;
+pub mod laws;
+mod numbers;
+pub mod reading;
+pub mod writing;
+
+pub use dumping::dump;
+pub use grid::{Grid, GridFault, GridRow};
+pub use reading::read_grid;
+pub use writing::{grid_text, push_coordinate};
+
+#[cfg(test)]
+mod tests;
