@@ -36,7 +36,7 @@ field_words shape flat bounds i n ty field is_flat stands same =
     (subst (λ (f : List (ℕ × ℕ)). AreWordsBelow (volume (bounds_of_shape shape)) f) (sym stands.second) (is_flat.fields_fit i field stands.in_second).canonical)
 
 -- a row with a word other than 0 is that of an active coordinate
-word_is_active : (active : List Coord) (bounds : Bounds) (words : List (ℕ × ℕ)) (row : ℕ) → All (λ (entry : ℕ × ℕ). Contains active (point_at bounds entry.0)) words → (word_at words row ≡ 0 → ⊥) → Contains active (point_at bounds row)
+pub word_is_active : (active : List Coord) (bounds : Bounds) (words : List (ℕ × ℕ)) (row : ℕ) → All (λ (entry : ℕ × ℕ). Contains active (point_at bounds entry.0)) words → (word_at words row ≡ 0 → ⊥) → Contains active (point_at bounds row)
 word_is_active active bounds [] row all some = absurd (some refl)
 word_is_active active bounds (entry ∷ entries) row all some =
     let P : ℕ × ℕ → Type 0 = λ entry. Contains active (point_at bounds entry.0) in

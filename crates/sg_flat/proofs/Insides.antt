@@ -18,17 +18,17 @@ use Rattle.sg_flat.specs.steps.Landing.{stay_inside}
 use Rattle.sg_flat.specs.Kernel.{is_inside_of, outside_among, first_outside}
 
 -- the write is inside the extents of the layout that it names
-abbrev is_inside_its : List Shape → Write → Bool
+abbrev pub is_inside_its : List Shape → Write → Bool
 is_inside_its shapes write = is_inside_of (slice_get shapes write.layout) write.at
 
-inside_from_none : (shapes : List Shape) (at : Coord) (writes : List Write) → outside_among shapes at writes ≡ None → list_all (is_inside_its shapes) writes ≡ true
+pub inside_from_none : (shapes : List Shape) (at : Coord) (writes : List Write) → outside_among shapes at writes ≡ None → list_all (is_inside_its shapes) writes ≡ true
 inside_from_none shapes at [] none = refl
 inside_from_none shapes at (write ∷ writes) none = elim (cases_Bool (is_inside_its shapes write)) [
   | inl inside ↦ and_from _ _ inside (inside_from_none shapes at writes (sym (cond-true (is_inside_its shapes write) (outside_among shapes at writes) (Some (WriteOutside write.stmt at)) inside) ∙ none))
   | inr outside ↦ absurd (let some = sym (cond-false (is_inside_its shapes write) (outside_among shapes at writes) (Some (WriteOutside write.stmt at)) outside) ∙ none in cc)
 ]
 
-all_inside : (shapes : List Shape) (turns : List Turn) → first_outside shapes turns ≡ None → list_all (is_inside_its shapes) (writes_of turns) ≡ true
+pub all_inside : (shapes : List Shape) (turns : List Turn) → first_outside shapes turns ≡ None → list_all (is_inside_its shapes) (writes_of turns) ≡ true
 all_inside shapes [] none = refl
 all_inside shapes (turn ∷ turns) none =
     let parts = neither (outside_among shapes turn.at turn.writes) (first_outside shapes turns) none in

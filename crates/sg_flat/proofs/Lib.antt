@@ -14,3 +14,5 @@ pub mod FlatLayouts
 pub mod Insides
 pub mod WriteLaws
 pub mod Boxes
+pub mod Wanting
+pub mod Uses

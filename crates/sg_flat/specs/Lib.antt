@@ -5,5 +5,6 @@ pub mod Effects
 pub mod Kernel
 pub mod steps
 pub mod Laws
+pub mod Wants
 pub mod Examples
 pub mod RunExamples

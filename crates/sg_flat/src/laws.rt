@@ -5,6 +5,9 @@ ghost use Rattle.sg_words.specs.declared.operators.Ty.{Ty};
 ghost use Rattle.sg_words.specs.declared.operators.AccOp.{AccOp};
 ghost use Rattle.sg_flat.specs.declared.effects.Write.{Write};
 ghost use Rattle.sg_flat.specs.Laws.{LastValueStays, ContributionsFold, BoxIsRanges, BoxIsInOrder};
+ghost use Rattle.sg_flat.specs.Wants.{OutsideIsWanted, MeaningIsOfWants};
+
+use sg_layout::laws::{closure_members, need_grows};
 
 /// Own writes to a cell leave the last value.
 pub fn last_value_stays()
@@ -21,3 +24,17 @@ pub fn box_in_order()
     ensures points { (lo hi : Coord) → BoxIsRanges lo hi }
     ensures in_order { (lo hi : Coord) → BoxIsInOrder lo hi }
 {}
+
+/// The first write outside is among those that pass a test, where all others are inside.
+pub fn outside_is_wanted()
+    ensures { OutsideIsWanted }
+{}
+
+/// Iterations that want what others write are refused alike, and leave the same active coordinates.
+pub fn meaning_is_of_wants()
+    ensures { MeaningIsOfWants }
+{
+    // for the laws that they ensure
+    need_grows();
+    closure_members();
+}

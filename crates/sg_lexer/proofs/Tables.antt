@@ -1,7 +1,8 @@
 -- What holds of each reserved word and each sign, by a test over the whole table.
 use Rattle.std.proofs.Common.{◌≡◌, ◌⊎◌, ℕ, ◌≤◌, ◌==◌, Bool, true, false, not, ◌&&◌, cond, nat_eq, nat_le, List, [], ◌∷◌, ◌++◌, length, slice_index, Some, None, codes, find, bytes_eq, refl, sym, ap, ◌∙◌, subst, inl, inr, arith}
 use Rattle.std.specs.List.{starts_with, list_all, list_any}
-use Rattle.std.proofs.lemmas.Bool.{and_parts, or_left, or_right, leb-true, both_ways, false_from_ne_true}
+use Rattle.std.specs.Option.{is_some}
+use Rattle.std.proofs.lemmas.Bool.{cases_Bool, and_parts, or_left, or_right, leb-true, both_ways, false_from_ne_true}
 use Rattle.std.proofs.lemmas.Slice.Eq.{bytes_eq-Decides}
 use Rattle.sg_ast.specs.declared.token.Word.{Word}
 use Rattle.sg_ast.specs.declared.token.Word.TheVariants as word
@@ -176,6 +177,16 @@ no_reserved_word text e w same =
 pub not_reserved : (text : List ℕ) → ((w : Word) → word_text w ≡ text → ⊥) → is_reserved text ≡ false
 unfolding is_reserved
 not_reserved text other = any_none (λ v. bytes_eq (word_text v) text) reserved_words (λ w. false_from_ne_true (bytes_eq (word_text w) text) (λ e. other w ((bytes_eq-Decides (word_text w) text).0 e)))
+
+-- one is found exactly where one passes
+find_any : {X : Type 0} (p : X → Bool) (xs : List X) → is_some (find p xs) ≡ list_any p xs
+find_any p [] = refl
+find_any p (y ∷ ys) = elim (cases_Bool (p y)) [ inl e ↦ rw e refl | inr e ↦ rw e (find_any p ys) ]
+
+-- whether a text is a reserved word's, by looking for the word
+pub found_word_reserved : (text : List ℕ) → is_some (reserved_word text) ≡ is_reserved text
+unfolding reserved_word is_reserved
+found_word_reserved text = find_any (λ v. bytes_eq (word_text v) text) reserved_words
 
 -- ---- signs
 

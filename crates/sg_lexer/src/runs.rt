@@ -12,7 +12,7 @@ use sg_words::{Items, Stop};
 use std::alloc::Global;
 
 /// The most bytes of a name.
-const NAME_BYTES: usize = 32;
+pub(crate) const NAME_BYTES: usize = 32;
 
 #[tactic(auto, unfolding(crate::specs::Lexing::name_token))]
 fn name_token(alloc: Global, line: u32, run: &[u8]) -> Result<Token, Stop<LexFault>>

@@ -25,3 +25,4 @@ pub mod NamesKept
 pub mod Numbered
 pub mod DeclaredFit
 pub mod VarNumbers
+pub mod Uses
