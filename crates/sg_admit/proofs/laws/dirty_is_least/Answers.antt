@@ -1,0 +1,5 @@
+use Rattle.sg_admit.proofs.Dirty as proof
+use Rattle.sg_admit.proofs.laws.dirty_is_least.Goals as goal
+
+pub returns : goal.returns
+returns c = proof.dirty_is_least

@@ -1,0 +1,10 @@
+pub mod Limits
+pub mod Lines
+pub mod Clean
+pub mod Slices
+pub mod Bounds
+pub mod Rules
+pub mod Admission
+pub mod Neutral
+pub mod Laws
+pub mod steps
