@@ -1,0 +1,139 @@
+ghost use Rattle.std.specs.Prelude.{◌≡◌, ◌∷◌, [], List, map, length, Contains, OnOk, unwrap_or};
+ghost use Rattle.std.specs.List.{AllZip};
+ghost use Rattle.sg_flat.specs.declared.state.FlatLayout.{FlatLayout};
+ghost use Rattle.sg_flat.specs.declared.state.FlatState.{FlatState};
+ghost use Rattle.sg_flat.specs.Effects.{land, writes_of};
+ghost use Rattle.sg_store.specs.StandsFor.{StandsFor};
+ghost use Rattle.sg_exec.specs.steps.Moments.{world_in, turn_in};
+ghost use Rattle.sg_exec.specs.steps.Landing.{current, landed_layout, Lands};
+
+use crate::iteration::World;
+use crate::moment::Moment;
+use crate::values::ONE_POINT;
+use sg_coord::{Coord, numbering};
+use sg_flat::{Way, Write};
+use sg_layout::{closure_closes, closure_members};
+use sg_store::{Store, Stores};
+use sg_types::TypedStmt;
+use sg_words::{Memory, Ty, fold};
+use std::alloc::Global;
+
+/// Lands in the copies what the statements write at these points. They read the stores.
+pub(crate) fn land_points(
+    alloc: Global,
+    stores: &Stores,
+    copies: &mut Vec<Option<Store>>,
+    points: &[Coord],
+    stmts: &[TypedStmt],
+) -> Result<(), Memory>
+    requires room { length copies.old.items ≡ length stores.now.list }
+    ensures lands { OnOk result ((state : FlatState) → AllZip StandsFor stores.now.list state.layouts →
+        Lands (current copies.old.items stores.now.list) (current copies.new.items stores.now.list)
+        (writes_of (map (turn_in (world_in stores.now.list state) stmts.now) points.now))) }
+    ensures room { length copies.new.items ≡ length stores.now.list }
+{
+    let world = World { stores };
+    let mut moment = Moment::new(alloc);
+    for at in points {
+        moment.start(*at)?;
+        world.run_all(&mut moment, stmts)?;
+        land_all(alloc, stores, copies, moment.writes.as_slice())?;
+    }
+    Ok(())
+}
+
+/// Lands writes in the copies, each in its turn.
+pub(crate) fn land_all(
+    alloc: Global,
+    stores: &Stores,
+    copies: &mut Vec<Option<Store>>,
+    writes: &[Write],
+) -> Result<(), Memory>
+    requires room { length copies.old.items ≡ length stores.now.list }
+    ensures lands { OnOk result (Lands (current copies.old.items stores.now.list) (current copies.new.items stores.now.list) writes.now) }
+    ensures room { length copies.new.items ≡ length stores.now.list }
+{
+    for write in writes {
+        land(alloc, stores, copies, write)?;
+    }
+    Ok(())
+}
+
+/// Lands a write in the copy of its layout's store, which is made where there is none.
+fn land(
+    alloc: Global,
+    stores: &Stores,
+    copies: &mut Vec<Option<Store>>,
+    write: &Write,
+) -> Result<(), Memory>
+    requires room { length copies.old.items ≡ length stores.now.list }
+    ensures lands { OnOk result (Lands (current copies.old.items stores.now.list) (current copies.new.items stores.now.list) (write.now ∷ [])) }
+    ensures room { length copies.new.items ≡ length stores.now.list }
+{
+    let number = write.layout as usize;
+    let Some(store) = stores.list.get(number) else {
+        return Ok(());
+    };
+    let slot = &mut copies[number];
+    land_in(alloc, store, slot, write)
+}
+
+/// Lands a write in the copy of a store, which is made where there is none.
+fn land_in(
+    alloc: Global,
+    store: &Store,
+    slot: &mut Option<Store>,
+    write: &Write,
+) -> Result<(), Memory>
+    ensures shape { (unwrap_or slot.new store.now).shape ≡ (unwrap_or slot.old store.now).shape }
+    ensures lands { OnOk result ((flat : FlatLayout) → StandsFor (unwrap_or slot.old store.now) flat →
+        Contains flat.active write.now.at →
+        StandsFor (unwrap_or slot.new store.now)
+        (landed_layout write.now.layout (unwrap_or slot.old store.now).shape flat (write.now ∷ []))) }
+{
+    match slot {
+        Some(copy) => put(copy, write),
+        None => {
+            let mut copy = store.copy(alloc)?;
+            put(&mut copy, write);
+            *slot = Some(copy);
+        }
+    }
+    Ok(())
+}
+
+/// Lands a write in a store.
+fn put(store: &mut Store, write: &Write)
+    ensures shape { store.new.shape ≡ store.old.shape }
+    ensures lands { (flat : FlatLayout) → StandsFor store.old flat → Contains flat.active write.now.at →
+        StandsFor store.new (landed_layout write.now.layout store.old.shape flat (write.now ∷ [])) }
+{
+    // for the laws that they ensure
+    numbering(&ONE_POINT);
+    closure_closes();
+    closure_members();
+    let Some(ty) = store
+        .layout()
+        .shape()
+        .fields
+        .get(write.place as usize)
+        .copied()
+    else {
+        return;
+    };
+    let Some(cell) = store.cell_of(write.at) else {
+        return;
+    };
+    let word = word_after(ty, store.value(write.place, cell), write);
+    store.set(write.place, cell, word);
+}
+
+/// What a write makes of its cell's word.
+fn word_after(ty: Ty, old: u32, write: &Write) -> u32
+    ensures { result ≡ land ty old write.now.way write.now.value }
+{
+    match write.way {
+        Way::Own => write.value,
+        Way::Acc(op) => fold(op, ty, old, write.value),
+    }
+}

@@ -1,0 +1,222 @@
+-- What every compiled program keeps, from the answer of compiling and the laws of names and types.
+use Rattle.std.proofs.Common.{◌≡◌, ℕ, zero, suc, ◌<◌, ◌≤◌, Bool, true, false, List, [], ◌∷◌, ◌++◌, length, Option, Some, None, Result, Ok, Err, IfOk, refl, sym, ap, ◌∙◌, subst, arith}
+use Rattle.std.specs.Prelude.{if◌then◌else◌, ◌==◌, nat_lt, slice_get, option_map}
+use Rattle.std.specs.List.{AllByRecursion, list_all, cons_option, filter_map, repeat}
+use Rattle.std.proofs.lemmas.Bool.{leb-false}
+use Rattle.std.proofs.lemmas.Option.{slice_get_within}
+use Rattle.sg_words.specs.declared.memory.Memory.{Memory}
+use Rattle.sg_admit.specs.Neutral.{is_neutral_kernel}
+use Rattle.sg_words.proofs.Uses.{neither, neither_holds}
+use Rattle.sg_ast.specs.declared.token.Name.{Name}
+use Rattle.sg_ast.specs.declared.command.Command.{Command, out-Command}
+use Rattle.sg_ast.specs.declared.command.Command.TheOpen as c
+use Rattle.sg_ast.specs.declared.command.Command.TheOpen.{Command-F}
+use Rattle.sg_ast.specs.declared.program.Item.{Item}
+use Rattle.sg_ast.specs.declared.program.Item.TheVariants as item
+use Rattle.sg_ast.specs.declared.program.Program.{Program}
+use Rattle.sg_layout.specs.declared.shape.Shape.{Shape}
+use Rattle.sg_names.specs.declared.tables.FieldAt.{FieldAt}
+use Rattle.sg_ast.specs.declared.layout.LayoutDecl.{LayoutDecl}
+use Rattle.sg_ast.specs.declared.kernel.KernelDecl.{KernelDecl}
+use Rattle.sg_names.specs.declared.tables.NamedField.{NamedField}
+use Rattle.sg_names.specs.declared.tables.NamedLayout.{NamedLayout}
+use Rattle.sg_names.specs.Tables.{Tables, field_named, kernel_named}
+use Rattle.sg_names.specs.Names.{tables_of}
+use Rattle.sg_names.specs.Shapes.{shape_of}
+use Rattle.sg_names.specs.Laws.{layout_decls, kernel_decls, LayoutsAreDeclared, KernelsAreDeclared, FieldsArePlaced, FieldsAreFound, KernelsAreFound}
+use Rattle.sg_types.specs.Laws.{TablesFit, declared_shapes, DeclaredLayoutsFit, TypedIsWellTyped, VariablesAreNumbered}
+use Rattle.sg_types.specs.WellTyped.{is_well_typed_kernel}
+use Rattle.sg_store.specs.WellFormed.{is_built_shape}
+use Rattle.sg_admit.specs.declared.admitted.Admitted.{Admitted}
+use Rattle.sg_session.specs.declared.refusal.Refusal.TheVariants as refusal
+use Rattle.sg_session.specs.declared.tasks.Task.{Task}
+use Rattle.sg_session.specs.declared.tasks.Task.TheVariants.{Load, Run, Dump}
+use Rattle.sg_session.specs.declared.tasks.Stage.{Stage}
+use Rattle.sg_session.specs.declared.tasks.Stage.TheVariants.{Once, Times}
+use Rattle.sg_session.specs.CommandRules.{breaks_layer, some_breaks, is_large_layer, layer_refusal, commands_refusal}
+use Rattle.sg_session.specs.Tasks.{simple_task, body_tasks, layer_stage, stages_of}
+use Rattle.sg_session.specs.Limits.{most_times}
+use Rattle.sg_session.specs.Compiled.{CompiledProgram, field_numbered, IsField, IsTask, IsStage, IsCompiled, unfolded}
+use Rattle.sg_session.specs.Compiling.{layouts_of, kernels_of, compiled_with, compiled_parts}
+use Rattle.sg_session.proofs.Lists.{count_map}
+use Rattle.sg_session.proofs.Answered.{layouts_kept, built_kept, runnable, typed_ready, kernels_kept, parts_kept}
+
+-- ---- lists of what is there
+
+-- an item that may be there, before others
+put_before : {Y : Type 0} (P : Y → Type 0) (o : Option Y) (ys : List Y) → ((y : Y) → o ≡ Some y → P y) → AllByRecursion P ys → AllByRecursion P (cons_option o ys)
+put_before P None ys each all = all
+put_before P (Some y) ys each all = (each y refl, all)
+
+-- where a function gives only what a fact holds of, so does the list of what it gives
+all_given : {X Y : Type 0} (P : Y → Type 0) (f : X → Option Y) (xs : List X) → ((x : X) (y : Y) → f x ≡ Some y → P y) → AllByRecursion P (filter_map f xs)
+all_given P f [] each = tt
+all_given P f (x ∷ xs) each = put_before P (f x) (filter_map f xs) (each x) (all_given P f xs each)
+
+all_joined : {X : Type 0} (P : X → Type 0) (xs ys : List X) → AllByRecursion P xs → AllByRecursion P ys → AllByRecursion P (xs ++ ys)
+all_joined P [] ys here there = there
+all_joined P (x ∷ xs) ys here there = (here.0, all_joined P xs ys here.1 there)
+
+all_repeated : {X : Type 0} (P : X → Type 0) (n : ℕ) (xs : List X) → AllByRecursion P xs → AllByRecursion P (repeat n xs)
+all_repeated P zero xs all = tt
+all_repeated P (suc n) xs all = all_joined P xs (repeat n xs) all (all_repeated P n xs all)
+
+-- ---- tasks
+
+-- what a name stands for is of the program
+record Knows (names : Tables) (value : CompiledProgram) : Type 0 where
+  pub field : (name : Name) (at : FieldAt) → field_named names name ≡ Some at → IsField value at
+  pub kernel : (name : Name) (k : ℕ) → kernel_named names name ≡ Some k → k < length value.kernels
+
+-- what a mapped option has is made of what the option has
+mapped : {X Y : Type 0} (P : Y → Type 0) (f : X → Y) (o : Option X) (y : Y) → option_map f o ≡ Some y → ((x : X) → o ≡ Some x → P (f x)) → P y
+mapped P f None y e each = absurd (cc)
+mapped P f (Some x) y e each = let same : f x ≡ y = cc in subst P same (each x refl)
+
+module _ (names : Tables) (value : CompiledProgram) (knows : Knows names value) where
+  task_known : (layer : Command-F Command) (task : Task) → simple_task names layer ≡ Some task → IsTask value task
+  task_known (c.Load field) task e = mapped (IsTask value) Load (field_named names field) task e (λ at found. knows.field field at found)
+  task_known (c.Run kernel) task e = mapped (IsTask value) Run (kernel_named names kernel) task e (λ k found. knows.kernel kernel k found)
+  task_known (c.Dump field) task e = mapped (IsTask value) Dump (field_named names field) task e (λ at found. knows.field field at found)
+  task_known (c.Times number body) task e = absurd (cc)
+  task_known (c.Image field lo hi) task e = absurd (cc)
+  task_known (c.Stats layout) task e = absurd (cc)
+  task_known (c.Prune layout) task e = absurd (cc)
+  task_known (c.Clear layout) task e = absurd (cc)
+
+  once_known : (layer : Command-F Command) (stage : Stage) → option_map Once (simple_task names layer) ≡ Some stage → IsStage value stage
+  once_known layer stage e = mapped (IsStage value) Once (simple_task names layer) stage e (λ task found. task_known layer task found)
+
+  -- no refusal of a layer: it breaks no rule and isn't long
+  no_refusal : (a b d : Bool) (n : ℕ) → (if a then Some (refusal.Command n) else (if b then Some refusal.Times else (if d then Some refusal.Image else None))) ≡ None → (a ≡ false) × (b ≡ false)
+  no_refusal true b d n e = absurd (cc)
+  no_refusal false true d n e = absurd (cc)
+  no_refusal false false d n e = (refl, refl)
+
+  not_zero : (number : ℕ) → (number == 0) ≡ false → 1 ≤ number
+  not_zero zero e = absurd (cc)
+  not_zero (suc number) e = omega arith
+
+  stage_known : (n : ℕ) (layer : Command-F Command) (stage : Stage) → layer_refusal names value.layouts n layer ≡ None → layer_stage names layer ≡ Some stage → IsStage value stage
+  stage_known n (c.Times number body) stage none e =
+      let fine = no_refusal (breaks_layer names value.layouts (c.Times number body)) (nat_lt most_times number) (is_large_layer names value.layouts (c.Times number body)) n none in
+      let turns = neither_holds (number == 0) (some_breaks names value.layouts body) fine.0 in
+      let few : number ≤ most_times = omega (arith, leb-false (suc most_times) number fine.1) in
+      let tasks = all_given (IsTask value) (λ command. simple_task names (out-Command command)) body (λ command task found. task_known (out-Command command) task found) in
+      let same : Times number (body_tasks names body) ≡ stage = cc in
+      subst (IsStage value) same (not_zero number turns.0, few, tasks)
+  stage_known n (c.Load field) stage none e = once_known (c.Load field) stage e
+  stage_known n (c.Run kernel) stage none e = once_known (c.Run kernel) stage e
+  stage_known n (c.Dump field) stage none e = once_known (c.Dump field) stage e
+  stage_known n (c.Image field lo hi) stage none e = once_known (c.Image field lo hi) stage e
+  stage_known n (c.Stats layout) stage none e = once_known (c.Stats layout) stage e
+  stage_known n (c.Prune layout) stage none e = once_known (c.Prune layout) stage e
+  stage_known n (c.Clear layout) stage none e = once_known (c.Clear layout) stage e
+
+  stages_known : (n : ℕ) (items : List Item) → commands_refusal names value.layouts n items ≡ None → AllByRecursion (IsStage value) (stages_of names items)
+  stages_known n [] none = tt
+  stages_known n (item.Const decl ∷ items) none = stages_known (suc n) items none
+  stages_known n (item.Layout decl ∷ items) none = stages_known (suc n) items none
+  stages_known n (item.Kernel decl ∷ items) none = stages_known (suc n) items none
+  stages_known n (item.Command command ∷ items) none =
+      let parts = neither (layer_refusal names value.layouts n (out-Command command)) (commands_refusal names value.layouts (suc n) items) none in
+      put_before (IsStage value) (layer_stage names (out-Command command)) (stages_of names items)
+      (λ stage found. stage_known n (out-Command command) stage parts.0 found) (stages_known (suc n) items parts.1)
+
+-- the tasks of stages that are of the program are
+pub tasks_kept : (value : CompiledProgram) (stages : List Stage) → AllByRecursion (IsStage value) stages → AllByRecursion (IsTask value) (unfolded stages)
+tasks_kept value [] all = tt
+tasks_kept value (Once task ∷ stages) all = (all.0, tasks_kept value stages all.1)
+tasks_kept value (Times number tasks ∷ stages) all =
+    let here = all.0 in
+    all_joined (IsTask value) (repeat number tasks) (unfolded stages) (all_repeated (IsTask value) number tasks here.2) (tasks_kept value stages all.1)
+
+-- ---- the whole
+
+-- what the laws of names and types say of a program
+pub record HasLaws (program : Program) : Type 0 where
+  pub layouts : LayoutsAreDeclared program
+  pub kernels : KernelsAreDeclared program
+  pub placed : FieldsArePlaced program
+  pub fields : FieldsAreFound program
+  pub named : KernelsAreFound program
+  pub fit : DeclaredLayoutsFit
+  pub typed : TypedIsWellTyped
+  pub variables : VariablesAreNumbered
+
+module _ (program : Program) (names : Tables) (laws : HasLaws program) (named : tables_of program ≡ Ok names) (value : CompiledProgram) (same : value.names ≡ names) (declared : value.layouts ≡ declared_shapes names program) where
+  fits : TablesFit names value.layouts
+  fits = subst (λ (ls : List Shape). TablesFit names ls) (sym declared) (laws.fit program names named)
+
+  -- the field of a name is one of the program
+  field_known : (name : Name) (at : FieldAt) → field_named names name ≡ Some at → IsField value at
+  field_known name at e = record {
+    named = ap (λ (t : Tables). field_numbered t at.number) same ∙ ap (option_map (λ (n : NamedField). n.at)) ((laws.fields names named name at).0 e);
+    placed = fits.fields name at e;
+  }
+
+  by_field : (number : ℕ) (at : FieldAt) (o : Option NamedField) → slice_get names.fields number ≡ o → option_map (λ n. n.at) o ≡ Some at → (at.number ≡ number) × IsField value at
+  by_field number at None there h = absurd (cc)
+  by_field number at (Some field) there h =
+      let is : field.at ≡ at = cc in
+      let place = laws.placed names named number field there in
+      let numbered : field.at.number ≡ number = place.2.number_is in
+      let found : slice_get names.fields field.at.number ≡ Some field = ap (slice_get names.fields) numbered ∙ there in
+      subst (λ (a : FieldAt). (a.number ≡ number) × IsField value a) is (numbered, field_known field.name field.at ((laws.fields names named field.name field.at).1 found))
+
+  number_known : (number : ℕ) (at : FieldAt) → field_numbered names number ≡ Some at → (at.number ≡ number) × IsField value at
+  number_known number at e = by_field number at (slice_get names.fields number) refl e
+
+  kernel_known : length value.kernels ≡ length names.kernels → (name : Name) (k : ℕ) → kernel_named names name ≡ Some k → k < length value.kernels
+  kernel_known many name k e =
+      let below : k < length names.kernels = slice_get_within names.kernels k name ((laws.named names named name k).0 e) in omega arith
+
+-- the name and the axes of a declared layout
+abbrev named_layout : LayoutDecl → NamedLayout
+named_layout decl = record { name = decl.name; axes = length decl.axes }
+
+kept_parts : (program : Program) (names : Tables) (layouts : List Shape) (kernels : List Admitted) → HasLaws program → tables_of program ≡ Ok names
+    → layouts_of names program ≡ Ok layouts → kernels_of names program ≡ Ok kernels → commands_refusal names layouts 1 program.items ≡ None
+    → IsCompiled (compiled_parts names layouts kernels program)
+kept_parts program names layouts kernels laws named layouts_are kernels_are none =
+    let value = compiled_parts names layouts kernels program in
+    let lays = layouts_kept names program layouts layouts_are in
+    let from = kernels_kept names program kernels kernels_are in
+    let fit : TablesFit names layouts = fits program names laws named value refl lays.0 in
+    let typed : list_all (is_well_typed_kernel layouts) from.typed.kernels ≡ true = laws.typed names layouts program from.typed fit from.typed_is in
+    let ready = typed_ready names layouts program from.typed laws.variables typed from.typed_is in
+    let run = runnable layouts 0 from.typed.kernels kernels from.admitted ready.0 in
+    let many : length names.kernels ≡ length kernels =
+    ap length (laws.kernels names named) ∙ count_map (λ (decl : KernelDecl). decl.name) (kernel_decls program.items) ∙ sym ready.1 ∙ sym run.1 in
+    let layout_count : length names.layouts ≡ length layouts =
+    ap length (laws.layouts names named) ∙ count_map named_layout (layout_decls program.items)
+    ∙ sym (count_map (shape_of names) (layout_decls program.items)) ∙ sym (ap length lays.0) in
+    let knows : Knows names value = record { field = field_known program names laws named value refl lays.0; kernel = kernel_known program names laws named value refl lays.0 (sym many) } in
+    record {
+      few_words = lays.1;
+      built = subst (λ (ls : List Shape). list_all is_built_shape ls ≡ true) (sym lays.0) (built_kept names 1 program.items from.built);
+      numbers = record { layouts = layout_count; kernels = many; fields = number_known program names laws named value refl lays.0 };
+      neutral = refl;
+      kernels = run.0;
+      commands = stages_known names value knows 1 program.items none;
+    }
+
+pub compiled_keeps : (program : Program) (names : Tables) (value : CompiledProgram) → HasLaws program → tables_of program ≡ Ok names → compiled_with names program ≡ Ok value → IsCompiled value
+compiled_keeps program names value laws named e =
+    let parts = parts_kept names program value e in
+    subst IsCompiled parts.is (kept_parts program names parts.layouts parts.kernels laws named parts.layouts_are parts.kernels_are parts.rules)
+
+-- layouts that are answered fit the names
+pub layouts_fit : (program : Program) (names : Tables) (layouts : List Shape) → DeclaredLayoutsFit → tables_of program ≡ Ok names → layouts_of names program ≡ Ok layouts → TablesFit names layouts
+layouts_fit program names layouts law named e = subst (λ (ls : List Shape). TablesFit names ls) (sym (layouts_kept names program layouts e).0) (law program names named)
+
+-- the tasks of a compiled program are of it
+pub tasks_there : (value : CompiledProgram) (stages : List Stage) (result : Result (List Task) Memory) → IsCompiled value → stages ≡ value.commands → IfOk result (λ tasks. tasks ≡ unfolded stages)
+    → IfOk result (AllByRecursion (IsTask value))
+tasks_there value stages (Ok tasks) kept same is =
+    subst (λ (ts : List Task). AllByRecursion (IsTask value) ts) (sym (is ∙ ap unfolded same)) (tasks_kept value value.commands kept.commands)
+tasks_there value stages (Err why) kept same is = tt
+
+-- each kernel has a name, and is neutral or not
+pub neutral_many : (value : CompiledProgram) → IsCompiled value → length value.neutral ≡ length value.names.kernels
+neutral_many value kept = ap length kept.neutral ∙ count_map (λ (kernel : Admitted). is_neutral_kernel kernel.kernel) value.kernels ∙ sym kept.numbers.kernels

@@ -1,0 +1,10 @@
+mod Lists
+mod Performing
+mod Told
+mod Openings
+mod Spelling
+mod Answered
+mod Kept
+mod Behind
+mod Declared
+mod KernelLines

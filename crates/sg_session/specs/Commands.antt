@@ -1,0 +1,113 @@
+-- What a command makes of a flat state, and the text that it gives.
+use Rattle.std.specs.Prelude.{ℕ, List, [], Option, Some, None, Result, Ok, Err, slice_get, find, map, option_map, option_and_then, string_bytes}
+use Rattle.sg_words.specs.Results.{◌>>=◌, fault_as}
+use Rattle.sg_coord.specs.Bounds.{Bounds}
+use Rattle.sg_ast.specs.declared.token.Name.{Name}
+use Rattle.sg_ast.specs.Token.{same_name}
+use Rattle.sg_layout.specs.declared.shape.Shape.{Shape}
+use Rattle.sg_layout.specs.Axes.{bounds_of_shape}
+use Rattle.sg_flat.specs.declared.effects.RunFault.{RunFault}
+use Rattle.sg_flat.specs.declared.state.FlatLayout.{FlatLayout}
+use Rattle.sg_flat.specs.declared.state.FlatState.{FlatState}
+use Rattle.sg_flat.specs.declared.effects.Write.{Write}
+use Rattle.sg_flat.specs.declared.effects.Way.TheVariants.{Own}
+use Rattle.sg_names.specs.declared.tables.FieldAt.{FieldAt}
+use Rattle.sg_names.specs.Tables.{field_name_of}
+use Rattle.sg_admit.specs.declared.admitted.Admitted.{Admitted}
+use Rattle.sg_grid.specs.declared.grid.GridFault.{GridFault}
+use Rattle.sg_grid.specs.declared.grid.GridFault.TheVariants as grid
+use Rattle.sg_grid.specs.declared.grid.GridRow.{GridRow}
+use Rattle.sg_grid.specs.Reading.{rows_of}
+use Rattle.sg_grid.specs.Dump.{dump_text}
+use Rattle.sg_exec.specs.Running.{run_meaning, load_meaning}
+use Rattle.sg_outside.specs.Files.{Reading, Bytes, TooMany, Missing}
+use Rattle.sg_session.specs.declared.binds.Bind.{Bind}
+use Rattle.sg_session.specs.declared.refusal.RunRefusal.{RunRefusal}
+use Rattle.sg_session.specs.declared.refusal.RunRefusal.TheVariants as refusal
+use Rattle.sg_session.specs.declared.tasks.Task.{Task}
+use Rattle.sg_session.specs.declared.tasks.Task.TheVariants.{Load, Run, Dump}
+use Rattle.sg_session.specs.Compiled.{CompiledProgram}
+
+-- ---- the files of fields
+
+-- the file that a name is bound to: that of its first binding
+abbrev pub file_bound : List Bind → Name → Option (List ℕ)
+file_bound binds name = option_map (λ bind. string_bytes bind.file) (find (λ bind. same_name name bind.name) binds)
+
+-- the file of a field
+abbrev pub file_of_field : CompiledProgram → List Bind → FieldAt → Option (List ℕ)
+file_of_field compiled binds at = option_and_then (file_bound binds) (field_name_of compiled.names at.number)
+
+-- the file that a task reads: only a load reads one
+abbrev pub file_of : CompiledProgram → List Bind → Task → Option (List ℕ)
+file_of compiled binds (Load field) = file_of_field compiled binds field
+file_of compiled binds (Run kernel) = None
+file_of compiled binds (Dump field) = None
+
+-- ---- what a task makes of a state
+
+-- what a command leaves: the state after it, and its text
+pub record Left : Type 0 where
+  pub state : FlatState
+  pub text : List ℕ
+
+-- a state without a text
+abbrev pub without_text : FlatState → Left
+without_text state = record { state = state; text = [] }
+
+-- the run of a kernel that may be there
+abbrev pub after_kernel : List Shape → FlatState → Option Admitted → Result FlatState RunFault
+after_kernel layouts state None = Ok state
+after_kernel layouts state (Some kernel) = run_meaning layouts state kernel
+
+-- why bytes are no grid of a field
+abbrev pub grid_refusal : ℕ → GridFault → RunRefusal
+grid_refusal field (grid.BadText line) = refusal.Grid field line
+grid_refusal field (grid.Outside line) = refusal.Grid field line
+grid_refusal field (grid.NotRising line) = refusal.Grid field line
+grid_refusal field grid.TooManyBytes = refusal.GridBytes field
+grid_refusal field grid.TooManyRows = refusal.GridRows field
+
+-- the bounds of a layout that may be there
+abbrev pub bounds_or_none : Option Shape → Bounds
+bounds_or_none None = record { n = 0; a = 1; b = 1; c = 1 }
+bounds_or_none (Some shape) = bounds_of_shape shape
+
+-- the own write of a row into a field
+abbrev pub row_write : ℕ → ℕ → GridRow → Write
+row_write layout place row = record { layout = layout; place = place; stmt = 0; at = row.at; way = Own; value = row.word }
+
+-- the writes that the rows of a grid text are: each listed coordinate gets its value
+abbrev pub field_writes : CompiledProgram → FieldAt → List ℕ → Result (List Write) GridFault
+field_writes compiled at bytes = do
+  rows ← rows_of (bounds_or_none (slice_get compiled.layouts at.layout)) at.ty bytes
+  Ok (map (row_write at.layout at.place) rows)
+
+-- the load of bytes: the listed coordinates are written, each with its value, and activated
+abbrev pub loaded : CompiledProgram → FlatState → FieldAt → List ℕ → Result FlatState RunRefusal
+loaded compiled state at bytes = do
+  rows ← fault_as (grid_refusal at.number) (field_writes compiled at bytes)
+  fault_as (refusal.Run None) (load_meaning compiled.layouts state rows)
+
+-- what a load makes of what the read of its file gave
+abbrev pub after_load : CompiledProgram → FlatState → FieldAt → Reading → Result FlatState RunRefusal
+after_load compiled state at Missing = Err (refusal.Read at.number)
+after_load compiled state at TooMany = Err (refusal.GridBytes at.number)
+after_load compiled state at (Bytes bytes) = loaded compiled state at bytes
+
+-- the dump of a field of a layout that may be there
+abbrev pub text_of_field : ℕ → Option Shape → Option FlatLayout → List ℕ
+text_of_field place None flat = []
+text_of_field place (Some shape) None = []
+text_of_field place (Some shape) (Some flat) = dump_text shape flat place
+
+-- What a task makes of a state, and its text; or its refusal, which leaves the state. What the read of its file gave counts for a load.
+abbrev pub task_meaning : CompiledProgram → FlatState → Task → Reading → Result Left RunRefusal
+task_meaning compiled state (Load field) reading = do
+  after ← after_load compiled state field reading
+  Ok (without_text after)
+task_meaning compiled state (Run kernel) reading = do
+  after ← fault_as (refusal.Run (Some kernel)) (after_kernel compiled.layouts state (slice_get compiled.kernels kernel))
+  Ok (without_text after)
+task_meaning compiled state (Dump field) reading =
+    Ok (record { state = state; text = text_of_field field.place (slice_get compiled.layouts field.layout) (slice_get state.layouts field.layout) })

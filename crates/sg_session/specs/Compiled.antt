@@ -1,0 +1,71 @@
+-- What a program is compiled to, and what every compiled program keeps.
+use Rattle.std.specs.Prelude.{◌≡◌, ℕ, ◌≤◌, ◌<◌, Bool, true, List, [], ◌∷◌, map, length, Option, Some, option_map, slice_get}
+use Rattle.std.specs.List.{AllByRecursion, flat_map, list_all, repeat}
+use Rattle.sg_layout.specs.declared.shape.Shape.{Shape}
+use Rattle.sg_layout.specs.StorageWords.{total_words}
+use Rattle.sg_layout.specs.Limits.{most_words}
+use Rattle.sg_names.specs.declared.tables.FieldAt.{FieldAt}
+use Rattle.sg_names.specs.Tables.{Tables}
+use Rattle.sg_types.specs.WellTyped.{field_in}
+use Rattle.sg_admit.specs.declared.admitted.Admitted.{Admitted}
+use Rattle.sg_admit.specs.Neutral.{is_neutral_kernel}
+use Rattle.sg_store.specs.WellFormed.{is_built_shape}
+use Rattle.sg_exec.specs.Running.{IsRunnable}
+use Rattle.sg_session.specs.declared.tasks.Task.{Task}
+use Rattle.sg_session.specs.declared.tasks.Task.TheVariants.{Load, Run, Dump}
+use Rattle.sg_session.specs.declared.tasks.Stage.{Stage}
+use Rattle.sg_session.specs.declared.tasks.Stage.TheVariants.{Once, Times}
+use Rattle.sg_session.specs.Limits.{most_times}
+
+-- what a program is compiled to: its names, the shapes of its layouts, its kernels with what is known of them, for each kernel whether
+-- it is neutral, and its commands, all in order of declaration
+pub record CompiledProgram : Type 0 where
+  pub names : Tables
+  pub layouts : List Shape
+  pub kernels : List Admitted
+  pub neutral : List Bool
+  pub commands : List Stage
+
+-- where the field of a number is
+abbrev pub field_numbered : Tables → ℕ → Option FieldAt
+field_numbered names number = option_map (λ named. named.at) (slice_get names.fields number)
+
+-- a field is one of the program: of its number by its names, and of its type by its layout
+pub record IsField (compiled : CompiledProgram) (at : FieldAt) : Type 0 where
+  pub named : field_numbered compiled.names at.number ≡ Some at
+  pub placed : field_in compiled.layouts at.layout at.place ≡ Some at.ty
+
+-- a task names a field or a kernel of the program
+abbrev pub IsTask : CompiledProgram → Task → Type 0
+IsTask compiled (Load field) = IsField compiled field
+IsTask compiled (Run kernel) = kernel < length compiled.kernels
+IsTask compiled (Dump field) = IsField compiled field
+
+-- a command's tasks do, and a `times` has at least one turn, and no more than it may have
+abbrev pub IsStage : CompiledProgram → Stage → Type 0
+IsStage compiled (Once task) = IsTask compiled task
+IsStage compiled (Times number tasks) = (1 ≤ number) × (number ≤ most_times) × AllByRecursion (IsTask compiled) tasks
+
+-- the numbers in names are those of layouts, of their fields, and of kernels
+pub record AreNumbers (compiled : CompiledProgram) : Type 0 where
+  pub layouts : length compiled.names.layouts ≡ length compiled.layouts
+  pub kernels : length compiled.names.kernels ≡ length compiled.kernels
+  pub fields : (number : ℕ) (at : FieldAt) → field_numbered compiled.names number ≡ Some at → (at.number ≡ number) × IsField compiled at
+
+-- what every compiled program keeps
+pub record IsCompiled (compiled : CompiledProgram) : Type 0 where
+  pub few_words : total_words compiled.layouts ≤ most_words
+  pub built : list_all is_built_shape compiled.layouts ≡ true
+  pub numbers : AreNumbers compiled
+  pub neutral : compiled.neutral ≡ map (λ kernel. is_neutral_kernel kernel.kernel) compiled.kernels
+  pub kernels : AllByRecursion (IsRunnable compiled.layouts) compiled.kernels
+  pub commands : AllByRecursion (IsStage compiled) compiled.commands
+
+-- the tasks of a command, one after the other
+abbrev pub stage_tasks : Stage → List Task
+stage_tasks (Once task) = task ∷ []
+stage_tasks (Times number tasks) = repeat number tasks
+
+-- the tasks of all commands, with each `times` unfolded
+abbrev pub unfolded : List Stage → List Task
+unfolded commands = flat_map stage_tasks commands

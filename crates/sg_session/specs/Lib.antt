@@ -1,0 +1,12 @@
+pub mod Limits
+pub mod Built
+pub mod CommandRules
+pub mod Tasks
+pub mod Compiled
+pub mod Spelled
+pub mod Compiling
+pub mod Commands
+pub mod Performed
+pub mod Texts
+pub mod Examples
+pub mod steps

@@ -1,0 +1,27 @@
+-- The text of mode check.
+use Rattle.std.specs.Prelude.{◌≡◌, refl, ℕ, Bool, true, false, List, [], ◌∷◌, ◌++◌, codes}
+use Rattle.sg_ast.specs.declared.token.Name.{Name}
+use Rattle.sg_session.specs.Compiled.{CompiledProgram}
+
+-- the word for a neutral kernel, and for every other
+abbrev pub neutral_word : Bool → List ℕ
+neutral_word true = codes "neutral"
+neutral_word false = codes "layout-bound"
+
+-- the line of a kernel
+abbrev pub kernel_line : Name → Bool → List ℕ
+kernel_line name neutral = codes "kernel " ++ (name.text ++ (32 ∷ (neutral_word neutral ++ 10 ∷ [])))
+
+-- the lines of kernels, in order
+abbrev pub kernel_lines : List Name → List Bool → List ℕ
+kernel_lines (name ∷ names) (neutral ∷ more) = kernel_line name neutral ++ kernel_lines names more
+kernel_lines _ _ = []
+
+-- the text of a program
+abbrev pub check_text : CompiledProgram → List ℕ
+check_text compiled = kernel_lines compiled.names.kernels compiled.neutral
+
+-- ---- examples
+two_kernels : kernel_lines (record { text = codes "k" } ∷ record { text = codes "m" } ∷ []) (true ∷ false ∷ [])
+    ≡ codes "kernel k neutral\nkernel m layout-bound\n"
+two_kernels = refl

@@ -1,0 +1,29 @@
+//! Compiling a file, and performing its commands over stores.
+#![tactic(auto)]
+
+pub mod binds;
+mod built;
+mod check;
+pub mod compilation;
+pub mod compiled;
+mod grids;
+mod kernels;
+mod layouts;
+mod opening;
+mod perform;
+pub mod refusal;
+mod rules;
+pub mod session;
+pub mod spelled;
+mod stages;
+mod step;
+pub mod tasks;
+
+pub use binds::{Bind, Binds};
+pub use check::check_text;
+pub use compilation::compile;
+pub use compiled::Compiled;
+pub use refusal::{Refusal, RunRefusal};
+pub use session::Session;
+pub use spelled::spell;
+pub use tasks::{Stage, Task};

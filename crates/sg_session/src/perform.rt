@@ -1,0 +1,66 @@
+//! Runs of kernels and dumps over stores.
+
+ghost use Rattle.std.specs.Prelude.{◌≡◌, ◌<◌, [], length, OnErr, IfOk, slice_get};
+ghost use Rattle.sg_flat.specs.declared.state.FlatState.{FlatState};
+ghost use Rattle.sg_exec.specs.Standing.{StandForState};
+ghost use Rattle.sg_outside.specs.Files.{Missing};
+ghost use Rattle.sg_session.specs.declared.tasks.Task.TheVariants.{Run};
+ghost use Rattle.sg_session.specs.Compiled.{IsField};
+ghost use Rattle.sg_session.specs.Commands.{task_meaning, text_of_field};
+ghost use Rattle.sg_session.specs.Performed.{HasState, Performs};
+
+use crate::compiled::Compiled;
+use crate::refusal::RunRefusal;
+use sg_exec::run_kernel;
+use sg_names::FieldAt;
+use sg_store::Stores;
+use sg_words::{Items, Memory, Stop, Text};
+use std::alloc::Global;
+
+/// Runs the kernel with this number.
+pub fn run(
+    alloc: Global,
+    compiled: &Compiled,
+    stores: &mut Stores,
+    kernel: u32,
+) -> Result<Text, Stop<RunRefusal>>
+    requires { kernel < length compiled.now.kernels }
+    ensures performed { (state : FlatState) → StandForState compiled.now.layouts stores.old.list state →
+        Performs compiled.now.layouts stores.new.list result (task_meaning compiled.now state (Run kernel) Missing) }
+    ensures stays { OnErr result (stores.new ≡ stores.old) }
+{
+    let admitted = &compiled.kernels.as_slice()[kernel as usize];
+    match run_kernel(alloc, stores, &compiled.layouts, admitted) {
+        Ok(()) => Ok(no_text(alloc)),
+        Err(Stop::Refused(fault)) => Err(Stop::Refused(RunRefusal::Run {
+            kernel: Some(kernel),
+            fault,
+        })),
+        Err(Stop::Memory) => Err(Stop::Memory),
+    }
+}
+
+/// The text of a command that gives none.
+pub fn no_text(alloc: Global) -> Text
+    ensures { result.bytes ≡ [] }
+{
+    Text {
+        bytes: Items::new(alloc),
+    }
+}
+
+/// The grid text of a field.
+pub fn dump(
+    alloc: Global,
+    compiled: &Compiled,
+    stores: &Stores,
+    at: FieldAt,
+) -> Result<Text, Memory>
+    requires field { IsField compiled.now at }
+    requires stand { HasState compiled.now.layouts stores.now.list }
+    ensures { IfOk result (λ text. (state : FlatState) → StandForState compiled.now.layouts stores.now.list state →
+        text.bytes ≡ text_of_field at.place (slice_get compiled.now.layouts at.layout) (slice_get state.layouts at.layout)) }
+{
+    let store = &stores.list.as_slice()[at.layout as usize];
+    sg_grid::dump(alloc, store, at.place)
+}

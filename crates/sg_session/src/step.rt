@@ -1,0 +1,59 @@
+//! Performing a task.
+
+use crate::binds::Binds;
+use crate::compiled::Compiled;
+use crate::grids::load;
+use crate::perform::{dump, run};
+use crate::refusal::RunRefusal;
+use crate::session::Session;
+use crate::tasks::Task;
+use sg_outside::Files;
+use sg_words::{Stop, Text};
+use std::alloc::Global;
+
+impl Session {
+    ghost use Rattle.std.specs.Prelude.{◌≡◌, ◌≤◌, Some, OnErr};
+    ghost use Rattle.sg_flat.specs.declared.state.FlatState.{FlatState};
+    ghost use Rattle.sg_outside.specs.Files.{Held, Reading};
+    ghost use Rattle.sg_exec.specs.Standing.{StandForState};
+    ghost use Rattle.sg_session.specs.Compiled.{IsTask};
+    ghost use Rattle.sg_session.specs.Commands.{file_of, task_meaning};
+    ghost use Rattle.sg_session.specs.Performed.{Performs, reading_of, StepCause, HasFile, reads_after, asked_after};
+
+    /// Performs a task and gives its text, or its refusal. After any answer but `Ok` the stores are as before. A load reads its file
+    /// once, and no other; every other task reads none.
+    pub fn step<F: Files>(
+        &mut self,
+        alloc: Global,
+        task: Task,
+        binds: &Binds,
+        files: &mut F,
+    ) -> Result<Text, Stop<RunRefusal>>
+        requires there { IsTask self.old.compiled task }
+        requires bound { HasFile self.old.compiled binds.now.list task }
+
+        // What the files tell is what a load means; a failed read is told by its refusal alone.
+        ensures told { (held : Held) → F.holds files.old ≡ Some held → (state : FlatState) →
+            StandForState self.old.compiled.layouts self.old.stores state →
+            Performs self.old.compiled.layouts self.new.stores result (task_meaning self.old.compiled state task
+            (reading_of held (file_of self.old.compiled binds.now.list task) result)) }
+        // Where they tell nothing, some reading of the file is what the load means.
+        ensures performed { (state : FlatState) →
+            StandForState self.old.compiled.layouts self.old.stores state →
+            (given : Reading) × Performs self.old.compiled.layouts self.new.stores result (task_meaning self.old.compiled state task given) }
+        ensures compiled { self.new.compiled ≡ self.old.compiled }
+        ensures stays { OnErr result (self.new.stores ≡ self.old.stores) }
+
+        ensures holds { F.holds files.new ≡ F.holds files.old }
+        ensures asked { F.asked files.new ≡ asked_after (file_of self.old.compiled binds.now.list task) (F.asked files.old) }
+        ensures reads { F.reads files.new ≡ reads_after (file_of self.old.compiled binds.now.list task) (F.reads files.old) }
+        ensures cause { StepCause result (F.faults files.old) (F.faults files.new) }
+        ensures never_falls { F.faults files.old ≤ F.faults files.new }
+    {
+        match task {
+            Task::Load(field) => load(alloc, &self.compiled, &mut self.stores, field, binds, files),
+            Task::Run { kernel } => run(alloc, &self.compiled, &mut self.stores, kernel),
+            Task::Dump(field) => Ok(dump(alloc, &self.compiled, &self.stores, field)?),
+        }
+    }
+}

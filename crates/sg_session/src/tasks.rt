@@ -1,0 +1,20 @@
+use sg_names::FieldAt;
+use sg_words::Items;
+
+/// A command that is performed at once, with numbers for names.
+#[derive(Clone, Copy, Debug, PartialEq, Eq)]
+pub enum Task {
+    /// Reads the grid text of the file that is bound to the field.
+    Load(FieldAt),
+    /// Runs the kernel with this number.
+    Run { kernel: u32 },
+    /// Writes the grid text of the field.
+    Dump(FieldAt),
+}
+
+/// A command of a program: a task, or tasks that are performed `number` times in order.
+#[derive(Debug, Drop)]
+pub enum Stage {
+    Once(Task),
+    Times { number: u32, tasks: Items<Task> },
+}
