@@ -7,10 +7,10 @@ use Rattle.std.proofs.lemmas.Bool.Decides.{Decides-eqb}
 use Rattle.std.proofs.lemmas.List.{length-set, get_or-set_same, get_or-set_other, get_or_past, length-append, append-nil, length-take-le, get_or-take}
 use Rattle.std.proofs.lemmas.List.FromFn.{fill_by_all, length-range_with_len}
 use Rattle.std.proofs.lemmas.List.Kept.{AllPairs-filter}
-use Rattle.std.proofs.lemmas.List.Sums.{count_by-le-length, length-filter, sum_by-set}
+use Rattle.std.proofs.lemmas.List.Sums.{count_by-le-length, length-filter, sum_by-set, sum_by-cons}
 use Rattle.std.proofs.lemmas.List.Elements.{Contains-get_or, All-take, filter-append}
 use Rattle.std.proofs.lemmas.List.Folds.{Any-from_list_any, list_any-from_Any, list_any-append}
-use Rattle.sg_pool.specs.Numbers.{PoolNumbers, place_count, is_live_number, live_count, IsFree, IsStock, CanSettle, IsSettled}
+use Rattle.sg_pool.specs.Numbers.{PoolNumbers, place_count, is_live_number, live_count, IsFree, IsStock, CanSettle, IsSettled, AllLiveBelow}
 use Rattle.sg_pool.proofs.Lists.{or_false, or_true, or_assoc, eqb_apart, not_true, once_take, once_range, in_range, from_range, count_by_map, parted_by, range_next, fewer}
 use Rattle.sg_words.proofs.Uses.{from_filter, into_filter}
 pub use Rattle.sg_pool.proofs.Lists.{fewer}
@@ -35,6 +35,17 @@ none_counted (true ∷ live) none = absurd (false≢true (sym (none 0)))
 none_counted (false ∷ live) none =
     let rest : count_by (λ b. b) live ≡ 0 = none_counted live (λ n. none (suc n)) in
     omega arith
+
+-- where all numbers are live, all are counted
+all_counted : (live : List Bool) → ((number : ℕ) → number < length live → get_or live number false ≡ true) → count_by (λ b. b) live ≡ length live
+all_counted [] all = refl
+all_counted (true ∷ live) all =
+    let rest : count_by (λ b. b) live ≡ length live = all_counted live (λ n below. all (suc n) (omega arith)) in
+    omega (arith, rest, sum_by-cons (λ b. cond b 1 0) true live)
+all_counted (false ∷ live) all = absurd (false≢true (all 0 (omega arith)))
+
+pub all_live_counted : (pool : PoolNumbers) (end : ℕ) → AllLiveBelow pool end → place_count pool ≤ end → live_count pool ≡ place_count pool
+all_live_counted pool end below past = all_counted pool.live (λ n within. below.live n (omega (arith, past)))
 
 pub none_live_counted : (pool : PoolNumbers) → ((number : ℕ) → is_live_number pool number ≡ false) → live_count pool ≡ 0
 none_live_counted pool none = none_counted pool.live none

@@ -1,5 +1,5 @@
 -- The numbers of a pool: which of them are live, the stock of the others, and what becomes of them when some are taken.
-use Rattle.std.specs.Prelude.{◌≡◌, ◌≢◌, ℕ, ◌+◌, ◌<◌, Bool, false, ◌||◌, ◌==◌, List, length, count_by, slice_index_or, ◌↔◌}
+use Rattle.std.specs.Prelude.{◌≡◌, ◌≢◌, ℕ, ◌+◌, ◌<◌, ◌≤◌, Bool, false, ◌||◌, ◌==◌, List, [], ◌∷◌, length, count_by, slice_index_or, ◌↔◌, IsTrue, Option, Some, None}
 use Rattle.std.specs.List.{All, AllPairs, Contains, list_any}
 
 -- for each number of the pool, from 0 on, whether it is live
@@ -39,3 +39,13 @@ pub record IsSettled (old new : PoolNumbers) (taken : List ℕ) : Type 0 where
   pub places : place_count new ≡ place_count old
   pub live : (number : ℕ) → is_live_number new number ≡ (is_live_number old number || list_any (λ n. n == number) taken)
   pub count : live_count new ≡ live_count old + length taken
+
+-- a number that wasn't live became live, and no other; or all were live, and nothing changed
+abbrev pub IsDrawn : PoolNumbers → PoolNumbers → Option ℕ → Type 0
+IsDrawn old new (Some number) = IsFree old number × IsSettled old new (number ∷ [])
+IsDrawn old new None = (live_count old ≡ place_count old) × (new ≡ old)
+
+-- the pool has so many numbers, and all below are live
+pub record AllLiveBelow (pool : PoolNumbers) (end : ℕ) : Type 0 where
+  pub within : end ≤ place_count pool
+  pub live : (number : ℕ) → number < end → IsTrue (is_live_number pool number)

@@ -1,27 +1,30 @@
-ghost use Rattle.std.specs.Prelude.{◌≡◌, ℕ, ◌+◌, ◌<◌, false, [], ◌∷◌, length, IfOk, OnOk};
+ghost use Rattle.std.specs.Prelude.{◌≡◌, ℕ, ◌+◌, ◌<◌, ◌≤◌, true, false, [], ◌∷◌, length, IfOk, OnOk};
 ghost use Rattle.sg_pool.specs.Numbers.{place_count, is_live_number, live_count};
-ghost use Rattle.sg_pool.specs.Numbers.{IsFree, IsStock, CanSettle, IsSettled};
+ghost use Rattle.sg_pool.specs.Numbers.{IsFree, IsStock, CanSettle, IsSettled, IsDrawn, AllLiveBelow};
 
 use sg_words::{Items, Memory};
 use std::alloc::Global;
 use std::marker::Model;
 
-/// The numbers of one node's child containers. Contracts see which of them are live.
+/// The numbers of one node's child containers. Contracts see which of them are live. All numbers below `full` are, so that drawing looks
+/// at no number twice.
 #[derive(Debug, Drop)]
 pub struct Pool {
     live: Items<bool>,
     count: u32,
+    full: u32,
 }
 
 impl Model for Pool {
     ghost use Rattle.std.specs.Prelude.{◌≡◌, ◌<◌, ◌^◌, length, count_by};
-    ghost use Rattle.sg_pool.specs.Numbers.{PoolNumbers};
+    ghost use Rattle.sg_pool.specs.Numbers.{PoolNumbers, AllLiveBelow};
 
     ghost Value = { PoolNumbers };
 
     ghost view = { λ pool. record { live = pool.live } };
 
-    ghost invariant = { λ pool. (pool.count ≡ count_by (λ live. live) pool.live) × (length pool.live < 2 ^ 32) };
+    ghost invariant = { λ pool. (pool.count ≡ count_by (λ live. live) pool.live) × (length pool.live < 2 ^ 32)
+        × AllLiveBelow (record { live = pool.live }) pool.full };
 }
 
 impl Pool {
@@ -34,6 +37,7 @@ impl Pool {
         Ok(Pool {
             live: Items::from_vec(vec![in alloc; false; places as usize]?),
             count: 0,
+            full: 0,
         })
     }
 
@@ -44,6 +48,7 @@ impl Pool {
         Ok(Pool {
             live: Items::from_slice(alloc, self.live.as_slice())?,
             count: self.count,
+            full: self.full,
         })
     }
 
@@ -69,6 +74,34 @@ impl Pool {
         for number in taken {
             self.mark(*number);
         }
+    }
+
+    /// Makes a number of the stock live, and answers it; `None` where all numbers are live. Over the life of a pool its draws look at each
+    /// number once.
+    pub fn draw(&mut self) -> Option<u32>
+        ensures { IsDrawn self.old self.new result }
+    {
+        let number = self.first_free();
+        self.full = number;
+        if number < self.places() {
+            self.mark(number);
+            Some(number)
+        } else {
+            None
+        }
+    }
+
+    /// The least number that is not live, or the count of all.
+    fn first_free(&self) -> u32
+        ensures within { result ≤ place_count self.now }
+        ensures live { AllLiveBelow self.now result }
+        ensures free { result < place_count self.now → IsFree self.now result }
+    {
+        let mut number = self.full;
+        while number < self.places() && self.is_live(number) {
+            number += 1;
+        }
+        number
     }
 
     fn mark(&mut self, number: u32)

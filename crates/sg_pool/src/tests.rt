@@ -25,3 +25,14 @@ fn numbers_are_taken(rt: HostRuntime) -> Result<(), Fail> {
     }
     Ok(())
 }
+
+#[test]
+fn numbers_are_drawn(rt: HostRuntime) -> Result<(), Fail> {
+    let mut pool = Pool::make(rt.alloc(), 3)?;
+    pool.settle(&[1]);
+    assert_eq!(rt; pool.draw(), Some(0));
+    assert_eq!(rt; pool.draw(), Some(2));
+    assert_eq!(rt; pool.draw(), None);
+    assert_eq!(rt; (pool.places(), pool.live()), (3, 3));
+    Ok(())
+}

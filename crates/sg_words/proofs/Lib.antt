@@ -1,4 +1,12 @@
 pub mod DivisionLemmas
 pub mod FoldLemmas
+pub mod RaceFound
+pub mod RaceKeys
+pub mod RaceLinks
+pub mod RaceParts
+pub mod RacePools
+pub mod RaceRuns
+pub mod RaceSteps
+pub mod RaceTotals
 pub mod Uses
 pub mod WordLemmas

@@ -1,11 +1,18 @@
 -- What other crates use: tests and faults of which none holds, an answer taken apart, and what lists, maps and filters contain.
-use Rattle.std.proofs.Common.{◌≡◌, zero, suc, Bool, true, false, cond, ◌||◌, ◌⊎◌, inl, inr, Option, Some, None, Result, Ok, Err, List, [], ◌∷◌, map, refl, sym, ap, ◌∙◌, subst, arith}
+use Rattle.std.proofs.Common.{◌≡◌, zero, suc, Bool, true, false, cond, ◌||◌, ◌⊎◌, inl, inr, Option, Some, None, Result, Ok, List, [], ◌∷◌, map, refl, sym, ap, ◌∙◌, subst, arith}
 use Rattle.std.specs.Option.{option_or}
 use Rattle.std.specs.List.{Contains, All, filter}
 use Rattle.std.proofs.lemmas.Bool.Decides.{same_from_decides}
 use Rattle.std.proofs.lemmas.List.{get_or-map, length-map}
 use Rattle.std.proofs.lemmas.List.Elements.{All-head, All-tail, All-filter, All-contains, All-contains_itself, filter_passes, Contains-append_right}
 use Rattle.sg_words.specs.Results.{fault_or}
+-- ---- races, for passes: sums over workers, each event, and what follows from the invariant
+pub use Rattle.sg_words.proofs.RaceTotals.{total-set, total-same, total-more, total-append, total-snoc, total-le, total-add, le-total, part-of, set_other_at, at_or, pair_cases, first_cases, pairs-snoc, firsts-snoc, pairs-le-firsts, pairs-two, firsts-pair}
+pub use Rattle.sg_words.proofs.RaceParts.{stands}
+pub use Rattle.sg_words.proofs.RaceSteps.{kept-first, kept-enrol, kept-draw, kept-see, kept-miss, kept-link, kept-found, kept-put, kept-mark, kept-raise, kept-add, kept-join}
+pub use Rattle.sg_words.proofs.RaceFound.{found_case, kept-look, kept-try, alone}
+pub use Rattle.sg_words.proofs.RaceRuns.{starts_kept, event_keeps, key_case}
+pub use Rattle.sg_words.proofs.RacePools.{few_workers, count_is_small, made-ticket, new_links_differ, spares_never_fill, total-each, sum_below, sum-same, sum-add, sum-range, spread}
 
 -- of two faults that may be there neither is
 pub neither : {A : Type 0} (first second : Option A) → option_or first second ≡ None → (first ≡ None) × (second ≡ None)

@@ -1,5 +1,11 @@
 pub mod Answers
+pub mod Counts
 pub mod Options
+pub mod RaceExamples
+pub mod RaceInvariant
+pub mod RaceLaws
+pub mod RaceMachine
+pub mod steps
 pub mod Results
 pub mod WordLaws
 pub mod Words

@@ -4,6 +4,8 @@ ghost use Rattle.sg_words.specs.declared.operators.Ty.{Ty};
 ghost use Rattle.sg_words.specs.declared.operators.BinOp.{BinOp};
 ghost use Rattle.sg_words.specs.declared.operators.UnOp.{UnOp};
 ghost use Rattle.sg_words.specs.declared.operators.AccOp.{AccOp};
+ghost use Rattle.sg_words.specs.RaceMachine.{Setting, Race, Event};
+ghost use Rattle.sg_words.specs.RaceLaws.{StartsKept, EventKeeps, RunKeeps, FewWorkers, CountIsSmall, TicketStandsOnce, KeyStandsOnce, NewLinksDiffer, SparesNeverFill};
 ghost use Rattle.sg_words.specs.WordLaws.{WordHasNumber, NumberHasWord, SumIsModular, DifferenceIsModular, ProductIsModular, QuotientIsTruncated, FloorIsGreatest, RankKeepsOrder, RankIsInverted, UnrankIsInverted, AppliedIsWord, AppliedUnIsWord, MulqIsWord, FoldedIsWord, FoldedIsApplied, FoldsAlike};
 
 /// Words and the numbers of a type stand for one another.
@@ -48,4 +50,21 @@ pub fn folding_is_applying()
 /// Contributions in any order accumulate to the same word.
 pub fn contributions_exchange()
     ensures { (op : AccOp) (ty : Ty) (old : ℕ) (some others : List ℕ) → FoldsAlike op ty old some others }
+{}
+
+/// A race starts in its invariant, and every event and so every run keeps it; no event changes a slot, key or bit that isn't 0 or lowers a length.
+pub fn races_keep_their_invariant()
+    ensures start { (g : Setting) → StartsKept g }
+    ensures event { (g : Setting) (s : Race) (e : Event) → EventKeeps g s e }
+    ensures run { (g : Setting) (s : Race) (es : List Event) → RunKeeps g s es }
+{}
+
+/// At most 16 workers race; each drawn ticket and each key stands once; new links differ, and spares never fill a pool.
+pub fn races_hand_out_once()
+    ensures workers { (g : Setting) (s : Race) → FewWorkers g s }
+    ensures count { (g : Setting) (s : Race) (l : ℕ) → CountIsSmall g s l }
+    ensures ticket { (g : Setting) (s : Race) (l t : ℕ) → TicketStandsOnce g s l t }
+    ensures key { (g : Setting) (s : Race) (k i j : ℕ) → KeyStandsOnce g s k i j }
+    ensures links { (g : Setting) (s : Race) (i j : ℕ) → NewLinksDiffer g s i j }
+    ensures pool { (g : Setting) (s : Race) (l c : ℕ) → SparesNeverFill g s l c }
 {}

@@ -5,11 +5,13 @@ pub mod arithmetic;
 pub mod laws;
 pub mod memory;
 pub mod operators;
+pub mod race;
 pub mod text;
 
 pub use arithmetic::{apply, apply_un, fold, mulq, number, rank, unrank, word_of};
 pub use memory::{Memory, Stop};
 pub use operators::{AccOp, BinOp, Ty, UnOp};
+pub use race::Worker;
 pub use sqlite_items::{Boxed, Items};
 pub use text::Text;
 
