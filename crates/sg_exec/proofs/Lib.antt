@@ -8,6 +8,7 @@ pub mod OneWrite
 pub mod StoresLanded
 pub mod StoreLists
 pub mod Wanting
+pub mod Thinned
 pub mod Reaching
 pub mod Ending
 pub mod Following

@@ -7,6 +7,9 @@ mod moment;
 mod points;
 mod reached;
 pub mod run;
+#[cfg(test)]
+mod tests;
+mod thinning;
 mod values;
 mod wants;
 mod written;

@@ -13,6 +13,7 @@ ghost use Rattle.sg_exec.specs.steps.Wants.{AreWants, AreInside, HasOneMore, Tur
 
 use crate::iteration::World;
 use crate::moment::Moment;
+use crate::thinning::Pace;
 use crate::values::ONE_POINT;
 use sg_coord::{Coord, inside, numbering};
 use sg_flat::{RunFault, Write};
@@ -36,11 +37,19 @@ pub(crate) fn points_wants(
 {
     let world = World { stores };
     let mut wants = no_wants(alloc, stores)?;
+    let mut pace = Pace::new();
     let mut moment = Moment::new(alloc);
     for at in points {
         moment.start(*at)?;
         world.run_all(&mut moment, stmts)?;
-        add_turn(stores, &mut wants, *at, moment.writes.as_slice())?;
+        take_turn(
+            alloc,
+            stores,
+            &mut wants,
+            &mut pace,
+            *at,
+            moment.writes.as_slice(),
+        )?;
     }
     Ok(wants)
 }
@@ -56,8 +65,9 @@ pub(crate) fn rows_wants(
     ensures inside { IfOk result (λ wants. AreInside stores.now.list wants.items) }
 {
     let mut wants = no_wants(alloc, stores)?;
+    let mut pace = Pace::new();
     for row in rows {
-        add_turn(stores, &mut wants, row.at, &[*row])?;
+        take_turn(alloc, stores, &mut wants, &mut pace, row.at, &[*row])?;
     }
     Ok(wants)
 }
@@ -72,6 +82,29 @@ fn no_wants(alloc: Global, stores: &Stores) -> Result<Vec<Items<Coord>>, Memory>
         wants.push(Items::new(alloc))?;
     }
     Ok(wants)
+}
+
+/// Adds what the writes of one turn want, or refuses where one is outside. Where the lists have grown they are thinned.
+fn take_turn(
+    alloc: Global,
+    stores: &Stores,
+    wants: &mut Vec<Items<Coord>>,
+    pace: &mut Pace,
+    at: Coord,
+    writes: &[Write],
+) -> Result<(), Stop<RunFault>>
+    requires inside { AreInside stores.now.list wants.old.items }
+    ensures wanted { (flats : List FlatLayout) → AllZip StandsFor stores.now.list flats →
+        TurnWanted (shapes_of stores.now.list) flats wants.old.items wants.new.items at writes.now result }
+    ensures inside { OnOk result (AreInside stores.now.list wants.new.items) }
+{
+    match add_turn(stores, wants, at, writes) {
+        Ok(()) => match pace.count(alloc, wants, writes.len()) {
+            Ok(()) => Ok(()),
+            Err(Memory) => Err(Stop::Memory),
+        },
+        Err(why) => Err(why),
+    }
 }
 
 /// Adds what the writes of one turn want, or refuses where one is outside.

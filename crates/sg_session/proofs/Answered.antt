@@ -100,7 +100,7 @@ layouts_kept names program layouts e =
 
 -- ---- what is built
 
-next_built : (b : Bool) (o : Option ℕ) (n : ℕ) → (if b then o else Some n) ≡ None → (b ≡ true) × (o ≡ None)
+pub next_built : (b : Bool) (o : Option ℕ) (n : ℕ) → (if b then o else Some n) ≡ None → (b ≡ true) × (o ≡ None)
 next_built true o n e = (refl, e)
 next_built false o n e = absurd (cc)
 

@@ -8,3 +8,4 @@ mod Kept
 mod Behind
 mod Declared
 mod KernelLines
+mod Numbered

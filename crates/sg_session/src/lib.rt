@@ -8,6 +8,7 @@ pub mod compilation;
 pub mod compiled;
 mod grids;
 mod kernels;
+pub mod laws;
 mod layouts;
 mod opening;
 mod perform;
@@ -18,6 +19,8 @@ pub mod spelled;
 mod stages;
 mod step;
 pub mod tasks;
+#[cfg(test)]
+mod tests;
 
 pub use binds::{Bind, Binds};
 pub use check::check_text;

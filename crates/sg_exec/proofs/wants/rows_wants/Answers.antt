@@ -13,11 +13,11 @@ loop-row-init c = record {
 
 pub loop-row-preserved : goal.loop-row-preserved
 loop-row-preserved c = record {
-  inside = c.in_ok-add_turn.ensures.inside;
+  inside = c.in_ok-take_turn.ensures.inside;
   none = λ flats all.
-      none_next turn_of (shapes_of c.args.stores.now.list) c.args.rows.now c.loop-row.row-index _ _ _ _ (omega arith) (c.loop-row.invariant.none flats all) (c.in_ok-add_turn.ensures.wanted flats all).0 refl refl;
+      none_next turn_of (shapes_of c.args.stores.now.list) c.args.rows.now c.loop-row.row-index _ _ _ _ (omega arith) (c.loop-row.invariant.none flats all) (c.in_ok-take_turn.ensures.wanted flats all).0 refl refl;
   wanted = λ flats all.
-      wants_turn turn_of flats _ c.args.rows.now c.loop-row.row-index _ _ (omega arith) ((c.in_ok-add_turn.ensures.wanted flats all).1 _ (c.loop-row.invariant.wanted flats all)) refl;
+      wants_turn turn_of flats _ c.args.rows.now c.loop-row.row-index _ _ (omega arith) ((c.in_ok-take_turn.ensures.wanted flats all).1 _ (c.loop-row.invariant.wanted flats all)) refl;
 }
 
 pub returns-clause-wanted : goal.returns-clause-wanted
@@ -26,9 +26,9 @@ returns-clause-wanted c = λ flats all. (
   wants_at_end turn_of flats _ c.args.rows.now c.loop-row.row-index (omega arith) (c.loop-row.invariant.wanted flats all),
 )
 
-pub returns-in_err-add_turn-clause-wanted : goal.returns-in_err-add_turn-clause-wanted
-returns-in_err-add_turn-clause-wanted c = λ flats all.
+pub returns-in_err-take_turn-clause-wanted : goal.returns-in_err-take_turn-clause-wanted
+returns-in_err-take_turn-clause-wanted c = λ flats all.
     let row = get_or c.args.rows.now c.loop-row.row-index no_write in
-    err_wanted _ (shapes_of c.args.stores.now.list) flats (map turn_of c.args.rows.now) c.loop-row.wants.items c.add_turn.new.wants.items row.at (row ∷ []) c.from_residual-in_err-add_turn.result c.in_err-add_turn.field-0.0
-    c.from_residual-in_err-add_turn.ensures.1 (c.in_err-add_turn.ensures.wanted flats all)
+    err_wanted _ (shapes_of c.args.stores.now.list) flats (map turn_of c.args.rows.now) c.loop-row.wants.items c.take_turn.new.wants.items row.at (row ∷ []) c.from_residual-in_err-take_turn.result c.in_err-take_turn.field-0.0
+    c.from_residual-in_err-take_turn.ensures.1 (c.in_err-take_turn.ensures.wanted flats all)
     (λ fault outside. fault_here turn_of (shapes_of c.args.stores.now.list) c.args.rows.now c.loop-row.row-index no_write (row ∷ []) row.at _ fault (omega arith) (c.loop-row.invariant.none flats all) outside refl refl)

@@ -1,0 +1,45 @@
+-- The law of commands: numbering leaves none out.
+use Rattle.std.specs.Prelude.{◌≡◌, List, filter_map, Option, Some, None, Ok}
+use Rattle.std.specs.List.{AllZip}
+use Rattle.sg_ast.specs.declared.command.Command.{Command, out-Command}
+use Rattle.sg_ast.specs.declared.command.Command.TheOpen as c
+use Rattle.sg_ast.specs.declared.command.Command.TheOpen.{Command-F}
+use Rattle.sg_ast.specs.declared.program.Item.{Item}
+use Rattle.sg_ast.specs.declared.program.Item.TheVariants as item
+use Rattle.sg_ast.specs.declared.program.Program.{Program}
+use Rattle.sg_names.specs.Tables.{Tables, field_named, kernel_named}
+use Rattle.sg_session.specs.declared.tasks.Task.{Task}
+use Rattle.sg_session.specs.declared.tasks.Task.TheVariants.{Load, Run, Dump}
+use Rattle.sg_session.specs.declared.tasks.Stage.{Stage}
+use Rattle.sg_session.specs.declared.tasks.Stage.TheVariants.{Once, Times}
+use Rattle.sg_session.specs.Compiled.{CompiledProgram}
+use Rattle.sg_session.specs.Compiling.{compiled_tree}
+
+-- the command that an item is
+abbrev pub as_command : Item → Option Command
+as_command (item.Const decl) = None
+as_command (item.Layout decl) = None
+as_command (item.Kernel decl) = None
+as_command (item.Command command) = Some command
+
+-- the commands of a program, in order
+abbrev pub commands_of : Program → List Command
+commands_of program = filter_map as_command program.items
+
+-- a task is that of a command: a load or a dump of the field of its name, or a run of the kernel of its name
+abbrev pub IsTaskOf : Tables → Command-F Command → Task → Type 0
+IsTaskOf names (c.Load field) (Load at) = field_named names field ≡ Some at
+IsTaskOf names (c.Run name) (Run kernel) = kernel_named names name ≡ Some kernel
+IsTaskOf names (c.Dump field) (Dump at) = field_named names field ≡ Some at
+IsTaskOf names _ _ = ⊥
+
+-- a stage is that of a command: its task, or for a `times` as many turns, with a task for each command in it, in order
+abbrev pub IsStageOf : Tables → Command-F Command → Stage → Type 0
+IsStageOf names (c.Times number body) (Times turns tasks) = (turns ≡ number) × AllZip (λ command task. IsTaskOf names (out-Command command) task) body tasks
+IsStageOf names layer (Once task) = IsTaskOf names layer task
+IsStageOf names _ _ = ⊥
+
+-- The commands of a compiled program are those of its file, one for one and in order.
+abbrev pub CommandsAreKept : Type 0
+CommandsAreKept = (program : Program) (compiled : CompiledProgram) → compiled_tree program ≡ Ok compiled →
+    AllZip (λ command stage. IsStageOf compiled.names (out-Command command) stage) (commands_of program) compiled.commands
