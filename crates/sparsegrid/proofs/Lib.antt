@@ -1,12 +1,9 @@
+mod Cuts
 pub mod Writing
-pub mod Following
-pub mod BoxPoints
-pub mod Boxes
+pub mod Bound
+pub mod Readings
 pub mod Going
-pub mod LatestWrites
-pub mod ReadSteps
-pub mod ValueSteps
-pub mod StmtSteps
-pub mod Compiling
-pub mod Running
-pub mod LineTexts
+pub mod Tasks
+pub mod Clauses
+pub mod Sources
+pub mod OfFile

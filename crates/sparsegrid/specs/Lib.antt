@@ -1,10 +1,7 @@
 pub mod Texts
-pub mod GridText
+pub mod Words
+pub mod WordExamples
 pub mod Lines
-pub mod Limits
-pub mod Built
-pub mod Compiled
-pub mod Commands
 pub mod Meaning
 pub mod Outcome
 pub mod Laws

@@ -1,96 +1,160 @@
--- What a run means: the text that it writes, its status, and the last state.
-use Rattle.std.specs.Prelude.{ℕ, Bool, false, not, List, [], ◌∷◌, ◌++◌, if◌then◌else◌, ◌==◌, Option, Some, None, Result, Ok, Err}
+-- What a run means: the text that it writes, its status, the last state, and the files that it asks for.
+use Rattle.std.specs.Prelude.{ℕ, suc, Bool, false, List, [], ◌∷◌, ◌++◌, find, if◌then◌else◌, ◌==◌, Option, Some, None, is_none, option_map, option_and_then, Result, Ok, Err}
 use Rattle.sg_outside.specs.Files.{Held, Reading, Bytes, TooMany, Missing, reading}
+use Rattle.sg_ast.specs.declared.token.Name.{Name}
+use Rattle.sg_ast.specs.Token.{same_name}
 use Rattle.sg_ast.specs.declared.program.Item.{Item}
 use Rattle.sg_ast.specs.declared.program.Program.{Program}
+use Rattle.sg_lexer.specs.Limits.{most_file_bytes}
+use Rattle.sg_grid.specs.Limits.{most_grid_bytes}
 use Rattle.sg_flat.specs.declared.state.FlatState.{FlatState}
 use Rattle.sg_flat.specs.State.{opening}
+use Rattle.sg_names.specs.declared.tables.FieldAt.{FieldAt}
+use Rattle.sg_names.specs.Tables.{field_name_of}
+use Rattle.sg_session.specs.declared.refusal.Refusal.{Refusal}
+use Rattle.sg_session.specs.declared.refusal.RunRefusal.{RunRefusal}
+use Rattle.sg_session.specs.declared.tasks.Task.{Task}
+use Rattle.sg_session.specs.declared.tasks.Task.TheVariants.{Load, Run, Dump}
+use Rattle.sg_session.specs.Compiled.{CompiledProgram, unfolded}
+use Rattle.sg_session.specs.Compiling.{spelled_program, compiled_program}
+use Rattle.sg_session.specs.Commands.{Left, task_meaning}
+use Rattle.sg_session.specs.Texts.{check_text}
 use Rattle.sparsegrid.specs.declared.last_line.LastLine.{LastLine}
-use Rattle.sparsegrid.specs.declared.refusal.Refusal.{Refusal}
-use Rattle.sparsegrid.specs.declared.compile.Compiled.{Compiled}
-use Rattle.sg_lexer.specs.Limits.{most_file_bytes}
-use Rattle.sparsegrid.specs.Lines.{words_last, read_last, file_bytes_last, refusal_last}
-use Rattle.sparsegrid.specs.Compiled.{spelled_program, compiled_program}
-use Rattle.sparsegrid.specs.Commands.{Left, left_by_item}
+use Rattle.sparsegrid.specs.declared.words.Mode.{Mode}
+use Rattle.sparsegrid.specs.declared.words.Mode.TheVariants as mode
+use Rattle.sparsegrid.specs.Words.{Asked, Binding, good_words}
+use Rattle.sparsegrid.specs.Lines.{words_last, no_file_last, read_last, file_bytes_last, refusal_last, run_last, field_text}
 
--- what a run means: the text that it writes, its status, and the last state, where it leaves one
+-- what a run means: the text that it writes, its status, the last state, where it leaves one, and the names of the files that it asks for,
+-- in order
 pub record Meaning : Type 0 where
   pub text : List ℕ
   pub status : ℕ
   pub last : Option FlatState
+  pub asked : List (List ℕ)
 
 -- a refusal writes its one line, with the state that it leaves, if any
 abbrev pub refused_with : Option FlatState → LastLine → Meaning
-refused_with state last = record { text = last.line ++ 10 ∷ []; status = last.status; last = state }
+refused_with state last = record { text = last.line ++ 10 ∷ []; status = last.status; last = state; asked = [] }
 
 -- a refusal before the first command leaves no state
 abbrev pub refused : LastLine → Meaning
 refused last = refused_with None last
 
--- all is done, with this state
-abbrev pub all_done : FlatState → Meaning
-all_done state = record { text = []; status = 0; last = Some state }
+-- all is done: this text is written, and this is the state
+abbrev pub all_done : List ℕ → FlatState → Meaning
+all_done text state = record { text = text; status = 0; last = Some state; asked = [] }
 
 -- a text, and then what else the run means
 abbrev pub before : List ℕ → Meaning → Meaning
-before text m = record { text = text ++ m.text; status = m.status; last = m.last }
+before text m = record { text = text ++ m.text; status = m.status; last = m.last; asked = m.asked }
 
--- after an item at a state: its text and then what follows; or its last line, with the state that was before it
-abbrev pub after_item : FlatState → (FlatState → Meaning) → Result Left LastLine → Meaning
-after_item state more (Ok left) = before left.text (more left.state)
-after_item state more (Err last) = refused_with (Some state) last
+-- files are asked for, and then what else the run means
+abbrev pub asking : List (List ℕ) → Meaning → Meaning
+asking names m = record { text = m.text; status = m.status; last = m.last; asked = names ++ m.asked }
 
--- the meaning of a part of the items of a program, from a state on: one after the other, up to the first that is refused
-unfoldable pub meaning_of_items : Compiled → List Item → FlatState → List Item → Meaning
-meaning_of_items compiled items state [] = all_done state
-meaning_of_items compiled items state (item ∷ more) =
-    after_item state (λ next. meaning_of_items compiled items next more) (left_by_item compiled items state item)
+-- what the reads of a run give: that of a number, counted from 1, of the file of a name, under a limit on its bytes
+abbrev pub Readings : Type 0
+Readings = ℕ → List ℕ → ℕ → Reading
 
--- a compiled_program program runs from the opening state on
-abbrev pub meaning_of_compiled : List Item → Result Compiled Refusal → Meaning
-meaning_of_compiled items (Err refusal) = refused (refusal_last items refusal)
-meaning_of_compiled items (Ok compiled) = meaning_of_items compiled items (opening compiled.layouts.list) items
+-- ---- the files of tasks
 
--- a program, or the refusal of the bytes that spell none
-abbrev pub meaning_of_program : Result Program Refusal → Meaning
-meaning_of_program (Err refusal) = refused (refusal_last [] refusal)
-meaning_of_program (Ok program) = meaning_of_compiled program.items (compiled_program program)
+-- the file that a name is bound to
+abbrev pub file_bound : List Binding → Name → Option (List ℕ)
+file_bound bindings name = option_map (λ binding. binding.file) (find (λ binding. same_name name (record { text = binding.name })) bindings)
 
--- the bytes of a file
-abbrev pub meaning_of_bytes : List ℕ → Meaning
-meaning_of_bytes bytes = meaning_of_program (spelled_program bytes)
+-- the file of a field
+abbrev pub file_of_field : CompiledProgram → List Binding → FieldAt → Option (List ℕ)
+file_of_field compiled bindings at = option_and_then (file_bound bindings) (field_name_of compiled.names at.number)
 
--- what a read of the file of this name gave
-abbrev pub meaning_of_reading : List ℕ → Reading → Meaning
-meaning_of_reading name Missing = refused (read_last name)
-meaning_of_reading name TooMany = refused file_bytes_last
-meaning_of_reading name (Bytes bytes) = meaning_of_bytes bytes
+-- the file that a task reads: only a load reads one
+abbrev pub file_of_task : CompiledProgram → List Binding → Task → Option (List ℕ)
+file_of_task compiled bindings (Load field) = file_of_field compiled bindings field
+file_of_task compiled bindings (Run kernel) = None
+file_of_task compiled bindings (Dump field) = None
 
--- a word that may name a file: not empty, and not beginning with `-`
-abbrev pub is_file_word : List ℕ → Bool
-is_file_word [] = false
-is_file_word (byte ∷ bytes) = not (byte == 45)
+-- a load whose field has no file
+abbrev pub is_unbound : CompiledProgram → List Binding → Task → Bool
+is_unbound compiled bindings (Load field) = is_none (file_of_field compiled bindings field)
+is_unbound compiled bindings (Run kernel) = false
+is_unbound compiled bindings (Dump field) = false
 
--- the file that the words name: they are good where there is exactly one, and it may name a file
-abbrev pub file_of : List (List ℕ) → Option (List ℕ)
-file_of [] = None
-file_of (word ∷ []) = if is_file_word word then Some word else None
-file_of (word ∷ other ∷ words) = None
+-- ---- the tasks of a program, one after the other
+
+-- after a task at a state: its text and then what follows; or its last line, with the state that was before it
+abbrev pub after_task : CompiledProgram → FlatState → Option (List ℕ) → Task → (FlatState → Meaning) → Result Left RunRefusal → Meaning
+after_task compiled state file task more (Ok left) = before left.text (more left.state)
+after_task compiled state file task more (Err why) = refused_with (Some state) (run_last compiled.names file task why)
+
+-- A task and what follows it, with the file that it reads, if any. So many reads were before it; what follows takes the number of reads and the
+-- state after it.
+abbrev pub task_and_more : CompiledProgram → Readings → ℕ → FlatState → Task → (ℕ → FlatState → Meaning) → Option (List ℕ) → Meaning
+task_and_more compiled readings reads state task more None = after_task compiled state None task (more reads) (task_meaning compiled state task Missing)
+task_and_more compiled readings reads state task more (Some name) =
+    asking (name ∷ []) (after_task compiled state (Some name) task (more (suc reads)) (task_meaning compiled state task (readings (suc reads) name most_grid_bytes)))
+
+-- tasks from a state on, up to the first that is refused; so many reads were before them
+unfoldable pub meaning_of_tasks : CompiledProgram → List Binding → Readings → ℕ → FlatState → List Task → Meaning
+meaning_of_tasks compiled bindings readings reads state [] = all_done [] state
+meaning_of_tasks compiled bindings readings reads state (task ∷ tasks) =
+    task_and_more compiled readings reads state task (λ after next. meaning_of_tasks compiled bindings readings after next tasks) (file_of_task compiled bindings task)
+
+-- ---- from the words to the tasks
+
+-- no task runs where a load has no file: the first of these is named
+abbrev pub meaning_unless : Option Task → CompiledProgram → List Binding → Readings → List Task → Meaning
+meaning_unless (Some task) compiled bindings readings tasks = refused (no_file_last (field_text compiled.names task))
+meaning_unless None compiled bindings readings tasks = meaning_of_tasks compiled bindings readings 1 (opening compiled.layouts) tasks
+
+-- the tasks of a program from its opening state on; its file was read before
+abbrev pub meaning_of_run : CompiledProgram → List Binding → Readings → List Task → Meaning
+meaning_of_run compiled bindings readings tasks = meaning_unless (find (is_unbound compiled bindings) tasks) compiled bindings readings tasks
+
+-- what is done with a compiled program: its tasks are performed, or its kernels are looked at
+abbrev pub meaning_in : Mode → CompiledProgram → List Binding → Readings → Meaning
+meaning_in mode.Run compiled bindings readings = meaning_of_run compiled bindings readings (unfolded compiled.commands)
+meaning_in mode.Check compiled bindings readings = all_done (check_text compiled) (opening compiled.layouts)
+
+-- the items of a program, where there is one
+abbrev pub items_or_none : Result Program Refusal → List Item
+items_or_none (Ok program) = program.items
+items_or_none (Err refusal) = []
+
+-- a compiled program, or the refusal of these bytes
+abbrev pub meaning_of_compiled : Asked → Readings → List ℕ → Result CompiledProgram Refusal → Meaning
+meaning_of_compiled asked readings bytes (Err refusal) = refused (refusal_last (items_or_none (spelled_program bytes)) refusal)
+meaning_of_compiled asked readings bytes (Ok compiled) = meaning_in asked.mode compiled asked.bindings readings
+
+-- what the read of the file gave
+abbrev pub meaning_of_source : Asked → Readings → Reading → Meaning
+meaning_of_source asked readings Missing = refused (read_last asked.file)
+meaning_of_source asked readings TooMany = refused file_bytes_last
+meaning_of_source asked readings (Bytes bytes) = meaning_of_compiled asked readings bytes (compiled_program bytes)
+
+-- the file that good words name is the first that is asked for
+abbrev pub meaning_of_asked : Asked → Readings → Meaning
+meaning_of_asked asked readings = asking (asked.file ∷ []) (meaning_of_source asked readings (readings 1 asked.file most_file_bytes))
+
+-- good words, or bad ones
+abbrev pub meaning_of_words : Option Asked → Readings → Meaning
+meaning_of_words None readings = refused words_last
+meaning_of_words (Some asked) readings = meaning_of_asked asked readings
+
+-- the meaning of a run with these words, whose reads give these readings
+abbrev pub meaning_by : List (List ℕ) → Readings → Meaning
+meaning_by words readings = meaning_of_words (good_words words) readings
+
+-- ---- the reads
 
 -- the read of this number, counted from 1, is the one at which the run is stopped
 abbrev pub stops_at : Option ℕ → ℕ → Bool
-stops_at None turn = false
-stops_at (Some stop) turn = stop == turn
+stops_at None number = false
+stops_at (Some stop) number = stop == number
 
--- what the read of this number gives: nothing where the run is stopped at it
-abbrev pub reading_in : Option ℕ → ℕ → Held → List ℕ → Reading
-reading_in stop turn held name = if stops_at stop turn then Missing else reading held name most_file_bytes
-
--- the named file, where the read of the given number fails, if any; bad words name none
-abbrev pub meaning_of_file : Option (List ℕ) → Held → Option ℕ → Meaning
-meaning_of_file None held stop = refused words_last
-meaning_of_file (Some name) held stop = meaning_of_reading name (reading_in stop 1 held name)
+-- what reads of these files give: nothing where the run is stopped
+abbrev pub readings_in : Held → Option ℕ → Readings
+readings_in held stop number name limit = if stops_at stop number then Missing else reading held name limit
 
 -- the meaning of a run with these words over these files, where the read of the given number fails, if any
 abbrev pub meaning : List (List ℕ) → Held → Option ℕ → Meaning
-meaning words held stop = meaning_of_file (file_of words) held stop
+meaning words held stop = meaning_by words (readings_in held stop)

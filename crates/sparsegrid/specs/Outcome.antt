@@ -1,12 +1,18 @@
 -- What a run does to the outside: what its files and its sink tell before it and after it, and how it ends.
-use Rattle.std.specs.Prelude.{◌≡◌, ◌≢◌, ℕ, ◌-◌, ◌^◌, ◌<◌, ◌≤◌, ◌⊎◌, List, [], ◌++◌, Option, Some, None}
+use Rattle.std.specs.Prelude.{◌≡◌, ◌≢◌, ℕ, ◌-◌, ◌<◌, ◌≤◌, ◌⊎◌, List, [], ◌∷◌, ◌++◌, Option, Some, None, option_map, refl, Ok}
+use Rattle.std.specs.Option.{IsSomeAnd}
 use Rattle.sg_outside.specs.Counts.{Rose, one_more, last_count}
-use Rattle.sg_outside.specs.Files.{Held, Reading, asked_too}
+use Rattle.sg_outside.specs.Files.{Held, Bytes, reading}
 use Rattle.sg_outside.specs.Sink.{followed_by}
 use Rattle.sg_outside.specs.declared.files.Files as files_of
 use Rattle.sg_outside.specs.declared.sink.Sink as sink_of
-use Rattle.sparsegrid.specs.Lines.{words_last}
-use Rattle.sparsegrid.specs.Meaning.{Meaning, refused, meaning, meaning_of_reading, file_of}
+use Rattle.sg_flat.specs.declared.state.FlatState.{FlatState}
+use Rattle.sg_exec.specs.Standing.{StandForState}
+use Rattle.sg_lexer.specs.Limits.{most_file_bytes}
+use Rattle.sg_session.specs.Performed.{SessionParts}
+use Rattle.sg_session.specs.Compiling.{compiled_program}
+use Rattle.sparsegrid.specs.Words.{Asked, good_words}
+use Rattle.sparsegrid.specs.Meaning.{Meaning, Readings, meaning, meaning_by}
 
 -- what files and a sink tell at one moment
 pub record Outside : Type 0 where
@@ -31,6 +37,18 @@ outside of_files of_sink files out = record {
   failed_puts = of_sink.faults out;
 }
 
+-- the names that were read so far, with more of them; where nothing is told, nothing is
+abbrev pub asked_more : Option (List (List ℕ)) → List (List ℕ) → Option (List (List ℕ))
+asked_more asked names = option_map (λ told. told ++ names) asked
+
+-- a kept count after one more for each of these names: it stays at its last value
+abbrev pub counted_more : ℕ → List (List ℕ) → ℕ
+counted_more count [] = count
+counted_more count (name ∷ names) = counted_more (one_more count) names
+
+counted_to_the_last : counted_more (last_count - 1) ([] ∷ [] ∷ []) ≡ last_count
+counted_to_the_last = refl
+
 -- ---- the statuses
 
 -- a status with which the whole text of the meaning without a failed read was written
@@ -45,55 +63,68 @@ IsCutShort status = (status ≡ 3) ⊎ (status ≡ 9)
 abbrev pub IsEnding : ℕ → Type 0
 IsEnding status = (status ≢ 3) × (status ≢ 9)
 
--- a status with which a run leaves a session: all done, or a refused command
+-- a status with which a run leaves a session: all done, or a refused run of a command
 abbrev pub HasSession : ℕ → Type 0
 HasSession status = (status ≡ 0) ⊎ (status ≡ 7)
 
--- ---- what was written, where the files are told
+-- ---- what was written and asked for, where the files are told
 
--- the written bytes grew by exactly the text of the meaning, and the status is its status
-pub record Wrote (m : Meaning) (old new : Option (List ℕ)) (answer : ℕ) : Type 0 where
-  pub text : new ≡ followed_by old m.text
+-- the written bytes grew by exactly the text of the meaning, the status is its status, and exactly the files that it asks for were read
+pub record Wrote (m : Meaning) (before after : Outside) (answer : ℕ) : Type 0 where
+  pub text : after.written ≡ followed_by before.written m.text
   pub status : answer ≡ m.status
+  pub asked : after.asked ≡ asked_more before.asked m.asked
+  pub reads : after.reads ≡ counted_more before.reads m.asked
 
 -- a run with these words wrote what it means, where the read of the given number fails, if any
 abbrev pub WroteMeaning : List (List ℕ) → Option ℕ → Outside → Outside → ℕ → Type 0
 WroteMeaning words stop before after status =
-    (held : Held) → before.held ≡ Some held → Wrote (meaning words held stop) before.written after.written status
+    (held : Held) → before.held ≡ Some held → Wrote (meaning words held stop) before after status
 
 -- it wrote what it means where its last read fails
 abbrev pub WroteStopped : List (List ℕ) → Outside → Outside → ℕ → Type 0
 WroteStopped words before after status =
     after.reads < last_count → WroteMeaning words (Some (after.reads - before.reads)) before after status
 
--- The written bytes grew by a front of the text of a meaning. Some of the text is missing where a put failed, and where the
--- text ends in a last line.
-pub record GrewByFront (m : Meaning) (old new : Option (List ℕ)) (answer : ℕ) : Type 0 where
+-- The written bytes grew by a front of the text that goes with a status. Some of the text is missing where a put failed, and where the text
+-- ends in a last line.
+pub record TextFront (text : List ℕ) (status : ℕ) (old new : Option (List ℕ)) (answer : ℕ) : Type 0 where
   pub written : List ℕ
   pub missing : List ℕ
   pub grew : new ≡ followed_by old written
-  pub whole : m.text ≡ written ++ missing
-  pub less : (answer ≡ 3) ⊎ (m.status ≢ 0) → missing ≢ []
+  pub whole : text ≡ written ++ missing
+  pub less : (answer ≡ 3) ⊎ (status ≢ 0) → missing ≢ []
 
--- it wrote a front of what it means; only where a read failed it may be what it means where its last read fails
+-- the files that were read are a front of those that a meaning asks for, each in one read
+pub record AskedFront (m : Meaning) (before after : Outside) : Type 0 where
+  pub names : List (List ℕ)
+  pub left : List (List ℕ)
+  pub whole : m.asked ≡ names ++ left
+  pub asked : after.asked ≡ asked_more before.asked names
+  pub reads : after.reads ≡ counted_more before.reads names
+
+-- a front of the text was written, and a front of the files was read
+pub record WentAFront (m : Meaning) (before after : Outside) (answer : ℕ) : Type 0 where
+  pub text : TextFront m.text m.status before.written after.written answer
+  pub names : AskedFront m before after
+
+-- a run went along a front of what it means; only where a read failed it may be what it means where its last read fails
 abbrev pub WroteFront : List (List ℕ) → Outside → Outside → ℕ → Type 0
 WroteFront words before after status =
     (held : Held) → before.held ≡ Some held →
-    GrewByFront (meaning words held None) before.written after.written status
+    WentAFront (meaning words held None) before after status
     ⊎ (Rose before.failed_reads after.failed_reads
-    × (after.reads < last_count → GrewByFront (meaning words held (Some (after.reads - before.reads))) before.written after.written status))
+    × (after.reads < last_count → WentAFront (meaning words held (Some (after.reads - before.reads))) before after status))
 
--- ---- what was written, whatever the files tell
+-- ---- what was written and asked for, whatever the files tell
 
--- a run ended as some reading of the file of this name means
-pub record EndsByReading (name : List ℕ) (old new : Option (List ℕ)) (answer : ℕ) : Type 0 where
-  pub reading : Reading
-  pub wrote : Wrote (meaning_of_reading name reading) old new answer
+-- a run ended as it means where its reads give some readings
+abbrev pub EndsAs : List (List ℕ) → Outside → Outside → ℕ → Type 0
+EndsAs words before after status = (readings : Readings) × Wrote (meaning_by words readings) before after status
 
--- with bad words it ended as they mean, and else as some reading of the named file means
-abbrev pub EndsAs : Option (List ℕ) → Outside → Outside → ℕ → Type 0
-EndsAs None before after status = Wrote (refused words_last) before.written after.written status
-EndsAs (Some name) before after status = EndsByReading name before.written after.written status
+-- a run asked for a front of the files that it means to ask for, where its reads give some readings
+abbrev pub AsksAs : List (List ℕ) → Outside → Outside → Type 0
+AsksAs words before after = (readings : Readings) × AskedFront (meaning_by words readings) before after
 
 -- ---- the faults: none is made up, passed over or forgotten
 
@@ -111,20 +142,21 @@ pub record PutFaults (before after : Outside) (answer : ℕ) : Type 0 where
 
 -- ---- the reads
 
--- which files were asked for: none with bad words, and else at most the named one
-abbrev pub AskedFor : Option (List ℕ) → Outside → Outside → Type 0
-AskedFor None before after = after.asked ≡ before.asked
-AskedFor (Some name) before after = (after.asked ≡ before.asked) ⊎ (after.asked ≡ asked_too before.asked name)
+-- with bad words there is no read, and with good ones there is one at least where a run came to its end
+abbrev pub ReadCount : Option Asked → Outside → Outside → ℕ → Type 0
+ReadCount None before after status = after.reads ≡ before.reads
+ReadCount (Some asked) before after status = IsEnding status → Rose before.reads after.reads
 
--- there was at most one read
-abbrev pub ReadAtMostOnce : Outside → Outside → Type 0
-ReadAtMostOnce before after = (after.reads ≡ before.reads) ⊎ (after.reads ≡ one_more before.reads)
+-- ---- the session
 
--- at the end of a run: with bad words nothing was read, and else there was one read
-abbrev pub ReadOnce : Outside → Outside → ℕ → Type 0
-ReadOnce before after status = (status ≡ 1 → after.reads ≡ before.reads) × (status ≢ 1 → after.reads ≡ one_more before.reads)
+-- a session is of the program of what good words ask for: its program is what the bytes of the named file compile to
+abbrev pub IsOfAsked : Asked → Held → SessionParts → Type 0
+IsOfAsked asked held session = (bytes : List ℕ) × (reading held asked.file most_file_bytes ≡ Bytes bytes) × (compiled_program bytes ≡ Ok session.compiled)
 
--- how many reads there were: at most one, and at the end of a run none or one, by its status
-pub record ReadCount (before after : Outside) (answer : ℕ) : Type 0 where
-  pub few : ReadAtMostOnce before after
-  pub once : IsEnding answer → ReadOnce before after answer
+-- words are good, and a session is of the program of what they ask for
+abbrev pub IsOfFile : List (List ℕ) → Held → SessionParts → Type 0
+IsOfFile words held session = IsSomeAnd (good_words words) (λ asked. IsOfAsked asked held session)
+
+-- the stores of a session are those of its layouts, and stand for the last state
+abbrev pub StandsForLast : Option FlatState → SessionParts → Type 0
+StandsForLast last session = IsSomeAnd last (StandForState session.compiled.layouts session.stores)

@@ -1,14 +1,14 @@
 ghost use Rattle.std.specs.Prelude.{◌≡◌, ◌++◌, IfOk, slice_get};
 ghost use Rattle.std.specs.Option.{option_copied};
-ghost use Rattle.sparsegrid.specs.Lines.{refused_as, words_last, read_last, file_bytes_last, lex_last, parse_last, which_text, name_last, name_text, kernel_names, layout_names, type_last, not_built_last, refusal_last, run_last};
+ghost use Rattle.sparsegrid.specs.Lines as spec;
 
-use crate::grid_text::push_coordinate;
-use crate::refusal::Refusal;
+use sg_admit::AdmitFault;
 use sg_ast::{Item, Name};
-use sg_flat::RunFault;
+use sg_layout::LayoutFault;
 use sg_lexer::LexFault;
 use sg_names::{NameFault, Which};
 use sg_parser::ParseFault;
+use sg_session::Refusal;
 use sg_types::TypeFault;
 use sg_words::{Items, Memory};
 use std::alloc::Global;
@@ -34,8 +34,8 @@ impl LastLine {
 }
 
 /// The last line with this status and this reason.
-fn refused_as(alloc: Global, status: u8, reason: &[u8]) -> Result<LastLine, Memory>
-    ensures { IfOk result (λ last. last ≡ refused_as status reason.now) }
+pub(crate) fn refused_as(alloc: Global, status: u8, reason: &[u8]) -> Result<LastLine, Memory>
+    ensures { IfOk result (λ last. last ≡ spec.refused_as status reason.now) }
 {
     let mut line = Vec::from_slice(alloc, b"refused: ")?;
     line.extend_from_slice(reason)?;
@@ -47,28 +47,34 @@ fn refused_as(alloc: Global, status: u8, reason: &[u8]) -> Result<LastLine, Memo
 
 /// The last line of a run with bad words.
 pub fn words_last(alloc: Global) -> Result<LastLine, Memory>
-    ensures { IfOk result (λ last. last ≡ words_last) }
+    ensures { IfOk result (λ last. last ≡ spec.words_last) }
 {
     refused_as(alloc, 1, b"words")
 }
 
-/// The last line of a run whose file could not be read.
-pub fn read_last(alloc: Global, name: &str) -> Result<LastLine, Memory>
-    ensures { IfOk result (λ last. last ≡ read_last name.now) }
+/// The last line of a run in which a load has no file for the field of this name.
+pub fn no_file_last(alloc: Global, field: &[u8]) -> Result<LastLine, Memory>
+    ensures { IfOk result (λ last. last ≡ spec.no_file_last field.now) }
 {
-    let reason = format!(in alloc; "read {name}")?;
-    refused_as(alloc, 2, reason.as_bytes())
+    joined_as(alloc, 1, b"no file for ", field)
+}
+
+/// The last line of a run whose file could not be read.
+pub fn read_last(alloc: Global, name: &[u8]) -> Result<LastLine, Memory>
+    ensures { IfOk result (λ last. last ≡ spec.read_last name.now) }
+{
+    joined_as(alloc, 2, b"read ", name)
 }
 
 /// The last line of a run whose file has too many bytes.
 pub fn file_bytes_last(alloc: Global) -> Result<LastLine, Memory>
-    ensures { IfOk result (λ last. last ≡ file_bytes_last) }
+    ensures { IfOk result (λ last. last ≡ spec.file_bytes_last) }
 {
     refused_as(alloc, 8, b"limit: file bytes")
 }
 
 fn lex_last(alloc: Global, fault: LexFault) -> Result<LastLine, Memory>
-    ensures { IfOk result (λ last. last ≡ lex_last fault) }
+    ensures { IfOk result (λ last. last ≡ spec.lex_last fault) }
 {
     match fault {
         LexFault::BadByte { line } => {
@@ -85,7 +91,7 @@ fn lex_last(alloc: Global, fault: LexFault) -> Result<LastLine, Memory>
 }
 
 fn parse_last(alloc: Global, fault: ParseFault) -> Result<LastLine, Memory>
-    ensures { IfOk result (λ last. last ≡ parse_last fault) }
+    ensures { IfOk result (λ last. last ≡ spec.parse_last fault) }
 {
     match fault {
         ParseFault::Syntax { item, line } => {
@@ -96,7 +102,7 @@ fn parse_last(alloc: Global, fault: ParseFault) -> Result<LastLine, Memory>
 }
 
 fn name_last(alloc: Global, fault: NameFault) -> Result<LastLine, Memory>
-    ensures { IfOk result (λ last. last ≡ name_last fault) }
+    ensures { IfOk result (λ last. last ≡ spec.name_last fault) }
 {
     match fault {
         NameFault::Unknown { item } => {
@@ -116,7 +122,7 @@ fn name_last(alloc: Global, fault: NameFault) -> Result<LastLine, Memory>
 }
 
 fn which_text(which: Which) -> &'static str
-    ensures { result.now ≡ which_text which }
+    ensures { result.now ≡ spec.which_text which }
 {
     match which {
         Which::Layouts => "layouts",
@@ -126,68 +132,108 @@ fn which_text(which: Which) -> &'static str
     }
 }
 
-fn type_last(alloc: Global, items: &[Item], fault: TypeFault) -> Result<LastLine, Memory>
-    ensures { IfOk result (λ last. last ≡ type_last items.now fault) }
+/// The last line of a run in which the layout of this name breaks a rule, or is too large.
+fn layout_last(alloc: Global, name: &[u8], fault: LayoutFault) -> Result<LastLine, Memory>
+    ensures { IfOk result (λ last. last ≡ spec.layout_last name.now fault) }
 {
-    let (stmt, code) = (fault.stmt, fault.code);
-    let name = name_text(kernel_name(items, fault.kernel));
-    let place = format!(in alloc; " statement {stmt} code {code}")?;
-    named_last(alloc, 5, b"type: kernel ", name, place.as_bytes())
+    match fault {
+        LayoutFault::BadExtent { node } => rule_last(alloc, name, node, 1),
+        LayoutFault::BadOrder { node } => rule_last(alloc, name, node, 2),
+        LayoutFault::BadAxis { node } => rule_last(alloc, name, node, 3),
+        LayoutFault::TooLarge => joined_as(alloc, 8, b"limit: layout ", name),
+        LayoutFault::BadCap { node } => rule_last(alloc, name, node, 5),
+    }
 }
 
-fn not_built_last(alloc: Global, item: u32) -> Result<LastLine, Memory>
-    ensures { IfOk result (λ last. last ≡ not_built_last item) }
+fn rule_last(alloc: Global, name: &[u8], node: u32, rule: u32) -> Result<LastLine, Memory>
+    ensures { IfOk result (λ last. last ≡ spec.rule_last name.now node rule) }
 {
-    let reason = format!(in alloc; "not built: item {item}")?;
-    refused_as(alloc, 5, reason.as_bytes())
+    let place = format!(in alloc; " node {node} rule {rule}")?;
+    named_as(alloc, 5, b"layout: ", name, place.as_bytes())
+}
+
+fn type_last(alloc: Global, name: &[u8], fault: TypeFault) -> Result<LastLine, Memory>
+    ensures { IfOk result (λ last. last ≡ spec.type_last name.now fault) }
+{
+    let (stmt, code) = (fault.stmt, fault.code);
+    let place = format!(in alloc; " statement {stmt} code {code}")?;
+    named_as(alloc, 5, b"type: kernel ", name, place.as_bytes())
+}
+
+fn admit_last(alloc: Global, name: &[u8], fault: AdmitFault) -> Result<LastLine, Memory>
+    ensures { IfOk result (λ last. last ≡ spec.admit_last name.now fault) }
+{
+    match fault {
+        AdmitFault::Rule { stmt, rule } => {
+            let place = format!(in alloc; " statement {stmt} rule {rule}")?;
+            named_as(alloc, 5, b"admission: kernel ", name, place.as_bytes())
+        }
+        AdmitFault::BoxTooLarge => joined_as(alloc, 8, b"limit: box ", name),
+    }
 }
 
 /// The last line of a run whose file is refused before its commands run; `items` are those of its program, if it has one.
 pub fn refusal_last(alloc: Global, items: &[Item], refusal: Refusal) -> Result<LastLine, Memory>
-    ensures { IfOk result (λ last. last ≡ refusal_last items.now refusal) }
+    ensures { IfOk result (λ last. last ≡ spec.refusal_last items.now refusal) }
 {
     match refusal {
         Refusal::Lex(fault) => lex_last(alloc, fault),
         Refusal::Parse(fault) => parse_last(alloc, fault),
         Refusal::Name(fault) => name_last(alloc, fault),
-        Refusal::Types(fault) => type_last(alloc, items, fault),
+        Refusal::Layout { layout, fault } => {
+            layout_last(alloc, name_text(layout_name(items, layout)), fault)
+        }
+        Refusal::Words => refused_as(alloc, 8, b"limit: words"),
+        Refusal::Types(fault) => {
+            type_last(alloc, name_text(kernel_name(items, fault.kernel)), fault)
+        }
         Refusal::NotBuilt { item } => not_built_last(alloc, item),
+        Refusal::Admit { kernel, fault } => {
+            admit_last(alloc, name_text(kernel_name(items, kernel)), fault)
+        }
+        Refusal::Command { item } => command_last(alloc, item),
+        Refusal::Times => refused_as(alloc, 8, b"limit: times"),
+        Refusal::Image => refused_as(alloc, 8, b"limit: image"),
     }
 }
 
-/// The last line of a run in which the kernel of this name is refused; `items` are those of the program.
-pub fn run_last(
-    alloc: Global,
-    items: &[Item],
-    kernel: &Name,
-    fault: RunFault,
-) -> Result<LastLine, Memory>
-    ensures { IfOk result (λ last. last ≡ run_last items.now kernel.now fault) }
+fn not_built_last(alloc: Global, item: u32) -> Result<LastLine, Memory>
+    ensures { IfOk result (λ last. last ≡ spec.not_built_last item) }
 {
-    match fault {
-        RunFault::WriteOutside { stmt, at } => {
-            let mut place = format!(in alloc; " statement {stmt} at ")?;
-            push_coordinate(&mut place, at)?;
-            let name = kernel.text.as_slice();
-            named_last(alloc, 7, b"write outside: kernel ", name, place.as_bytes())
-        }
-        RunFault::PoolFull { layout, node, cap } => {
-            let place = format!(in alloc; " node {node} cap {cap}")?;
-            let name = name_text(layout_name(items, layout));
-            named_last(alloc, 7, b"pool full: ", name, place.as_bytes())
-        }
-    }
+    let reason = format!(in alloc; "not built: item {item}")?;
+    refused_as(alloc, 5, reason.as_bytes())
+}
+
+fn command_last(alloc: Global, item: u32) -> Result<LastLine, Memory>
+    ensures { IfOk result (λ last. last ≡ spec.command_last item) }
+{
+    let reason = format!(in alloc; "command: item {item}")?;
+    refused_as(alloc, 5, reason.as_bytes())
+}
+
+/// The last line with this status, whose reason has a name behind a cause.
+pub(crate) fn joined_as(
+    alloc: Global,
+    status: u8,
+    cause: &[u8],
+    name: &[u8],
+) -> Result<LastLine, Memory>
+    ensures { IfOk result (λ last. last ≡ spec.refused_as status (cause.now ++ name.now)) }
+{
+    let mut reason = Vec::from_slice(alloc, cause)?;
+    reason.extend_from_slice(name)?;
+    refused_as(alloc, status, reason.as_slice())
 }
 
 /// The last line with this status, whose reason has a name in it.
-fn named_last(
+pub(crate) fn named_as(
     alloc: Global,
     status: u8,
     cause: &[u8],
     name: &[u8],
     place: &[u8],
 ) -> Result<LastLine, Memory>
-    ensures { IfOk result (λ last. last ≡ refused_as status (cause.now ++ name.now ++ place.now)) }
+    ensures { IfOk result (λ last. last ≡ spec.named_as status cause.now name.now place.now) }
 {
     let mut reason = Vec::from_slice(alloc, cause)?;
     reason.extend_from_slice(name)?;
@@ -195,8 +241,8 @@ fn named_last(
     refused_as(alloc, status, reason.as_slice())
 }
 
-fn name_text(name: Option<&Name>) -> &[u8]
-    ensures { result.now ≡ name_text (option_copied name.entry) }
+pub(crate) fn name_text(name: Option<&Name>) -> &[u8]
+    ensures { result.now ≡ spec.name_text (option_copied name.entry) }
 {
     match name {
         Some(name) => name.text.as_slice(),
@@ -206,7 +252,7 @@ fn name_text(name: Option<&Name>) -> &[u8]
 
 /// The name of the kernel with this number.
 fn kernel_name(items: &[Item], number: u32) -> Option<&Name>
-    ensures { option_copied result ≡ slice_get (kernel_names items.now) number }
+    ensures { option_copied result ≡ slice_get (spec.kernel_names items.now) number }
 {
     let mut left = number;
     for item in items {
@@ -222,7 +268,7 @@ fn kernel_name(items: &[Item], number: u32) -> Option<&Name>
 
 /// The name of the layout with this number.
 fn layout_name(items: &[Item], number: u32) -> Option<&Name>
-    ensures { option_copied result ≡ slice_get (layout_names items.now) number }
+    ensures { option_copied result ≡ slice_get (spec.layout_names items.now) number }
 {
     let mut left = number;
     for item in items {

@@ -1,31 +1,28 @@
 //! Sparse grids: a file of layouts, kernels and commands is read and run, and its grids are written.
 #![tactic(auto)]
 
-mod built;
-mod command;
-mod compile;
-mod evaluate;
+mod drive;
 #[cfg(test)]
 mod examples;
-mod grid_text;
-mod iteration;
 mod last_line;
 pub mod laws;
+#[cfg(test)]
+mod loading_examples;
 mod output;
-mod points;
-mod refusal;
+mod run_line;
 mod session;
 #[cfg(test)]
 mod tests;
-mod written;
+mod unbound;
+pub mod words;
 
-pub use refusal::Refusal;
-pub use session::{Done, Session, run};
+pub use session::{Done, run};
 use sg_outside::{FreeGate, RealFiles, RealOut};
 use std::io::ErrorKind;
 use std::process::ExitCode;
 use std::rt::Env;
 use std::{env, io};
+pub use words::{BadWords, Mode, Words, read_words};
 
 /// Runs the program with the words of the command line, over the files and the output of the system.
 /// A command line that is not UTF-8 has bad words.

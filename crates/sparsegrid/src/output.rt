@@ -1,8 +1,10 @@
-ghost use Rattle.std.specs.Prelude.{◌≡◌, ℕ, List, Option, ◌<◌};
-ghost use Rattle.sparsegrid.specs.steps.Along.{Sends, SendCause};
+ghost use Rattle.std.specs.Prelude.{◌≡◌, ℕ, List, Option, ◌<◌, IfOk};
+ghost use Rattle.sparsegrid.specs.steps.Along.{Sends, SendCause, WroteAll, line_text};
 
+use crate::last_line::LastLine;
 use sg_outside::{Put, Sink};
-use sg_words::Stop;
+use sg_words::{Memory, Stop};
+use std::alloc::Global;
 
 /// A put failed.
 #[derive(Clone, Copy, Debug, PartialEq, Eq)]
@@ -21,5 +23,24 @@ pub fn send<S: Sink>(out: &mut S, text: &[u8]) -> Result<(), Stop<PutFailed>>
         Put::All => Ok(()),
         Put::Failed { taken: _ } => Err(Stop::Refused(PutFailed)),
         Put::Memory => Err(Stop::Memory),
+    }
+}
+
+/// Writes a last line with its newline, and gives its status.
+pub fn send_last<S: Sink>(
+    alloc: Global,
+    out: &mut S,
+    last: &LastLine,
+) -> Result<u8, Stop<PutFailed>>
+    ensures wrote { WroteAll result (line_text last.now) last.now.status (S.has out.old) (S.has out.new) }
+    ensures cause { SendCause result (S.faults out.old) (S.faults out.new) }
+    ensures status { IfOk result (λ status. status ≡ last.now.status) }
+{
+    match last.text(alloc) {
+        Ok(text) => match send(out, text.as_slice()) {
+            Ok(()) => Ok(last.status),
+            Err(why) => Err(why),
+        },
+        Err(Memory) => Err(Stop::Memory),
     }
 }

@@ -1,23 +1,28 @@
-ghost use Rattle.std.specs.Prelude.{◌≡◌, ◌≢◌, ◌≤◌, ◌↔◌, length, Option, Some, None, IsSome, IfOk, IfSome};
-ghost use Rattle.std.specs.Option.{option_copied, option_map};
+ghost use Rattle.std.specs.Prelude.{◌≡◌, ◌≢◌, ◌≤◌, ◌↔◌, length, map, Option, Some, None, Ok, IsSome, IfOk, IfSome, find};
+ghost use Rattle.std.specs.List.{AllByRecursion};
 ghost use Rattle.sg_outside.specs.Files.{Held};
-ghost use Rattle.sg_flat.specs.State.{IsFlat, opening};
-ghost use Rattle.sparsegrid.specs.Texts.{texts};
-ghost use Rattle.sparsegrid.specs.Lines.{words_last, read_last, file_bytes_last, refusal_last};
 ghost use Rattle.sg_lexer.specs.Limits.{most_file_bytes};
-ghost use Rattle.sparsegrid.specs.Compiled.{IsSpelled, compiled_program};
-ghost use Rattle.sparsegrid.specs.Meaning.{meaning, meaning_of_bytes, meaning_of_compiled, meaning_of_items, file_of, refused, refused_with};
-ghost use Rattle.sparsegrid.specs.Outcome.{outside, IsWhole, IsCutShort, IsEnding, HasSession, WroteMeaning, WroteStopped, WroteFront, EndsAs, ReadFaults, PutFaults, AskedFor, ReadCount};
-ghost use Rattle.sparsegrid.specs.steps.Along.{WentAlong, Followed, SendCause, ReadFault, ReadsIn, IsEnd};
+ghost use Rattle.sg_session.specs.Compiling.{compiled_program, spelled_program};
+ghost use Rattle.sg_session.specs.Texts as texts_of;
+ghost use Rattle.sg_session.specs.Compiled.{IsTask, unfolded};
+ghost use Rattle.sg_flat.specs.State.{opening};
+ghost use Rattle.sparsegrid.specs.Texts.{texts};
+ghost use Rattle.sparsegrid.specs.Words.{asked_by, binding_read, good_words};
+ghost use Rattle.sparsegrid.specs.Lines.{words_last, no_file_last, read_last, file_bytes_last, field_text, refusal_last};
+ghost use Rattle.sparsegrid.specs.Meaning.{meaning, meaning_by, meaning_of_asked, meaning_of_compiled, meaning_in, meaning_of_run, meaning_of_tasks, is_unbound, items_or_none, refused, all_done};
+ghost use Rattle.sparsegrid.specs.Outcome.{outside, IsWhole, IsCutShort, IsEnding, HasSession, WroteMeaning, WroteStopped, WroteFront, EndsAs, AsksAs, ReadFaults, PutFaults, ReadCount, StandsForLast, IsOfAsked, IsOfFile};
+ghost use Rattle.sparsegrid.specs.steps.Along.{WentAlong, Went, SendCause, IsEnd, LeavesOnly, LeavesProgram, status_of, session_of};
 
-use crate::command::run_item;
-use crate::compile::{Compiled, compile, spell};
-use crate::last_line::{LastLine, file_bytes_last, read_last, refusal_last, words_last};
-use crate::output::{PutFailed, send};
-use crate::refusal::Refusal;
-use sg_ast::{Item, Program};
-use sg_flat::FlatState;
+use crate::drive::drive;
+use crate::last_line::{
+    LastLine, file_bytes_last, no_file_last, read_last, refusal_last, words_last,
+};
+use crate::output::{PutFailed, send, send_last};
+use crate::run_line::field_text;
+use crate::unbound::first_unbound;
+use crate::words::{BadWords, Mode, Words, read_words};
 use sg_outside::{Files, Gate, Got, Sink};
+use sg_session::{Binds, Compiled, Refusal, Session, Task, check_text, compile, spell};
 use sg_words::{Memory, Stop};
 use std::alloc::Global;
 use std::thread::Threads;
@@ -25,24 +30,18 @@ use std::thread::Threads;
 /// The most bytes that a file may have.
 const FILE_LIMIT: u64 = 65536;
 
-/// What a run leaves behind for a caller to look at.
-#[derive(Drop)]
-pub struct Session {
-    pub flat: FlatState,
-}
-
 /// How a run ended: its status, and with status 0 or 7 the session. After status 7 that is the session before the refused
-/// command.
+/// run of a kernel or load.
 #[derive(Drop)]
 pub struct Done {
     pub status: u8,
     pub session: Option<Session>,
 }
 
-/// Runs the program that the words name: reads its file and performs its commands in order, or writes one last line that
-/// says why it was refused. Statuses: 0 all done, 1 bad words, 2 the read failed, 3 a put failed, 4 the bytes spell no
-/// program, 5 the program breaks a rule or has a form that is not built, 7 a kernel run was refused, 8 a limit was passed,
-/// 9 want of memory.
+/// Runs the program that the words name: reads its file and performs its commands in order, or looks at its kernels; or writes one last
+/// line that says why it was refused. Statuses: 0 all done, 1 bad words, or a load without a file, 2 a read failed, 3 a put failed, 4 the
+/// bytes spell no program, 5 the program breaks a rule or has a form that is not built, 6 a loaded file is no grid text of its field, 7 a
+/// run of a kernel or a load was refused, 8 a limit was passed, 9 want of memory.
 pub fn run<R: Threads + Sync, F: Files, S: Sink, G: Gate + Sync>(
     _rt: &R,
     alloc: Global,
@@ -51,17 +50,19 @@ pub fn run<R: Threads + Sync, F: Files, S: Sink, G: Gate + Sync>(
     out: &mut S,
     _gate: &G,
 ) -> Done
-    // With any status but 2, 3 and 9 exactly the text of the meaning was written, and the status is its status.
+    // With any status but 2, 3 and 9 exactly the text of the meaning was written, the status is its status, and exactly the files that it
+    // asks for were read.
     ensures whole { IsWhole result.status → WroteMeaning (texts words.now) None
         (outside F.Files S.Sink files.old out.old) (outside F.Files S.Sink files.new out.new) result.status }
     // With status 2 the read that failed was the last one, and the meaning is that of the run in which it fails.
     ensures stopped { result.status ≡ 2 → WroteStopped (texts words.now)
         (outside F.Files S.Sink files.old out.old) (outside F.Files S.Sink files.new out.new) result.status }
-    // With status 3 or 9 a front of the text was written, and with 3 not the whole of it, nor with 9 the whole of a last line.
+    // With status 3 or 9 a front of the text was written, and with 3 not the whole of it, nor with 9 the whole of a last line; and a front
+    // of the files was read.
     ensures front { IsCutShort result.status → WroteFront (texts words.now)
         (outside F.Files S.Sink files.old out.old) (outside F.Files S.Sink files.new out.new) result.status }
-    // Whatever the files and the sink tell, a run that came to its end ended as some reading of the named file means.
-    ensures ended { IsEnding result.status → EndsAs (file_of (texts words.now))
+    // Whatever the files and the sink tell, a run that came to its end ended as it means where its reads give some readings.
+    ensures ended { IsEnding result.status → EndsAs (texts words.now)
         (outside F.Files S.Sink files.old out.old) (outside F.Files S.Sink files.new out.new) result.status }
 
     // No fault is made up, and none is passed over or forgotten.
@@ -70,19 +71,31 @@ pub fn run<R: Threads + Sync, F: Files, S: Sink, G: Gate + Sync>(
     ensures put_faults { PutFaults
         (outside F.Files S.Sink files.old out.old) (outside F.Files S.Sink files.new out.new) result.status }
 
-    // The named file is read once, and no other, and none with bad words; the files stay as they are.
-    ensures asked { AskedFor (file_of (texts words.now))
+    // The files that the run means to ask for are read, each in one read, up to where it ends or is cut short, and none with bad words; the
+    // files stay as they are.
+    ensures asked { AsksAs (texts words.now)
         (outside F.Files S.Sink files.old out.old) (outside F.Files S.Sink files.new out.new) }
-    ensures reads { ReadCount
+    ensures reads { ReadCount (good_words (texts words.now))
         (outside F.Files S.Sink files.old out.old) (outside F.Files S.Sink files.new out.new) result.status }
     ensures holds { F.holds files.new ≡ F.holds files.old }
 
-    // With status 0 and 7 there is a session, with the last state.
+    // With status 0 and 7 there is a session, whose stores stand for the last state.
     ensures session { IsSome result.session ↔ HasSession result.status }
     ensures last { IfSome result.session (λ session. (held : Held) → F.holds files.old ≡ Some held →
-        (meaning (texts words.now) held None).last ≡ Some session.flat) }
+        StandsForLast (meaning (texts words.now) held None).last session) }
+    // It is a session of what the bytes of the named file compile to.
+    ensures program { IfSome result.session (λ session. (held : Held) → F.holds files.old ≡ Some held →
+        IsOfFile (texts words.now) held session) }
 {
-    match answer(alloc, words, files, out) {
+    done_of(answer(alloc, words, files, out))
+}
+
+/// How a run ended that came to its end, or was cut short by a failed put or want of memory.
+fn done_of(answer: Result<Done, Stop<PutFailed>>) -> Done
+    ensures status { result.status ≡ status_of answer }
+    ensures session { result.session ≡ session_of answer }
+{
+    match answer {
         Ok(done) => done,
         Err(Stop::Refused(PutFailed)) => cut_short(3),
         Err(Stop::Memory) => cut_short(9),
@@ -106,73 +119,221 @@ fn answer<F: Files, S: Sink>(
     files: &mut F,
     out: &mut S,
 ) -> Result<Done, Stop<PutFailed>>
-    ensures followed { (held : Held) → F.holds files.old ≡ Some held → Followed (meaning (texts words.now) held)
+    ensures went { Went (meaning_by (texts words.now)) 0
         (outside F.Files S.Sink files.old out.old) (outside F.Files S.Sink files.new out.new) result }
-    ensures reads { ReadsIn
-        (outside F.Files S.Sink files.old out.old) (outside F.Files S.Sink files.new out.new) result }
-    ensures asked { AskedFor (file_of (texts words.now))
-        (outside F.Files S.Sink files.old out.old) (outside F.Files S.Sink files.new out.new) }
     ensures holds { F.holds files.new ≡ F.holds files.old }
-    ensures read_fault { ReadFault
-        (outside F.Files S.Sink files.old out.old) (outside F.Files S.Sink files.new out.new) result }
     ensures never_falls { F.faults files.old ≤ F.faults files.new }
     ensures cause { SendCause result (S.faults out.old) (S.faults out.new) }
     ensures end { IfOk result IsEnd }
-    ensures ended { IfOk result (λ done. EndsAs (file_of (texts words.now))
-        (outside F.Files S.Sink files.old out.old) (outside F.Files S.Sink files.new out.new) done.status) }
+    ensures program { LeavesOnly (λ session. (held : Held) → F.holds files.old ≡ Some held →
+        IsOfFile (texts words.now) held session) result }
 {
-    match file_word(words) {
-        None => refuse_words(alloc, out),
-        Some(name) => {
-            let mut bytes = Vec::new(alloc);
-            match files.read(name, FILE_LIMIT, &mut bytes) {
-                Got::All => run_source(alloc, out, bytes.as_slice()),
-                Got::TooLong => refuse_long(alloc, out),
-                Got::Failed => refuse_read(alloc, out, name),
-                Got::Memory => Err(Stop::Memory),
-            }
-        }
+    match read_words(alloc, words) {
+        Ok(asked) => run_asked(alloc, &asked, files, out),
+        Err(Stop::Refused(BadWords)) => refuse_words(alloc, out),
+        Err(Stop::Memory) => Err(Stop::Memory),
     }
 }
 
-/// The word that names the file, where the words are good: there is one, not empty and not beginning with `-`.
-fn file_word(words: &[String]) -> Option<&str>
-    ensures { option_copied result ≡ file_of (texts words.now) }
-{
-    match words {
-        [word] => {
-            let name = word.as_str();
-            match name.as_bytes().first() {
-                Some(first) if *first != b'-' => Some(name),
-                _ => None,
-            }
-        }
-        _ => None,
-    }
-}
-
-/// Writes the last line of a refused run, which leaves the session.
-fn refuse<S: Sink>(
+/// Runs what good words ask for.
+fn run_asked<F: Files, S: Sink>(
     alloc: Global,
+    asked: &Words,
+    files: &mut F,
     out: &mut S,
-    last: &LastLine,
-    session: Option<Session>,
 ) -> Result<Done, Stop<PutFailed>>
-    ensures along { WentAlong (refused_with (option_map (λ session. session.flat) session) last.now)
-        (S.has out.old) (S.has out.new) result }
+    ensures went { Went (meaning_of_asked (asked_by asked.now)) 0
+        (outside F.Files S.Sink files.old out.old) (outside F.Files S.Sink files.new out.new) result }
+    ensures holds { F.holds files.new ≡ F.holds files.old }
+    ensures never_falls { F.faults files.old ≤ F.faults files.new }
     ensures cause { SendCause result (S.faults out.old) (S.faults out.new) }
-    ensures status { IfOk result (λ done. done.status ≡ last.now.status) }
-    ensures session { IfOk result (λ done. done.session ≡ session) }
+    ensures end { IfOk result IsEnd }
+    ensures program { LeavesOnly (λ session. (held : Held) → F.holds files.old ≡ Some held →
+        IsOfAsked (asked_by asked.now) held session) result }
 {
-    match last.text(alloc) {
-        Ok(text) => match send(out, text.as_slice()) {
+    let name = asked.file.as_str();
+    let mut bytes = Vec::new(alloc);
+    match files.read(name, FILE_LIMIT, &mut bytes) {
+        Got::All => run_source(alloc, asked, bytes.as_slice(), files, out),
+        Got::TooLong => refuse_long(alloc, out),
+        Got::Failed => refuse_read(alloc, out, name),
+        Got::Memory => Err(Stop::Memory),
+    }
+}
+
+/// Runs the program that these bytes spell.
+fn run_source<F: Files, S: Sink>(
+    alloc: Global,
+    asked: &Words,
+    bytes: &[u8],
+    files: &mut F,
+    out: &mut S,
+) -> Result<Done, Stop<PutFailed>>
+    requires { length bytes.now ≤ most_file_bytes }
+    ensures went { Went (λ readings. meaning_of_compiled (asked_by asked.now) readings bytes.now (compiled_program bytes.now)) 1
+        (outside F.Files S.Sink files.old out.old) (outside F.Files S.Sink files.new out.new) result }
+    ensures holds { F.holds files.new ≡ F.holds files.old }
+    ensures never_falls { F.faults files.old ≤ F.faults files.new }
+    ensures cause { SendCause result (S.faults out.old) (S.faults out.new) }
+    ensures end { IfOk result IsEnd }
+    ensures program { LeavesOnly (λ session. compiled_program bytes.now ≡ Ok session.compiled) result }
+{
+    match compile(alloc, bytes) {
+        Ok(compiled) => run_compiled(alloc, asked, compiled, files, out),
+        Err(Stop::Refused(refusal)) => refuse_source(alloc, out, bytes, refusal),
+        Err(Stop::Memory) => Err(Stop::Memory),
+    }
+}
+
+/// Does with a compiled program what the words ask for.
+fn run_compiled<F: Files, S: Sink>(
+    alloc: Global,
+    asked: &Words,
+    compiled: Compiled,
+    files: &mut F,
+    out: &mut S,
+) -> Result<Done, Stop<PutFailed>>
+    ensures went { Went (meaning_in asked.now.mode compiled (map binding_read asked.now.binds.list)) 1
+        (outside F.Files S.Sink files.old out.old) (outside F.Files S.Sink files.new out.new) result }
+    ensures holds { F.holds files.new ≡ F.holds files.old }
+    ensures never_falls { F.faults files.old ≤ F.faults files.new }
+    ensures cause { SendCause result (S.faults out.old) (S.faults out.new) }
+    ensures end { IfOk result IsEnd }
+    ensures program { LeavesProgram compiled result }
+{
+    match asked.mode {
+        Mode::Run => perform(alloc, compiled, &asked.binds, files, out),
+        Mode::Check => check(alloc, compiled, out),
+    }
+}
+
+/// Writes for each kernel whether it is neutral.
+fn check<S: Sink>(alloc: Global, compiled: Compiled, out: &mut S) -> Result<Done, Stop<PutFailed>>
+    ensures along { WentAlong (all_done (texts_of.check_text compiled) (opening compiled.layouts)) (S.has out.old) (S.has out.new) result }
+    ensures cause { SendCause result (S.faults out.old) (S.faults out.new) }
+    ensures end { IfOk result IsEnd }
+    ensures program { LeavesProgram compiled result }
+    ensures status { IfOk result (λ done. done.status ≡ 0) }
+{
+    match check_text(alloc, &compiled) {
+        Ok(text) => leave_open(alloc, compiled, text.bytes.as_slice(), out),
+        Err(Memory) => Err(Stop::Memory),
+    }
+}
+
+/// Writes a text and leaves the stores of a program as they are opened.
+fn leave_open<S: Sink>(
+    alloc: Global,
+    compiled: Compiled,
+    text: &[u8],
+    out: &mut S,
+) -> Result<Done, Stop<PutFailed>>
+    ensures along { WentAlong (all_done text.now (opening compiled.layouts)) (S.has out.old) (S.has out.new) result }
+    ensures cause { SendCause result (S.faults out.old) (S.faults out.new) }
+    ensures end { IfOk result IsEnd }
+    ensures program { LeavesProgram compiled result }
+    ensures status { IfOk result (λ done. done.status ≡ 0) }
+{
+    match Session::open(alloc, compiled) {
+        Ok(session) => match send(out, text) {
             Ok(()) => Ok(Done {
-                status: last.status,
-                session,
+                status: 0,
+                session: Some(session),
             }),
             Err(why) => Err(why),
         },
         Err(Memory) => Err(Stop::Memory),
+    }
+}
+
+/// Performs the commands of a program from its opening state on.
+fn perform<F: Files, S: Sink>(
+    alloc: Global,
+    compiled: Compiled,
+    binds: &Binds,
+    files: &mut F,
+    out: &mut S,
+) -> Result<Done, Stop<PutFailed>>
+    ensures went { Went (λ readings. meaning_of_run compiled (map binding_read binds.now.list) readings (unfolded compiled.commands)) 1
+        (outside F.Files S.Sink files.old out.old) (outside F.Files S.Sink files.new out.new) result }
+    ensures holds { F.holds files.new ≡ F.holds files.old }
+    ensures never_falls { F.faults files.old ≤ F.faults files.new }
+    ensures cause { SendCause result (S.faults out.old) (S.faults out.new) }
+    ensures end { IfOk result IsEnd }
+    ensures program { LeavesProgram compiled result }
+{
+    match compiled.tasks(alloc) {
+        Ok(tasks) => match first_unbound(&compiled, binds, tasks.as_slice()) {
+            Some(task) => refuse_unbound(alloc, out, &compiled, task),
+            None => perform_tasks(alloc, compiled, tasks.as_slice(), binds, files, out),
+        },
+        Err(Memory) => Err(Stop::Memory),
+    }
+}
+
+/// Performs tasks, of which each load has a file, from the opening state of their program on.
+fn perform_tasks<F: Files, S: Sink>(
+    alloc: Global,
+    compiled: Compiled,
+    tasks: &[Task],
+    binds: &Binds,
+    files: &mut F,
+    out: &mut S,
+) -> Result<Done, Stop<PutFailed>>
+    requires there { AllByRecursion (IsTask compiled) tasks.now }
+    requires bound { find (is_unbound compiled (map binding_read binds.now.list)) tasks.now ≡ None }
+    ensures went { Went (λ readings. meaning_of_tasks compiled (map binding_read binds.now.list) readings 1 (opening compiled.layouts) tasks.now) 1
+        (outside F.Files S.Sink files.old out.old) (outside F.Files S.Sink files.new out.new) result }
+    ensures holds { F.holds files.new ≡ F.holds files.old }
+    ensures never_falls { F.faults files.old ≤ F.faults files.new }
+    ensures cause { SendCause result (S.faults out.old) (S.faults out.new) }
+    ensures end { IfOk result IsEnd }
+    ensures program { LeavesProgram compiled result }
+{
+    match Session::open(alloc, compiled) {
+        Ok(opened) => {
+            let mut session = opened;
+            match drive(alloc, &mut session, tasks, binds, files, out) {
+                Ok(status) => Ok(done_with(status, session)),
+                Err(why) => Err(why),
+            }
+        }
+        Err(Memory) => Err(Stop::Memory),
+    }
+}
+
+/// How performed tasks ended: the session is kept where all are done or a run was refused.
+fn done_with(status: u8, session: Session) -> Done
+    ensures status { result.status ≡ status }
+    ensures session { IsSome result.session ↔ HasSession status }
+    ensures same { IfSome result.session (λ kept. kept ≡ session) }
+{
+    if status == 0 || status == 7 {
+        Done {
+            status,
+            session: Some(session),
+        }
+    } else {
+        Done {
+            status,
+            session: None,
+        }
+    }
+}
+
+/// Writes the last line of a run that leaves no session.
+fn refuse<S: Sink>(alloc: Global, out: &mut S, last: &LastLine) -> Result<Done, Stop<PutFailed>>
+    ensures along { WentAlong (refused last.now) (S.has out.old) (S.has out.new) result }
+    ensures cause { SendCause result (S.faults out.old) (S.faults out.new) }
+    ensures status { IfOk result (λ done. done.status ≡ last.now.status) }
+    ensures session { IfOk result (λ done. done.session ≡ None) }
+{
+    match send_last(alloc, out, last) {
+        Ok(status) => Ok(Done {
+            status,
+            session: None,
+        }),
+        Err(why) => Err(why),
     }
 }
 
@@ -184,7 +345,7 @@ fn refuse_words<S: Sink>(alloc: Global, out: &mut S) -> Result<Done, Stop<PutFai
     ensures session { IfOk result (λ done. done.session ≡ None) }
 {
     match words_last(alloc) {
-        Ok(last) => refuse(alloc, out, &last, None),
+        Ok(last) => refuse(alloc, out, &last),
         Err(Memory) => Err(Stop::Memory),
     }
 }
@@ -197,7 +358,7 @@ fn refuse_long<S: Sink>(alloc: Global, out: &mut S) -> Result<Done, Stop<PutFail
     ensures session { IfOk result (λ done. done.session ≡ None) }
 {
     match file_bytes_last(alloc) {
-        Ok(last) => refuse(alloc, out, &last, None),
+        Ok(last) => refuse(alloc, out, &last),
         Err(Memory) => Err(Stop::Memory),
     }
 }
@@ -209,91 +370,59 @@ fn refuse_read<S: Sink>(alloc: Global, out: &mut S, name: &str) -> Result<Done, 
     ensures status { IfOk result (λ done. done.status ≡ 2) }
     ensures session { IfOk result (λ done. done.session ≡ None) }
 {
-    match read_last(alloc, name) {
-        Ok(last) => refuse(alloc, out, &last, None),
+    match read_last(alloc, name.as_bytes()) {
+        Ok(last) => refuse(alloc, out, &last),
         Err(Memory) => Err(Stop::Memory),
     }
 }
 
-/// Writes the last line of a run whose file is refused before its commands run.
-fn refuse_source<S: Sink>(
-    alloc: Global,
-    out: &mut S,
-    items: &[Item],
-    refusal: Refusal,
-) -> Result<Done, Stop<PutFailed>>
-    ensures along { WentAlong (refused (refusal_last items.now refusal)) (S.has out.old) (S.has out.new) result }
-    ensures cause { SendCause result (S.faults out.old) (S.faults out.new) }
-    ensures status { IfOk result (λ done. done.status ≡ (refusal_last items.now refusal).status) }
-    ensures session { IfOk result (λ done. done.session ≡ None) }
-{
-    match refusal_last(alloc, items, refusal) {
-        Ok(last) => refuse(alloc, out, &last, None),
-        Err(Memory) => Err(Stop::Memory),
-    }
-}
-
-/// Runs the program that these bytes spell.
-fn run_source<S: Sink>(alloc: Global, out: &mut S, bytes: &[u8]) -> Result<Done, Stop<PutFailed>>
-    requires { length bytes.now ≤ most_file_bytes }
-    ensures along { WentAlong (meaning_of_bytes bytes.now) (S.has out.old) (S.has out.new) result }
-    ensures cause { SendCause result (S.faults out.old) (S.faults out.new) }
-    ensures end { IfOk result IsEnd }
-    ensures status { IfOk result (λ done. (done.status ≢ 1) × (done.status ≢ 2)) }
-{
-    match spell(alloc, bytes) {
-        Ok(program) => run_program(alloc, out, &program),
-        Err(Stop::Refused(refusal)) => refuse_source(alloc, out, &[], refusal),
-        Err(Stop::Memory) => Err(Stop::Memory),
-    }
-}
-
-/// Runs a program of the grammar.
-fn run_program<S: Sink>(
-    alloc: Global,
-    out: &mut S,
-    program: &Program,
-) -> Result<Done, Stop<PutFailed>>
-    requires { IsSpelled program.now }
-    ensures along { WentAlong (meaning_of_compiled program.now.items (compiled_program program.now)) (S.has out.old) (S.has out.new) result }
-    ensures cause { SendCause result (S.faults out.old) (S.faults out.new) }
-    ensures end { IfOk result IsEnd }
-    ensures status { IfOk result (λ done. (done.status ≢ 1) × (done.status ≢ 2)) }
-{
-    let items = program.items.as_slice();
-    match compile(alloc, program) {
-        Ok(compiled) => run_items(alloc, out, &compiled, items),
-        Err(Stop::Refused(refusal)) => refuse_source(alloc, out, items, refusal),
-        Err(Stop::Memory) => Err(Stop::Memory),
-    }
-}
-
-/// Runs the commands of a program from the opening state on.
-fn run_items<S: Sink>(
+/// Writes the last line of a run in which this load has no file.
+fn refuse_unbound<S: Sink>(
     alloc: Global,
     out: &mut S,
     compiled: &Compiled,
-    items: &[Item],
+    task: Task,
 ) -> Result<Done, Stop<PutFailed>>
-    ensures along { WentAlong (meaning_of_items compiled.now items.now (opening compiled.now.layouts.list) items.now)
-        (S.has out.old) (S.has out.new) result }
+    requires { IsTask compiled.now task }
+    ensures along { WentAlong (refused (no_file_last (field_text compiled.now.names task))) (S.has out.old) (S.has out.new) result }
     ensures cause { SendCause result (S.faults out.old) (S.faults out.new) }
-    ensures end { IfOk result IsEnd }
-    ensures status { IfOk result (λ done. HasSession done.status) }
+    ensures status { IfOk result (λ done. done.status ≡ 1) }
+    ensures session { IfOk result (λ done. done.session ≡ None) }
 {
-    let mut flat = match FlatState::open(alloc, &compiled.layouts) {
-        Ok(flat) => flat,
-        Err(Memory) => return Err(Stop::Memory),
-    };
-    for item in items {
-        match run_item(alloc, out, compiled, items, &mut flat, item) {
-            Ok(None) => {}
-            Ok(Some(last)) => return refuse(alloc, out, &last, Some(Session { flat })),
-            Err(why) => return Err(why),
-        }
+    match no_file_last(alloc, field_text(compiled, task)) {
+        Ok(last) => refuse(alloc, out, &last),
+        Err(Memory) => Err(Stop::Memory),
     }
-    Ok(Done {
-        status: 0,
-        session: Some(Session { flat }),
-    })
+}
+
+/// Writes the last line of a run whose file has these bytes and is refused before its commands run. The names in it are those of the
+/// program that the bytes spell.
+fn refuse_source<S: Sink>(
+    alloc: Global,
+    out: &mut S,
+    bytes: &[u8],
+    refusal: Refusal,
+) -> Result<Done, Stop<PutFailed>>
+    requires { length bytes.now ≤ most_file_bytes }
+    ensures along { WentAlong (refused (refusal_last (items_or_none (spelled_program bytes.now)) refusal)) (S.has out.old) (S.has out.new) result }
+    ensures cause { SendCause result (S.faults out.old) (S.faults out.new) }
+    ensures status { IfOk result (λ done. done.status ≡ (refusal_last (items_or_none (spelled_program bytes.now)) refusal).status) }
+    ensures session { IfOk result (λ done. done.session ≡ None) }
+{
+    match source_last(alloc, bytes, refusal) {
+        Ok(last) => refuse(alloc, out, &last),
+        Err(Memory) => Err(Stop::Memory),
+    }
+}
+
+/// The last line of a run whose file has these bytes and is refused before its commands run.
+fn source_last(alloc: Global, bytes: &[u8], refusal: Refusal) -> Result<LastLine, Memory>
+    requires { length bytes.now ≤ most_file_bytes }
+    ensures { IfOk result (λ last. last ≡ refusal_last (items_or_none (spelled_program bytes.now)) refusal) }
+{
+    match spell(alloc, bytes) {
+        Ok(program) => refusal_last(alloc, program.items.as_slice(), refusal),
+        Err(Stop::Refused(_why)) => refusal_last(alloc, &[], refusal),
+        Err(Stop::Memory) => Err(Memory),
+    }
 }

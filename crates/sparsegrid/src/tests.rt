@@ -1,7 +1,11 @@
 //! Runs of files over memory, beside what they must write.
 
+mod admissions;
+mod checks;
 mod faults;
+mod kernels;
 mod limits;
+mod loads;
 mod names;
 mod not_built;
 mod refusals;
@@ -11,3 +15,4 @@ mod syntax;
 mod tokens;
 mod trees;
 mod types;
+mod words;

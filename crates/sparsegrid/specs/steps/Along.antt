@@ -1,17 +1,25 @@
 -- What a part of a run does, whether it comes to its end or is cut short.
-use Rattle.std.specs.Prelude.{◌≡◌, ◌≢◌, ℕ, ◌-◌, ◌^◌, ◌<◌, ◌≤◌, ◌⊎◌, ◌↔◌, List, [], ◌++◌, Option, Some, None, Result, Ok, Err, IfOk, IsSome}
-use Rattle.std.specs.Option.{option_map}
+use Rattle.std.specs.Prelude.{◌≡◌, ◌≢◌, ℕ, suc, ◌+◌, ◌≤◌, ◌⊎◌, ◌↔◌, List, [], ◌∷◌, ◌++◌, map, length, Option, Some, None, Result, Ok, Err, IfOk, IsSome}
+use Rattle.std.specs.Option.{IfSome}
+use Rattle.std.specs.List.{AllByRecursion}
 use Rattle.sg_words.specs.declared.memory.Stop.{Stop}
 use Rattle.sg_words.specs.declared.memory.Stop.TheVariants as stop
-use Rattle.sg_outside.specs.Counts.{Rose, last_count}
+use Rattle.sg_outside.specs.Counts.{Rose}
+use Rattle.sg_outside.specs.Files.{Held, Reading, Missing, reading}
 use Rattle.sg_outside.specs.Sink.{followed_by}
+use Rattle.sg_grid.specs.Limits.{most_grid_bytes}
+use Rattle.sg_session.specs.Performed.{SessionParts}
+use Rattle.sg_session.specs.declared.tasks.Task.{Task}
+use Rattle.sg_session.specs.Compiled.{CompiledProgram}
 use Rattle.sg_flat.specs.declared.state.FlatState.{FlatState}
+use Rattle.sg_store.specs.StoreWords.{StoreWords}
+use Rattle.sg_exec.specs.Standing.{StandForState}
 use Rattle.sparsegrid.specs.declared.output.PutFailed.{PutFailed}
 use Rattle.sparsegrid.specs.declared.session.Done.{Done}
 use Rattle.sparsegrid.specs.declared.last_line.LastLine.{LastLine}
-use Rattle.sparsegrid.specs.Commands.{Left}
-use Rattle.sparsegrid.specs.Meaning.{Meaning}
-use Rattle.sparsegrid.specs.Outcome.{Outside, GrewByFront, HasSession, ReadAtMostOnce, ReadOnce}
+use Rattle.sparsegrid.specs.Words.{Binding}
+use Rattle.sparsegrid.specs.Meaning.{Meaning, Readings, asking, before as before_text, meaning_of_tasks}
+use Rattle.sparsegrid.specs.Outcome.{Outside, TextFront, HasSession, StandsForLast, asked_more, counted_more}
 
 -- ---- the sink
 
@@ -42,72 +50,125 @@ abbrev pub cut_status : Stop PutFailed → ℕ
 cut_status (stop.Refused failed) = 3
 cut_status stop.Memory = 9
 
--- the text of a meaning was written whole, or where the run was cut short a front of it
-abbrev pub WroteAll : {A : Type 0} → Result A (Stop PutFailed) → Meaning → Option (List ℕ) → Option (List ℕ) → Type 0
-WroteAll (Ok done) m old new = new ≡ followed_by old m.text
-WroteAll (Err why) m old new = GrewByFront m old new (cut_status why)
+-- the status with which a run ends
+abbrev pub status_of : Result Done (Stop PutFailed) → ℕ
+status_of (Ok done) = done.status
+status_of (Err why) = cut_status why
 
--- the last state of a session, where there is one
-abbrev pub state_of : Done → Option FlatState
-state_of done = option_map (λ session. session.flat) done.session
+-- the session that a run leaves
+abbrev pub session_of : Result Done (Stop PutFailed) → Option SessionParts
+session_of (Ok done) = done.session
+session_of (Err why) = None
 
--- what a part of a run did is what a meaning says: at its end the whole text, the status and the last state, and where it was
--- cut short a front of the text
+-- the text that goes with a status was written whole, or where the run was cut short a front of it
+abbrev pub WroteAll : {A : Type 0} → Result A (Stop PutFailed) → List ℕ → ℕ → Option (List ℕ) → Option (List ℕ) → Type 0
+WroteAll (Ok done) text status old new = new ≡ followed_by old text
+WroteAll (Err why) text status old new = TextFront text status old new (cut_status why)
+
+-- where a session is left, it is one of which a fact holds
+abbrev pub LeavesOnly : (SessionParts → Type 0) → Result Done (Stop PutFailed) → Type 0
+LeavesOnly P result = IfOk result (λ done. IfSome done.session P)
+
+-- where a session is left, it is one of this program
+abbrev pub LeavesProgram : CompiledProgram → Result Done (Stop PutFailed) → Type 0
+LeavesProgram compiled result = LeavesOnly (λ session. session.compiled ≡ compiled) result
+
+-- the text of a last line
+abbrev pub line_text : LastLine → List ℕ
+line_text last = last.line ++ 10 ∷ []
+
+-- how tasks ended that were performed on a session: their status, and the session
+abbrev pub ended_with : SessionParts → Result ℕ (Stop PutFailed) → Result Done (Stop PutFailed)
+ended_with session (Ok status) = Ok (record { status = status; session = Some session })
+ended_with session (Err why) = Err why
+
+-- what a part of a run wrote is what a meaning says: at its end the whole text, the status and the last state, and where it was cut short a
+-- front of the text
 pub record WentAlong (m : Meaning) (old new : Option (List ℕ)) (result : Result Done (Stop PutFailed)) : Type 0 where
-  pub bytes : WroteAll result m old new
+  pub bytes : WroteAll result m.text m.status old new
   pub status : IfOk result (λ done. done.status ≡ m.status)
-  pub last : IfOk result (λ done. state_of done ≡ m.last)
+  pub last : IfOk result (λ done. IfSome done.session (StandsForLast m.last))
 
--- the item's text is written whole, and its state is there
-pub record WentOn (answer : Result Left LastLine) (now : FlatState) (old new : Option (List ℕ)) : Type 0 where
-  pub left : Left
-  pub is : answer ≡ Ok left
-  pub state : now ≡ left.state
-  pub grew : new ≡ followed_by old left.text
+-- ---- the reads of a part of a run
 
--- the put of the item's text failed
-pub record FailedIn (answer : Result Left LastLine) (old new : Option (List ℕ)) : Type 0 where
-  pub left : Left
-  pub is : answer ≡ Ok left
-  pub part : GrewByPart old new left.text
+-- a read: the name of its file, the limit on its bytes, and what it gave
+pub record ReadMade : Type 0 where
+  pub name : List ℕ
+  pub limit : ℕ
+  pub given : Reading
 
--- what an item did, by what it leaves: its text is written and its state is there; or it is refused, and nothing changed; or
--- it was cut short
-abbrev pub ItemWent : Result Left LastLine → FlatState → FlatState → Option (List ℕ) → Option (List ℕ) → Result (Option LastLine) (Stop PutFailed) → Type 0
-ItemWent answer before now old new (Ok None) = WentOn answer now old new
-ItemWent answer before now old new (Ok (Some last)) = (answer ≡ Err last) × (now ≡ before) × (new ≡ old)
-ItemWent answer before now old new (Err stop.Memory) = new ≡ old
-ItemWent answer before now old new (Err (stop.Refused failed)) = FailedIn answer old new
+-- the names of these reads
+abbrev pub names_of : List ReadMade → List (List ℕ)
+names_of made = map (λ read. read.name) made
 
--- ---- the whole run up to its status
+-- the readings give what these reads gave, of which so many came before the first
+abbrev pub Agree : Readings → ℕ → List ReadMade → Type 0
+Agree readings before [] = Unit {0}
+Agree readings before (read ∷ made) = (readings (suc before) read.name read.limit ≡ read.given) × Agree readings (suc before) made
 
--- no read failed, and the run went along with the meaning in which none is stopped; `m` gives the meaning for the number of
--- the read at which the run is stopped
-pub record Unstopped (m : Option ℕ → Meaning) (before after : Outside) (result : Result Done (Stop PutFailed)) : Type 0 where
-  pub along : WentAlong (m None) before.written after.written result
+-- each read gave what these files hold
+abbrev pub AreTold : Held → List ReadMade → Type 0
+AreTold held made = AllByRecursion (λ read. read.given ≡ reading held read.name read.limit) made
+
+-- all names that a meaning asks for were read, or where the run was cut short a front of them
+abbrev pub AskedAll : {A : Type 0} → Result A (Stop PutFailed) → List (List ℕ) → List (List ℕ) → Type 0
+AskedAll (Ok done) asked names = asked ≡ names
+AskedAll (Err why) asked names = (left : List (List ℕ)) × (asked ≡ names ++ left)
+
+-- a part of a run went along with a meaning that asks for these names
+pub record Followed (m : Meaning) (names : List (List ℕ)) (before after : Outside) (result : Result Done (Stop PutFailed)) : Type 0 where
+  pub along : WentAlong m before.written after.written result
+  pub asked : AskedAll result m.asked names
+
+-- what the read of a file that may be there gave, in a load
+abbrev pub load_reads : Option (List ℕ) → Reading → List ReadMade
+load_reads None given = []
+load_reads (Some name) given = record { name = name; limit = most_grid_bytes; given = given } ∷ []
+
+-- no read of these failed, and where the files are told each gave what they hold
+pub record NoneFailed (before after : Outside) (made : List ReadMade) : Type 0 where
   pub no_fault : after.failed_reads ≡ before.failed_reads
-  pub not_read : IfOk result (λ done. done.status ≢ 2)
+  pub told : (held : Held) → before.held ≡ Some held → AreTold held made
 
--- the last read failed, and the run went along with the meaning in which that read is stopped
-pub record Stopped (m : Option ℕ → Meaning) (before after : Outside) (result : Result Done (Stop PutFailed)) : Type 0 where
-  pub along : after.reads < last_count → WentAlong (m (Some (after.reads - before.reads))) before.written after.written result
+-- the last read failed, and no other
+pub record LastFailed (before after : Outside) (made : List ReadMade) : Type 0 where
   pub fault : Rose before.failed_reads after.failed_reads
-  pub read : IfOk result (λ done. done.status ≡ 2)
+  pub earlier : List ReadMade
+  pub last : ReadMade
+  pub is : made ≡ earlier ++ last ∷ []
+  pub missing : last.given ≡ Missing
+  pub told : (held : Held) → before.held ≡ Some held → AreTold held earlier
 
--- the run went along with its meaning, with no read that failed, or with the last one failing
-abbrev pub Followed : (Option ℕ → Meaning) → Outside → Outside → Result Done (Stop PutFailed) → Type 0
-Followed m before after result = Unstopped m before after result ⊎ Stopped m before after result
+-- no read failed, and the status isn't that of a failed read; or the last one failed, and the status is
+abbrev pub ReadsEnd : Outside → Outside → List ReadMade → Result Done (Stop PutFailed) → Type 0
+ReadsEnd before after made result =
+    (NoneFailed before after made × IfOk result (λ done. done.status ≢ 2)) ⊎ (LastFailed before after made × IfOk result (λ done. done.status ≡ 2))
 
--- with status 2 a read failed, and with every other status none did
-abbrev pub ReadFault : Outside → Outside → Result Done (Stop PutFailed) → Type 0
-ReadFault before after (Ok done) = (done.status ≡ 2 → Rose before.failed_reads after.failed_reads) × (done.status ≢ 2 → after.failed_reads ≡ before.failed_reads)
-ReadFault before after (Err why) = Unit {0}
+-- a part of a run, after so many reads, did what a meaning says that takes the readings: `made` are its reads
+pub record Went (m : Readings → Meaning) (earlier : ℕ) (before after : Outside) (result : Result Done (Stop PutFailed)) : Type 0 where
+  pub made : List ReadMade
+  pub followed : (readings : Readings) → Agree readings earlier made → Followed (m readings) (names_of made) before after result
+  pub asked : after.asked ≡ asked_more before.asked (names_of made)
+  pub reads : after.reads ≡ counted_more before.reads (names_of made)
+  pub ends : ReadsEnd before after made result
+
+-- ---- performed tasks
+
+-- tasks were performed from a state on up to these that are left: `made` are the reads, `text` is what was written, and the stores stand for
+-- the state that is reached
+pub record Came (compiled : CompiledProgram) (bindings : List Binding) (start : FlatState) (tasks rest : List Task) (stores : List StoreWords) (before now : Outside) : Type 0 where
+  pub made : List ReadMade
+  pub state : FlatState
+  pub text : List ℕ
+  pub stand : StandForState compiled.layouts stores state
+  pub grew : now.written ≡ followed_by before.written text
+  pub asked : now.asked ≡ asked_more before.asked (names_of made)
+  pub reads : now.reads ≡ counted_more before.reads (names_of made)
+  pub held : now.held ≡ before.held
+  pub none : NoneFailed before now made
+  pub is : (readings : Readings) → Agree readings 1 made
+      → meaning_of_tasks compiled bindings readings 1 start tasks ≡ asking (names_of made) (before_text text (meaning_of_tasks compiled bindings readings (length made + 1) state rest))
 
 -- how a run that came to its end ended: not by a failed put or want of memory, and with a session exactly where its status leaves one
 abbrev pub IsEnd : Done → Type 0
 IsEnd done = (done.status ≢ 3) × (done.status ≢ 9) × (IsSome done.session ↔ HasSession done.status)
-
--- how many reads there were: at the end none or one, by the status, and where the run was cut short at most one
-abbrev pub ReadsIn : Outside → Outside → Result Done (Stop PutFailed) → Type 0
-ReadsIn before after (Ok done) = ReadOnce before after done.status
-ReadsIn before after (Err why) = ReadAtMostOnce before after

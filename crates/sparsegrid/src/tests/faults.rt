@@ -1,45 +1,13 @@
 ghost use Rattle.std.specs.Prelude.{None};
 
 use super::setting::Setting;
-use crate::Done;
-use sg_outside::{MemSink, Put, Sink};
+use sg_outside::{Put, Sink};
 use std::test::Fail;
-
-/// The words of the first field of the first layout in a session's state.
-fn words(done: &Done) -> Option<[u32; 2]> {
-    let session = done.session.as_ref()?;
-    let layout = session.flat.layouts.get(0)?;
-    let field = layout.fields.get(0)?;
-    Some([field.word(0), field.word(1)])
-}
-
-/// Commands after a good one, the status, and the words of the last state.
-static COMMANDS: &[(&str, u8, [u32; 2])] = &[
-    ("", 0, [1, 2]),
-    ("run good;", 0, [2, 4]),
-    ("run bad;", 7, [1, 2]),
-    ("run good; run bad; run good;", 7, [2, 4]),
-];
-
-#[test]
-fn the_state_before_a_refused_command(rt: HostRuntime) -> Result<(), Fail> {
-    let alloc = rt.alloc();
-    let front =
-        "layout A(i) { dense(i: 2); field x: i32; } kernel good { for i in 0..2 { x[i] = x[i] + i + 1; } } \
-         kernel bad { for i in 0..3 { x[i] = 9; } } run good; ";
-    for (behind, status, wanted) in COMMANDS {
-        let source = format!(in alloc; "{front}{behind}")?;
-        let mut out = MemSink::new(alloc, Vec::new(alloc), 0);
-        let done = Setting::of(source.as_str()).run_into(&rt, alloc, &mut out)?;
-        assert_eq!(rt; done.status, *status, "{behind}");
-        assert_eq!(rt; words(&done), Some(*wanted), "{behind}");
-    }
-    Ok(())
-}
 
 static SQUARES: Setting = Setting {
     words: &["p.sg"],
     source: "layout A(i) { dense(i: 4); field x: i32; } kernel k { for i in 0..4 { x[i] = i * i; } } run k; dump x;",
+    others: &[],
     failing_reads: &[],
     failing_puts: &[],
     take: 0,
@@ -64,21 +32,21 @@ fn words_that_run_nothing(rt: HostRuntime) -> Result<(), Fail> {
     Ok(())
 }
 
-/// The file's name, the reads and puts that fail, how many bytes a failed put takes, the status, and what was written.
-static FAULTS: &[(&str, &[u64], &[u64], usize, u8, &str)] = &[
-    ("p.sg", &[1], &[], 0, 2, "refused: read p.sg\n"),
-    ("p.sg", &[], &[1], 0, 3, ""),
-    ("p.sg", &[], &[1], 1, 3, "g"),
-    ("p.sg", &[], &[1], 5, 3, "grid "),
-    ("q.sg", &[], &[1], 9, 3, "refused: "),
-    ("p.sg", &[1], &[1], 3, 3, "ref"),
+/// The words, the reads and puts that fail, how many bytes a failed put takes, the status, and what was written.
+static FAULTS: &[(&[&str], &[u64], &[u64], usize, u8, &str)] = &[
+    (&["p.sg"], &[1], &[], 0, 2, "refused: read p.sg\n"),
+    (&["p.sg"], &[], &[1], 0, 3, ""),
+    (&["p.sg"], &[], &[1], 1, 3, "g"),
+    (&["p.sg"], &[], &[1], 5, 3, "grid "),
+    (&["q.sg"], &[], &[1], 9, 3, "refused: "),
+    (&["p.sg"], &[1], &[1], 3, 3, "ref"),
 ];
 
 #[test]
 fn reads_and_puts_that_fail(rt: HostRuntime) -> Result<(), Fail> {
-    for (name, failing_reads, failing_puts, take, status, text) in FAULTS {
+    for (words, failing_reads, failing_puts, take, status, text) in FAULTS {
         let setting = Setting {
-            words: &[name],
+            words,
             failing_reads,
             failing_puts,
             take: *take,
@@ -158,9 +126,9 @@ static ROOMS: &[(&str, u32, u8)] = &[
 fn a_sink_with_no_room(rt: HostRuntime) -> Result<(), Fail> {
     for (source, room, status) in ROOMS {
         let mut out = NarrowSink { left: *room };
-        let done = Setting::of(source).run_into(&rt, rt.alloc(), &mut out)?;
-        assert_eq!(rt; done.status, *status, "{source}");
-        assert_eq!(rt; done.session.is_some(), *status != 9, "{source}");
+        let (ended, session) = Setting::of(source).run_into(&rt, rt.alloc(), &mut out)?;
+        assert_eq!(rt; ended, *status, "{source}");
+        assert_eq!(rt; session, *status != 9, "{source}");
     }
     Ok(())
 }

@@ -126,12 +126,7 @@ static COMMANDS: &[(u32, &str, u8, &str)] = &[
         8,
         "refused: limit: commands\n",
     ),
-    (
-        61,
-        "times 2 { run k0; run k0; }",
-        5,
-        "refused: not built: item 63\n",
-    ),
+    (61, "times 2 { run k0; run k0; }", 0, ""),
 ];
 
 #[test]

@@ -1,5 +1,6 @@
 use super::setting::{Setting, compare};
 use crate::examples::EXAMPLES;
+use crate::loading_examples::LOADING_EXAMPLES;
 use std::test::Fail;
 
 static RUNS: &[(&str, u8, &str)] = &[
@@ -72,7 +73,7 @@ static RUNS: &[(&str, u8, &str)] = &[
          kernel f { for i in 0..4 { y[i] = u32(i) * U; } } \
          kernel g { for a, b in 0..2, N..2 { let s = a * 2 + b; s = s + 0; let x = s; x[a, max(b, 0)] = x; } } run f; run g;",
         5,
-        "refused: not built: item 6\n",
+        "refused: admission: kernel g statement 4 rule 2\n",
     ),
     (
         "const N = 2; const U = 3u; layout A(a, b) { dense(b: 2, a: 2); field x: i32; } layout B(i) { dense(i: 4); field y: u32; } \
@@ -154,6 +155,19 @@ fn examples_write_their_output(rt: HostRuntime) -> Result<(), Fail> {
         let left = Setting::of(source).run(&rt, alloc)?;
         assert_eq!(rt; left.status, 0, "{name}");
         assert_eq!(rt; left.text.as_slice(), text.as_bytes(), "{name}");
+    }
+    Ok(())
+}
+
+#[test]
+fn examples_that_load_write_their_output(rt: HostRuntime) -> Result<(), Fail> {
+    for example in LOADING_EXAMPLES {
+        let setting = Setting {
+            words: example.words,
+            others: example.others,
+            ..Setting::of(example.source)
+        };
+        setting.ends(&rt, rt.alloc(), 0, example.output)?;
     }
     Ok(())
 }

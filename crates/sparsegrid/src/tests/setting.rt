@@ -1,16 +1,18 @@
-use crate::compile::spell;
 use crate::{Done, run};
 use sg_outside::{FreeGate, MemFiles, MemSink, NamedBytes, Sink};
+use sg_session::spell;
 use std::alloc::{AllocError, Global};
 use std::process::Abort;
 use std::test::Fail;
 use std::thread::Threads;
 
-/// A run over the file `p.sg` in memory: its words, the reads and puts that fail, and how many bytes a failed put takes.
+/// A run over the file `p.sg` and others in memory: its words, the names and texts of the other files, the reads and puts that fail, and how
+/// many bytes a failed put takes.
 #[derive(Clone, Copy)]
 pub struct Setting<'a> {
     pub words: &'a [&'a str],
     pub source: &'a str,
+    pub others: &'a [(&'a str, &'a str)],
     pub failing_reads: &'a [u64],
     pub failing_puts: &'a [u64],
     pub take: usize,
@@ -29,14 +31,15 @@ impl<'a> Setting<'a> {
         Setting {
             words: &["p.sg"],
             source,
+            others: &[],
             failing_reads: &[],
             failing_puts: &[],
             take: 0,
         }
     }
 
-    /// Runs over a sink.
-    pub fn run_into<R: Threads + Sync, S: Sink>(
+    /// How a run over a sink ended.
+    pub fn done_into<R: Threads + Sync, S: Sink>(
         &self,
         rt: &R,
         alloc: Global,
@@ -47,22 +50,34 @@ impl<'a> Setting<'a> {
         Ok(run(rt, alloc, words.as_slice(), &mut files, out, &FreeGate))
     }
 
-    /// The one file.
+    /// Runs over a sink: the status, and whether there is a session.
+    pub fn run_into<R: Threads + Sync, S: Sink>(
+        &self,
+        rt: &R,
+        alloc: Global,
+        out: &mut S,
+    ) -> Result<(u8, bool), AllocError> {
+        let done = self.done_into(rt, alloc, out)?;
+        Ok((done.status, done.session.is_some()))
+    }
+
+    /// The files.
     fn files(&self, alloc: Global) -> Result<MemFiles, AllocError> {
         let failing = Vec::from_slice(alloc, self.failing_reads)?;
-        let file = NamedBytes {
-            name: String::from_str(alloc, "p.sg")?,
-            bytes: Vec::from_slice(alloc, self.source.as_bytes())?,
-        };
-        Ok(MemFiles::new(vec![in alloc; file]?, failing))
+        let mut list = Vec::new(alloc);
+        list.push(named(alloc, "p.sg", self.source)?)?;
+        for (name, text) in self.others {
+            list.push(named(alloc, name, text)?)?;
+        }
+        Ok(MemFiles::new(list, failing))
     }
 
     pub fn run<R: Threads + Sync>(&self, rt: &R, alloc: Global) -> Result<Left, AllocError> {
         let mut out = MemSink::new(alloc, Vec::from_slice(alloc, self.failing_puts)?, self.take);
-        let done = self.run_into(rt, alloc, &mut out)?;
+        let (status, session) = self.run_into(rt, alloc, &mut out)?;
         Ok(Left {
-            status: done.status,
-            session: done.session.is_some(),
+            status,
+            session,
             text: Vec::from_slice(alloc, out.bytes())?,
         })
     }
@@ -82,6 +97,14 @@ impl<'a> Setting<'a> {
         assert_eq!(rt; left.text.as_slice(), text.as_bytes(), "{source}");
         Ok(())
     }
+}
+
+/// A file.
+fn named(alloc: Global, name: &str, text: &str) -> Result<NamedBytes, AllocError> {
+    Ok(NamedBytes {
+        name: String::from_str(alloc, name)?,
+        bytes: Vec::from_slice(alloc, text.as_bytes())?,
+    })
 }
 
 /// Words of their own.

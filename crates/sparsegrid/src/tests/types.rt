@@ -236,13 +236,11 @@ fn types_that_do_not_fit(rt: HostRuntime) -> Result<(), Fail> {
             "{front}kernel k {{ for i, j in 0..1, 0..1 {{ {statement} }} }} const Z = 1;"
         )?;
         let text = match *code {
-            // what fits is run, or isn't built
-            0 => String::from_str(alloc, "refused: not built: item 3\n")?,
+            0 => String::new(alloc),
             _ => format!(in alloc; "refused: type: kernel k statement {number} code {code}\n")?,
         };
         let left = Setting::of(source.as_str()).run(&rt, alloc)?;
-        let runs = *code == 0 && left.text.is_empty();
-        assert!(rt; runs || left.text.as_slice() == text.as_bytes(), "{source}");
+        assert_eq!(rt; left.text.as_slice(), text.as_bytes(), "{source}");
     }
     for (kernel, code) in LOOPS {
         let source = format!(in alloc; "{front}{kernel} const Z = 1;")?;

@@ -1,16 +1,19 @@
-use Rattle.std.proofs.Common.{refl, sym}
-use Rattle.sg_outside.specs.Files.{Bytes}
+use Rattle.std.proofs.Common.{refl, ap, ◌≡◌, Option, None}
+use Rattle.std.proofs.Common.{arith}
 use Rattle.sparsegrid.specs.Texts.{texts}
-use Rattle.sparsegrid.proofs.Following.{follows_failed, follows_memory, ended_some}
+use Rattle.sparsegrid.specs.Words.{Asked, good_words}
+use Rattle.sparsegrid.specs.Lines.{words_last}
+use Rattle.sparsegrid.specs.Meaning.{meaning_by, meaning_of_words, refused}
+use Rattle.sparsegrid.proofs.Going.{went_memory}
+use Rattle.sparsegrid.proofs.Sources.{went_same, went_line, words_end, not_two}
 use Rattle.sparsegrid.proofs.session.answer.Goals as goal
 
-pub returns-in-All-clause-ended : goal.returns-in-All-clause-ended
-returns-in-All-clause-ended g c =
-    ended_some (texts c.args.words.now) _ _ c.run_source.result c.in-Some.name.now (Bytes c.as_slice.result.now) (sym c.in-Some.ensures) c.run_source.ensures.along
+pub returns-in-Err-Refused-clause-went : goal.returns-in-Err-Refused-clause-went
+returns-in-Err-Refused-clause-went g c =
+    let bad : good_words (texts c.args.words.now) ≡ None = rw c.in-Err-Refused.field-0-is at c.in-Err-Refused.ensures in
+    went_same (meaning_by (texts c.args.words.now)) (λ readings. refused words_last) 0 _ _ c.refuse_words.result
+    (λ readings. ap (λ (o : Option Asked). meaning_of_words o readings) bad)
+    (went_line (refused words_last) 0 _ _ c.refuse_words.result refl c.refuse_words.ensures.along refl refl refl (not_two c.refuse_words.result 1 (λ e. absurd (omega arith)) c.refuse_words.ensures.status))
 
-pub returns-in-Failed-clause-followed : goal.returns-in-Failed-clause-followed
-returns-in-Failed-clause-followed g c = λ held e.
-    follows_failed (texts c.args.words.now) held _ _ _ c.in-Some.name.now (sym c.in-Some.ensures) c.read.ensures.reads c.in-Failed.ensures.cause c.refuse_read.ensures.along c.refuse_read.ensures.status
-
-pub returns-clause-followed : goal.returns-clause-followed
-returns-clause-followed g c = λ held e. follows_memory (texts c.args.words.now) held _ _ refl c.in-Memory.ensures.cause
+pub returns-in-Err-Memory-clause-went : goal.returns-in-Err-Memory-clause-went
+returns-in-Err-Memory-clause-went g c = went_memory (meaning_by (texts c.args.words.now)) 0 _ _ (words_end (texts c.args.words.now)) refl refl refl refl

@@ -1,0 +1,161 @@
+-- From what a run did to the clauses that say it.
+use Rattle.std.proofs.Common.{◌≡◌, ◌≢◌, ℕ, suc, ◌+◌, ◌-◌, ◌<◌, ◌≤◌, ◌⊎◌, inl, inr, List, [], ◌∷◌, ◌++◌, length, Option, Some, None, Result, Ok, Err, IfOk, refl, sym, ap, ◌∙◌, subst, arith}
+use Rattle.std.specs.Prelude.{IsSome, ◌↔◌}
+use Rattle.std.specs.Option.{IfSome}
+use Rattle.std.proofs.lemmas.List.{append-nil, length-append, length-map}
+use Rattle.sg_words.specs.declared.memory.Stop.{Stop}
+use Rattle.sg_words.specs.declared.memory.Stop.TheVariants as stop
+use Rattle.sg_outside.specs.Counts.{Rose, last_count}
+use Rattle.sg_outside.specs.Files.{Held}
+use Rattle.sg_session.specs.Performed.{SessionParts}
+use Rattle.sparsegrid.specs.declared.output.PutFailed.{PutFailed}
+use Rattle.sparsegrid.specs.declared.session.Done.{Done}
+use Rattle.sparsegrid.specs.Words.{Asked, good_words}
+use Rattle.sparsegrid.specs.Meaning.{Meaning, meaning, meaning_by, meaning_of_words, readings_in}
+use Rattle.sparsegrid.specs.Outcome.{Outside, IsWhole, IsCutShort, IsEnding, HasSession, Wrote, WroteMeaning, WroteStopped, AskedFront, WentAFront, WroteFront, EndsAs, AsksAs, ReadFaults, PutFaults, ReadCount, StandsForLast, asked_more, counted_more}
+use Rattle.sparsegrid.specs.steps.Along.{SendCause, status_of, session_of, ReadMade, names_of, Followed, NoneFailed, LastFailed, ReadsEnd, Went, IsEnd}
+use Rattle.sparsegrid.proofs.Readings.{count_low, count_rose, agree_told, agree_stopped, readings_of, agree_own}
+
+module _ (words : List (List ℕ)) (before after : Outside) (result : Result Done (Stop PutFailed)) (went : Went (meaning_by words) 0 before after result) (end : IfOk result IsEnd) where
+  -- ---- by how a run ended
+
+  wrote_as : (m : Meaning) (r : Result Done (Stop PutFailed)) → Followed m (names_of went.made) before after r → IsEnding (status_of r) → Wrote m before after (status_of r)
+  wrote_as m (Ok done) f ending =
+      record {
+        text = f.along.bytes;
+        status = f.along.status;
+        asked = went.asked ∙ ap (asked_more before.asked) (sym f.asked);
+        reads = went.reads ∙ ap (counted_more before.reads) (sym f.asked);
+      }
+  wrote_as m (Err (stop.Refused failed)) f ending = absurd (ending.0 refl)
+  wrote_as m (Err stop.Memory) f ending = absurd (ending.1 refl)
+
+  front_as : (m : Meaning) (r : Result Done (Stop PutFailed)) → IfOk r IsEnd → Followed m (names_of went.made) before after r → IsCutShort (status_of r) → WentAFront m before after (status_of r)
+  front_as m (Ok done) e f (inl three) = absurd (e.0 three)
+  front_as m (Ok done) e f (inr nine) = absurd (e.1 nine)
+  front_as m (Err why) e f cut =
+      record { text = f.along.bytes; names = record { names = names_of went.made; left = f.asked.0; whole = f.asked.1; asked = went.asked; reads = went.reads } }
+
+  names_as : (m : Meaning) (r : Result Done (Stop PutFailed)) → Followed m (names_of went.made) before after r → AskedFront m before after
+  names_as m (Ok done) f = record { names = names_of went.made; left = []; whole = f.asked ∙ sym (append-nil (names_of went.made)); asked = went.asked; reads = went.reads }
+  names_as m (Err why) f = record { names = names_of went.made; left = f.asked.0; whole = f.asked.1; asked = went.asked; reads = went.reads }
+
+  no_two : (r : Result Done (Stop PutFailed)) → IfOk r (λ done. done.status ≢ 2) → status_of r ≢ 2
+  no_two (Ok done) other = other
+  no_two (Err (stop.Refused failed)) other = λ two. absurd (omega arith)
+  no_two (Err stop.Memory) other = λ two. absurd (omega arith)
+
+  two_whole : (r : Result Done (Stop PutFailed)) → IfOk r (λ done. done.status ≡ 2) → IsWhole (status_of r) → ⊥
+  two_whole (Ok done) two is = is.0 two
+  two_whole (Err (stop.Refused failed)) two is = is.1 refl
+  two_whole (Err stop.Memory) two is = is.2 refl
+
+  ending_whole : (status : ℕ) → IsWhole status → IsEnding status
+  ending_whole status is = (is.1, is.2)
+
+  -- ---- the readings
+
+  followed_none : (held : Held) → before.held ≡ Some held → NoneFailed before after went.made → Followed (meaning words held None) (names_of went.made) before after result
+  followed_none held told none = went.followed (readings_in held None) (agree_told held 0 went.made (none.told held told))
+
+  followed_stopped : (held : Held) → before.held ≡ Some held → (failed : LastFailed before after went.made) → after.reads < last_count
+      → Followed (meaning words held (Some (after.reads - before.reads))) (names_of went.made) before after result
+  followed_stopped held told failed low =
+      let count : counted_more before.reads (names_of went.made) ≡ before.reads + length (names_of went.made) = count_low before.reads (names_of went.made) (rw (sym went.reads) low) in
+      let long : length (names_of went.made) ≡ length went.made = length-map went.made (λ (read : ReadMade). read.name) in
+      let made : length went.made ≡ length (failed.earlier ++ failed.last ∷ []) = ap length failed.is in
+      let at : after.reads - before.reads ≡ suc (length failed.earlier + 0) = omega (arith, went.reads, length-append failed.earlier (failed.last ∷ [])) in
+      went.followed (readings_in held (Some (after.reads - before.reads)))
+      (rw failed.is (agree_stopped held (after.reads - before.reads) 0 failed.earlier failed.last at (failed.told held told) failed.missing))
+
+  -- ---- the clauses
+
+  pub whole : IsWhole (status_of result) → WroteMeaning words None before after (status_of result)
+  whole is held told = by_ends went.ends where
+    by_ends : ReadsEnd before after went.made result → Wrote (meaning words held None) before after (status_of result)
+    by_ends (inl well) = wrote_as (meaning words held None) result (followed_none held told well.0) (ending_whole (status_of result) is)
+    by_ends (inr failed) = absurd (two_whole result failed.1 is)
+
+  pub stopped : status_of result ≡ 2 → WroteStopped words before after (status_of result)
+  stopped two low held told = by_ends went.ends where
+    by_ends : ReadsEnd before after went.made result → Wrote (meaning words held (Some (after.reads - before.reads))) before after (status_of result)
+    by_ends (inl well) = absurd (no_two result well.1 two)
+    by_ends (inr failed) =
+        wrote_as (meaning words held (Some (after.reads - before.reads))) result (followed_stopped held told failed.0 low) ((λ three. absurd (omega arith)), (λ nine. absurd (omega arith)))
+
+  pub front : IsCutShort (status_of result) → WroteFront words before after (status_of result)
+  front cut held told = by_ends went.ends where
+    by_ends : ReadsEnd before after went.made result → WentAFront (meaning words held None) before after (status_of result)
+        ⊎ (Rose before.failed_reads after.failed_reads × (after.reads < last_count → WentAFront (meaning words held (Some (after.reads - before.reads))) before after (status_of result)))
+    by_ends (inl well) = inl (front_as (meaning words held None) result end (followed_none held told well.0) cut)
+    by_ends (inr failed) =
+        inr (failed.0.fault, λ low. front_as (meaning words held (Some (after.reads - before.reads))) result end (followed_stopped held told failed.0 low) cut)
+
+  own : Followed (meaning_by words (readings_of 0 went.made)) (names_of went.made) before after result
+  own = went.followed (readings_of 0 went.made) (agree_own 0 went.made)
+
+  pub ended : IsEnding (status_of result) → EndsAs words before after (status_of result)
+  ended ending = (readings_of 0 went.made, wrote_as (meaning_by words (readings_of 0 went.made)) result own ending)
+
+  pub asked : AsksAs words before after
+  asked = (readings_of 0 went.made, names_as (meaning_by words (readings_of 0 went.made)) result own)
+
+  pub reads : ReadCount (good_words words) before after (status_of result)
+  reads = by_words (good_words words) result own where
+    by_words : (o : Option Asked) (r : Result Done (Stop PutFailed)) → Followed (meaning_of_words o (readings_of 0 went.made)) (names_of went.made) before after r → ReadCount o before after (status_of r)
+    by_words None (Ok done) f = went.reads ∙ ap (counted_more before.reads) (sym f.asked)
+    by_words None (Err why) f = went.reads ∙ ap (counted_more before.reads) (front_none (names_of went.made) f.asked.0 (sym f.asked.1)) where
+      front_none : (xs ys : List (List ℕ)) → xs ++ ys ≡ [] → xs ≡ []
+      front_none [] ys h = refl
+      front_none (x ∷ xs) ys h = absurd (cc)
+    by_words (Some wanted) (Ok done) f = λ ending. rose f.asked where
+      rose : {rest : List (List ℕ)} → wanted.file ∷ rest ≡ names_of went.made → Rose before.reads after.reads
+      rose {rest} is = subst (λ (c : ℕ). Rose before.reads c) (sym (went.reads ∙ ap (counted_more before.reads) (sym is))) (count_rose before.reads wanted.file rest)
+    by_words (Some wanted) (Err (stop.Refused failed)) f = λ ending. absurd (ending.0 refl)
+    by_words (Some wanted) (Err stop.Memory) f = λ ending. absurd (ending.1 refl)
+
+  pub read_faults : before.failed_reads ≤ after.failed_reads → ReadFaults before after (status_of result)
+  read_faults never = by_ends went.ends where
+    by_ends : ReadsEnd before after went.made result → ReadFaults before after (status_of result)
+    by_ends (inl well) = record { rose = λ two. absurd (no_two result well.1 two); stay = λ is. well.0.no_fault; never_fall = never }
+    by_ends (inr failed) = record { rose = λ two. failed.0.fault; stay = λ is. absurd (two_whole result failed.1 is); never_fall = never }
+
+  pub put_faults : SendCause result before.failed_puts after.failed_puts → PutFaults before after (status_of result)
+  put_faults cause = by_result result end cause where
+    by_result : (r : Result Done (Stop PutFailed)) → IfOk r IsEnd → SendCause r before.failed_puts after.failed_puts → PutFaults before after (status_of r)
+    by_result (Ok done) e same = record { rose = λ three. absurd (e.0 three); stay = λ other. same; never_fall = omega (arith, same) }
+    by_result (Err (stop.Refused failed)) e rose = record { rose = λ three. rose.0; stay = λ other. absurd (other refl); never_fall = rose.1 }
+    by_result (Err stop.Memory) e same = record { rose = λ three. absurd (omega arith); stay = λ other. same; never_fall = omega (arith, same) }
+
+  pub session : IsSome (session_of result) ↔ HasSession (status_of result)
+  session = by_result result end where
+    by_result : (r : Result Done (Stop PutFailed)) → IfOk r IsEnd → IsSome (session_of r) ↔ HasSession (status_of r)
+    by_result (Ok done) e = e.2
+    by_result (Err (stop.Refused failed)) e = ((λ some. absurd (cc)), no_end) where
+      no_end : HasSession 3 → IsSome {T = SessionParts} None
+      no_end (inl h) = absurd (omega arith)
+      no_end (inr h) = absurd (omega arith)
+    by_result (Err stop.Memory) e = ((λ some. absurd (cc)), no_end) where
+      no_end : HasSession 9 → IsSome {T = SessionParts} None
+      no_end (inl h) = absurd (omega arith)
+      no_end (inr h) = absurd (omega arith)
+
+  pub last : IfSome (session_of result) (λ kept. (held : Held) → before.held ≡ Some held → StandsForLast (meaning words held None).last kept)
+  last = by_result result end went.ends (λ held told none. followed_none held told none) where
+    by_session : (o : Option SessionParts) (status : ℕ) → (IsSome o ↔ HasSession status) → status ≡ 2 → (P : SessionParts → Type 0) → IfSome o P
+    by_session None status e two P = tt
+    by_session (Some kept) status e two P = absurd (no (e.0 refl)) where
+      no : HasSession status → ⊥
+      no (inl zero) = absurd (omega arith)
+      no (inr seven) = absurd (omega arith)
+
+    well_last : (o : Option SessionParts) → ((held : Held) → before.held ≡ Some held → IfSome o (StandsForLast (meaning words held None).last)) → IfSome o (λ kept. (held : Held) → before.held ≡ Some held → StandsForLast (meaning words held None).last kept)
+    well_last None h = tt
+    well_last (Some kept) h = λ held told. h held told
+
+    by_result : (r : Result Done (Stop PutFailed)) → IfOk r IsEnd → ReadsEnd before after went.made r
+        → ((held : Held) → before.held ≡ Some held → NoneFailed before after went.made → Followed (meaning words held None) (names_of went.made) before after r)
+        → IfSome (session_of r) (λ kept. (held : Held) → before.held ≡ Some held → StandsForLast (meaning words held None).last kept)
+    by_result (Ok done) e (inl well) f = well_last done.session (λ held told. (f held told well.0).along.last)
+    by_result (Ok done) e (inr failed) f = by_session done.session done.status e.2 failed.1 (λ kept. (held : Held) → before.held ≡ Some held → StandsForLast (meaning words held None).last kept)
+    by_result (Err why) e ends f = tt

@@ -1,0 +1,579 @@
+-- One task of a program more.
+use Rattle.std.proofs.Common.{◌≡◌, ◌≢◌, ℕ, suc, ◌+◌, Bool, true, false, List, [], ◌∷◌, ◌++◌, map, length, Option, Some, None, Result, Ok, Err, IfOk, refl, sym, ap, ◌∙◌, subst, append_assoc, arith}
+use Rattle.std.specs.Prelude.{IsSome, slice_get}
+use Rattle.sg_words.specs.Results.{◌>>=◌, fault_as}
+use Rattle.std.proofs.lemmas.List.{length-append}
+use Rattle.std.specs.List.{AllByRecursion}
+use Rattle.sg_words.specs.declared.memory.Stop.{Stop}
+use Rattle.sg_words.specs.declared.memory.Stop.TheVariants as stop
+use Rattle.sg_words.specs.declared.text.Text.{Text}
+use Rattle.sg_outside.specs.Counts.{Rose}
+use Rattle.sg_outside.specs.Files.{Held, Reading, Bytes, TooMany, Missing, reading}
+use Rattle.sg_outside.specs.Sink.{followed_by}
+use Rattle.sg_layout.specs.declared.shape.Shape.{Shape}
+use Rattle.sg_flat.specs.declared.state.FlatState.{FlatState}
+use Rattle.sg_flat.specs.declared.effects.Write.{Write}
+use Rattle.sg_flat.specs.declared.effects.RunFault.{RunFault}
+use Rattle.sg_flat.specs.declared.effects.RunFault.TheVariants.{WriteOutside, PoolFull}
+use Rattle.sg_names.specs.Tables.{Tables}
+use Rattle.sg_store.specs.StoreWords.{StoreWords}
+use Rattle.sg_grid.specs.Limits.{most_grid_bytes}
+use Rattle.sg_grid.specs.declared.grid.GridFault.{GridFault}
+use Rattle.sg_grid.specs.declared.grid.GridFault.TheVariants as grid
+use Rattle.sg_exec.specs.Standing.{StandForState}
+use Rattle.sg_exec.specs.Running.{load_meaning}
+use Rattle.sg_session.specs.declared.refusal.RunRefusal.{RunRefusal}
+use Rattle.sg_session.specs.declared.refusal.RunRefusal.TheVariants as refusal
+use Rattle.sg_session.specs.declared.binds.Bind.{Bind}
+use Rattle.sg_session.specs.Performed.{SessionParts}
+use Rattle.sg_session.specs.declared.tasks.Task.{Task}
+use Rattle.sg_session.specs.declared.tasks.Task.TheVariants.{Load, Run, Dump}
+use Rattle.sg_session.specs.Compiled.{CompiledProgram}
+use Rattle.sg_session.specs.Commands as commands
+use Rattle.sg_session.specs.Commands.{Left, task_meaning}
+use Rattle.sg_session.specs.Performed.{HasFile, Leaves, Performs, StepCause, reading_of, asked_after, reads_after}
+use Rattle.sparsegrid.specs.declared.output.PutFailed.{PutFailed}
+use Rattle.sparsegrid.specs.declared.session.Done.{Done}
+use Rattle.sparsegrid.specs.declared.last_line.LastLine.{LastLine}
+use Rattle.sparsegrid.specs.Words.{Binding, binding_read}
+use Rattle.sparsegrid.specs.Lines.{run_last}
+use Rattle.sparsegrid.specs.Meaning.{Meaning, Readings, refused_with, all_done, asking, before as before_text, file_of_task, after_task, task_and_more, meaning_of_tasks}
+use Rattle.sparsegrid.specs.Outcome.{Outside, asked_more, counted_more}
+use Rattle.sparsegrid.specs.steps.Along.{GrewByPart, Sends, WroteAll, line_text, ended_with, WentAlong, ReadMade, names_of, Agree, AreTold, AskedAll, load_reads, NoneFailed, Went, Came}
+use Rattle.sparsegrid.proofs.Writing.{followed_by-nil, followed_by-twice}
+use Rattle.sparsegrid.proofs.Readings.{asked_twice, asked_none, counted_twice, names_twice, told_twice, agree_twice}
+use Rattle.sparsegrid.proofs.Bound.{same_files}
+use Rattle.sparsegrid.proofs.Going.{EndsInLine, went_part, went_still, went_memory, went_failed, compose}
+
+-- ---- a refused meaning ends in its line
+
+not_empty : (xs ys : List ℕ) → ys ≢ [] → xs ++ ys ≢ []
+not_empty [] ys h none = h none
+not_empty (x ∷ xs) ys h none = absurd (cc)
+
+cons_not_empty : (x : ℕ) (xs : List ℕ) → ◌≢◌ {A = List ℕ} (x ∷ xs) []
+cons_not_empty x xs none = absurd (cc)
+
+pub refused_ends : (state : Option FlatState) (last : LastLine) → (refused_with state last).text ≢ []
+refused_ends state last = not_empty last.line (10 ∷ []) (cons_not_empty 10 [])
+
+some_none : (o : Option (List ℕ)) → IsSome o → o ≡ None → ⊥
+some_none None has is = absurd (cc)
+some_none (Some name) has is = absurd (cc)
+
+asking_none : (m : Meaning) → m ≡ asking [] m
+asking_none m = refl
+
+module _ (compiled : CompiledProgram) (bindings : List Binding) where
+  after_ends : (state : FlatState) (file : Option (List ℕ)) (task : Task) (more : FlatState → Meaning) (answer : Result Left RunRefusal)
+      → ((next : FlatState) → EndsInLine (more next)) → EndsInLine (after_task compiled state file task more answer)
+  after_ends state file task more (Ok left) rest = λ other. not_empty left.text (more left.state).text (rest left.state other)
+  after_ends state file task more (Err why) rest = λ other. refused_ends (Some state) (run_last compiled.names file task why)
+
+  pub tasks_end : (readings : Readings) (n : ℕ) (state : FlatState) (tasks : List Task) → EndsInLine (meaning_of_tasks compiled bindings readings n state tasks)
+  unfolding meaning_of_tasks
+  tasks_end readings n state [] = λ other. absurd (other refl)
+  tasks_end readings n state (task ∷ tasks) = by_file (file_of_task compiled bindings task) (λ after next. tasks_end readings after next tasks) where
+    more : ℕ → FlatState → Meaning
+    more after next = meaning_of_tasks compiled bindings readings after next tasks
+
+    by_file : (file : Option (List ℕ)) → ((after : ℕ) (next : FlatState) → EndsInLine (more after next)) → EndsInLine (task_and_more compiled readings n state task more file)
+    by_file None rest = after_ends state None task (more n) (task_meaning compiled state task Missing) (rest n)
+    by_file (Some name) rest =
+        after_ends state (Some name) task (more (suc n)) (task_meaning compiled state task (readings (suc n) name most_grid_bytes)) (rest (suc n))
+
+module _ (compiled : CompiledProgram) (binds : List Bind) where
+  tasks_step : (readings : Readings) (n : ℕ) (state : FlatState) (task : Task) (tasks : List Task)
+      → meaning_of_tasks compiled (map binding_read binds) readings n state (task ∷ tasks)
+      ≡ task_and_more compiled readings n state task (λ after next. meaning_of_tasks compiled (map binding_read binds) readings after next tasks) (file_of_task compiled (map binding_read binds) task)
+  unfolding meaning_of_tasks
+  tasks_step readings n state task tasks = refl
+
+  tasks_none : (readings : Readings) (n : ℕ) (state : FlatState) → meaning_of_tasks compiled (map binding_read binds) readings n state [] ≡ all_done [] state
+  unfolding meaning_of_tasks
+  tasks_none readings n state = refl
+
+  -- a task without a file means the same whatever was read
+  given_same : (state : FlatState) (task : Task) (given : Reading) → HasFile compiled binds task → file_of_task compiled (map binding_read binds) task ≡ None
+      → task_meaning compiled state task Missing ≡ task_meaning compiled state task given
+  given_same state (Load at) given has none = absurd (some_none (commands.file_of compiled binds (Load at)) has (same_files compiled binds (Load at) ∙ none))
+  given_same state (Run kernel) given has none = refl
+  given_same state (Dump at) given has none = refl
+
+  -- what a task and those behind it mean, where its read gave this
+  one_task : (readings : Readings) (n : ℕ) (state : FlatState) (task : Task) (tasks : List Task) (given : Reading) → HasFile compiled binds task
+      → Agree readings n (load_reads (file_of_task compiled (map binding_read binds) task) given)
+      → meaning_of_tasks compiled (map binding_read binds) readings n state (task ∷ tasks)
+      ≡ asking (names_of (load_reads (file_of_task compiled (map binding_read binds) task) given))
+      (after_task compiled state (file_of_task compiled (map binding_read binds) task) task
+      (λ next. meaning_of_tasks compiled (map binding_read binds) readings (length (load_reads (file_of_task compiled (map binding_read binds) task) given) + n) next tasks)
+      (task_meaning compiled state task given))
+  one_task readings n state task tasks given has agree = tasks_step readings n state task tasks ∙ by_file (file_of_task compiled (map binding_read binds) task) refl agree where
+    more : ℕ → FlatState → Meaning
+    more after next = meaning_of_tasks compiled (map binding_read binds) readings after next tasks
+
+    none_more : n ≡ length (load_reads None given) + n
+    none_more = omega arith
+
+    one_more_read : (name : List ℕ) → suc n ≡ length (load_reads (Some name) given) + n
+    one_more_read name = omega arith
+
+    by_file : (file : Option (List ℕ)) → file_of_task compiled (map binding_read binds) task ≡ file → Agree readings n (load_reads file given)
+        → task_and_more compiled readings n state task more file
+        ≡ asking (names_of (load_reads file given)) (after_task compiled state file task (more (length (load_reads file given) + n)) (task_meaning compiled state task given))
+    by_file None none agrees =
+        ap (λ (a : Result Left RunRefusal). after_task compiled state None task (more n) a) (given_same state task given has none)
+        ∙ ap (λ (k : ℕ). after_task compiled state None task (more k) (task_meaning compiled state task given)) none_more
+        ∙ asking_none (after_task compiled state None task (more (length (load_reads None given) + n)) (task_meaning compiled state task given))
+    by_file (Some name) some agrees =
+        ap (λ (r : Reading). asking (name ∷ []) (after_task compiled state (Some name) task (more (suc n)) (task_meaning compiled state task r))) agrees.0
+        ∙ ap (λ (k : ℕ). asking (name ∷ []) (after_task compiled state (Some name) task (more k) (task_meaning compiled state task given))) (one_more_read name)
+
+  regrouped : (names more : List (List ℕ)) (text text' : List ℕ) (m : Meaning) → asking names (before_text text (asking more (before_text text' m))) ≡ asking (names ++ more) (before_text (text ++ text') m)
+  regrouped names more text text' m =
+      ap (λ (t : List ℕ). let n : Meaning = record { text = t; status = m.status; last = m.last; asked = names ++ (more ++ m.asked) } in n) (sym (append_assoc text text' m.text))
+      ∙ ap (λ (a : List (List ℕ)). let n : Meaning = record { text = (text ++ text') ++ m.text; status = m.status; last = m.last; asked = a } in n) (sym (append_assoc names more m.asked))
+
+-- ---- what a step read
+
+-- what was read, of what is said where the files are told and where they aren't
+pub given_chosen : (held : Option Held) (file : Option (List ℕ)) (result : Result Text (Stop RunRefusal)) (layouts : List Shape) (stores : List StoreWords) (means : Reading → Result Left RunRefusal)
+    → ((h : Held) → held ≡ Some h → Performs layouts stores result (means (reading_of h file result)))
+    → ((given : Reading) × Performs layouts stores result (means given))
+    → (given : Reading) × Performs layouts stores result (means given) × ((h : Held) → held ≡ Some h → given ≡ reading_of h file result)
+given_chosen None file result layouts stores means told performed = (performed.0, performed.1, λ h e. absurd (cc))
+given_chosen (Some held) file result layouts stores means told performed =
+    (reading_of held file result, told held refl, λ h e. ap (λ (f : Held). reading_of f file result) (same h e))
+  where
+    same : (h : Held) → Some held ≡ Some h → held ≡ h
+    same h e = cc
+
+-- the answer isn't that the read failed
+abbrev IsNoRead : Result Text (Stop RunRefusal) → Type 0
+IsNoRead result = (field : ℕ) → result ≢ Err (stop.Refused (refusal.Read field))
+
+reading_kept : (held : Held) (name : List ℕ) (result : Result Text (Stop RunRefusal)) → IsNoRead result → reading_of held (Some name) result ≡ reading held name most_grid_bytes
+reading_kept held name (Ok text) no_read = refl
+reading_kept held name (Err stop.Memory) no_read = refl
+reading_kept held name (Err (stop.Refused (refusal.Read field))) no_read = absurd (no_read field refl)
+reading_kept held name (Err (stop.Refused (refusal.GridBytes field))) no_read = refl
+reading_kept held name (Err (stop.Refused (refusal.GridRows field))) no_read = refl
+reading_kept held name (Err (stop.Refused (refusal.Grid field line))) no_read = refl
+reading_kept held name (Err (stop.Refused (refusal.Run kernel fault))) no_read = refl
+
+pub reads_told : (held : Held) (file : Option (List ℕ)) (result : Result Text (Stop RunRefusal)) (given : Reading) → IsNoRead result → given ≡ reading_of held file result → AreTold held (load_reads file given)
+reads_told held None result given no_read is = tt
+reads_told held (Some name) result given no_read is = (is ∙ reading_kept held name result no_read, tt)
+
+pub cause_kept : (result : Result Text (Stop RunRefusal)) (before now : ℕ) → IsNoRead result → StepCause result before now → now ≡ before
+cause_kept (Ok text) before now no_read cause = cause
+cause_kept (Err stop.Memory) before now no_read cause = cause
+cause_kept (Err (stop.Refused (refusal.Read field))) before now no_read cause = absurd (no_read field refl)
+cause_kept (Err (stop.Refused (refusal.GridBytes field))) before now no_read cause = cause
+cause_kept (Err (stop.Refused (refusal.GridRows field))) before now no_read cause = cause
+cause_kept (Err (stop.Refused (refusal.Grid field line))) before now no_read cause = cause
+cause_kept (Err (stop.Refused (refusal.Run kernel fault))) before now no_read cause = cause
+
+pub asked_by_load : (file : Option (List ℕ)) (given : Reading) (asked : Option (List (List ℕ))) → asked_after file asked ≡ asked_more asked (names_of (load_reads file given))
+asked_by_load None given asked = asked_none asked
+asked_by_load (Some name) given asked = refl
+
+pub reads_by_load : (file : Option (List ℕ)) (given : Reading) (reads : ℕ) → reads_after file reads ≡ counted_more reads (names_of (load_reads file given))
+reads_by_load None given reads = refl
+reads_by_load (Some name) given reads = refl
+
+-- a task whose read failed was told so: only a missing file means it
+pub read_refused : (compiled : CompiledProgram) (state : FlatState) (task : Task) (given : Reading) (field : ℕ) → task_meaning compiled state task given ≡ Err (refusal.Read field) → given ≡ Missing
+read_refused compiled state (Load at) Missing field is = refl
+read_refused compiled state (Load at) TooMany field is = absurd (cc)
+read_refused compiled state (Load at) (Bytes bytes) field is = by_writes (commands.field_writes compiled at bytes) is where
+  by_writes : (writes : Result (List Write) GridFault) → ◌≡◌ {A = Result Left RunRefusal}
+      ((fault_as (commands.grid_refusal at.number) writes >>= (λ rows. fault_as (refusal.Run None) (load_meaning compiled.layouts state rows))) >>= (λ after. Ok (commands.without_text after))) (Err (refusal.Read field))
+      → Bytes bytes ≡ Missing
+  by_writes (Ok rows) e = by_loaded (load_meaning compiled.layouts state rows) e where
+    by_loaded : (answer : Result FlatState RunFault) → ◌≡◌ {A = Result Left RunRefusal} (fault_as (refusal.Run None) answer >>= (λ after. Ok (commands.without_text after))) (Err (refusal.Read field)) → Bytes bytes ≡ Missing
+    by_loaded (Ok after) e = absurd (cc)
+    by_loaded (Err fault) e = absurd (cc)
+  by_writes (Err (grid.BadText line)) e = absurd (cc)
+  by_writes (Err (grid.Outside line)) e = absurd (cc)
+  by_writes (Err (grid.NotRising line)) e = absurd (cc)
+  by_writes (Err grid.TooManyBytes) e = absurd (cc)
+  by_writes (Err grid.TooManyRows) e = absurd (cc)
+read_refused compiled state (Run kernel) given field is = absurd (by_run (commands.after_kernel compiled.layouts state (slice_get compiled.kernels kernel)) is) where
+  by_run : (answer : Result FlatState RunFault) → ◌≡◌ {A = Result Left RunRefusal} (fault_as (refusal.Run (Some kernel)) answer >>= (λ after. Ok (commands.without_text after))) (Err (refusal.Read field)) → ⊥
+  by_run (Ok after) e = absurd (cc)
+  by_run (Err fault) e = absurd (cc)
+read_refused compiled state (Dump at) given field is = absurd (cc)
+
+-- ---- the statuses of refused tasks
+
+abbrev is_read : RunRefusal → Bool
+is_read (refusal.Read field) = true
+is_read (refusal.GridBytes field) = false
+is_read (refusal.GridRows field) = false
+is_read (refusal.Grid field line) = false
+is_read (refusal.Run kernel fault) = false
+
+pub run_statuses : (names : Tables) (file : Option (List ℕ)) (task : Task) (why : RunRefusal) → ((run_last names file task why).status ≢ 3) × ((run_last names file task why).status ≢ 9)
+run_statuses names file task (refusal.Read field) = ((λ e. absurd (omega arith)), (λ e. absurd (omega arith)))
+run_statuses names file task (refusal.GridBytes field) = ((λ e. absurd (omega arith)), (λ e. absurd (omega arith)))
+run_statuses names file task (refusal.GridRows field) = ((λ e. absurd (omega arith)), (λ e. absurd (omega arith)))
+run_statuses names file task (refusal.Grid field line) = ((λ e. absurd (omega arith)), (λ e. absurd (omega arith)))
+run_statuses names file task (refusal.Run kernel (WriteOutside stmt at)) = ((λ e. absurd (omega arith)), (λ e. absurd (omega arith)))
+run_statuses names file task (refusal.Run kernel (PoolFull layout node most)) = ((λ e. absurd (omega arith)), (λ e. absurd (omega arith)))
+
+no_read_status : (names : Tables) (file : Option (List ℕ)) (task : Task) (why : RunRefusal) → is_read why ≡ false → (run_last names file task why).status ≢ 2
+no_read_status names file task (refusal.Read field) no_read = absurd (cc)
+no_read_status names file task (refusal.GridBytes field) no_read = λ e. absurd (omega arith)
+no_read_status names file task (refusal.GridRows field) no_read = λ e. absurd (omega arith)
+no_read_status names file task (refusal.Grid field line) no_read = λ e. absurd (omega arith)
+no_read_status names file task (refusal.Run kernel (WriteOutside stmt at)) no_read = λ e. absurd (omega arith)
+no_read_status names file task (refusal.Run kernel (PoolFull layout node most)) no_read = λ e. absurd (omega arith)
+
+no_read_refusal : (why : RunRefusal) → is_read why ≡ false → IsNoRead (Err (stop.Refused why))
+no_read_refusal (refusal.Read field) no_read = absurd (cc)
+no_read_refusal (refusal.GridBytes field) no_read = λ f e. absurd (cc)
+no_read_refusal (refusal.GridRows field) no_read = λ f e. absurd (cc)
+no_read_refusal (refusal.Grid field line) no_read = λ f e. absurd (cc)
+no_read_refusal (refusal.Run kernel fault) no_read = λ f e. absurd (cc)
+
+-- ---- performed tasks
+
+-- what the outside tells after a step, of which a task is known to have read this
+pub record Stepped (compiled : CompiledProgram) (binds : List Bind) (state : FlatState) (task : Task) (stores : List StoreWords) (result : Result Text (Stop RunRefusal)) (now next : Outside) : Type 0 where
+  pub has : HasFile compiled binds task
+  pub chosen : (given : Reading) × Performs compiled.layouts stores result (task_meaning compiled state task given)
+      × ((h : Held) → now.held ≡ Some h → given ≡ reading_of h (commands.file_of compiled binds task) result)
+  pub asked : next.asked ≡ asked_after (commands.file_of compiled binds task) now.asked
+  pub reads : next.reads ≡ reads_after (commands.file_of compiled binds task) now.reads
+  pub cause : StepCause result now.failed_reads next.failed_reads
+  pub held : next.held ≡ now.held
+
+module _ (compiled : CompiledProgram) (binds : List Bind) where
+  abbrev file : Task → Option (List ℕ)
+  file task = file_of_task compiled (map binding_read binds) task
+
+  -- the reads of a step that didn't fail
+  step_asked : (state : FlatState) (task : Task) (stores : List StoreWords) (result : Result Text (Stop RunRefusal)) (now next : Outside) (given : Reading)
+      → Stepped compiled binds state task stores result now next → next.asked ≡ asked_more now.asked (names_of (load_reads (file task) given))
+  step_asked state task stores result now next given did =
+      did.asked ∙ asked_by_load (commands.file_of compiled binds task) given now.asked ∙ ap (λ (f : Option (List ℕ)). asked_more now.asked (names_of (load_reads f given))) (same_files compiled binds task)
+
+  step_reads : (state : FlatState) (task : Task) (stores : List StoreWords) (result : Result Text (Stop RunRefusal)) (now next : Outside) (given : Reading)
+      → Stepped compiled binds state task stores result now next → next.reads ≡ counted_more now.reads (names_of (load_reads (file task) given))
+  step_reads state task stores result now next given did =
+      did.reads ∙ reads_by_load (commands.file_of compiled binds task) given now.reads ∙ ap (λ (f : Option (List ℕ)). counted_more now.reads (names_of (load_reads f given))) (same_files compiled binds task)
+
+  step_none : (state : FlatState) (task : Task) (stores : List StoreWords) (result : Result Text (Stop RunRefusal)) (now next : Outside)
+      → IsNoRead result → (did : Stepped compiled binds state task stores result now next) → NoneFailed now next (load_reads (file task) did.chosen.0)
+  step_none state task stores result now next no_read did =
+      record {
+        no_fault = cause_kept result now.failed_reads next.failed_reads no_read did.cause;
+        told = λ h e. reads_told h (file task) result did.chosen.0 no_read
+            (did.chosen.2 h e ∙ ap (λ (f : Option (List ℕ)). reading_of h f result) (same_files compiled binds task));
+      }
+
+  -- tasks before any of them was performed
+  pub came_start : (start : FlatState) (tasks : List Task) (stores : List StoreWords) (now : Outside) → StandForState compiled.layouts stores start
+      → Came compiled (map binding_read binds) start tasks tasks stores now now
+  came_start start tasks stores now stand =
+      record {
+        made = [];
+        state = start;
+        text = [];
+        stand = stand;
+        grew = sym (followed_by-nil now.written);
+        asked = asked_none now.asked;
+        reads = refl;
+        held = refl;
+        none = record { no_fault = refl; told = λ h e. tt };
+        is = λ readings agree. refl;
+      }
+
+  -- one more task was performed, and its text was written
+  pub came_next : (start : FlatState) (tasks rest rest' : List Task) (task : Task) (stores stores' : List StoreWords) (text : Text) (before now next : Outside)
+      → rest ≡ task ∷ rest' → (came : Came compiled (map binding_read binds) start tasks rest stores before now)
+      → Stepped compiled binds came.state task stores' (Ok text) now next → next.written ≡ followed_by now.written text.bytes
+      → Came compiled (map binding_read binds) start tasks rest' stores' before next
+  came_next start tasks rest rest' task stores stores' text before now next split came did sent =
+      record {
+        made = came.made ++ more;
+        state = left.left.state;
+        text = came.text ++ left.left.text;
+        stand = left.stand;
+        grew = sent ∙ ap (λ (t : List ℕ). followed_by now.written t) left.text_is ∙ ap (λ told. followed_by told left.left.text) came.grew ∙ followed_by-twice before.written came.text left.left.text;
+        asked = step_asked came.state task stores' (Ok text) now next given did ∙ ap (λ a. asked_more a (names_of more)) came.asked ∙ asked_twice before.asked (names_of came.made) (names_of more)
+            ∙ ap (asked_more before.asked) (sym (names_twice came.made more));
+        reads = step_reads came.state task stores' (Ok text) now next given did ∙ ap (λ c. counted_more c (names_of more)) came.reads ∙ counted_twice before.reads (names_of came.made) (names_of more)
+            ∙ ap (counted_more before.reads) (sym (names_twice came.made more));
+        held = did.held ∙ came.held;
+        none = record {
+          no_fault = none.no_fault ∙ came.none.no_fault;
+          told = λ h e. told_twice h came.made more (came.none.told h e) (none.told h (came.held ∙ e));
+        };
+        is = is;
+      }
+    where
+      given : Reading
+      given = did.chosen.0
+
+      more : List ReadMade
+      more = load_reads (file task) given
+
+      left : Leaves compiled.layouts stores' text.bytes (task_meaning compiled came.state task given)
+      left = did.chosen.1
+
+      none : NoneFailed now next more
+      none = step_none came.state task stores' (Ok text) now next (λ f e. absurd (cc)) did
+
+      count : length more + (length came.made + 1) ≡ length (came.made ++ more) + 1
+      count = omega (arith, length-append came.made more)
+
+      is : (readings : Readings) → Agree readings 1 (came.made ++ more)
+          → meaning_of_tasks compiled (map binding_read binds) readings 1 start tasks
+          ≡ asking (names_of (came.made ++ more)) (before_text (came.text ++ left.left.text) (meaning_of_tasks compiled (map binding_read binds) readings (length (came.made ++ more) + 1) left.left.state rest'))
+      is readings agree =
+          let two = agree_twice readings 1 (length came.made + 1) came.made more refl agree in
+          let step : meaning_of_tasks compiled (map binding_read binds) readings (length came.made + 1) came.state rest
+          ≡ asking (names_of more) (before_text left.left.text (meaning_of_tasks compiled (map binding_read binds) readings (length more + (length came.made + 1)) left.left.state rest')) =
+          ap (meaning_of_tasks compiled (map binding_read binds) readings (length came.made + 1) came.state) split
+          ∙ one_task compiled binds readings (length came.made + 1) came.state task rest' given did.has two.1
+          ∙ ap (λ (a : Result Left RunRefusal). asking (names_of more) (after_task compiled came.state (file task) task (λ following. meaning_of_tasks compiled (map binding_read binds) readings (length more + (length came.made + 1)) following rest') a)) left.is in
+          came.is readings two.0
+          ∙ ap (λ (m : Meaning). asking (names_of came.made) (before_text came.text m)) step
+          ∙ regrouped compiled binds (names_of came.made) (names_of more) came.text left.left.text (meaning_of_tasks compiled (map binding_read binds) readings (length more + (length came.made + 1)) left.left.state rest')
+          ∙ ap (λ (names : List (List ℕ)). asking names (before_text (came.text ++ left.left.text) (meaning_of_tasks compiled (map binding_read binds) readings (length more + (length came.made + 1)) left.left.state rest'))) (sym (names_twice came.made more))
+          ∙ ap (λ (n : ℕ). asking (names_of (came.made ++ more)) (before_text (came.text ++ left.left.text) (meaning_of_tasks compiled (map binding_read binds) readings n left.left.state rest'))) count
+
+  -- the rest of the tasks went, so all did
+  pub came_went : (start : FlatState) (tasks rest : List Task) (stores : List StoreWords) (before now after : Outside) (result : Result Done (Stop PutFailed))
+      → (came : Came compiled (map binding_read binds) start tasks rest stores before now)
+      → Went (λ readings. meaning_of_tasks compiled (map binding_read binds) readings (length came.made + 1) came.state rest) (length came.made + 1) now after result
+      → Went (λ readings. meaning_of_tasks compiled (map binding_read binds) readings 1 start tasks) 1 before after result
+  came_went start tasks rest stores before now after result came went =
+      compose _ _ 1 (length came.made + 1) came.made came.text before now after result refl came.is came.grew came.asked came.reads came.held came.none went
+
+  -- no task is left
+  pub went_all : (start : FlatState) (tasks rest : List Task) (before now : Outside) (session : SessionParts) → rest ≡ [] → session.compiled ≡ compiled
+      → Came compiled (map binding_read binds) start tasks rest session.stores before now
+      → Went (λ readings. meaning_of_tasks compiled (map binding_read binds) readings 1 start tasks) 1 before now (ended_with session (Ok 0))
+  went_all start tasks rest before now session none same came =
+      came_went start tasks rest session.stores before now now (ended_with session (Ok 0)) came
+      (went_still _ (length came.made + 1) now now (ended_with session (Ok 0)) (λ readings. subst (λ (m : Meaning). WentAlong m now.written now.written (ended_with session (Ok 0))) (sym (is readings)) along)
+      (λ readings. ap (λ (m : Meaning). m.asked) (is readings)) refl refl refl (λ e. absurd (omega arith)))
+    where
+      is : (readings : Readings) → meaning_of_tasks compiled (map binding_read binds) readings (length came.made + 1) came.state rest ≡ all_done [] came.state
+      is readings = ap (meaning_of_tasks compiled (map binding_read binds) readings (length came.made + 1) came.state) none ∙ tasks_none compiled binds readings (length came.made + 1) came.state
+
+      along : WentAlong (all_done [] came.state) now.written now.written (ended_with session (Ok 0))
+      along = record {
+        bytes = sym (followed_by-nil now.written);
+        status = refl;
+        last = subst (λ (c : CompiledProgram). StandForState c.layouts session.stores came.state) (sym same) came.stand;
+      }
+
+  -- ---- where a task cuts the run short, or ends it
+
+  -- what stands behind a task that read what was given
+  abbrev behind : (state : FlatState) (task : Task) (rest : List Task) (given : Reading) (n : ℕ) → Readings → Meaning
+  behind state task rest given n readings =
+      after_task compiled state (file task) task (λ next. meaning_of_tasks compiled (map binding_read binds) readings (length (load_reads (file task) given) + n) next rest) (task_meaning compiled state task given)
+
+  -- what stands behind a task goes on after its reads
+  went_behind : (n : ℕ) (state : FlatState) (task : Task) (rest rest' : List Task) (stores : List StoreWords) (answer : Result Text (Stop RunRefusal)) (now mid after : Outside) (result : Result Done (Stop PutFailed))
+      → rest ≡ task ∷ rest' → IsNoRead answer → (did : Stepped compiled binds state task stores answer now mid) → mid.written ≡ now.written
+      → Went (behind state task rest' did.chosen.0 n) (length (load_reads (file task) did.chosen.0) + n) mid after result
+      → Went (λ readings. meaning_of_tasks compiled (map binding_read binds) readings n state rest) n now after result
+  went_behind n state task rest rest' stores answer now mid after result split no_read did same went =
+      compose _ (behind state task rest' did.chosen.0 n) n (length (load_reads (file task) did.chosen.0) + n) (load_reads (file task) did.chosen.0) [] now mid after result refl
+      (λ readings agree. ap (meaning_of_tasks compiled (map binding_read binds) readings n state) split ∙ one_task compiled binds readings n state task rest' did.chosen.0 did.has agree)
+      (same ∙ sym (followed_by-nil now.written)) (step_asked state task stores answer now mid did.chosen.0 did) (step_reads state task stores answer now mid did.chosen.0 did)
+      did.held (step_none state task stores answer now mid no_read did) went
+
+  behind_ends : (state : FlatState) (task : Task) (rest : List Task) (given : Reading) (n : ℕ) (readings : Readings) → EndsInLine (behind state task rest given n readings)
+  behind_ends state task rest given n readings =
+      after_ends compiled (map binding_read binds) state (file task) task (λ next. meaning_of_tasks compiled (map binding_read binds) readings (length (load_reads (file task) given) + n) next rest) (task_meaning compiled state task given)
+      (λ next. tasks_end compiled (map binding_read binds) readings (length (load_reads (file task) given) + n) next rest)
+
+  -- the put of the task's text failed, or there was no memory for it
+  pub cut_in_send : (start : FlatState) (tasks rest rest' : List Task) (task : Task) (stores stores' : List StoreWords) (text : Text) (before now mid after : Outside) (why : Stop PutFailed)
+      → rest ≡ task ∷ rest' → (came : Came compiled (map binding_read binds) start tasks rest stores before now)
+      → Stepped compiled binds came.state task stores' (Ok text) now mid → mid.written ≡ now.written
+      → Sends {A = Unit} (Err why) mid.written after.written text.bytes → after.asked ≡ mid.asked → after.reads ≡ mid.reads → after.failed_reads ≡ mid.failed_reads
+      → Went (λ readings. meaning_of_tasks compiled (map binding_read binds) readings 1 start tasks) 1 before after (Err why)
+  cut_in_send start tasks rest rest' task stores stores' text before now mid after why split came did same sent asked reads faults =
+      came_went start tasks rest stores before now after (Err why) came
+      (went_behind (length came.made + 1) came.state task rest rest' stores' (Ok text) now mid after (Err why) split (λ f e. absurd (cc)) did same (went why sent))
+    where
+      left : Leaves compiled.layouts stores' text.bytes (task_meaning compiled came.state task did.chosen.0)
+      left = did.chosen.1
+
+      n : ℕ
+      n = length came.made + 1
+
+      k : ℕ
+      k = length (load_reads (file task) did.chosen.0) + n
+
+      is : (readings : Readings) → behind came.state task rest' did.chosen.0 n readings ≡ before_text left.left.text (meaning_of_tasks compiled (map binding_read binds) readings k left.left.state rest')
+      is readings = ap (λ (a : Result Left RunRefusal). after_task compiled came.state (file task) task (λ next. meaning_of_tasks compiled (map binding_read binds) readings k next rest') a) left.is
+
+      went : (w : Stop PutFailed) → Sends {A = Unit} (Err w) mid.written after.written text.bytes → Went (behind came.state task rest' did.chosen.0 n) k mid after (Err w)
+      went stop.Memory nothing = went_memory (behind came.state task rest' did.chosen.0 n) k mid after (behind_ends came.state task rest' did.chosen.0 n) nothing asked reads faults
+      went (stop.Refused failed) part =
+          went_still (behind came.state task rest' did.chosen.0 n) k mid after (Err (stop.Refused failed))
+          (λ readings. subst (λ (m : Meaning). WentAlong m mid.written after.written (Err (stop.Refused failed))) (sym (is readings))
+          (went_part left.left.text (meaning_of_tasks compiled (map binding_read binds) readings k left.left.state rest') mid.written after.written failed
+          (subst (λ (t : List ℕ). GrewByPart mid.written after.written t) left.text_is part)))
+          (λ readings. ((behind came.state task rest' did.chosen.0 n readings).asked, refl)) asked reads faults tt
+
+  -- there was no memory for the task
+  pub cut_in_step : (start : FlatState) (tasks rest rest' : List Task) (task : Task) (stores stores' : List StoreWords) (before now after : Outside)
+      → rest ≡ task ∷ rest' → (came : Came compiled (map binding_read binds) start tasks rest stores before now)
+      → Stepped compiled binds came.state task stores' (Err stop.Memory) now after → after.written ≡ now.written
+      → Went (λ readings. meaning_of_tasks compiled (map binding_read binds) readings 1 start tasks) 1 before after (Err stop.Memory)
+  cut_in_step start tasks rest rest' task stores stores' before now after split came did same =
+      came_went start tasks rest stores before now after (Err stop.Memory) came
+      (went_behind (length came.made + 1) came.state task rest rest' stores' (Err stop.Memory) now after after (Err stop.Memory) split (λ f e. absurd (cc)) did same
+      (went_memory (behind came.state task rest' did.chosen.0 (length came.made + 1)) (length (load_reads (file task) did.chosen.0) + (length came.made + 1)) after after
+      (behind_ends came.state task rest' did.chosen.0 (length came.made + 1)) refl refl refl refl))
+
+  -- what was written of a last line goes along with it
+  along_line : (state : FlatState) (last : LastLine) (old new : Option (List ℕ)) (session : SessionParts) (answer : Result ℕ (Stop PutFailed))
+      → WroteAll answer (line_text last) last.status old new → IfOk answer (λ status. status ≡ last.status) → session.compiled ≡ compiled → StandForState compiled.layouts session.stores state
+      → WentAlong (refused_with (Some state) last) old new (ended_with session answer)
+  along_line state last old new session (Ok status) wrote is same stand =
+      record { bytes = wrote; status = is; last = subst (λ (c : CompiledProgram). StandForState c.layouts session.stores state) (sym same) stand }
+  along_line state last old new session (Err why) wrote is same stand = record { bytes = wrote; status = tt; last = tt }
+
+  none_asked : (session : SessionParts) (answer : Result ℕ (Stop PutFailed)) → AskedAll (ended_with session answer) [] []
+  none_asked session (Ok status) = refl
+  none_asked session (Err why) = ([], refl)
+
+  other_status : (session : SessionParts) (answer : Result ℕ (Stop PutFailed)) (line : ℕ) → IfOk answer (λ status. status ≡ line) → line ≢ 2 → IfOk (ended_with session answer) (λ done. done.status ≢ 2)
+  other_status session (Ok status) line is other = λ two. other (sym is ∙ two)
+  other_status session (Err why) line is other = tt
+
+  two_status : (session : SessionParts) (answer : Result ℕ (Stop PutFailed)) → IfOk answer (λ status. status ≡ 2) → IfOk (ended_with session answer) (λ done. done.status ≡ 2)
+  two_status session (Ok status) is = is
+  two_status session (Err why) is = tt
+
+  -- the task was refused, and its line written
+  pub ended_in_task : (start : FlatState) (tasks rest rest' : List Task) (task : Task) (stores : List StoreWords) (session : SessionParts) (before now mid after : Outside) (why : RunRefusal) (answer : Result ℕ (Stop PutFailed))
+      → rest ≡ task ∷ rest' → session.compiled ≡ compiled → (came : Came compiled (map binding_read binds) start tasks rest stores before now)
+      → Stepped compiled binds came.state task session.stores (Err (stop.Refused why)) now mid → session.stores ≡ stores → mid.written ≡ now.written
+      → WroteAll answer (line_text (run_last compiled.names (file_of_task compiled (map binding_read binds) task) task why)) (run_last compiled.names (file_of_task compiled (map binding_read binds) task) task why).status mid.written after.written
+      → IfOk answer (λ status. status ≡ (run_last compiled.names (file_of_task compiled (map binding_read binds) task) task why).status)
+      → after.asked ≡ mid.asked → after.reads ≡ mid.reads → after.failed_reads ≡ mid.failed_reads
+      → Went (λ readings. meaning_of_tasks compiled (map binding_read binds) readings 1 start tasks) 1 before after (ended_with session answer)
+  ended_in_task start tasks rest rest' task stores session before now mid after why answer split same came did stay written wrote status asked reads faults =
+      came_went start tasks rest stores before now after (ended_with session answer) came (by_read (is_read why) refl)
+    where
+      n : ℕ
+      n = length came.made + 1
+
+      last : LastLine
+      last = run_last compiled.names (file task) task why
+
+      stand : StandForState compiled.layouts session.stores came.state
+      stand = subst (λ (s : List StoreWords). StandForState compiled.layouts s came.state) (sym stay) came.stand
+
+      by_read : (test : Bool) → is_read why ≡ test → Went (λ readings. meaning_of_tasks compiled (map binding_read binds) readings n came.state rest) n now after (ended_with session answer)
+      by_read false no_read =
+          went_behind n came.state task rest rest' session.stores (Err (stop.Refused why)) now mid after (ended_with session answer) split (no_read_refusal why no_read) did written
+          (went_still (behind came.state task rest' did.chosen.0 n) (length (load_reads (file task) did.chosen.0) + n) mid after (ended_with session answer)
+          (λ readings. subst (λ (m : Meaning). WentAlong m mid.written after.written (ended_with session answer)) (sym (is readings)) (along_line came.state last mid.written after.written session answer wrote status same stand))
+          (λ readings. subst (λ (m : Meaning). AskedAll (ended_with session answer) m.asked []) (sym (is readings)) (none_asked session answer))
+          asked reads faults (other_status session answer last.status status (no_read_status compiled.names (file task) task why no_read)))
+        where
+          is : (readings : Readings) → behind came.state task rest' did.chosen.0 n readings ≡ refused_with (Some came.state) last
+          is readings =
+              ap (λ (a : Result Left RunRefusal). after_task compiled came.state (file task) task (λ next. meaning_of_tasks compiled (map binding_read binds) readings (length (load_reads (file task) did.chosen.0) + n) next rest') a) did.chosen.1
+      by_read true read = by_why why refl read where
+        by_why : (w : RunRefusal) → why ≡ w → is_read w ≡ true → Went (λ readings. meaning_of_tasks compiled (map binding_read binds) readings n came.state rest) n now after (ended_with session answer)
+        by_why (refusal.Read field) is_it sure = by_file (file task) refl where
+          line : LastLine
+          line = run_last compiled.names (file task) task (refusal.Read field)
+
+          means : task_meaning compiled came.state task did.chosen.0 ≡ Err (refusal.Read field)
+          means = did.chosen.1 ∙ ap (λ (w : RunRefusal). let r : Result Left RunRefusal = Err w in r) is_it
+
+          missing : did.chosen.0 ≡ Missing
+          missing = read_refused compiled came.state task did.chosen.0 field means
+
+          by_file : (f : Option (List ℕ)) → file task ≡ f → Went (λ readings. meaning_of_tasks compiled (map binding_read binds) readings n came.state rest) n now after (ended_with session answer)
+          by_file None none = absurd (no_load task did.has none means) where
+            no_load : (t : Task) → HasFile compiled binds t → file t ≡ None → task_meaning compiled came.state t did.chosen.0 ≡ Err (refusal.Read field) → ⊥
+            no_load (Load at) has nothing e = some_none (commands.file_of compiled binds (Load at)) has (same_files compiled binds (Load at) ∙ nothing)
+            no_load (Run kernel) has nothing e = absurd_run (commands.after_kernel compiled.layouts came.state (slice_get compiled.kernels kernel)) e where
+              absurd_run : (a : Result FlatState RunFault) → ◌≡◌ {A = Result Left RunRefusal} (fault_as (refusal.Run (Some kernel)) a >>= (λ next. Ok (commands.without_text next))) (Err (refusal.Read field)) → ⊥
+              absurd_run (Ok next) h = absurd (cc)
+              absurd_run (Err fault) h = absurd (cc)
+            no_load (Dump at) has nothing e = absurd (cc)
+          by_file (Some name) some =
+              went_failed (λ readings. meaning_of_tasks compiled (map binding_read binds) readings n came.state rest) (refused_with (Some came.state) line) n name most_grid_bytes now after (ended_with session answer)
+              is refl (along_line came.state line now.written after.written session answer
+              (subst (λ (w : RunRefusal). WroteAll answer (line_text (run_last compiled.names (file task) task w)) (run_last compiled.names (file task) task w).status now.written after.written) is_it
+              (subst (λ (old : Option (List ℕ)). WroteAll answer (line_text last) last.status old after.written) written wrote))
+              (subst (λ (w : RunRefusal). IfOk answer (λ s. s ≡ (run_last compiled.names (file task) task w).status)) is_it status) same stand)
+              (asked ∙ step_asked came.state task session.stores (Err (stop.Refused why)) now mid did.chosen.0 did ∙ ap (λ (f : Option (List ℕ)). asked_more now.asked (names_of (load_reads f did.chosen.0))) some)
+              (reads ∙ step_reads came.state task session.stores (Err (stop.Refused why)) now mid did.chosen.0 did ∙ ap (λ (f : Option (List ℕ)). counted_more now.reads (names_of (load_reads f did.chosen.0))) some)
+              (subst (λ (c : ℕ). Rose now.failed_reads c) (sym faults) (subst (λ (w : RunRefusal). StepCause (Err (stop.Refused w)) now.failed_reads mid.failed_reads) is_it did.cause))
+              (two_status session answer (subst (λ (w : RunRefusal). IfOk answer (λ s. s ≡ (run_last compiled.names (file task) task w).status)) is_it status))
+            where
+              is : (readings : Readings) → readings (suc n) name most_grid_bytes ≡ Missing → meaning_of_tasks compiled (map binding_read binds) readings n came.state rest ≡ asking (name ∷ []) (refused_with (Some came.state) line)
+              is readings failed =
+                  ap (meaning_of_tasks compiled (map binding_read binds) readings n came.state) split
+                  ∙ tasks_step compiled binds readings n came.state task rest'
+                  ∙ ap (λ (f : Option (List ℕ)). task_and_more compiled readings n came.state task (λ following next. meaning_of_tasks compiled (map binding_read binds) readings following next rest') f) some
+                  ∙ ap (λ (r : Reading). asking (name ∷ []) (after_task compiled came.state (Some name) task (λ next. meaning_of_tasks compiled (map binding_read binds) readings (suc n) next rest') (task_meaning compiled came.state task r))) (failed ∙ sym missing)
+                  ∙ ap (λ (a : Result Left RunRefusal). asking (name ∷ []) (after_task compiled came.state (Some name) task (λ next. meaning_of_tasks compiled (map binding_read binds) readings (suc n) next rest') a)) means
+                  ∙ ap (λ (f : Option (List ℕ)). asking (name ∷ []) (refused_with (Some came.state) (run_last compiled.names f task (refusal.Read field)))) (sym some)
+        by_why (refusal.GridBytes field) is_it sure = absurd (cc)
+        by_why (refusal.GridRows field) is_it sure = absurd (cc)
+        by_why (refusal.Grid field l) is_it sure = absurd (cc)
+        by_why (refusal.Run kernel fault) is_it sure = absurd (cc)
+
+-- ---- from the clauses of a step
+
+pub head_of : {A : Type 0} (P : A → Type 0) (xs rest : List A) (x : A) → xs ≡ x ∷ rest → AllByRecursion P xs → P x
+head_of P xs rest x split all = (subst (AllByRecursion P) split all).0
+
+pub tail_of : {A : Type 0} (P : A → Type 0) (xs rest : List A) (x : A) → xs ≡ x ∷ rest → AllByRecursion P xs → AllByRecursion P rest
+tail_of P xs rest x split all = (subst (AllByRecursion P) split all).1
+
+-- what a step of a session of this program did
+pub stepped : (compiled other : CompiledProgram) (binds : List Bind) (state : FlatState) (task : Task) (stores stores' : List StoreWords) (result : Result Text (Stop RunRefusal)) (now next : Outside)
+    → other ≡ compiled → StandForState compiled.layouts stores state → HasFile compiled binds task
+    → ((h : Held) → now.held ≡ Some h → (s : FlatState) → StandForState other.layouts stores s
+    → Performs other.layouts stores' result (task_meaning other s task (reading_of h (commands.file_of other binds task) result)))
+    → ((s : FlatState) → StandForState other.layouts stores s → (given : Reading) × Performs other.layouts stores' result (task_meaning other s task given))
+    → next.asked ≡ asked_after (commands.file_of other binds task) now.asked → next.reads ≡ reads_after (commands.file_of other binds task) now.reads
+    → StepCause result now.failed_reads next.failed_reads → next.held ≡ now.held → Stepped compiled binds state task stores' result now next
+stepped compiled other binds state task stores stores' result now next same stand has told performed asked reads cause held =
+    record {
+      has = has;
+      chosen = given_chosen now.held (commands.file_of compiled binds task) result compiled.layouts stores' (task_meaning compiled state task)
+          (subst (λ (c : CompiledProgram). (h : Held) → now.held ≡ Some h → Performs c.layouts stores' result (task_meaning c state task (reading_of h (commands.file_of c binds task) result))) same
+          (λ h e. told h e state stand_other))
+          (subst (λ (c : CompiledProgram). (given : Reading) × Performs c.layouts stores' result (task_meaning c state task given)) same (performed state stand_other));
+      asked = asked ∙ ap (λ (c : CompiledProgram). asked_after (commands.file_of c binds task) now.asked) same;
+      reads = reads ∙ ap (λ (c : CompiledProgram). reads_after (commands.file_of c binds task) now.reads) same;
+      cause = cause;
+      held = held;
+    }
+  where
+    stand_other : StandForState other.layouts stores state
+    stand_other = subst (λ (c : CompiledProgram). StandForState c.layouts stores state) (sym same) stand
+
+-- a line that was written in the words of a session's program
+pub line_of : (compiled other : CompiledProgram) (binds : List Bind) (task : Task) (why : RunRefusal) (answer : Result ℕ (Stop PutFailed)) (old new : Option (List ℕ)) → other ≡ compiled
+    → WroteAll answer (line_text (run_last other.names (file_of_task other (map binding_read binds) task) task why)) (run_last other.names (file_of_task other (map binding_read binds) task) task why).status old new
+    → WroteAll answer (line_text (run_last compiled.names (file_of_task compiled (map binding_read binds) task) task why)) (run_last compiled.names (file_of_task compiled (map binding_read binds) task) task why).status old new
+line_of compiled other binds task why answer old new same wrote =
+    subst (λ (c : CompiledProgram). WroteAll answer (line_text (run_last c.names (file_of_task c (map binding_read binds) task) task why)) (run_last c.names (file_of_task c (map binding_read binds) task) task why).status old new) same wrote
+
+pub line_status_of : (compiled other : CompiledProgram) (binds : List Bind) (task : Task) (why : RunRefusal) (answer : Result ℕ (Stop PutFailed)) → other ≡ compiled
+    → IfOk answer (λ status. status ≡ (run_last other.names (file_of_task other (map binding_read binds) task) task why).status)
+    → IfOk answer (λ status. status ≡ (run_last compiled.names (file_of_task compiled (map binding_read binds) task) task why).status)
+line_status_of compiled other binds task why answer same is =
+    subst (λ (c : CompiledProgram). IfOk answer (λ status. status ≡ (run_last c.names (file_of_task c (map binding_read binds) task) task why).status)) same is

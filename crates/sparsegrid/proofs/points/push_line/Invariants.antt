@@ -1,6 +1,0 @@
-use Rattle.std.proofs.Common.{◌≡◌, ◌++◌, map, take}
-use Rattle.sparsegrid.specs.steps.Evaluation.{parts, with_third}
-use Rattle.sparsegrid.proofs.points.push_line.Given as goal
-
-abbrev pub invariant-loop-k : goal.invariant-loop-k
-invariant-loop-k l = l.points ≡ l.fn.points ++ map (with_third l.line) (take l.k (parts l.cells))

@@ -1,0 +1,30 @@
+use Rattle.std.proofs.Common.{refl, map, Err}
+use Rattle.sg_flat.specs.State.{opening}
+use Rattle.sparsegrid.specs.Words.{binding_read}
+use Rattle.sparsegrid.specs.Meaning.{meaning_of_tasks}
+use Rattle.sparsegrid.proofs.Bound.{all_bound}
+use Rattle.sparsegrid.proofs.Going.{went_memory}
+use Rattle.sparsegrid.proofs.Tasks.{tasks_end}
+use Rattle.sparsegrid.proofs.Sources.{from_opened, went_kept}
+use Rattle.sparsegrid.proofs.session.perform_tasks.Goals as goal
+
+pub drive-requires-clause-bound : goal.drive-requires-clause-bound
+drive-requires-clause-bound g c = rw c.in-Ok.ensures.compiled (all_bound c.args.compiled c.args.binds.now.list c.args.tasks.now c.requires.bound)
+
+pub returns-in-Ok-drive-clause-went : goal.returns-in-Ok-drive-clause-went
+returns-in-Ok-drive-clause-went g c =
+    let compiled = c.args.compiled in
+    let bindings = map binding_read c.args.binds.now.list in
+    went_kept (λ readings. meaning_of_tasks compiled bindings readings 1 (opening compiled.layouts) c.args.tasks.now) 1 _ _ _ c.in-Ok-drive.status c.done_with.result c.done_with.ensures.status c.done_with.ensures.same
+    (from_opened compiled bindings c.args.tasks.now _ _ c.in-Ok.opened _ c.in-Ok.ensures.compiled c.in-Ok.ensures.opening c.in-Ok-drive.ensures.went)
+
+pub returns-in-Err-drive-clause-went : goal.returns-in-Err-drive-clause-went
+returns-in-Err-drive-clause-went g c =
+    from_opened c.args.compiled (map binding_read c.args.binds.now.list) c.args.tasks.now _ _ c.in-Ok.opened (Err c.in-Err-drive.why) c.in-Ok.ensures.compiled c.in-Ok.ensures.opening c.in-Err-drive.ensures.went
+
+pub returns-in-Err-clause-went : goal.returns-in-Err-clause-went
+returns-in-Err-clause-went g c =
+    let compiled = c.args.compiled in
+    let bindings = map binding_read c.args.binds.now.list in
+    went_memory (λ readings. meaning_of_tasks compiled bindings readings 1 (opening compiled.layouts) c.args.tasks.now) 1 _ _
+    (λ readings. tasks_end compiled bindings readings 1 (opening compiled.layouts) c.args.tasks.now) refl refl refl refl

@@ -1,0 +1,82 @@
+//! The tasks of a program, performed one after the other.
+
+ghost use Rattle.std.specs.Prelude.{◌≡◌, ◌≢◌, ◌≤◌, map, None, IfOk};
+ghost use Rattle.std.specs.List.{AllByRecursion};
+ghost use Rattle.sg_flat.specs.declared.state.FlatState.{FlatState};
+ghost use Rattle.sg_exec.specs.Standing.{StandForState};
+ghost use Rattle.sg_session.specs.Compiled.{IsTask};
+ghost use Rattle.sg_session.specs.Performed.{HasFile};
+ghost use Rattle.sparsegrid.specs.Words.{binding_read};
+ghost use Rattle.sparsegrid.specs.Lines.{run_last};
+ghost use Rattle.sparsegrid.specs.Meaning.{file_of_task, meaning_of_tasks};
+ghost use Rattle.sparsegrid.specs.Outcome.{outside};
+ghost use Rattle.sparsegrid.specs.steps.Along.{SendCause, WroteAll, Went, line_text, ended_with};
+
+use crate::output::{PutFailed, send, send_last};
+use crate::run_line::run_last;
+use crate::unbound::file_of_task;
+use sg_outside::{Files, Sink};
+use sg_session::{Binds, Compiled, RunRefusal, Session, Task};
+use sg_words::{Memory, Stop};
+use std::alloc::Global;
+
+/// Performs tasks in order and writes their texts, up to the first that is refused, whose last line it writes. Gives the status: 0 where
+/// none is refused. The file of the program was read before.
+pub fn drive<F: Files, S: Sink>(
+    alloc: Global,
+    session: &mut Session,
+    tasks: &[Task],
+    binds: &Binds,
+    files: &mut F,
+    out: &mut S,
+) -> Result<u8, Stop<PutFailed>>
+    requires there { AllByRecursion (IsTask session.old.compiled) tasks.now }
+    requires bound { AllByRecursion (HasFile session.old.compiled binds.now.list) tasks.now }
+    ensures went { (state : FlatState) → StandForState session.old.compiled.layouts session.old.stores state →
+        Went (λ readings. meaning_of_tasks session.old.compiled (map binding_read binds.now.list) readings 1 state tasks.now) 1
+        (outside F.Files S.Sink files.old out.old) (outside F.Files S.Sink files.new out.new) (ended_with session.new result) }
+    ensures compiled { session.new.compiled ≡ session.old.compiled }
+    ensures holds { F.holds files.new ≡ F.holds files.old }
+    ensures never_falls { F.faults files.old ≤ F.faults files.new }
+    ensures cause { SendCause result (S.faults out.old) (S.faults out.new) }
+    ensures status { IfOk result (λ status. (status ≢ 3) × (status ≢ 9)) }
+{
+    for task in tasks {
+        match session.step(alloc, *task, binds, files) {
+            Ok(text) => match send(out, text.bytes.as_slice()) {
+                Ok(()) => {}
+                Err(why) => return Err(why),
+            },
+            Err(Stop::Refused(refusal)) => {
+                return refuse_task(alloc, out, &session.compiled, binds, *task, refusal);
+            }
+            Err(Stop::Memory) => return Err(Stop::Memory),
+        }
+    }
+    Ok(0)
+}
+
+/// Writes the last line of a refused task, and gives its status.
+fn refuse_task<S: Sink>(
+    alloc: Global,
+    out: &mut S,
+    compiled: &Compiled,
+    binds: &Binds,
+    task: Task,
+    refusal: RunRefusal,
+) -> Result<u8, Stop<PutFailed>>
+    requires { IsTask compiled.now task }
+    ensures wrote { WroteAll result
+        (line_text (run_last compiled.now.names (file_of_task compiled.now (map binding_read binds.now.list) task) task refusal))
+        (run_last compiled.now.names (file_of_task compiled.now (map binding_read binds.now.list) task) task refusal).status
+        (S.has out.old) (S.has out.new) }
+    ensures cause { SendCause result (S.faults out.old) (S.faults out.new) }
+    ensures status { IfOk result (λ status. status ≡
+        (run_last compiled.now.names (file_of_task compiled.now (map binding_read binds.now.list) task) task refusal).status) }
+{
+    let file = file_of_task(compiled, binds, task);
+    match run_last(alloc, compiled, file, task, refusal) {
+        Ok(last) => send_last(alloc, out, &last),
+        Err(Memory) => Err(Stop::Memory),
+    }
+}

@@ -1,0 +1,133 @@
+//! Programs that are refused by layouts, admission and commands.
+
+use super::setting::compare;
+use std::test::Fail;
+
+static LAYOUTS: &[(&str, u8, &str)] = &[
+    (
+        "layout A(i) { dense(i: 3); field x: i32; }",
+        5,
+        "refused: layout: A node 1 rule 1\n",
+    ),
+    (
+        "layout A(i) { dense(i: 4); dense(i: 0); field x: i32; }",
+        5,
+        "refused: layout: A node 2 rule 1\n",
+    ),
+    (
+        "layout A(i) { dense(i: 4); hash(i: 4) cap 2; field x: i32; }",
+        5,
+        "refused: layout: A node 2 rule 2\n",
+    ),
+    (
+        "layout A(i) { dense(j: 4); field x: i32; }",
+        5,
+        "refused: layout: A node 1 rule 3\n",
+    ),
+    (
+        "layout A(i) { pointer(i: 4) cap 0; field x: i32; }",
+        5,
+        "refused: layout: A node 1 rule 5\n",
+    ),
+    (
+        "layout A(i) { dense(i: 32768); dense(i: 2); field x: i32; }",
+        8,
+        "refused: limit: layout A\n",
+    ),
+    (
+        "layout A(i, j) { dense(i: 32768, j: 32768); field x: i32; }",
+        8,
+        "refused: limit: words\n",
+    ),
+    // the first layout, and layouts before types
+    (
+        "layout A(i) { dense(i: 4); field x: i32; } layout B(i) { dense(i: 3); field y: i32; } layout C(i) { pointer(i: 4) cap 0; field z: i32; } \
+         kernel k { for i in A { x[i] = true; } }",
+        5,
+        "refused: layout: B node 1 rule 1\n",
+    ),
+];
+
+#[test]
+fn layouts_that_break_rules(rt: HostRuntime) -> Result<(), Fail> {
+    compare(&rt, rt.alloc(), LAYOUTS)
+}
+
+static KERNELS: &[(&str, u8, &str)] = &[
+    (
+        "layout A(i) { dense(i: 1); field x: i32; } kernel k { for i in A { x[i] = 1; x[i] += 1; } }",
+        5,
+        "refused: admission: kernel k statement 2 rule 1\n",
+    ),
+    (
+        "layout A(i) { dense(i: 8); field x: i32; } kernel k { for i in 0..1 { x[i] = x[i - 1] + 4; } }",
+        5,
+        "refused: admission: kernel k statement 1 rule 2\n",
+    ),
+    (
+        "layout A(i, j) { dense(i: 1, j: 1); field x: i32; } kernel k { for i, j in A { let a = 1; x[j, i] = a; } }",
+        5,
+        "refused: admission: kernel k statement 2 rule 2\n",
+    ),
+    (
+        "layout A(i) { dense(i: 1); field x: i32; } kernel k { for i in A { x[i] += x[i]; } }",
+        5,
+        "refused: admission: kernel k statement 1 rule 3\n",
+    ),
+    (
+        "layout B(i) { pointer(i: 4) cap 2; dense(i: 4); field x: i32; } layout C(i) { dense(i: 32); field y: i32; } \
+         kernel k { for i in B { if x[i] > 0 { y[i + 1] += 1; x[i] = 0; } } }",
+        5,
+        "refused: admission: kernel k statement 2 rule 4\n",
+    ),
+    (
+        "layout A(i) { dense(i: 1); field x: i32; } kernel k { for i in A { for p in 0..i { let a = p; } } }",
+        5,
+        "refused: admission: kernel k statement 1 rule 5\n",
+    ),
+    (
+        "layout A(i) { dense(i: 1); field x: i32; } kernel k { for i in 0..1048577 { x[i] = 1; } }",
+        8,
+        "refused: limit: box k\n",
+    ),
+    // the first kernel
+    (
+        "layout A(i) { dense(i: 1); field x: i32; } kernel a { for i in A { x[i] = 1; } } kernel b { for i in A { x[i + 0] = 1; } } kernel c { for i in A { x[i] += x[i]; } }",
+        5,
+        "refused: admission: kernel b statement 1 rule 2\n",
+    ),
+];
+
+#[test]
+fn kernels_that_are_not_admitted(rt: HostRuntime) -> Result<(), Fail> {
+    compare(&rt, rt.alloc(), KERNELS)
+}
+
+static COMMANDS: &[(&str, u8, &str)] = &[
+    (
+        "kernel k { for i in 0..1 { let a = i; } } times 0 { run k; }",
+        5,
+        "refused: command: item 2\n",
+    ),
+    (
+        "kernel k { for i in 0..1 { let a = i; } } times 1001 { run k; }",
+        8,
+        "refused: limit: times\n",
+    ),
+    // admission comes first, and of two commands the first
+    (
+        "layout A(i) { dense(i: 1); field x: i32; } kernel k { for i in A { x[i] += x[i]; } } times 0 { run k; }",
+        5,
+        "refused: admission: kernel k statement 1 rule 3\n",
+    ),
+    (
+        "kernel k { for i in 0..1 { let a = i; } } times 1001 { run k; } times 0 { run k; }",
+        8,
+        "refused: limit: times\n",
+    ),
+];
+
+#[test]
+fn commands_that_break_rules(rt: HostRuntime) -> Result<(), Fail> {
+    compare(&rt, rt.alloc(), COMMANDS)
+}

@@ -1,0 +1,43 @@
+//! What mode check writes.
+
+use super::setting::Setting;
+use std::test::Fail;
+
+static CHECKS: &[(&str, u8, &str)] = &[
+    ("", 0, ""),
+    (
+        "layout A(i) { dense(i: 4); field x: i32; } kernel k { for i in 0..4 { x[i] = i; } } kernel m { for i in A { x[i] = 1; } } \
+         kernel n { for i in A { if x[i] != 0 { x[i] = x[i] * 2; } } } kernel o { for i in A { if (x[i] != 0) { x[i] = x[i] * 2; } } } run k; dump x;",
+        0,
+        "kernel k neutral\nkernel m layout-bound\nkernel n neutral\nkernel o layout-bound\n",
+    ),
+    ("@", 4, "refused: bad byte: line 1\n"),
+    (
+        "layout A(i) { dense(i: 1); field x: i32; } kernel k { for i in A { x[i] += x[i]; } }",
+        5,
+        "refused: admission: kernel k statement 1 rule 3\n",
+    ),
+];
+
+#[test]
+fn checks(rt: HostRuntime) -> Result<(), Fail> {
+    for (source, status, text) in CHECKS {
+        let setting = Setting {
+            words: &["--mode=check", "p.sg"],
+            ..Setting::of(source)
+        };
+        setting.ends(&rt, rt.alloc(), *status, text)?;
+    }
+    Ok(())
+}
+
+#[test]
+fn a_check_whose_put_fails(rt: HostRuntime) -> Result<(), Fail> {
+    let setting = Setting {
+        words: &["--mode=check", "p.sg"],
+        failing_puts: &[1],
+        take: 6,
+        ..Setting::of("kernel k { for i in 0..4 { let a = i; } }")
+    };
+    setting.ends(&rt, rt.alloc(), 3, "kernel")
+}

@@ -1,0 +1,152 @@
+//! Loads of files, and reads that fail.
+
+use super::setting::Setting;
+use std::alloc::Global;
+use std::process::Abort;
+use std::test::Fail;
+use std::thread::Threads;
+
+static BLOCKS: &str = "layout B(i) { pointer(i: 4) cap 2; dense(i: 4); field x: i32; } load x;";
+
+/// The loaded file, the status, and what is written.
+static GRIDS: &[(&[(&str, &str)], u8, &str)] = &[
+    (&[("g", "grid 1 0\n")], 0, ""),
+    (&[("g", "grid 1 1\n0 5\n")], 0, ""),
+    (
+        &[("g", "grid 1 2\n3 1\n2 1\n")],
+        6,
+        "refused: grid: x line 3\n",
+    ),
+    (&[("g", "grid 1 1\n0 -0\n")], 6, "refused: grid: x line 2\n"),
+    (&[("g", "grid 1 2\n0 5\n")], 6, "refused: grid: x line 3\n"),
+    (&[("g", "grid 1 1\n0 5")], 6, "refused: grid: x line 2\n"),
+    (&[("g", "grid 1 1\n16 5\n")], 6, "refused: grid: x line 2\n"),
+    (&[("g", "grid 2 0\n")], 6, "refused: grid: x line 1\n"),
+    (&[("g", "")], 6, "refused: grid: x line 1\n"),
+    (
+        &[("g", "grid 1 1048577\n")],
+        8,
+        "refused: limit: grid rows x\n",
+    ),
+    (
+        &[("g", "grid 1 3\n0 1\n4 1\n8 1\n")],
+        7,
+        "refused: pool full: B node 1 cap 2\n",
+    ),
+];
+
+#[test]
+fn grids(rt: HostRuntime) -> Result<(), Fail> {
+    for (others, status, last) in GRIDS {
+        let setting = Setting {
+            words: &["p.sg", "x=g"],
+            others,
+            ..Setting::of(BLOCKS)
+        };
+        setting.ends(&rt, rt.alloc(), *status, last)?;
+    }
+    Ok(())
+}
+
+static OTHERS: &[(&str, &str)] = &[
+    ("a", "grid 1 2\n0 1\n2 5\n"),
+    ("b", "grid 1 1\n1 -7\n"),
+    ("c=d", "grid 1 1\n3 9\n"),
+];
+
+static TWO: &str =
+    "layout A(i) { dense(i: 4); field x: i32; } layout C(i) { bitmasked(i: 4); field y: i32; field z: i32; } \
+     kernel k { for i in C { x[i] += y[i]; } } load x; load y; run k; dump x; load y; dump y;";
+
+/// The words, the reads that fail, the status, and what is written. A program that loads `x`, `y` and `y` again.
+static READS: &[(&[&str], &[u64], u8, &str)] = &[
+    (
+        &["p.sg", "x=a", "y=b"],
+        &[],
+        0,
+        "grid 1 4\n0 1\n1 -7\n2 5\n3 0\ngrid 1 1\n1 -7\n",
+    ),
+    (
+        &["--workers=1", "p.sg", "y=c=d", "x=b", "z=nowhere"],
+        &[5],
+        0,
+        "grid 1 4\n0 0\n1 -7\n2 0\n3 9\ngrid 1 1\n3 9\n",
+    ),
+    (&["p.sg", "x=a", "y=b"], &[1], 2, "refused: read p.sg\n"),
+    (&["p.sg", "x=a", "y=b"], &[2], 2, "refused: read a\n"),
+    (&["p.sg", "x=a", "y=b"], &[3], 2, "refused: read b\n"),
+    (
+        &["p.sg", "x=a", "y=b"],
+        &[4],
+        2,
+        "grid 1 4\n0 1\n1 -7\n2 5\n3 0\nrefused: read b\n",
+    ),
+    (
+        &["p.sg", "x=a", "y=nowhere"],
+        &[],
+        2,
+        "refused: read nowhere\n",
+    ),
+    (&["p.sg", "x=a"], &[], 1, "refused: no file for y\n"),
+    (&["p.sg", "y=a"], &[], 1, "refused: no file for x\n"),
+    (&["p.sg", "z=a"], &[], 1, "refused: no file for x\n"),
+];
+
+fn reads_end<R: Threads + Sync + Abort>(rt: &R, alloc: Global) -> Result<(), Fail> {
+    for (words, failing_reads, status, text) in READS {
+        let setting = Setting {
+            words,
+            others: OTHERS,
+            failing_reads,
+            ..Setting::of(TWO)
+        };
+        setting.ends(rt, alloc, *status, text)?;
+    }
+    Ok(())
+}
+
+#[test]
+fn reads(rt: HostRuntime) -> Result<(), Fail> {
+    reads_end(&rt, rt.alloc())
+}
+
+/// A load without a file is refused before any command runs, also inside `times`, and only in mode run.
+static UNBOUND: &[(&str, &[&str], u8, &str)] = &[
+    (
+        "layout A(i) { dense(i: 1); field x: i32; field y: i32; } dump x; times 2 { dump y; load y; } load x;",
+        &["p.sg"],
+        1,
+        "refused: no file for y\n",
+    ),
+    (
+        "layout A(i) { dense(i: 1); field x: i32; } dump x; load x;",
+        &["p.sg", "--mode", "check"],
+        0,
+        "",
+    ),
+];
+
+#[test]
+fn loads_without_a_file(rt: HostRuntime) -> Result<(), Fail> {
+    for (source, words, status, text) in UNBOUND {
+        let setting = Setting {
+            words,
+            ..Setting::of(source)
+        };
+        setting.ends(&rt, rt.alloc(), *status, text)?;
+    }
+    Ok(())
+}
+
+/// A load adds to what is there, and its contributions wrap as all words do.
+#[test]
+fn loads_then_runs(rt: HostRuntime) -> Result<(), Fail> {
+    let setting = Setting {
+        words: &["p.sg", "x=g"],
+        others: &[("g", "grid 1 1\n0 2147483647\n")],
+        ..Setting::of(
+            "layout A(i) { dense(i: 1); field x: i32; } kernel k { for p in 0..1 { x[0] += 1; } } load x; run k; dump x;",
+        )
+    };
+    setting.ends(&rt, rt.alloc(), 0, "grid 1 1\n0 -2147483648\n")
+}

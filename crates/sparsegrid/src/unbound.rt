@@ -1,0 +1,61 @@
+//! The files that the tasks of a program read.
+
+ghost use Rattle.std.specs.Prelude.{◌≡◌, map, find, is_none};
+ghost use Rattle.std.specs.Option.{option_copied};
+ghost use Rattle.std.specs.List.{AllByRecursion};
+ghost use Rattle.sg_session.specs.Compiled.{IsTask, IsCompiled};
+ghost use Rattle.sparsegrid.specs.Words.{binding_read};
+ghost use Rattle.sparsegrid.specs.Meaning as spec;
+
+use sg_ast::Name;
+use sg_names::FieldAt;
+use sg_session::{Binds, Compiled, Task};
+
+/// The file that a name is bound to.
+fn file_bound<'a>(binds: &'a Binds, name: &Name) -> Option<&'a str>
+    ensures { option_copied result ≡ spec.file_bound (map binding_read binds.now.list) name.now }
+{
+    for bind in binds.list.as_slice() {
+        if name.is(&bind.name) {
+            return Some(bind.file.as_str());
+        }
+    }
+    None
+}
+
+/// The file that a task reads: only a load reads one.
+pub fn file_of_task<'a>(compiled: &Compiled, binds: &'a Binds, task: Task) -> Option<&'a str>
+    requires { IsTask compiled.now task }
+    ensures { option_copied result ≡ spec.file_of_task compiled.now (map binding_read binds.now.list) task }
+{
+    match task {
+        Task::Load(field) => file_bound(binds, compiled.names.field_name(field.number)),
+        Task::Run { kernel: _kernel } => None,
+        Task::Dump(_field) => None,
+    }
+}
+
+/// Whether a task is a load whose field has no file.
+fn is_unbound(compiled: &Compiled, binds: &Binds, task: Task) -> bool
+    requires { IsTask compiled.now task }
+    ensures { result ≡ spec.is_unbound compiled.now (map binding_read binds.now.list) task }
+{
+    match task {
+        Task::Load(_field) => file_of_task(compiled, binds, task).is_none(),
+        Task::Run { kernel: _kernel } => false,
+        Task::Dump(_field) => false,
+    }
+}
+
+/// The first load whose field has no file.
+pub fn first_unbound(compiled: &Compiled, binds: &Binds, tasks: &[Task]) -> Option<Task>
+    requires { AllByRecursion (IsTask compiled.now) tasks.now }
+    ensures { result ≡ find (spec.is_unbound compiled.now (map binding_read binds.now.list)) tasks.now }
+{
+    for task in tasks {
+        if is_unbound(compiled, binds, *task) {
+            return Some(*task);
+        }
+    }
+    None
+}
