@@ -1,0 +1,21 @@
+-- Worked equations: chunks of four elements.
+use Rattle.std.specs.Prelude.{◌≡◌, Ok, Err, [], ◌∷◌, refl}
+use Rattle.sg_dynamic.specs.Chunks.{chunks_of, need_of, fit}
+
+pub none_for_none : chunks_of 4 0 ≡ 0
+none_for_none = refl
+
+pub one_for_four : chunks_of 4 4 ≡ 1
+one_for_four = refl
+
+pub two_for_five : chunks_of 4 5 ≡ 2
+two_for_five = refl
+
+pub three_together : need_of 4 (5 ∷ 0 ∷ 3 ∷ []) ≡ 3
+three_together = refl
+
+pub three_fit : fit 4 (5 ∷ 0 ∷ 3 ∷ []) 3 ≡ Ok tt
+three_fit = refl
+
+pub three_in_two : fit 4 (5 ∷ 0 ∷ 3 ∷ []) 2 ≡ Err (record { need = 3; cap = 2 })
+three_in_two = refl

@@ -1,0 +1,6 @@
+pub mod Chunks
+pub mod ChunkLaws
+pub mod Examples
+pub mod Raising
+pub mod LengthRace
+pub mod steps

@@ -1,0 +1,87 @@
+ghost use Rattle.std.specs.Prelude.{◌≡◌, ℕ, ◌+◌, ◌<◌, ◌≤◌, ◌^◌, length, sum_by, slice_index, OnOk, OnErr};
+ghost use Rattle.std.specs.List.{All};
+ghost use Rattle.sg_links.specs.Lists.{list_of};
+ghost use Rattle.sg_pool.specs.Numbers.{place_count};
+ghost use Rattle.sg_dynamic.specs.Chunks.{chunks_of, need_of, fit, IsExact, HaveRoom, AreFitted};
+ghost use Rattle.sg_dynamic.specs.steps.Growing.{Grew};
+
+use sg_links::Links;
+use sg_pool::Pool;
+
+/// More chunks are needed than there are: how many are needed, and how many there are.
+#[derive(Clone, Copy, Debug, PartialEq, Eq)]
+pub struct ChunkFull {
+    pub need: u64,
+    pub cap: u32,
+}
+
+/// Lets each chain grow at its end, until it has a number of the pool for each chunk of its length. The chains are the
+/// lists of the heads from 0 on, one for each length. Refused, with nothing changed, exactly where all lengths together
+/// need more chunks than the pool has places. Takes time in proportion to the lengths and the chunks added.
+pub fn fit_chunks(
+    chains: &mut Links,
+    pool: &mut Pool,
+    lengths: &[u64],
+    chunk: u32,
+) -> Result<(), ChunkFull>
+    requires some { 1 ≤ chunk }
+    requires short { All (λ len. len ≤ 2 ^ 15) lengths.now }
+    requires room { HaveRoom chains.old lengths.now chunk }
+    requires exact { IsExact chains.old pool.old }
+    ensures answer { result ≡ fit chunk lengths.now (place_count pool.old) }
+    ensures chains_stay { OnErr result (chains.new ≡ chains.old) }
+    ensures pool_stays { OnErr result (pool.new ≡ pool.old) }
+    ensures fitted { OnOk result (AreFitted chains.old chains.new lengths.now chunk) }
+    ensures exact { IsExact chains.new pool.new }
+{
+    let heads = chains.heads();
+    let need = chunks_needed(lengths, chunk);
+    let cap = pool.places();
+    if need > u64::from(cap) {
+        return Err(ChunkFull { need, cap });
+    }
+    for head in 0..heads {
+        lengthen(chains, pool, head, chunks(lengths[head as usize], chunk));
+    }
+    Ok(())
+}
+
+/// How many chunks hold so many elements.
+fn chunks(len: u64, chunk: u32) -> u32
+    requires some { 1 ≤ chunk }
+    requires short { len ≤ 2 ^ 15 }
+    ensures chunks { result ≡ chunks_of chunk len }
+    ensures few { result ≤ 2 ^ 15 }
+{
+    ((len + (u64::from(chunk) - 1)) / u64::from(chunk)) as u32
+}
+
+fn chunks_needed(lengths: &[u64], chunk: u32) -> u64
+    requires some { 1 ≤ chunk }
+    requires short { All (λ len. len ≤ 2 ^ 15) lengths.now }
+    requires few { length lengths.now < 2 ^ 32 }
+    ensures { result ≡ need_of chunk lengths.now }
+{
+    let mut need = 0;
+    for len in lengths {
+        need += u64::from(chunks(*len, chunk));
+    }
+    need
+}
+
+/// Draws numbers and puts them at the end of a chain, until it is as long as wanted.
+fn lengthen(chains: &mut Links, pool: &mut Pool, head: u32, wanted: u32)
+    requires there { head < length chains.old.lists }
+    requires shorter { length (list_of chains.old head) ≤ wanted }
+    requires room { sum_by length chains.old.lists + wanted ≤ chains.old.numbers + length (list_of chains.old head) }
+    requires exact { IsExact chains.old pool.old }
+    ensures grew { Grew chains.old chains.new head wanted }
+    ensures exact { IsExact chains.new pool.new }
+{
+    for _long in chains.len(head)..wanted {
+        match pool.draw() {
+            Some(number) => chains.push_back(head, number),
+            None => unreachable!(),
+        }
+    }
+}

@@ -1,0 +1,21 @@
+use Rattle.std.proofs.Common.{◌≡◌, ℕ, ◌+◌, ◌<◌, ◌%◌, length, get_or, sym, ap, ◌∙◌, subst, arith, inl, inr}
+use Rattle.std.proofs.lemmas.Bool.{cases_lt, cases_eq}
+use Rattle.sg_hash.specs.Tables.{place, HoldsOther, Passes}
+use Rattle.sg_hash.proofs.Turns.{place_next, place_below}
+use Rattle.sg_hash.proofs.Uses.{full_by_turns, passes_more}
+use Rattle.sg_hash.proofs.table.probe.Goals as goal
+
+pub loop-turn-preserved : goal.loop-turn-preserved
+loop-turn-preserved c =
+    let n : ℕ = length c.args.keys.now in
+    let at : c.loop-turn.at ≡ place n c.args.key c.loop-turn._turn = c.loop-turn.invariant.at_turn (omega arith) in
+    record {
+      at_turn = λ more. c.following-at.ensures ∙ ap (λ x. (x + 1) % n) at ∙ place_next n c.args.key c.loop-turn._turn more;
+      below = omega arith;
+      passed = passes_more c.args.keys.now c.args.key c.loop-turn._turn c.loop-turn.at at c.loop-turn.invariant.passed (c.if-word-eq0.false, λ e. c.if-word-wanted.false (omega arith));
+    }
+
+pub returns : goal.returns
+returns c =
+    let all : c.loop-turn._turn ≡ length c.args.keys.now = omega arith in
+    full_by_turns c.args.keys.now c.args.key (subst (Passes c.args.keys.now c.args.key) all c.loop-turn.invariant.passed)

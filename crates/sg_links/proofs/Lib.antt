@@ -1,0 +1,5 @@
+pub mod Times
+pub mod Paths
+pub mod Kept
+pub mod Changes
+pub mod Uses

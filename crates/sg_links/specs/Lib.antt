@@ -1,0 +1,4 @@
+pub mod Lists
+pub mod LinkLaws
+pub mod Examples
+pub mod steps

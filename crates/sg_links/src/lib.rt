@@ -1,0 +1,13 @@
+//! Disjoint lists over numbers, linked by one row of next numbers.
+#![tactic(auto)]
+
+mod head;
+pub mod laws;
+pub mod links;
+pub mod memory;
+
+pub use links::Links;
+pub use memory::LinkMemory;
+
+#[cfg(test)]
+mod tests;

@@ -1,0 +1,224 @@
+ghost use Rattle.std.specs.Prelude.{◌≡◌, ◌≢◌, ℕ, ◌+◌, ◌<◌, [], ◌∷◌, ◌++◌, length, drop, slice_get, IfOk};
+ghost use Rattle.sg_links.specs.Lists.{Lists, empty_lists, list_of, with_list, times_in, AreDisjoint};
+
+use crate::LinkMemory;
+use crate::head::Head;
+use sqlite_items::Items;
+use std::alloc::Global;
+use std::marker::Model;
+
+/// Lists over the numbers from 0 to below a bound, each number in one list at most. Contracts see the lists.
+#[derive(Debug, Drop)]
+pub struct Links {
+    next: Items<u32>,
+    heads: Items<Head>,
+}
+
+impl Model for Links {
+    ghost use Rattle.std.specs.Prelude.{length};
+    ghost use Rattle.sg_links.specs.Lists.{Lists};
+    ghost use Rattle.sg_links.specs.steps.Rows.{lists_of, AreLinked};
+
+    ghost Value = { Lists };
+
+    ghost view = { λ links. record { numbers = length links.next; lists = lists_of links.next links.heads } };
+
+    ghost invariant = { λ links. AreLinked links.next links.heads (lists_of links.next links.heads) };
+}
+
+impl Links {
+    /// Empty lists, as many as `heads`, over the numbers from 0 to below `numbers`.
+    pub fn make(alloc: Global, numbers: u32, heads: u32) -> Result<Links, LinkMemory>
+        ensures { IfOk result (λ links. links ≡ empty_lists numbers heads) }
+    {
+        let empty = Head {
+            first: numbers,
+            last: numbers,
+            len: 0,
+        };
+        Ok(Links {
+            next: Items::from_vec(vec![in alloc; numbers; numbers as usize]?),
+            heads: Items::from_vec(vec![in alloc; empty; heads as usize]?),
+        })
+    }
+
+    /// Equal lists.
+    pub fn copy(&self, alloc: Global) -> Result<Links, LinkMemory>
+        ensures { IfOk result (λ copy. copy ≡ self.now) }
+    {
+        Ok(Links {
+            next: Items::from_slice(alloc, self.next.as_slice())?,
+            heads: Items::from_slice(alloc, self.heads.as_slice())?,
+        })
+    }
+
+    /// Puts a number that is in no list before the first of a list.
+    pub fn push_front(&mut self, head: u32, number: u32)
+        requires there { head < length self.old.lists }
+        requires below { number < self.old.numbers }
+        requires free { times_in number self.old.lists ≡ 0 }
+        ensures { self.new ≡ with_list self.old head (number ∷ list_of self.old head) }
+    {
+        let old = self.heads.as_slice()[head as usize];
+        self.next.set(number as usize, old.first);
+        if old.len == 0 {
+            self.heads.set(head as usize, single(number));
+        } else {
+            let longer = Head {
+                first: number,
+                last: old.last,
+                len: old.len + 1,
+            };
+            self.heads.set(head as usize, longer);
+        }
+    }
+
+    /// Puts a number that is in no list behind the last of a list.
+    pub fn push_back(&mut self, head: u32, number: u32)
+        requires there { head < length self.old.lists }
+        requires below { number < self.old.numbers }
+        requires free { times_in number self.old.lists ≡ 0 }
+        ensures { self.new ≡ with_list self.old head (list_of self.old head ++ number ∷ []) }
+    {
+        let old = self.heads.as_slice()[head as usize];
+        self.next.set(number as usize, self.next.len() as u32);
+        if old.len == 0 {
+            self.heads.set(head as usize, single(number));
+        } else {
+            self.next.set(old.last as usize, number);
+            let longer = Head {
+                first: old.first,
+                last: number,
+                len: old.len + 1,
+            };
+            self.heads.set(head as usize, longer);
+        }
+    }
+
+    /// Takes the first number out of a list. None where the list is empty.
+    pub fn pop_front(&mut self, head: u32) -> Option<u32>
+        requires { head < length self.old.lists }
+        ensures value { result ≡ slice_get (list_of self.old head) 0 }
+        ensures left { self.new ≡ with_list self.old head (drop 1 (list_of self.old head)) }
+    {
+        let old = self.heads.as_slice()[head as usize];
+        if old.len == 0 {
+            return None;
+        }
+        let shorter = Head {
+            first: self.next.as_slice()[old.first as usize],
+            last: old.last,
+            len: old.len - 1,
+        };
+        self.heads.set(head as usize, shorter);
+        Some(old.first)
+    }
+
+    /// Moves all numbers of the list `from` to the end of another.
+    pub fn splice(&mut self, head: u32, from: u32)
+        requires there { head < length self.old.lists }
+        requires from_there { from < length self.old.lists }
+        requires apart { head ≢ from }
+        ensures { self.new ≡ with_list (with_list self.old from []) head (list_of self.old head ++ list_of self.old from) }
+    {
+        let old = self.heads.as_slice()[head as usize];
+        let more = self.heads.as_slice()[from as usize];
+        let end = self.next.len() as u32;
+        let empty = Head {
+            first: end,
+            last: end,
+            len: 0,
+        };
+        if more.len == 0 {
+            return;
+        }
+        self.heads.set(from as usize, empty);
+        if old.len == 0 {
+            self.heads.set(head as usize, more);
+        } else {
+            self.next.set(old.last as usize, more.first);
+            let both = Head {
+                first: old.first,
+                last: more.last,
+                len: old.len + more.len,
+            };
+            self.heads.set(head as usize, both);
+        }
+    }
+
+    /// The number at a place of a list, the first at 0. None where the list is not as long. Walks along the list.
+    pub fn nth(&self, head: u32, place: u32) -> Option<u32>
+        requires { head < length self.now.lists }
+        ensures { result ≡ slice_get (list_of self.now head) place }
+    {
+        let list = self.heads.as_slice()[head as usize];
+        if place >= list.len {
+            return None;
+        }
+        let mut number = list.first;
+        for _step in 0..place {
+            number = self.next.as_slice()[number as usize];
+        }
+        Some(number)
+    }
+
+    /// How many numbers a list has.
+    pub fn len(&self, head: u32) -> u32
+        requires { head < length self.now.lists }
+        ensures length { result ≡ length (list_of self.now head) }
+        ensures disjoint { AreDisjoint self.now }
+    {
+        self.heads.as_slice()[head as usize].len
+    }
+
+    /// The first number of a list. None where the list is empty.
+    pub fn first(&self, head: u32) -> Option<u32>
+        requires { head < length self.now.lists }
+        ensures { result ≡ slice_get (list_of self.now head) 0 }
+    {
+        let list = self.heads.as_slice()[head as usize];
+        if list.len == 0 {
+            None
+        } else {
+            Some(list.first)
+        }
+    }
+
+    /// The number behind a number of some list. None where that is the last one.
+    pub fn next(&self, number: u32) -> Option<u32>
+        requires { 0 < times_in number self.now.lists }
+        ensures { (head place : ℕ) → slice_get (list_of self.now head) place ≡ Some number → result ≡ slice_get (list_of self.now head) (place + 1) }
+    {
+        let following = self.next.as_slice()[number as usize];
+        if following as usize == self.next.len() {
+            None
+        } else {
+            Some(following)
+        }
+    }
+
+    /// How many numbers there are, in lists or not.
+    pub fn numbers(&self) -> u32
+        ensures numbers { result ≡ self.now.numbers }
+        ensures disjoint { AreDisjoint self.now }
+    {
+        self.next.len() as u32
+    }
+
+    /// How many lists there are.
+    pub fn heads(&self) -> u32
+        ensures { result ≡ length self.now.lists }
+    {
+        self.heads.len() as u32
+    }
+}
+
+fn single(number: u32) -> Head
+    ensures { result ≡ record { first = number; last = number; len = 1 } }
+{
+    Head {
+        first: number,
+        last: number,
+        len: 1,
+    }
+}

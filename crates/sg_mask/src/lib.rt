@@ -1,0 +1,11 @@
+//! Racing bits: workers set bits of mask words side by side, and none is lost.
+#![tactic(auto)]
+
+pub mod pass;
+pub mod rule;
+pub mod seat;
+
+pub use seat::{MarkSeat, MaskPass};
+
+#[cfg(test)]
+mod tests;

@@ -1,0 +1,149 @@
+//! The end of a pass: its last seat takes the table apart.
+ghost use Rattle.std.specs.Prelude.{◌≡◌, ℕ, ◌+◌, ◌^◌, ◌<◌, ◌≤◌, min, nat_lt, length, take, IfOk, slice_index};
+ghost use Rattle.std.specs.Mem.Slots.{slots_items, slots_len, IsFull};
+ghost use Rattle.std.specs.BTreeSet.{contains};
+ghost use Rattle.std.specs.Ordering.{nat_cmp};
+ghost use Rattle.sg_words.specs.Counts.{times_in};
+ghost use Rattle.sg_words.specs.RaceInvariant.{weight};
+ghost use Rattle.sg_pointer.specs.Asking.{AreLinks, is_dry};
+ghost use Rattle.sg_pointer.specs.Finishing.{Settled, AreSpares, taken_of};
+ghost use Rattle.sg_pointer.specs.steps.Ending.{Ended, outside};
+ghost use Rattle.sg_pointer.specs.Seats.{old_links, stock_of, worker_of, IsSeatOf};
+
+use crate::rule::Start;
+use crate::seat::{AskSeat, PointerPass};
+use atomic_table::Closed;
+use sg_words::{Items, Memory};
+use std::alloc::Global;
+use std::collections::BTreeSet;
+
+/// What a pass leaves: the slot words, the numbers of the new links, the drawn numbers that aren't linked, and whether the stock ran out.
+#[derive(Debug, Drop)]
+pub struct Linked {
+    pub links: Items<u64>,
+    pub taken: Items<u32>,
+    pub spares: Items<u32>,
+    pub dry: bool,
+}
+
+// The table taken apart.
+#[derive(Drop)]
+struct Gathered {
+    start: Start,
+    links: Items<u64>,
+    count: u64,
+    dry: bool,
+}
+
+impl PointerPass {
+    /// Ends the pass by a seat into which all others were joined.
+    pub fn finish(self, alloc: Global, seat: AskSeat) -> Result<Linked, Memory>
+        requires own { IsSeatOf self seat }
+        requires all { weight (worker_of seat) ≡ 16 }
+        ensures settled { IfOk result (λ linked. Settled (old_links self) (stock_of self) (worker_of seat) linked.links linked.dry) }
+        ensures taken { IfOk result (λ linked. linked.taken ≡ taken_of (old_links self) linked.links) }
+        ensures spares { IfOk result (λ linked. AreSpares (stock_of self) (worker_of seat) linked.spares) }
+    {
+        let links = Items::from_slice(alloc, self.start.links.as_slice())?;
+        let Gathered {
+            start,
+            links,
+            count,
+            dry,
+        } = self.gather(seat, links);
+        let taken = taken_numbers(alloc, start.links.as_slice(), links.as_slice())?;
+        let set = set_of(alloc, taken.as_slice())?;
+        let spares = spare_numbers(alloc, start.stock.as_slice(), &set, count)?;
+        Ok(Linked {
+            links,
+            taken,
+            spares,
+            dry,
+        })
+    }
+
+    // The words at the end, into a list of the right length.
+    fn gather(self, seat: AskSeat, mut links: Items<u64>) -> Gathered
+        requires own { IsSeatOf self seat }
+        requires long { length links ≡ length (old_links self) }
+        ensures start { result.start ≡ self.start }
+        ensures ended { Ended self.start (worker_of seat) result.links result.count }
+        ensures dry { result.dry ≡ is_dry (worker_of seat) }
+        ensures links { AreLinks result.links }
+        ensures long { length result.links ≡ length (old_links self) }
+    {
+        let PointerPass { table, start } = self;
+        let AskSeat {
+            seat,
+            spare: _,
+            dry,
+        } = seat;
+        let closed = table.close_with(seat);
+        copy_words(&closed, &mut links);
+        let count = closed.word(links.len());
+        closed.free();
+        Gathered {
+            start,
+            links,
+            count,
+            dry,
+        }
+    }
+}
+
+// The first words of a closed table.
+fn copy_words(closed: &Closed<(), Global>, links: &mut Items<u64>)
+    requires full { IsFull closed.now.words }
+    requires within { length links.old < slots_len closed.now.words }
+    requires items { length (slots_items closed.now.words) ≡ slots_len closed.now.words }
+    ensures { links.new ≡ take (length links.old) (slots_items closed.now.words) }
+{
+    for i in 0..links.len() {
+        links.set(i, closed.word(i));
+    }
+}
+
+// The numbers of the new links.
+fn taken_numbers(alloc: Global, old: &[u64], new: &[u64]) -> Result<Items<u32>, Memory>
+    requires long { length new.now ≡ length old.now }
+    requires links { AreLinks new.now }
+    ensures { IfOk result (λ taken. taken ≡ taken_of old.now new.now) }
+{
+    let mut taken = Items::new(alloc);
+    for i in 0..old.len() {
+        if old[i] == 0 && new[i] != 0 {
+            taken.push((new[i] - 1) as u32)?;
+        }
+    }
+    Ok(taken)
+}
+
+fn set_of(alloc: Global, numbers: &[u32]) -> Result<BTreeSet<u32>, Memory>
+    ensures { IfOk result (λ set. (x : ℕ) → contains nat_cmp set x ≡ nat_lt 0 (times_in x numbers.now)) }
+{
+    let mut set = BTreeSet::new(alloc);
+    for number in numbers {
+        set.insert(*number)?;
+    }
+    Ok(set)
+}
+
+// The drawn numbers of the stock that aren't in the set.
+fn spare_numbers(
+    alloc: Global,
+    stock: &[u32],
+    taken: &BTreeSet<u32>,
+    count: u64,
+) -> Result<Items<u32>, Memory>
+    ensures { IfOk result (λ spares. spares ≡ outside (contains nat_cmp taken.now) (take (min count (length stock.now)) stock.now)) }
+{
+    let most = count.min(stock.len() as u64) as usize;
+    let drawn = &stock[..most];
+    let mut spares = Items::new(alloc);
+    for number in drawn {
+        if !taken.contains(number) {
+            spares.push(*number)?;
+        }
+    }
+    Ok(spares)
+}
