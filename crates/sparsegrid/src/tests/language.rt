@@ -1,0 +1,475 @@
+//! The examples of the language page, each with what its run writes.
+
+use super::setting::{Setting, compare};
+use std::test::Fail;
+
+/// Programs, with the status and the text of their run.
+static RUNS: &[(&str, u8, &str)] = &[
+    (
+        "layout A(i) { dense(i: 16); field x: i32; } kernel k { for i in 5..6 { x[i] = 7; } } run k; dump x;",
+        0,
+        "grid 1 16\n0 0\n1 0\n2 0\n3 0\n4 0\n5 7\n6 0\n7 0\n8 0\n9 0\n10 0\n11 0\n12 0\n13 0\n14 0\n15 0\n",
+    ),
+    (
+        "layout A(i) { pointer(i: 4) cap 2; dense(i: 4); field x: i32; } kernel k { for i in 5..6 { x[i] = 7; } } run k; dump x;",
+        0,
+        "grid 1 4\n4 0\n5 7\n6 0\n7 0\n",
+    ),
+    (
+        "layout A(i) { bitmasked(i: 4); dense(i: 4); field x: i32; } kernel k { for i in 5..6 { x[i] = 7; } } run k; dump x;",
+        0,
+        "grid 1 4\n4 0\n5 7\n6 0\n7 0\n",
+    ),
+    (
+        "layout A(i) { pointer(i: 4) cap 2; bitmasked(i: 4); field x: i32; } kernel k { for i in 5..6 { x[i] = 7; } } run k; dump x;",
+        0,
+        "grid 1 1\n5 7\n",
+    ),
+    (
+        "layout A(i) { bitmasked(i: 16); field x: i32; } kernel k { for i in 5..6 { x[i] = 7; } } run k; dump x;",
+        0,
+        "grid 1 1\n5 7\n",
+    ),
+    (
+        "layout A(i) { pointer(i: 4) cap 4; dense(i: 4); field x: i32; } kernel first { for i in 5..6 { x[i] = 7; } } kernel more { for i in A { x[i] = x[i] + 1; } } run first; run more; dump x;",
+        0,
+        "grid 1 4\n4 1\n5 8\n6 1\n7 1\n",
+    ),
+    (
+        "layout A(i) { dense(i: 1); field x: i32; } kernel k { for i in A { x[i] = 1; x[i] = x[i] + 10; } } run k; dump x;",
+        0,
+        "grid 1 1\n0 11\n",
+    ),
+    (
+        "layout A(i) { dense(i: 8); field x: i32; field y: i32; } layout V(i) { dense(i: 16); field v: i32; } kernel a { for i in A { x[i] += 1; } } kernel b { for i in A { x[i] max= 5; } } run a; run b;",
+        0,
+        "",
+    ),
+    (
+        "layout A(i) { dense(i: 8); field x: i32; field y: i32; } layout V(i) { dense(i: 16); field v: i32; } kernel a { for i in A { x[i] = y[i]; } } run a;",
+        0,
+        "",
+    ),
+    (
+        "layout A(i) { dense(i: 8); field x: i32; field y: i32; } layout V(i) { dense(i: 16); field v: i32; } kernel a { for i in 1..8 { y[i] = x[i - 1]; } } kernel b { for i in 1..8 { x[i] = y[i]; } } run a; run b;",
+        0,
+        "",
+    ),
+    (
+        "layout A(i) { dense(i: 8); field x: i32; field y: i32; } layout V(i) { dense(i: 16); field v: i32; } kernel a { for i in A { x[i] = y[i - 1]; } } run a;",
+        0,
+        "",
+    ),
+    (
+        "layout A(i) { dense(i: 8); field x: i32; field y: i32; } layout V(i) { dense(i: 16); field v: i32; } kernel a { for i in 0..7 { x[i + 1] += y[i]; } } run a;",
+        0,
+        "",
+    ),
+    (
+        "layout A(i) { dense(i: 8); field x: i32; field y: i32; } layout V(i) { dense(i: 16); field v: i32; } kernel a { for i in 0..8 { if i % 2 == 0 { x[i] = 1; } } } run a;",
+        0,
+        "",
+    ),
+    (
+        "layout A(i) { dense(i: 8); field x: i32; field y: i32; } layout V(i) { dense(i: 16); field v: i32; } kernel a { for i in A { x[i] = 2 * x[i]; } } run a;",
+        0,
+        "",
+    ),
+    (
+        "layout A(i) { dense(i: 8); field x: i32; field y: i32; } layout V(i) { dense(i: 16); field v: i32; } kernel a { for i in A { if x[i] > 0 { v[i + 1] += 1; } } } kernel b { for i in A { if x[i] > 0 { x[i] = 0; } } } run a; run b;",
+        0,
+        "",
+    ),
+    (
+        "layout A(i) { dense(i: 8); field x: i32; field y: i32; } layout V(i) { dense(i: 16); field v: i32; } kernel a { for i in A { if x[i] > 3 { x[i] = 3; } } } run a;",
+        0,
+        "",
+    ),
+    (
+        "layout A(i) { dense(i: 8); field x: i32; field y: i32; } layout V(i) { dense(i: 16); field v: i32; } kernel a { for i in 0..8 { x[i] = min(x[i], 3); } } run a;",
+        0,
+        "",
+    ),
+    (
+        "layout A(i) { dense(i: 8); field x: i32; field y: i32; } layout V(i) { dense(i: 16); field v: i32; } kernel k { for i in A { x[i] = y[i] + 1; v[i & 7] += x[i]; } } run k;",
+        0,
+        "",
+    ),
+    (
+        "layout A(i) { dense(i: 8); field x: i32; field y: i32; } layout V(i) { dense(i: 16); field v: i32; } kernel a { for i in A { for k in 0..8 { if k < i { x[i] = k; } } } } run a;",
+        0,
+        "",
+    ),
+    (
+        "layout A(i) { dense(i: 8); field x: i32; field y: i32; } layout V(i) { dense(i: 16); field v: i32; } kernel a { for i, k in 0..16, 0..64 { for l in 0..65 { v[0] += 1; } } }",
+        0,
+        "",
+    ),
+    (
+        "layout A(i) { dense(i: 8); field x: i32; field y: i32; } layout V(i) { dense(i: 16); field v: i32; } kernel a { for i in 0..8 { if i < x[0] { v[i] += 1; } } } run a;",
+        0,
+        "",
+    ),
+    ("", 0, ""),
+    (
+        "layout A(i) { dense(i: 1); field x: i32; } kernel a { for i in A { x[i] = x[i] + 1; } } kernel b { for i in A { x[i] = x[i] * 10; } } times 2 { run a; run b; } dump x;",
+        0,
+        "grid 1 1\n0 110\n",
+    ),
+    (
+        "layout A(i) { dense(i: 8); field x: i32; field y: i32; } layout V(i) { dense(i: 16); field v: i32; }         kernel k {                        // statement 0 is the loop over A\nfor i in A {\nlet a = x[i];                 // 1\nif a > 3 {                    // 2\nfor n in 0..2 { a = a + n; }  // 3, and 4 inside\n} else {\nx[i] = 0;                   // 5\n}\ny[i] = a;                     // 6\n}\n}\n\n",
+        0,
+        "",
+    ),
+    (
+        "const N = 4; layout A(i) { dense(i: 4); field x: i32; } kernel k { for i in A { if i + 1 < N { x[i + 1] += 1; } } } run k; dump x;",
+        0,
+        "grid 1 4\n0 0\n1 1\n2 1\n3 1\n",
+    ),
+    (
+        "layout A(i) { dense(i: 1); field x: i32; } kernel k { for i in A { x[i] = 2147483647 + 1; } } run k; dump x;",
+        0,
+        "grid 1 1\n0 -2147483648\n",
+    ),
+    (
+        "layout A(i) { dense(i: 1); field x: i32; } kernel k { for i in A { x[i] = -7 / 2; } } run k; dump x;",
+        0,
+        "grid 1 1\n0 -3\n",
+    ),
+    (
+        "layout A(i) { dense(i: 1); field x: i32; } kernel k { for i in A { x[i] = -7 % 2; } } run k; dump x;",
+        0,
+        "grid 1 1\n0 -1\n",
+    ),
+    (
+        "layout A(i) { dense(i: 1); field x: i32; } kernel k { for i in A { x[i] = 7 / 0; } } run k; dump x;",
+        0,
+        "grid 1 1\n0 0\n",
+    ),
+    (
+        "layout A(i) { dense(i: 1); field x: i32; } kernel k { for i in A { x[i] = 7 % 0; } } run k; dump x;",
+        0,
+        "grid 1 1\n0 7\n",
+    ),
+    (
+        "layout A(i) { dense(i: 1); field x: i32; } kernel k { for i in A { x[i] = -2147483648 / -1; } } run k; dump x;",
+        0,
+        "grid 1 1\n0 -2147483648\n",
+    ),
+    (
+        "layout A(i) { dense(i: 1); field x: i32; } kernel k { for i in A { x[i] = -2147483648 % -1; } } run k; dump x;",
+        0,
+        "grid 1 1\n0 0\n",
+    ),
+    (
+        "layout A(i) { dense(i: 1); field x: i32; } kernel k { for i in A { x[i] = 1 << 33; } } run k; dump x;",
+        0,
+        "grid 1 1\n0 2\n",
+    ),
+    (
+        "layout A(i) { dense(i: 1); field x: i32; } kernel k { for i in A { x[i] = 1 << -1; } } run k; dump x;",
+        0,
+        "grid 1 1\n0 -2147483648\n",
+    ),
+    (
+        "layout A(i) { dense(i: 1); field x: i32; } kernel k { for i in A { x[i] = -8 >> 1; } } run k; dump x;",
+        0,
+        "grid 1 1\n0 -4\n",
+    ),
+    (
+        "layout A(i) { dense(i: 1); field x: i32; } kernel k { for i in A { x[i] = i32(u32(-8) >> 1); } } run k; dump x;",
+        0,
+        "grid 1 1\n0 2147483644\n",
+    ),
+    (
+        "layout A(i) { dense(i: 1); field x: i32; } kernel k { for i in A { x[i] = min(-1, 1); } } run k; dump x;",
+        0,
+        "grid 1 1\n0 -1\n",
+    ),
+    (
+        "layout A(i) { dense(i: 1); field x: i32; } kernel k { for i in A { x[i] = i32(min(u32(-1), 1u)); } } run k; dump x;",
+        0,
+        "grid 1 1\n0 1\n",
+    ),
+    (
+        "layout A(i) { dense(i: 1); field x: i32; } kernel k { for i in A { x[i] = 10 - 3 - 2; } } run k; dump x;",
+        0,
+        "grid 1 1\n0 5\n",
+    ),
+    (
+        "layout A(i) { dense(i: 1); field x: i32; } kernel k { for i in A { x[i] = 2 + 3 * 4; } } run k; dump x;",
+        0,
+        "grid 1 1\n0 14\n",
+    ),
+    (
+        "layout A(i) { dense(i: 1); field x: i32; } kernel k { for i in A { x[i] = mulq(-3, 1, 1); } } run k; dump x;",
+        0,
+        "grid 1 1\n0 -2\n",
+    ),
+    (
+        "layout A(i) { dense(i: 1); field x: i32; } kernel k { for i in A { x[i] = mulq(98304, 16384, 16); } } run k; dump x;",
+        0,
+        "grid 1 1\n0 24576\n",
+    ),
+];
+
+#[test]
+fn examples_of_the_page(rt: HostRuntime) -> Result<(), Fail> {
+    compare(&rt, rt.alloc(), RUNS)
+}
+
+/// Programs, with the status and the text of mode check.
+static CHECKS: &[(&str, u8, &str)] = &[
+    (
+        "layout A(i) { dense(i: 8); field x: i32; field y: i32; } layout V(i) { dense(i: 16); field v: i32; } kernel k { for i in 0..4 { x[i] = 1; } }",
+        0,
+        "kernel k neutral\n",
+    ),
+    (
+        "layout A(i) { dense(i: 8); field x: i32; field y: i32; } layout V(i) { dense(i: 16); field v: i32; } kernel k { for i in A { if x[i] != 0 { x[i] = x[i] * 2; } } }",
+        0,
+        "kernel k neutral\n",
+    ),
+    (
+        "layout A(i) { dense(i: 8); field x: i32; field y: i32; } layout V(i) { dense(i: 16); field v: i32; } kernel k { for i in A { if x[i] != 0 && i > 2 { x[i] = 9; } } }",
+        0,
+        "kernel k neutral\n",
+    ),
+    (
+        "layout A(i) { dense(i: 8); field x: i32; field y: i32; } layout V(i) { dense(i: 16); field v: i32; } kernel k { for i in A { x[i] = x[i] * 2; } }",
+        0,
+        "kernel k layout-bound\n",
+    ),
+    (
+        "layout A(i) { dense(i: 8); field x: i32; field y: i32; } layout V(i) { dense(i: 16); field v: i32; } kernel k { for i in A { if (x[i] != 0) { x[i] = 2; } } }",
+        0,
+        "kernel k layout-bound\n",
+    ),
+    (
+        "layout A(i) { dense(i: 8); field x: i32; field y: i32; } layout V(i) { dense(i: 16); field v: i32; } kernel k { for i in A { if x[i] > 0 { x[i] = 2; } } }",
+        0,
+        "kernel k layout-bound\n",
+    ),
+    (
+        "layout A(i) { dense(i: 8); field x: i32; field y: i32; } layout V(i) { dense(i: 16); field v: i32; } kernel k { for i in A { if 0 != x[i] { x[i] = 2; } } }",
+        0,
+        "kernel k layout-bound\n",
+    ),
+    (
+        "layout A(i) { dense(i: 8); field x: i32; field y: i32; } layout V(i) { dense(i: 16); field v: i32; } kernel k { for i in A { if i > 2 && x[i] != 0 { x[i] = 2; } } }",
+        0,
+        "kernel k layout-bound\n",
+    ),
+    (
+        "layout A(i) { dense(i: 8); field x: i32; field y: i32; } layout V(i) { dense(i: 16); field v: i32; } kernel k { for i in A { if x[i] != 0 { x[i] = 2; } else { } } }",
+        0,
+        "kernel k layout-bound\n",
+    ),
+];
+
+#[test]
+fn kernels_of_the_page_are_neutral_or_not(rt: HostRuntime) -> Result<(), Fail> {
+    for (source, status, text) in CHECKS {
+        let setting = Setting {
+            words: &["--mode", "check", "p.sg"],
+            ..Setting::of(source)
+        };
+        setting.ends(&rt, rt.alloc(), *status, text)?;
+    }
+    Ok(())
+}
+
+/// Words, a program, the grids that it loads, the status, and what is written.
+static LOADS: &[(&[&str], &str, &[(&str, &str)], u8, &str)] = &[
+    (
+        &["p.sg", "at=at", "mass=mass"],
+        "layout Dust(p) { dense(p: 4); field at: i32; field mass: i32; } layout Line(i) { pointer(i: 16) cap 16; bitmasked(i: 16); field sum: i32; field most: i32; } kernel scatter { for p in Dust { sum[at[p]] += mass[p]; most[at[p]] max= mass[p]; } } load at; load mass; run scatter; dump sum; dump most;",
+        &[
+            ("at", "grid 1 4\n0 9\n1 33\n2 200\n3 33\n"),
+            ("mass", "grid 1 4\n0 7\n1 2\n2 3\n3 3\n"),
+        ],
+        0,
+        "grid 1 3\n9 7\n33 5\n200 3\ngrid 1 3\n9 7\n33 3\n200 3\n",
+    ),
+    (
+        &["p.sg", "x=x"],
+        "layout A(i) { dense(i: 16); field x: i32; } layout B(i) { dense(i: 4); field peak: i32; } kernel blocks { for i in 0..4 { let best = 0; for k in 0..4 { let here = x[4 * i + k]; if here > best { best = here; } } peak[i] = best; } } load x; run blocks; dump peak;",
+        &[("x", "grid 1 4\n1 9\n2 3\n8 4\n11 -1\n")],
+        0,
+        "grid 1 4\n0 9\n1 0\n2 4\n3 0\n",
+    ),
+    (
+        &["p.sg", "x=x"],
+        "layout A(i) { dense(i: 4); field x: i32; } load x; dump x;",
+        &[("x", "grid 2 0\n")],
+        6,
+        "refused: grid: x line 1\n",
+    ),
+    (
+        &["p.sg", "x=x"],
+        "layout A(i) { dense(i: 4); field x: i32; } load x; dump x;",
+        &[("x", "grid 1\n")],
+        6,
+        "refused: grid: x line 1\n",
+    ),
+    (
+        &["p.sg", "x=x"],
+        "layout A(i) { dense(i: 4); field x: i32; } load x; dump x;",
+        &[("x", "Grid 1 0\n")],
+        6,
+        "refused: grid: x line 1\n",
+    ),
+    (
+        &["p.sg", "x=x"],
+        "layout A(i) { dense(i: 4); field x: i32; } load x; dump x;",
+        &[("x", "")],
+        6,
+        "refused: grid: x line 1\n",
+    ),
+    (
+        &["p.sg", "x=x"],
+        "layout A(i) { dense(i: 4); field x: i32; } load x; dump x;",
+        &[("x", "grid 1 2\n0 5\n")],
+        6,
+        "refused: grid: x line 3\n",
+    ),
+    (
+        &["p.sg", "x=x"],
+        "layout A(i) { dense(i: 4); field x: i32; } load x; dump x;",
+        &[("x", "grid 1 1\n0 5\n1 5\n")],
+        6,
+        "refused: grid: x line 3\n",
+    ),
+    (
+        &["p.sg", "x=x"],
+        "layout A(i) { dense(i: 4); field x: i32; } load x; dump x;",
+        &[("x", "grid 1 1\n0 5\n\n")],
+        6,
+        "refused: grid: x line 3\n",
+    ),
+    (
+        &["p.sg", "x=x"],
+        "layout A(i) { dense(i: 4); field x: i32; } load x; dump x;",
+        &[("x", "grid 1 1\n0 5")],
+        6,
+        "refused: grid: x line 2\n",
+    ),
+    (
+        &["p.sg", "x=x"],
+        "layout A(i) { dense(i: 4); field x: i32; } load x; dump x;",
+        &[("x", "grid 1 1\n0  5\n")],
+        6,
+        "refused: grid: x line 2\n",
+    ),
+    (
+        &["p.sg", "x=x"],
+        "layout A(i) { dense(i: 4); field x: i32; } load x; dump x;",
+        &[("x", "grid 1 1\n0 05\n")],
+        6,
+        "refused: grid: x line 2\n",
+    ),
+    (
+        &["p.sg", "x=x"],
+        "layout A(i) { dense(i: 4); field x: i32; } load x; dump x;",
+        &[("x", "grid 1 1\n0 -0\n")],
+        6,
+        "refused: grid: x line 2\n",
+    ),
+    (
+        &["p.sg", "x=x"],
+        "layout A(i) { dense(i: 4); field x: i32; } load x; dump x;",
+        &[("x", "grid 1 1\n0 5 5\n")],
+        6,
+        "refused: grid: x line 2\n",
+    ),
+    (
+        &["p.sg", "x=x"],
+        "layout A(i) { dense(i: 4); field x: i32; } load x; dump x;",
+        &[("x", "grid 1 1\n0 2147483648\n")],
+        6,
+        "refused: grid: x line 2\n",
+    ),
+    (
+        &["p.sg", "x=x"],
+        "layout A(i) { dense(i: 4); field x: i32; } load x; dump x;",
+        &[("x", "grid 1 1\n4 5\n")],
+        6,
+        "refused: grid: x line 2\n",
+    ),
+    (
+        &["p.sg", "x=x"],
+        "layout A(i) { dense(i: 4); field x: i32; } load x; dump x;",
+        &[("x", "grid 1 2\n3 1\n2 1\n")],
+        6,
+        "refused: grid: x line 3\n",
+    ),
+    (
+        &["p.sg", "x=x"],
+        "layout A(i) { dense(i: 4); field x: i32; } load x; dump x;",
+        &[("x", "grid 1 1\r\n0 5\r\n")],
+        6,
+        "refused: grid: x line 1\n",
+    ),
+    (
+        &["p.sg", "x=x"],
+        "layout A(i) { dense(i: 4); field x: i32; } load x; dump x;",
+        &[("x", "grid 1 1 \n0 5\n")],
+        6,
+        "refused: grid: x line 1\n",
+    ),
+    (
+        &["p.sg", "x=x"],
+        "layout A(i, j) { bitmasked(i: 4, j: 4); field x: i32; } load x; dump x;",
+        &[("x", "grid 2 3\n0 1 5\n1 0 7\n3 3 -9\n")],
+        0,
+        "grid 2 3\n0 1 5\n1 0 7\n3 3 -9\n",
+    ),
+];
+
+#[test]
+fn grids_of_the_page(rt: HostRuntime) -> Result<(), Fail> {
+    for (words, source, others, status, text) in LOADS {
+        let setting = Setting {
+            words,
+            others,
+            ..Setting::of(source)
+        };
+        setting.ends(&rt, rt.alloc(), *status, text)?;
+    }
+    Ok(())
+}
+
+/// Words over an empty file, the status, and what is written.
+static WORDS: &[(&[&str], u8, &str)] = &[
+    (&["--workers=2", "--", "p.sg"], 0, ""),
+    (&["p.sg", "x=a.txt", "--mode=check"], 0, ""),
+    (&[], 1, "refused: words\n"),
+    (&["-"], 1, "refused: words\n"),
+    (&["--help"], 1, "refused: words\n"),
+    (&["--workers", "17", "p.sg"], 1, "refused: words\n"),
+    (&["--workers", "04", "p.sg"], 1, "refused: words\n"),
+    (&["--mode=go", "p.sg"], 1, "refused: words\n"),
+    (
+        &["--mode", "run", "--mode", "run", "p.sg"],
+        1,
+        "refused: words\n",
+    ),
+    (&["p.sg", "x"], 1, "refused: words\n"),
+    (&["p.sg", "x="], 1, "refused: words\n"),
+    (&["p.sg", "load=a"], 1, "refused: words\n"),
+    (&["p.sg", "x=a", "x=b"], 1, "refused: words\n"),
+    (&["--mode", "lower", "p.sg"], 1, "refused: words\n"),
+    (&["--mode=gen", "7"], 1, "refused: words\n"),
+];
+
+#[test]
+fn words_of_the_page(rt: HostRuntime) -> Result<(), Fail> {
+    for (words, status, text) in WORDS {
+        let setting = Setting {
+            words,
+            ..Setting::of("")
+        };
+        setting.ends(&rt, rt.alloc(), *status, text)?;
+    }
+    Ok(())
+}
