@@ -17,7 +17,8 @@ pub struct ChunkFull {
 
 /// Lets each chain grow at its end, until it has a number of the pool for each chunk of its length. The chains are the
 /// lists of the heads from 0 on, one for each length. Refused, with nothing changed, exactly where all lengths together
-/// need more chunks than the pool has places. Takes time in proportion to the lengths and the chunks added.
+/// need more chunks than the pool has places. The chains are arranged then, so that their places are found in constant time.
+/// Takes time in proportion to the lengths and their chunks.
 pub fn fit_chunks(
     chains: &mut Links,
     pool: &mut Pool,
@@ -43,6 +44,7 @@ pub fn fit_chunks(
     for head in 0..heads {
         lengthen(chains, pool, head, chunks(lengths[head as usize], chunk));
     }
+    chains.arrange();
     Ok(())
 }
 

@@ -1,2 +1,12 @@
 pub mod Turns
 pub mod Uses
+pub mod Moves
+pub mod Passes
+pub mod Views
+pub mod Racing
+pub mod Loops
+pub mod Keys
+pub mod Searches
+pub mod Starts
+pub mod Endings
+pub mod Events

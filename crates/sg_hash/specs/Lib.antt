@@ -1,4 +1,9 @@
 pub mod Tables
 pub mod TableLaws
 pub mod Examples
+pub mod Asking
+pub mod Finishing
+pub mod Seats
+pub mod HashRace
+pub mod HashLaws
 pub mod steps

@@ -1,1 +1,4 @@
 pub mod Probing
+pub mod Searching
+pub mod Draws
+pub mod Ending

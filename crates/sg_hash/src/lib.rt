@@ -1,9 +1,16 @@
 //! Tables of keys with links beside them, by linear probing.
 #![tactic(auto)]
 
+pub mod ask;
+pub mod finish;
 pub mod laws;
+pub mod rule;
+pub mod seat;
 pub mod table;
 
+pub use ask::Ask;
+pub use finish::HashLinked;
+pub use seat::{HashPass, HashSeat};
 pub use table::{find, put};
 
 #[cfg(test)]

@@ -64,7 +64,7 @@ fn probe(keys: &[u64], key: u32) -> Option<usize>
     None
 }
 
-fn following(at: usize, places: usize) -> usize
+pub(crate) fn following(at: usize, places: usize) -> usize
     requires { at < places }
     ensures { result ≡ (at + 1) % places }
 {

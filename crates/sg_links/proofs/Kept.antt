@@ -1,10 +1,10 @@
 -- Lists that a row and heads keep, and how one list more stands behind another.
-use Rattle.std.proofs.Common.{◌≡◌, ◌≢◌, ℕ, ◌+◌, ◌-◌, ◌<◌, ◌≤◌, List, [], ◌∷◌, ◌++◌, length, set, get_or, take, refl, sym, ap, ◌∙◌, subst, arith, inl, inr, append_assoc}
+use Rattle.std.proofs.Common.{◌≡◌, ◌≢◌, ℕ, ◌+◌, ◌-◌, ◌<◌, ◌≤◌, Bool, false, List, [], ◌∷◌, ◌++◌, length, set, get_or, take, refl, sym, ap, ◌∙◌, subst, arith, inl, inr, append_assoc}
 use Rattle.std.proofs.lemmas.Bool.{cases_eq}
 use Rattle.std.proofs.lemmas.List.{length-set, length-append, length-map, get_or-map, get_or-set_same, get_or-set_other, get_or-append-add, ext_get_or}
 use Rattle.sg_links.specs.declared.head.Head.{Head}
 use Rattle.sg_links.specs.Lists.{Lists, times, times_in, AreDisjoint}
-use Rattle.sg_links.specs.steps.Rows.{IsPath, walk, lists_of, IsLinked, AreLinked, no_head}
+use Rattle.sg_links.specs.steps.Rows.{IsPath, walk, lists_of, IsLinked, AreLinked, AreInOrder, no_head}
 use Rattle.sg_links.proofs.Times.{times-append, times_same, times_in_set, times_at, times_two}
 use Rattle.sg_links.proofs.Paths.{path_set, path_join, walk_path, split_last}
 
@@ -36,6 +36,15 @@ kept_seen l next heads kept =
 pub kept_invariant : (l : Lists) (next : List ℕ) (heads : List Head) → AreKept l next heads → AreLinked next heads (lists_of next heads)
 kept_invariant l next heads kept =
     subst (λ lists. AreLinked next heads lists) (sym (walked next heads l.lists kept.linked)) kept.linked
+
+-- other lists, as many and over as many numbers, that are not arranged
+pub in_order : (l m : Lists) (next rest : List ℕ) (heads others : List Head) (starts order : List ℕ) (arranged : Bool) → AreInOrder next heads starts order arranged → AreKept l next heads → AreKept m rest others → length m.lists ≡ length l.lists → m.numbers ≡ l.numbers → AreInOrder rest others starts order false
+in_order l m next rest heads others starts order arranged before kept after many numbers = record {
+  linked = kept_invariant m rest others after;
+  starts_many = omega (arith, before.starts_many, kept.linked.as_many, after.linked.as_many);
+  order_many = omega (arith, before.order_many, kept.numbers, after.numbers);
+  laid = λ is. absurd (cc is);
+}
 
 pub kept_from : (l : Lists) (next : List ℕ) (heads : List Head) → AreLinked next heads (lists_of next heads) → record { numbers = length next; lists = lists_of next heads } ≡ l → AreKept l next heads
 kept_from l next heads linked is =

@@ -3,3 +3,4 @@ pub mod Paths
 pub mod Kept
 pub mod Changes
 pub mod Uses
+pub mod Orders

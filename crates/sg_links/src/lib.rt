@@ -5,6 +5,7 @@ mod head;
 pub mod laws;
 pub mod links;
 pub mod memory;
+mod order;
 
 pub use links::Links;
 pub use memory::LinkMemory;

@@ -3,27 +3,32 @@ ghost use Rattle.sg_links.specs.Lists.{Lists, empty_lists, list_of, with_list, t
 
 use crate::LinkMemory;
 use crate::head::Head;
+use crate::order::{lay_all, walk_to};
 use sqlite_items::Items;
 use std::alloc::Global;
 use std::marker::Model;
 
-/// Lists over the numbers from 0 to below a bound, each number in one list at most. Contracts see the lists.
+/// Lists over the numbers from 0 to below a bound, each number in one list at most. Contracts see the lists. Where they are arranged, `order`
+/// has them one behind the other, each from its place in `starts` on.
 #[derive(Debug, Drop)]
 pub struct Links {
     next: Items<u32>,
     heads: Items<Head>,
+    starts: Items<u32>,
+    order: Items<u32>,
+    pub(crate) arranged: bool,
 }
 
 impl Model for Links {
     ghost use Rattle.std.specs.Prelude.{length};
     ghost use Rattle.sg_links.specs.Lists.{Lists};
-    ghost use Rattle.sg_links.specs.steps.Rows.{lists_of, AreLinked};
+    ghost use Rattle.sg_links.specs.steps.Rows.{lists_of, AreInOrder};
 
     ghost Value = { Lists };
 
     ghost view = { λ links. record { numbers = length links.next; lists = lists_of links.next links.heads } };
 
-    ghost invariant = { λ links. AreLinked links.next links.heads (lists_of links.next links.heads) };
+    ghost invariant = { λ links. AreInOrder links.next links.heads links.starts links.order links.arranged };
 }
 
 impl Links {
@@ -39,6 +44,9 @@ impl Links {
         Ok(Links {
             next: Items::from_vec(vec![in alloc; numbers; numbers as usize]?),
             heads: Items::from_vec(vec![in alloc; empty; heads as usize]?),
+            starts: Items::from_vec(vec![in alloc; 0; heads as usize]?),
+            order: Items::from_vec(vec![in alloc; 0; numbers as usize]?),
+            arranged: false,
         })
     }
 
@@ -49,6 +57,9 @@ impl Links {
         Ok(Links {
             next: Items::from_slice(alloc, self.next.as_slice())?,
             heads: Items::from_slice(alloc, self.heads.as_slice())?,
+            starts: Items::from_slice(alloc, self.starts.as_slice())?,
+            order: Items::from_slice(alloc, self.order.as_slice())?,
+            arranged: self.arranged,
         })
     }
 
@@ -60,6 +71,7 @@ impl Links {
         ensures { self.new ≡ with_list self.old head (number ∷ list_of self.old head) }
     {
         let old = self.heads.as_slice()[head as usize];
+        self.arranged = false;
         self.next.set(number as usize, old.first);
         if old.len == 0 {
             self.heads.set(head as usize, single(number));
@@ -81,6 +93,7 @@ impl Links {
         ensures { self.new ≡ with_list self.old head (list_of self.old head ++ number ∷ []) }
     {
         let old = self.heads.as_slice()[head as usize];
+        self.arranged = false;
         self.next.set(number as usize, self.next.len() as u32);
         if old.len == 0 {
             self.heads.set(head as usize, single(number));
@@ -110,6 +123,7 @@ impl Links {
             last: old.last,
             len: old.len - 1,
         };
+        self.arranged = false;
         self.heads.set(head as usize, shorter);
         Some(old.first)
     }
@@ -132,6 +146,7 @@ impl Links {
         if more.len == 0 {
             return;
         }
+        self.arranged = false;
         self.heads.set(from as usize, empty);
         if old.len == 0 {
             self.heads.set(head as usize, more);
@@ -146,7 +161,22 @@ impl Links {
         }
     }
 
-    /// The number at a place of a list, the first at 0. None where the list is not as long. Walks along the list.
+    /// Arranges the lists, so that `nth` takes constant time until a list is changed. Takes no memory, and time in proportion to the numbers
+    /// in lists and the lists.
+    pub fn arrange(&mut self)
+        ensures { self.new ≡ self.old }
+    {
+        lay_all(
+            self.next.as_slice(),
+            self.heads.as_slice(),
+            &mut self.starts,
+            &mut self.order,
+        );
+        self.arranged = true;
+    }
+
+    /// The number at a place of a list, the first at 0. None where the list is not as long. In constant time where the lists are arranged, else
+    /// by a walk along the list.
     pub fn nth(&self, head: u32, place: u32) -> Option<u32>
         requires { head < length self.now.lists }
         ensures { result ≡ slice_get (list_of self.now head) place }
@@ -155,11 +185,16 @@ impl Links {
         if place >= list.len {
             return None;
         }
-        let mut number = list.first;
-        for _step in 0..place {
-            number = self.next.as_slice()[number as usize];
+        if self.arranged {
+            let start = self.starts.as_slice()[head as usize];
+            return Some(self.order.as_slice()[start as usize + place as usize]);
         }
-        Some(number)
+        Some(walk_to(
+            self.next.as_slice(),
+            self.heads.as_slice(),
+            head as usize,
+            place,
+        ))
     }
 
     /// How many numbers a list has.

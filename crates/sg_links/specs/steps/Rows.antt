@@ -1,5 +1,5 @@
 -- How lists are kept: a row of next numbers, and for each list where it begins and ends.
-use Rattle.std.specs.Prelude.{◌≡◌, ℕ, zero, suc, ◌-◌, ◌<◌, ◌^◌, List, [], ◌∷◌, length, map, slice_index, slice_index_or}
+use Rattle.std.specs.Prelude.{◌≡◌, ℕ, zero, suc, ◌+◌, ◌-◌, ◌<◌, ◌≤◌, ◌^◌, true, Bool, List, [], ◌∷◌, length, map, slice_index, slice_index_or}
 use Rattle.sg_links.specs.declared.head.Head.{Head}
 use Rattle.sg_links.specs.Lists.{AreDisjoint}
 
@@ -31,3 +31,23 @@ pub record AreLinked (next : List ℕ) (heads : List Head) (lists : List (List �
   pub disjoint : AreDisjoint (record { numbers = length next; lists = lists })
   pub few : length next < 2 ^ 32
   pub few_heads : length heads < 2 ^ 32
+
+-- the list that a head leads along
+abbrev pub list_at : List ℕ → List Head → ℕ → List ℕ
+list_at next heads head = slice_index_or (lists_of next heads) head []
+
+-- the numbers of a list stand in an order one behind the other, from a place on
+abbrev pub IsLaid : List ℕ → ℕ → List ℕ → Type 0
+IsLaid list start order = (k : ℕ) → k < length list → slice_index order (start + k) ≡ slice_index list k
+
+-- so do those of the first lists, each from a start of its own, and all before an end
+pub record AreLaid (count : ℕ) (lists : List (List ℕ)) (starts order : List ℕ) (end : ℕ) : Type 0 where
+  pub laid : (i : ℕ) → i < count → IsLaid (slice_index_or lists i []) (slice_index starts i) order
+  pub within : (i : ℕ) → i < count → slice_index starts i + length (slice_index_or lists i []) ≤ end
+
+-- a row and heads keep lists, and where they are arranged all are laid
+pub record AreInOrder (next : List ℕ) (heads : List Head) (starts order : List ℕ) (arranged : Bool) : Type 0 where
+  pub linked : AreLinked next heads (lists_of next heads)
+  pub starts_many : length starts ≡ length heads
+  pub order_many : length order ≡ length next
+  pub laid : arranged ≡ true → AreLaid (length heads) (lists_of next heads) starts order (length next)

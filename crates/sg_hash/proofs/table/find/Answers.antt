@@ -1,6 +1,4 @@
-use Rattle.std.proofs.Common.{◌≡◌, ℕ, ◌+◌, ◌<◌, length, get_or, sym, ap, ◌∙◌, subst, refl, arith, inl, inr}
-use Rattle.std.specs.Prelude.{None}
-use Rattle.sg_hash.specs.Tables.{IsAbsent}
+use Rattle.std.proofs.Common.{◌≡◌, ◌+◌, ◌<◌, length, get_or, sym, refl, inl, inr}
 use Rattle.sg_hash.proofs.Uses.{absent_by_empty, absent_by_full, beside_none, beside_at, held_below, stands_once}
 use Rattle.sg_hash.proofs.table.find.Goals as goal
 

@@ -1,7 +1,6 @@
-use Rattle.std.proofs.Common.{◌≡◌, ℕ, ◌+◌, ◌<◌, ◌%◌, length, get_or, sym, ap, ◌∙◌, subst, arith, inl, inr}
-use Rattle.std.proofs.lemmas.Bool.{cases_lt, cases_eq}
-use Rattle.sg_hash.specs.Tables.{place, HoldsOther, Passes}
-use Rattle.sg_hash.proofs.Turns.{place_next, place_below}
+use Rattle.std.proofs.Common.{◌≡◌, ℕ, ◌+◌, ◌%◌, length, ap, ◌∙◌, subst, arith}
+use Rattle.sg_hash.specs.Tables.{place, Passes}
+use Rattle.sg_hash.proofs.Turns.{place_next}
 use Rattle.sg_hash.proofs.Uses.{full_by_turns, passes_more}
 use Rattle.sg_hash.proofs.table.probe.Goals as goal
 

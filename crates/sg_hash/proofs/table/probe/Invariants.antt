@@ -1,4 +1,4 @@
-use Rattle.std.proofs.Common.{◌≡◌, ◌+◌, ◌<◌, length}
+use Rattle.std.proofs.Common.{◌≡◌, ◌<◌, length}
 use Rattle.sg_hash.specs.Tables.{place, Passes}
 use Rattle.sg_hash.proofs.table.probe.Given as goal
 

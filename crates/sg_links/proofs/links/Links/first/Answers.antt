@@ -6,5 +6,5 @@ use Rattle.sg_links.proofs.links.Links.first.Goals as goal
 
 pub returns-else-list-eq0 : goal.returns-else-list-eq0
 returns-else-list-eq0 c =
-    let kept = kept_from c.args.self.now _ _ c.self.invariant c.self.view_is in
+    let kept = kept_from c.args.self.now _ _ c.self.invariant.linked c.self.view_is in
     sym (first_is c.args.self.now _ _ c.args.head _ kept c.requires (ap (λ heads. get_or heads c.args.head no_head) c.as_slice.ensures) (omega arith))

@@ -1,0 +1,16 @@
+use Rattle.std.proofs.Common.{length, ◌∙◌, ap, take, drop, ◌+◌, arith}
+use Rattle.std.proofs.lemmas.List.{length-set}
+use Rattle.std.specs.Mem.Slots.{slots_items}
+use Rattle.sg_hash.proofs.Loops.{copied}
+use Rattle.sg_hash.proofs.Endings.{get-dropped}
+use Rattle.sg_hash.proofs.finish.copy_words.Goals as goal
+
+pub loop-i-preserved : goal.loop-i-preserved
+loop-i-preserved c =
+    let long = c.loop-i.invariant.long in
+    let set' = c.set.ensures in
+    record {
+      long = ap length set' ∙ length-set c.loop-i.words c.loop-i.i _ ∙ long;
+      front = ap (take (c.loop-i.i + 1)) set' ∙ copied c.loop-i.words (drop c.args.from (slots_items c.args.closed.now.words)) c.loop-i.i c.word.result (omega arith) c.loop-i.invariant.front
+          (get-dropped c.args.from (slots_items c.args.closed.now.words) c.loop-i.i c.word.result c.word.ensures);
+    }

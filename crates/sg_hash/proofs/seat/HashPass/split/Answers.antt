@@ -1,0 +1,23 @@
+use Rattle.std.proofs.Common.{rules, ◌<◌, refl, sym, ap, ◌∙◌, subst, arith}
+use Rattle.sg_words.specs.Counts.{pairs}
+use Rattle.sg_hash.proofs.Passes.{split-allowed}
+use Rattle.sg_hash.proofs.Searches.{full-grows}
+use Rattle.sg_hash.proofs.seat.HashPass.split.Goals as goal
+
+pub split_seat-other-requires : goal.split_seat-other-requires
+split_seat-other-requires c =
+    let sized = c.args.self.now.sized in
+    (search rules, omega arith, split-allowed c.args.self.now _ _ c.requires.share)
+
+pub returns-clause-own : goal.returns-clause-own
+returns-clause-own c =
+    let h = c.split_seat-other.ensures in
+    record {
+      at = record {
+        table = h.0 ∙ c.requires.own.at.table;
+        told = ap (λ m. m.0.told) h.2 ∙ c.requires.own.at.told;
+        spare = λ t has. c.requires.own.at.spare t (subst (λ l. 0 < pairs 0 t l) (ap (λ m. m.0.spare) h.2) has);
+      };
+      others = full-grows _ c.args.seat.now.seat.me.0 c.split_seat-other.new.seat.me.0 c.args.seat.now.full c.args.seat.now.full refl
+          (λ p k has. subst (λ l. 0 < pairs p k l) (sym (ap (λ m. m.0.keys) h.2)) has) c.requires.own.others;
+    }

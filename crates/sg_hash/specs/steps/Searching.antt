@@ -1,0 +1,51 @@
+-- What a seat knows of keys.
+use Rattle.std.specs.Prelude.{◌≢◌, Option, Some, None, ◌⊎◌, [], ◌∷◌, ◌++◌, ◌≡◌, ℕ, ◌+◌, ◌-◌, ◌<◌, ◌==◌, if◌then◌else◌}
+use Rattle.sg_words.specs.declared.race.Worker.{Worker}
+use Rattle.sg_words.specs.Counts.{pairs}
+use Rattle.sg_words.specs.RaceMachine.{after_key, place_of, HasOthersBefore}
+
+-- a load of the key word at place p: the key that stands there was found, if any
+abbrev pub after_look_key : ℕ → ℕ → Worker → Worker
+after_look_key p word v = if word == 0 then v else after_key p (word - 1) v
+
+-- among so many places, at place p of which a word stands: the keys that a worker found stand in places, one key in each, and where the
+-- word is of a key that it found, it found it there
+pub record TellKeys (n p word : ℕ) (w : Worker) : Type 0 where
+  pub inside : (q k : ℕ) → 0 < pairs q k w.keys → q < n
+  pub agree : (q a b : ℕ) → 0 < pairs q a w.keys → 0 < pairs q b w.keys → a ≡ b
+  pub once : (q k : ℕ) → word ≡ k + 1 → 0 < pairs q k w.keys → q ≡ p
+
+-- a step that leaves what a seat knows of keys
+abbrev pub SameKeys : Worker → Worker → Type 0
+SameKeys v w = (w.keys ≡ v.keys) × (w.put ≡ v.put)
+
+-- a search finds keys, and maybe puts one; nothing else changes
+pub record Searched (v w : Worker) : Type 0 where
+  pub told : w.told ≡ v.told
+  pub size : w.size ≡ v.size
+  pub share : w.share ≡ v.share
+  pub back : w.back ≡ v.back
+  pub spare : w.spare ≡ v.spare
+  pub left : w.left ≡ v.left
+  pub past : w.past ≡ v.past
+  pub seen : w.seen ≡ v.seen
+  pub missed : w.missed ≡ v.missed
+  pub made : w.made ≡ v.made
+  pub grows : (p k : ℕ) → 0 < pairs p k v.keys → 0 < pairs p k w.keys
+
+-- what a probe of a place leaves in the list of keys that were put, by the word that stands there then
+abbrev pub PutAt : ℕ → ℕ → Worker → Worker → Type 0
+PutAt key word v w = (w.put ≡ v.put) ⊎ ((word ≡ key + 1) × (w.put ≡ v.put ++ key ∷ []))
+
+-- a search among n places: the place where the key stands, the one at which it was found before, if it was; or another key in every place
+abbrev pub SearchFound : ℕ → ℕ → Worker → Worker → Option ℕ → Type 0
+SearchFound n key v w (Some p) = (p < n) × (0 < pairs p key w.keys) × ((q : ℕ) → 0 < pairs q key v.keys → q ≡ p)
+SearchFound n key v w None = HasOthersBefore n key n w × ((q : ℕ) → 0 < pairs q key v.keys → ⊥)
+
+-- so many places of a key's order among n were looked at, and another key was found in each; the key itself was found in none of them before
+pub record Passed (n key turn : ℕ) (v w : Worker) : Type 0 where
+  pub searched : Searched v w
+  pub put : w.put ≡ v.put
+  pub others : HasOthersBefore n key turn w
+  pub inside : 0 < turn → (q : ℕ) → 0 < pairs q key v.keys → q < n
+  pub absent : (q : ℕ) → 0 < pairs q key v.keys → (j : ℕ) → j < turn → q ≢ place_of n key j

@@ -1,0 +1,53 @@
+ghost use Rattle.std.specs.Prelude.{◌≡◌, ℕ, ◌+◌, ◌<◌, ◌≤◌, length, slice_index, slice_index_or};
+ghost use Rattle.sg_links.specs.steps.Rows.{list_at, lists_of, AreLinked, AreLaid, IsLaid};
+
+use crate::head::Head;
+use sqlite_items::Items;
+
+/// Lays the lists one behind the other: each goes into `order` from its place in `starts` on.
+pub fn lay_all(next: &[u32], heads: &[Head], starts: &mut Items<u32>, order: &mut Items<u32>)
+    requires linked { AreLinked next.now heads.now (lists_of next.now heads.now) }
+    requires starts { length starts.old ≡ length heads.now }
+    requires order { length order.old ≡ length next.now }
+    ensures laid { AreLaid (length heads.now) (lists_of next.now heads.now) starts.new order.new (length next.now) }
+    ensures starts { length starts.new ≡ length heads.now }
+    ensures order { length order.new ≡ length next.now }
+{
+    let mut end = 0;
+    for head in 0..heads.len() {
+        starts.set(head, end);
+        lay(next, heads, head, end, order);
+        end += heads[head].len;
+    }
+}
+
+/// Lays one list into the order, from a place on.
+fn lay(next: &[u32], heads: &[Head], head: usize, start: u32, order: &mut Items<u32>)
+    requires linked { AreLinked next.now heads.now (lists_of next.now heads.now) }
+    requires there { head < length heads.now }
+    requires room { start + length (list_at next.now heads.now head) ≤ length order.old }
+    ensures laid { IsLaid (list_at next.now heads.now head) start order.new }
+    ensures front { (k : ℕ) → k < start → slice_index order.new k ≡ slice_index order.old k }
+    ensures length { length order.new ≡ length order.old }
+{
+    let list = heads[head];
+    let mut number = list.first;
+    for step in 0..list.len {
+        order.set(start as usize + step as usize, number);
+        number = next[number as usize];
+    }
+}
+
+/// The number at a place of a list, by a walk along it.
+pub fn walk_to(next: &[u32], heads: &[Head], head: usize, place: u32) -> u32
+    requires linked { AreLinked next.now heads.now (lists_of next.now heads.now) }
+    requires there { head < length heads.now }
+    requires within { place < length (list_at next.now heads.now head) }
+    ensures { result ≡ slice_index (list_at next.now heads.now head) place }
+{
+    let mut number = heads[head].first;
+    for _step in 0..place {
+        number = next[number as usize];
+    }
+    number
+}
