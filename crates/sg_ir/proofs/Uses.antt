@@ -1,0 +1,10 @@
+-- What other crates use of access code: folds one layer down, runs and judgements of longer blocks, and what emitting adds.
+pub use Rattle.sg_ir.proofs.Folds.{fold-Const, fold-Var, fold-Set, fold-Bin, fold-Un, fold-Mulq, fold-Root, fold-Check, fold-Extract, fold-Offset, fold-Child, fold-HashChild, fold-MaskBit, fold-DynCell, fold-ReadCell, fold-OwnRead, fold-OwnWrite, fold-Acc, fold-Want, fold-If, fold-For}
+pub use Rattle.sg_ir.proofs.Equations.{does-Const, does-Var, does-Set, does-Bin, does-Un, does-Mulq, does-Root, does-Check, does-Extract, does-Offset, does-Child, does-HashChild, does-MaskBit, does-DynCell, does-ReadCell, does-OwnRead, does-OwnWrite, does-Acc, does-Want, does-If, does-For, runs-more, runs-append}
+pub use Rattle.sg_ir.proofs.Judging.{judges-Const, judges-Var, judges-Set, judges-Bin, judges-Un, judges-Mulq, judges-Root, judges-Check, judges-Extract, judges-Offset, judges-Child, judges-HashChild, judges-MaskBit, judges-DynCell, judges-ReadCell, judges-OwnRead, judges-OwnWrite, judges-Acc, judges-Want, judges-If, judges-For, judged-more, settings-append, set_regs-append, set_places-append, set_vars-append, uses-append}
+pub use Rattle.sg_ir.proofs.Emitting.{put-same, put-other, computes, reaches, fetches}
+pub use Rattle.sg_ir.proofs.Stepping.{does-step}
+pub use Rattle.sg_ir.proofs.Extending.{extends-same, extends-trans, quiet-trans, reaches-then, computes-then, words-kept, all_named}
+pub use Rattle.sg_ir.proofs.Adding.{range-append, goes_on-same, goes_on-trans, goes_on-one, final-before, final-type, adds-reg, adds-place, adds-same, adds-trans, can_read-kept}
+pub use Rattle.sg_ir.proofs.AddingPlaces.{steps-same, steps-trans}
+pub use Rattle.sg_ir.proofs.Leading.{inside-checks, count-word, led-none, led-whole, walk-leads}

@@ -1,0 +1,121 @@
+-- What may be used at a point of code, by what stands before it.
+use Rattle.std.specs.Prelude.{◌≡◌, ℕ, suc, ◌+◌, ◌<◌, Bool, true, false, ◌||◌, ◌==◌, if◌then◌else◌, List, [], ◌∷◌, length, drop, slice_get, Option, Some, None}
+use Rattle.std.specs.List.{list_any, fold}
+use Rattle.sg_ir.specs.declared.code.Inst.{Inst, fold-Inst}
+use Rattle.sg_ir.specs.declared.code.Inst.TheOpen as i
+use Rattle.sg_ir.specs.declared.code.Inst.TheOpen.{Inst-F}
+use Rattle.sg_ir.specs.declared.settings.Target.{Target}
+use Rattle.sg_ir.specs.declared.settings.Target.TheVariants as t
+use Rattle.sg_ir.specs.declared.before.Before.{Before, fold-Before}
+use Rattle.sg_ir.specs.declared.before.Before.TheOpen as b
+use Rattle.sg_ir.specs.declared.before.Before.TheOpen.{Before-F}
+use Rattle.sg_ir.specs.declared.before.Passed.{Passed}
+use Rattle.sg_ir.specs.declared.before.Origin.{Origin}
+use Rattle.sg_ir.specs.declared.before.Origin.TheVariants as o
+use Rattle.sg_ir.specs.Runs.{put}
+use Rattle.sg_ir.specs.WellTyped.{holds_of, Known, Scope}
+use Rattle.sg_ir.specs.steps.Targets.{is_setting, setting_of, left, leaves}
+
+-- the last instruction behind which this is set
+pub record IsLast (what : Target) (done : List Inst) (at : ℕ) : Type 0 where
+  pub within : at < length done
+  pub there : holds_of (leaves what) (slice_get done at) ≡ true
+  pub behind : list_any (leaves what) (drop (suc at) done) ≡ false
+
+-- whether this was set before
+abbrev pub set_step : Target → Before-F Bool → Bool
+set_step what b.Start = false
+set_step what (b.Block done outer) = list_any (leaves what) done.now || outer.now
+set_step what (b.Loop var outer) = is_setting what (setting_of (t.Var var)) || outer.now
+
+abbrev pub set_before : Target → Before → Bool
+set_before what = fold-Before Bool (set_step what)
+
+-- where the place comes from that an instruction sets
+abbrev pub origin_step : {A : Type 0} → Inst-F A → Option Origin
+origin_step (i.Const to word) = None
+origin_step (i.Var to var) = None
+origin_step (i.Set var from) = None
+origin_step (i.Bin to op given a b) = None
+origin_step (i.Un to op given a) = None
+origin_step (i.Mulq to a b s) = None
+origin_step (i.Root to layout) = Some (o.Root layout)
+origin_step (i.Check to place axis extent index) = Some (o.Place place 0)
+origin_step (i.Extract to div size from) = None
+origin_step (i.Offset to high size low) = None
+origin_step (i.Child to place node offset) = Some (o.Place place node)
+origin_step (i.HashChild to place node offset) = Some (o.Place place node)
+origin_step (i.MaskBit to place node offset) = Some (o.Place place node)
+origin_step (i.DynCell to place node offset) = Some (o.Place place node)
+origin_step (i.ReadCell to place layout field index) = None
+origin_step (i.OwnRead to layout field) = None
+origin_step (i.OwnWrite layout field from stmt) = None
+origin_step (i.Acc op layout field place from index stmt) = None
+origin_step (i.Want layout index stmt) = None
+origin_step (i.If cond block otherwise) = None
+origin_step (i.For var lo hi body) = None
+
+abbrev pub origin : Inst → Option Origin
+origin = fold-Inst (Option Origin) origin_step
+
+-- what is known of the places
+abbrev pub Places : Type 0
+Places = ℕ → Option Passed
+
+abbrev pub passed_on : ℕ → Option Passed → Option Passed
+passed_on passed None = None
+passed_on passed (Some known) = Some (record { layout = known.layout; passed = passed })
+
+-- what is known of a place that comes from there
+abbrev pub known_from : Places → Option Origin → Option Passed
+known_from places None = None
+known_from places (Some (o.Root layout)) = Some (record { layout = layout; passed = 0 })
+known_from places (Some (o.Place from passed)) = passed_on passed (places from)
+
+-- a place that is set, where something is known of it
+abbrev pub settled : ℕ → Option Passed → Places → Places
+settled to None places = places
+settled to (Some known) places = put to (Some known) places
+
+abbrev pub placed : Option Target → Option Passed → Places → Places
+placed None known places = places
+placed (Some (t.Reg r)) known places = places
+placed (Some (t.Place p)) known places = settled p known places
+placed (Some (t.Var v)) known places = places
+
+-- what is known of the places behind an instruction, and behind these
+abbrev pub place_step : Places → Inst → Places
+place_step places inst = placed (left inst) (known_from places (origin inst)) places
+
+abbrev pub places_after : Places → List Inst → Places
+places_after places done = fold place_step places done
+
+-- what is known of the places before a point of code
+abbrev pub before_step : Before-F Places → Places
+before_step b.Start = λ p. None
+before_step (b.Block done outer) = places_after outer.now done.now
+before_step (b.Loop var outer) = outer.now
+
+abbrev pub places_before : Before → Places
+places_before = fold-Before Places before_step
+
+-- how much there is to look through
+abbrev pub weight_step : Before-F ℕ → ℕ
+weight_step b.Start = 0
+weight_step (b.Block done outer) = length done.now + outer.now + 2
+weight_step (b.Loop var outer) = outer.now + 2
+
+abbrev pub weight : Before → ℕ
+weight = fold-Before ℕ weight_step
+
+-- a scope with these registers, places and variables
+abbrev pub known_of : Option Passed → Option Known
+known_of None = None
+known_of (Some known) = Some (record { layout = known.layout; passed = known.passed })
+
+abbrev pub scope_with : (ℕ → Bool) → Places → (ℕ → Bool) → Scope
+scope_with regs places vars = record { regs = regs; places = λ p. known_of (places p); vars = vars }
+
+-- the scope at a point of code, where these variables may be used from the start
+abbrev pub scope_at : (ℕ → Bool) → Before → Scope
+scope_at free before = scope_with (λ r. set_before (t.Reg r) before) (places_before before) (λ v. free v || set_before (t.Var v) before)

@@ -1,0 +1,25 @@
+//! Access code: what a kernel's iteration does, in single instructions over registers, places and variables, and its meaning.
+#![tactic(auto)]
+
+mod arms;
+mod before;
+pub mod code;
+pub mod emit;
+mod kinds;
+pub mod laws;
+pub mod lines;
+pub mod names;
+mod operators;
+pub mod place;
+mod scope;
+mod settings;
+mod typing;
+
+pub use code::{Code, Inst, KernelCode};
+pub use laws::places_tell;
+pub use lines::text;
+pub use names::Names;
+pub use typing::well_typed;
+
+#[cfg(test)]
+mod tests;
