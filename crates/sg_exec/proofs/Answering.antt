@@ -12,7 +12,7 @@ use Rattle.sg_flat.specs.declared.state.FlatLayout.{FlatLayout}
 use Rattle.sg_flat.specs.declared.state.FlatState.{FlatState}
 use Rattle.sg_flat.specs.Kernel.{first_outside, full_fault, first_full_layout}
 use Rattle.sg_store.specs.StoreWords.{StoreWords}
-use Rattle.sg_admit.specs.declared.admitted.Admitted.{Admitted}
+use Rattle.sg_ir.specs.declared.code.KernelCode.{KernelCode}
 use Rattle.sg_exec.specs.Standing.{shapes_of, StandForState}
 use Rattle.sg_exec.specs.Running.{IsRunnable, Ran}
 use Rattle.sg_exec.specs.steps.Wants.{AllWanted, StoreReached, AllReached}
@@ -60,5 +60,5 @@ ran_err view m shapes stores news (Err stop.Memory) e same is h = tt
 ran_err view m shapes stores news (Err (stop.Refused fault)) e same is h =
     ap m (sym same) ∙ subst (λ (x : Stop RunFault). CopiesRan view (shapes_of stores) (Err x) (m (shapes_of stores))) (sym is) h
 
-pub runnable_here : (shapes : List Shape) (stores : List StoreWords) (kernel : Admitted) → shapes_of stores ≡ shapes → IsRunnable shapes kernel → IsRunnable (shapes_of stores) kernel
+pub runnable_here : (shapes : List Shape) (stores : List StoreWords) (kernel : KernelCode) → shapes_of stores ≡ shapes → IsRunnable shapes kernel → IsRunnable (shapes_of stores) kernel
 runnable_here shapes stores kernel same runnable = subst (λ (ss : List Shape). IsRunnable ss kernel) (sym same) runnable

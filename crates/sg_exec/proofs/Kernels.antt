@@ -1,17 +1,13 @@
 -- The meaning of a kernel run, from what its steps found.
-use Rattle.std.proofs.Common.{◌≡◌, ℕ, Bool, false, ℤ, List, [], ◌∷◌, map, Some, None, Result, Err, refl, sym, ap, ◌∙◌, subst}
-use Rattle.std.specs.Prelude.{slice_get, Contains}
+use Rattle.std.proofs.Common.{◌≡◌, false, inl, inr, List, [], ◌∷◌, map, Option, Some, None, Result, Err, refl, sym, ap, ◌∙◌, subst}
+use Rattle.std.specs.Prelude.{filter, slice_get, Contains}
+use Rattle.std.specs.Option.{option_or}
 use Rattle.std.specs.Result.{IsOkAnd}
 use Rattle.std.specs.List.{AllZip}
-use Rattle.sg_words.specs.declared.operators.Ty.TheVariants as ty
-use Rattle.sg_words.specs.WordLaws.{NumberHasWord}
 use Rattle.sg_coord.specs.declared.coord.Coord.{Coord}
-use Rattle.sg_coord.specs.Bounds.{IsBounds}
 use Rattle.sg_coord.specs.Laws.{InsideTest}
 use Rattle.sg_layout.specs.declared.shape.Shape.{Shape}
-use Rattle.sg_layout.specs.Axes.{bounds_of_shape}
 use Rattle.sg_layout.specs.ClosureLaws.{ClosureIsInside, ClosureExtends}
-use Rattle.sg_flat.specs.declared.effects.Domain.TheVariants.{Walk}
 use Rattle.sg_flat.specs.declared.effects.Write.{Write}
 use Rattle.sg_flat.specs.declared.effects.Turn.{Turn}
 use Rattle.sg_flat.specs.declared.effects.RunFault.{RunFault}
@@ -19,85 +15,116 @@ use Rattle.sg_flat.specs.declared.state.FlatLayout.{FlatLayout}
 use Rattle.sg_flat.specs.declared.state.FlatState.{FlatState}
 use Rattle.sg_flat.specs.Domain.{domain_points}
 use Rattle.sg_flat.specs.Effects.{writes_of}
-use Rattle.sg_flat.specs.Kernel.{first_outside, first_full_layout, kernel_meaning}
+use Rattle.sg_flat.specs.Kernel.{outside_among, first_outside, first_full_layout, kernel_meaning}
+use Rattle.sg_flat.specs.State.{IsFlat}
 use Rattle.sg_store.specs.StoreWords.{StoreWords}
 use Rattle.sg_store.specs.StandsFor.{StandsFor}
-use Rattle.sg_admit.specs.declared.admitted.Admitted.{Admitted}
-use Rattle.sg_admit.specs.Slices.{walked_by, may_activate}
-use Rattle.sg_admit.specs.Laws.{SliceWantsWhatIsWritten, DomainIsConstant, OwnWritesStand}
+use Rattle.sg_ir.specs.declared.code.KernelCode.{KernelCode}
+use Rattle.sg_ir.specs.Runs.{CodeWrite, iteration}
+use Rattle.sg_ir.specs.Apt.{may_activate, IsWantOf}
+use Rattle.sg_words.proofs.Uses.{contains_none, contains_cases}
 use Rattle.sg_exec.specs.Standing.{shapes_of, StandForState}
-use Rattle.sg_exec.specs.Running.{IsRunnable, run_meaning, load_meaning, turn_of}
-use Rattle.sg_exec.specs.steps.Moments.{world_in, turn_in}
+use Rattle.sg_exec.specs.Running.{IsRunnable, located, code_turn, run_meaning, load_meaning, turn_of}
+use Rattle.sg_exec.specs.steps.Machines.{seen_in, slice_turn, AreNamedAt, AreTurnsOf}
 use Rattle.sg_exec.specs.steps.Landing.{Lands}
-use Rattle.sg_exec.specs.steps.Wants.{AreWants, reached_layouts}
+use Rattle.sg_exec.specs.steps.Wants.{acts, AreWants, reached_layouts}
 use Rattle.sg_exec.proofs.Ending.{ended, meaning_outside, meaning_full}
 use Rattle.sg_exec.proofs.Sliced.{wants_of, wants_of_turns, first_same, wants_same, of_writes}
-use Rattle.sg_exec.proofs.Walked.{StandsActive, left_out, stands_inside, stands_active}
+use Rattle.sg_exec.proofs.Located.{wanted_are, located_back, left_at_loop}
+use Rattle.sg_exec.proofs.Walked.{all_flat, StandsActive, left_out, stands_inside, stands_active}
 
--- the laws by which a kernel's slice stands for its body
+-- the laws by which a kernel's slice stands for its code
 pub record KernelLaws : Type 0 where
-  pub words : (z : ℤ) → NumberHasWord ty.I32 z
-  pub slice : SliceWantsWhatIsWritten
-  pub constant : DomainIsConstant
-  pub own : OwnWritesStand
   pub test : InsideTest
   pub inside : (shape : Shape) → ClosureIsInside shape
   pub extends : (shape : Shape) → ClosureExtends shape
 
-module _ (laws : KernelLaws) (stores : List StoreWords) (state : FlatState) (kept : Admitted) (points : List Coord)
-    (all : AllZip StandsFor stores state.layouts) (runnable : IsRunnable (shapes_of stores) kept) (are_points : points ≡ domain_points state kept.domain)
-    (walked_bounds : (layout : ℕ) (store : StoreWords) → kept.domain ≡ Walk layout → slice_get stores layout ≡ Some store → IsBounds (bounds_of_shape store.shape)) where
-  abbrev body_turn : Coord → Turn
-  body_turn = turn_in (world_in stores state) kept.kernel.body
+inside_each : (f : Coord → Turn) (shapes : List Shape) (points : List Coord) (at : Coord) → first_outside shapes (map f points) ≡ None → Contains points at → outside_among shapes (f at).at (f at).writes ≡ None
+inside_each f shapes [] at none has = absurd (contains_none at has)
+inside_each f shapes (first ∷ points) at none has = elim (contains_cases at first points has) [
+  | inl same ↦ subst (λ (x : Coord). outside_among shapes (f x).at (f x).writes ≡ None) same both.0
+  | inr later ↦ inside_each f shapes points at both.1 later
+]
+  where
+    by_found : (a b : Option RunFault) → option_or a b ≡ None → (a ≡ None) × (b ≡ None)
+    by_found None b is = (refl, is)
+    by_found (Some fault) b is = absurd (cc)
 
-  abbrev slice_turn : Coord → Turn
-  slice_turn = turn_in (world_in stores state) kept.slice
+    both : (outside_among shapes (f first).at (f first).writes ≡ None) × (first_outside shapes (map f points) ≡ None)
+    both = by_found (outside_among shapes (f first).at (f first).writes) (first_outside shapes (map f points)) none
 
-  abbrev act : Write → Bool
-  act write = may_activate (walked_by kept.kernel.domain) write.layout write.way
+module _ (laws : KernelLaws) (stores : List StoreWords) (state : FlatState) (kernel : KernelCode) (points : List Coord)
+    (all : AllZip StandsFor stores state.layouts) (runnable : IsRunnable (shapes_of stores) kernel) (are_points : points ≡ domain_points state kernel.domain) where
+  abbrev code : Coord → Turn
+  code = code_turn (shapes_of stores) state kernel
 
-  each_slice : (at : Coord) → (slice_turn at).writes ≡ wants_of act (body_turn at).writes
-  each_slice at = laws.slice (world_in stores state) kept.kernel kept at runnable.admitted
+  abbrev slice : Coord → Turn
+  slice = slice_turn stores state kernel.slice.body
 
-  outs : (at : Coord) → Contains points at → (write : Write) → Contains (body_turn at).writes write → act write ≡ false → StandsActive stores state.layouts write
+  flat : IsFlat (shapes_of stores) state
+  flat = all_flat stores state.layouts all
+
+  visited : (at : Coord) → Contains points at → Contains (domain_points state kernel.domain) at
+  visited at has = subst (λ (ps : List Coord). Contains ps at) are_points has
+
+  each_slice : (at : Coord) → Contains points at → (slice at).writes ≡ wants_of (acts kernel.domain) (code at).writes
+  each_slice at has = wanted_are kernel.domain at (shapes_of stores) _ _ (runnable.apt.wants state flat at (visited at has))
+
+  outs : (at : Coord) → Contains points at → (write : Write) → Contains (code at).writes write → acts kernel.domain write ≡ false → StandsActive stores state.layouts write
   outs at has write is_write out =
-      left_out laws.words laws.constant laws.own laws.inside stores state kept all runnable walked_bounds at (subst (λ (ps : List Coord). Contains ps at) are_points has) write is_write out
+      let left = left_at_loop kernel.domain at _ _ write is_write out in
+      left_out stores state all kernel.domain at (visited at has) write left.0 left.1
 
-  same_first : first_outside (shapes_of stores) (map slice_turn points) ≡ first_outside (shapes_of stores) (map body_turn points)
+  same_first : first_outside (shapes_of stores) (map slice points) ≡ first_outside (shapes_of stores) (map code points)
   same_first =
-      first_same act (shapes_of stores) body_turn slice_turn points each_slice (λ at. (refl, refl))
+      first_same (acts kernel.domain) (shapes_of stores) code slice points each_slice (λ at. (refl, refl))
       (λ at has write is_write out. stands_inside stores state.layouts write laws.test laws.inside (outs at has write is_write out))
 
-  same_wants : (wants : List (List Coord)) → AreWants state.layouts wants (writes_of (map slice_turn points)) → AreWants state.layouts wants (writes_of (map body_turn points))
+  same_wants : (wants : List (List Coord)) → AreWants state.layouts wants (writes_of (map slice points)) → AreWants state.layouts wants (writes_of (map code points))
   same_wants wants are =
-      wants_same act state.layouts wants (writes_of (map body_turn points))
-      (of_writes (λ (write : Write). act write ≡ false → (flat : FlatLayout) → slice_get state.layouts write.layout ≡ Some flat → Contains flat.active write.at) body_turn points
+      wants_same (acts kernel.domain) state.layouts wants (writes_of (map code points))
+      (of_writes (λ (write : Write). acts kernel.domain write ≡ false → (flat : FlatLayout) → slice_get state.layouts write.layout ≡ Some flat → Contains flat.active write.at) code points
       (λ at has write is_write out. stands_active stores state.layouts write (outs at has write is_write out)))
-      (subst (λ (ws : List Write). AreWants state.layouts wants ws) (wants_of_turns act body_turn slice_turn points each_slice) are)
+      (subst (λ (ws : List Write). AreWants state.layouts wants ws) (wants_of_turns (acts kernel.domain) code slice points each_slice) are)
 
-  meaning_is : kernel_meaning (shapes_of stores) state (record { turns = map body_turn points }) ≡ run_meaning (shapes_of stores) state kept
-  meaning_is =
-      ap (λ (ps : List Coord). kernel_meaning (shapes_of stores) state (record { turns = map body_turn ps }))
-      (are_points ∙ ap (domain_points state) (sym (laws.constant (world_in stores state) kept.kernel kept runnable.admitted)))
+  meaning_is : kernel_meaning (shapes_of stores) state (record { turns = map code points }) ≡ run_meaning (shapes_of stores) state kernel
+  meaning_is = ap (λ (ps : List Coord). kernel_meaning (shapes_of stores) state (record { turns = map code ps })) are_points
 
-  pub kernel_outside : (fault : RunFault) → first_outside (shapes_of stores) (map slice_turn points) ≡ Some fault → run_meaning (shapes_of stores) state kept ≡ Err fault
-  kernel_outside fault outside = sym meaning_is ∙ meaning_outside (shapes_of stores) state (map body_turn points) fault (sym same_first ∙ outside)
+  pub slice_is_named : AreNamedAt stores state kernel.slice.body points
+  slice_is_named = λ at has. runnable.apt.slice_named state flat at (visited at has)
 
-  pub kernel_full : (wants : List (List Coord)) (fault : RunFault) → (first_outside (shapes_of stores) (map slice_turn points) ≡ None) × AreWants state.layouts wants (writes_of (map slice_turn points))
+  pub code_is_named : AreNamedAt stores state kernel.code.body points
+  code_is_named = λ at has. runnable.apt.code_named state flat at (visited at has)
+
+  -- where the slice wants nothing outside, the code's writes are at the coordinates that it has
+  pub turns_are : first_outside (shapes_of stores) (map slice points) ≡ None → AreTurnsOf stores state kernel.code.body points code
+  turns_are none = λ at has writes written.
+      let seen = seen_in stores state at in
+      let wants = (iteration seen kernel.slice.body).wants in
+      let inside : outside_among (shapes_of stores) at (located kernel.domain at wants (iteration seen kernel.code.body).writes) ≡ None = inside_each code (shapes_of stores) points at (sym same_first ∙ none) has in
+      sym (ap (located kernel.domain at wants) written.made_are
+      ∙ located_back kernel.domain at (shapes_of stores) wants writes
+      (subst (λ (ws : List CodeWrite). AllZip (IsWantOf (shapes_of stores)) wants (filter (may_activate kernel.domain) ws)) written.made_are (runnable.apt.wants state flat at (visited at has))) written.at_loop
+      (subst (λ (ws : List CodeWrite). outside_among (shapes_of stores) at (located kernel.domain at wants ws) ≡ None) written.made_are inside))
+
+  pub kernel_outside : (fault : RunFault) → first_outside (shapes_of stores) (map slice points) ≡ Some fault → run_meaning (shapes_of stores) state kernel ≡ Err fault
+  kernel_outside fault outside = sym meaning_is ∙ meaning_outside (shapes_of stores) state (map code points) fault (sym same_first ∙ outside)
+
+  pub kernel_full : (wants : List (List Coord)) (fault : RunFault) → (first_outside (shapes_of stores) (map slice points) ≡ None) × AreWants state.layouts wants (writes_of (map slice points))
       → ((flats : List FlatLayout) (turns : List Turn) → AllZip StandsFor stores flats → AreWants flats wants (writes_of turns) → first_full_layout 0 (shapes_of stores) flats turns ≡ Some fault)
-      → run_meaning (shapes_of stores) state kept ≡ Err fault
+      → run_meaning (shapes_of stores) state kernel ≡ Err fault
   kernel_full wants fault found full =
-      sym meaning_is ∙ meaning_full (shapes_of stores) state (map body_turn points) fault (sym same_first ∙ found.0) (full state.layouts (map body_turn points) all (same_wants wants found.1))
+      sym meaning_is ∙ meaning_full (shapes_of stores) state (map code points) fault (sym same_first ∙ found.0) (full state.layouts (map code points) all (same_wants wants found.1))
 
-  pub kernel_ran : (wants : List (List Coord)) (mids news : List StoreWords) → (first_outside (shapes_of stores) (map slice_turn points) ≡ None) × AreWants state.layouts wants (writes_of (map slice_turn points))
+  pub kernel_ran : (wants : List (List Coord)) (mids news : List StoreWords) → (first_outside (shapes_of stores) (map slice points) ≡ None) × AreWants state.layouts wants (writes_of (map slice points))
       → ((flats : List FlatLayout) (turns : List Turn) → AllZip StandsFor stores flats → AreWants flats wants (writes_of turns)
       → (first_full_layout 0 (shapes_of stores) flats turns ≡ None) × AllZip StandsFor mids (reached_layouts 0 (shapes_of stores) flats turns))
-      → shapes_of mids ≡ shapes_of stores → Lands mids news (writes_of (map body_turn points))
-      → IsOkAnd (run_meaning (shapes_of stores) state kept) (StandForState (shapes_of stores) news)
+      → shapes_of mids ≡ shapes_of stores → Lands mids news (writes_of (map code points))
+      → IsOkAnd (run_meaning (shapes_of stores) state kernel) (StandForState (shapes_of stores) news)
   kernel_ran wants mids news found reached same lands =
-      let both = reached state.layouts (map body_turn points) all (same_wants wants found.1) in
+      let both = reached state.layouts (map code points) all (same_wants wants found.1) in
       subst (λ (m : Result FlatState RunFault). IsOkAnd m (StandForState (shapes_of stores) news)) meaning_is
-      (ended stores mids news state (map body_turn points) laws.test laws.extends (sym same_first ∙ found.0) both.0 same both.1 lands)
+      (ended stores mids news state (map code points) laws.test laws.extends (sym same_first ∙ found.0) both.0 same both.1 lands)
 
 -- ---- loads
 

@@ -4,8 +4,8 @@ use Rattle.std.specs.Prelude.{slice_set}
 use Rattle.std.proofs.lemmas.List.{reverse-append, set_split}
 use Rattle.std.proofs.lemmas.Bool.{eqb-true, and_parts, and_from, eq-eqb}
 use Rattle.sg_flat.specs.declared.effects.Write.{Write}
-use Rattle.sg_types.specs.Values.{is_own, own_write}
-use Rattle.sg_exec.specs.steps.Written.{is_own_to, is_same_field, replaced, IsLatest}
+use Rattle.sg_ir.specs.Runs.{is_own}
+use Rattle.sg_exec.specs.steps.Written.{is_own_to, own_write, is_same_field, replaced, IsLatest}
 use Rattle.sg_exec.proofs.Going.{drop_item}
 
 -- the last own write, with one write more behind

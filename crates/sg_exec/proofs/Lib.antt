@@ -1,6 +1,10 @@
 pub mod Going
-pub mod ValueSteps
-pub mod StmtSteps
+pub mod Iterated
+pub mod Rows
+pub mod RowsMoved
+pub mod EarlierAccesses
+pub mod PlacesHeld
+pub mod Reading
 pub mod LatestWrites
 pub mod BoxPoints
 pub mod FieldsLanded
@@ -12,9 +16,11 @@ pub mod Thinned
 pub mod Reaching
 pub mod Ending
 pub mod Following
+pub mod Located
 pub mod Sliced
 pub mod Walked
 pub mod Kernels
 pub mod Settling
 pub mod Uncapped
 pub mod Answering
+pub mod Uses

@@ -1,5 +1,6 @@
--- What serves proofs alone: the evaluator's state, boxes, the wanted coordinates, the copies of stores and what lands in them.
-pub mod Moments
+-- What serves proofs alone: the executor's rows, boxes, the wanted coordinates, the copies of stores and what lands in them.
+pub mod Stepping
+pub mod Machines
 pub mod Boxes
 pub mod Written
 pub mod Wants

@@ -1,241 +1,187 @@
-ghost use Rattle.std.specs.Prelude.{◌≡◌, ◌<◌, ◌^◌, ◌+ℤ◌, ◌-ℤ◌, pos, map, get_or, IfOk, OnOk};
-ghost use Rattle.std.specs.List.{AllZip};
-ghost use Rattle.sg_words.specs.declared.operators.Ty.TheVariants as ty;
-ghost use Rattle.sg_words.specs.Words.{number, word_of};
+ghost use Rattle.std.specs.Prelude.{◌≡◌, ◌<◌, ◌^◌, ◌+ℤ◌, ◌-ℤ◌, pos};
+ghost use Rattle.sg_words.specs.Words.{word_of};
 ghost use Rattle.sg_layout.specs.Axes.{count_of};
-ghost use Rattle.sg_flat.specs.declared.state.FlatState.{FlatState};
-ghost use Rattle.sg_flat.specs.Domain.{numbers};
-ghost use Rattle.sg_store.specs.StandsFor.{StandsFor};
-ghost use Rattle.sg_types.specs.Values as values;
-ghost use Rattle.sg_types.specs.Values.{coord_of, read_word, expr_word};
-ghost use Rattle.sg_types.specs.Iterations.{action_of, run_all};
-ghost use Rattle.sg_exec.specs.steps.Moments.{world_in, IsMoment, coord_from, run_turns};
 
 use crate::moment::Moment;
-use crate::values::value_of;
 use sg_coord::Coord;
-use sg_flat::Write;
+use sg_ir::Inst;
 use sg_store::Stores;
-use sg_types::{Form, TypedExpr, TypedKind, TypedStmt};
-use sg_words::{Memory, Ty, apply, apply_un, mulq, number, word_of};
+use sg_words::{Memory, word_of};
 
-/// What all iterations of a kernel run see: the stores as they were at the start.
+/// What an iteration sees: the stores as they were at the start of the run, and its coordinate.
 #[derive(Clone, Copy)]
 pub struct World<'a> {
     pub stores: &'a Stores,
+    pub at: Coord,
 }
 
 impl<'a> World<'a> {
-    /// The word of an expression.
-    #[cycle(value)]
-    fn value(&self, at: &Moment, expr: &TypedExpr) -> Result<u32, Memory>
-        ensures { IfOk result (λ word. (state : FlatState) → AllZip StandsFor self.now.stores.now.list state.layouts →
-            (now : values.Moment) → IsMoment at.now.words.items at.now.writes now →
-            word ≡ expr_word (world_in self.now.stores.now.list state) now expr.now) }
-    {
-        match &expr.form {
-            Form::Literal(word) | Form::Constant(word) => Ok(*word),
-            Form::Var(var) => Ok(at.word(*var)),
-            Form::Read {
-                layout,
-                place,
-                index,
-            } => {
-                let coord = self.coord(at, index.as_slice())?;
-                Ok(self.read(at, *layout, *place, coord))
-            }
-            Form::Paren(inner) => self.value(at, inner.get()),
-            Form::Convert(inner) => self.value(at, inner.get()),
-            Form::Un { op, of } => {
-                let word = self.value(at, of.get())?;
-                Ok(apply_un(*op, word))
-            }
-            Form::Bin { op, left, right } => {
-                let (left, right) = (left.get(), right.get());
-                let a = self.value(at, left)?;
-                let b = self.value(at, right)?;
-                Ok(apply(*op, left.ty, a, b))
-            }
-            Form::Mulq { a, b, s } => {
-                let a = self.value(at, a.get())?;
-                let b = self.value(at, b.get())?;
-                let s = self.value(at, s.get())?;
-                Ok(mulq(a, b, s))
-            }
-        }
-    }
+    ghost use Rattle.std.specs.Prelude.{◌≡◌, map, get_or, OnOk, IfOk};
+    ghost use Rattle.std.specs.List.{AllZip};
+    ghost use Rattle.sg_flat.specs.declared.state.FlatState.{FlatState};
+    ghost use Rattle.sg_store.specs.StandsFor.{StandsFor};
+    ghost use Rattle.sg_ir.specs.declared.code.Inst.TheVariants as v;
+    ghost use Rattle.sg_ir.specs.Runs.{Moved, does, runs};
+    ghost use Rattle.sg_flat.specs.Domain.{numbers};
+    ghost use Rattle.sg_exec.specs.steps.Machines.{seen_in, run_turns, Follows};
 
-    /// The coordinate that indices give.
-    #[cycle(value)]
-    fn coord(&self, at: &Moment, index: &[TypedExpr]) -> Result<Coord, Memory>
-        ensures { IfOk result (λ coord. (state : FlatState) → AllZip StandsFor self.now.stores.now.list state.layouts →
-            (now : values.Moment) → IsMoment at.now.words.items at.now.writes now →
-            coord ≡ coord_of (map (expr_word (world_in self.now.stores.now.list state) now) index.now)) }
+    /// Runs instructions one after the other.
+    #[cycle(insts)]
+    pub fn run_all(&self, block: &[Inst], at: &mut Moment) -> Result<(), Memory>
+        ensures { OnOk result ((state : FlatState) → AllZip StandsFor self.now.stores.now.list state.layouts → (now : Moved) →
+            Follows self.now.stores.now.list self.now.at at.old.regs.items at.old.vars.items at.old.places at.old.writes at.old.wants.items now →
+            Follows self.now.stores.now.list self.now.at at.new.regs.items at.new.vars.items at.new.places at.new.writes at.new.wants.items
+            (runs (seen_in self.now.stores.now.list state self.now.at) block.now now)) }
     {
-        let n = part_count(index.len())?;
-        let a = self.part(at, index, 0)?;
-        let b = self.part(at, index, 1)?;
-        let c = self.part(at, index, 2)?;
-        Ok(coord_from(n, a, b, c))
-    }
-
-    /// The word of the index at a place, and 0 past the last.
-    #[cycle(value)]
-    fn part(&self, at: &Moment, index: &[TypedExpr], place: usize) -> Result<u32, Memory>
-        ensures { IfOk result (λ word. (state : FlatState) → AllZip StandsFor self.now.stores.now.list state.layouts →
-            (now : values.Moment) → IsMoment at.now.words.items at.now.writes now →
-            word ≡ get_or (map (expr_word (world_in self.now.stores.now.list state) now) index.now) place 0) }
-    {
-        if place < index.len() {
-            self.value(at, &index[place])
-        } else {
-            Ok(0)
-        }
-    }
-
-    /// What a read of a field at a coordinate gives: the last own value of this iteration, or else the state's value.
-    fn read(&self, at: &Moment, layout: u32, place: u32, coord: Coord) -> u32
-        ensures { (state : FlatState) → AllZip StandsFor self.now.stores.now.list state.layouts →
-            (now : values.Moment) → at.now.writes ≡ now.writes →
-            result ≡ read_word (world_in self.now.stores.now.list state) now layout place coord }
-    {
-        match at.writes.own_write(layout, place) {
-            Some(write) => write.value,
-            None => value_of(self.stores, layout, place, coord),
-        }
-    }
-
-    /// Runs statements one after the other.
-    #[cycle(statements)]
-    pub fn run_all(&self, at: &mut Moment, stmts: &[TypedStmt]) -> Result<(), Memory>
-        ensures { OnOk result ((state : FlatState) → AllZip StandsFor self.now.stores.now.list state.layouts →
-            (now : values.Moment) → IsMoment at.old.words.items at.old.writes now →
-            IsMoment at.new.words.items at.new.writes
-            (run_all (map (action_of (world_in self.now.stores.now.list state)) stmts.now) now)) }
-    {
-        for stmt in stmts {
-            self.run(at, stmt)?;
+        for inst in block {
+            self.run(inst, at)?;
         }
         Ok(())
     }
 
-    /// Runs a statement.
-    #[cycle(statements)]
-    fn run(&self, at: &mut Moment, stmt: &TypedStmt) -> Result<(), Memory>
-        ensures { OnOk result ((state : FlatState) → AllZip StandsFor self.now.stores.now.list state.layouts →
-            (now : values.Moment) → IsMoment at.old.words.items at.old.writes now →
-            IsMoment at.new.words.items at.new.writes
-            (action_of (world_in self.now.stores.now.list state) stmt.now now)) }
+    /// Runs an instruction.
+    #[cycle(insts)]
+    fn run(&self, inst: &Inst, at: &mut Moment) -> Result<(), Memory>
+        ensures { OnOk result ((state : FlatState) → AllZip StandsFor self.now.stores.now.list state.layouts → (now : Moved) →
+            Follows self.now.stores.now.list self.now.at at.old.regs.items at.old.vars.items at.old.places at.old.writes at.old.wants.items now →
+            Follows self.now.stores.now.list self.now.at at.new.regs.items at.new.vars.items at.new.places at.new.writes at.new.wants.items
+            (does (seen_in self.now.stores.now.list state self.now.at) inst.now now)) }
     {
-        match &stmt.kind {
-            TypedKind::Let { var, value } => {
-                let word = self.value(at, value)?;
-                at.set(*var, word)
-            }
-            TypedKind::Assign { var, value } => {
-                let word = self.value(at, value)?;
-                at.set(*var, word)
-            }
-            TypedKind::Write {
-                layout,
+        match inst {
+            Inst::Const { to, word } => at.constant(*to, *word),
+            Inst::Var { to, var } => at.variable(*to, *var),
+            Inst::Set { var, from } => at.assign(*var, *from),
+            Inst::Bin { to, op, ty, a, b } => at.binary(*to, *op, *ty, *a, *b),
+            Inst::Un { to, op, ty, a } => at.unary(*to, *op, *ty, *a),
+            Inst::Mulq { to, a, b, s } => at.product(*to, *a, *b, *s),
+            Inst::Root { to, layout } => at.root(*to, *layout),
+            Inst::Check {
+                to,
                 place,
+                axis,
+                extent,
                 index,
-                way,
-                value,
-            } => {
-                let coord = self.coord(at, index.as_slice())?;
-                let value = self.value(at, value)?;
-                at.writes.push(Write {
-                    layout: *layout,
-                    place: *place,
-                    stmt: stmt.number,
-                    at: coord,
-                    way: *way,
-                    value,
-                })?;
-                Ok(())
-            }
-            TypedKind::If {
-                cond,
-                yes,
-                no,
-                has_else: _has_else,
-            } => {
-                let word = self.value(at, cond)?;
-                if word == 0 {
-                    self.run_all(at, no.as_slice())
+            } => at.check(*to, *place, *axis, *extent, *index),
+            Inst::Extract {
+                to,
+                div,
+                size,
+                from,
+            } => at.extract(*to, *div, *size, *from),
+            Inst::Offset {
+                to,
+                high,
+                size,
+                low,
+            } => at.offset(*to, *high, *size, *low),
+            Inst::Child {
+                to,
+                place,
+                node,
+                offset,
+            } => at.step(*to, *place, *node, *offset),
+            Inst::HashChild {
+                to,
+                place,
+                node,
+                offset,
+            } => at.step(*to, *place, *node, *offset),
+            Inst::MaskBit {
+                to,
+                place,
+                node,
+                offset,
+            } => at.step(*to, *place, *node, *offset),
+            Inst::DynCell {
+                to,
+                place,
+                node,
+                offset,
+            } => at.step(*to, *place, *node, *offset),
+            Inst::ReadCell {
+                to,
+                place,
+                layout,
+                field,
+                index,
+            } => self.read(at, *to, *place, *layout, *field, index.as_slice()),
+            Inst::OwnRead { to, layout, field } => self.own_read(at, *to, *layout, *field),
+            Inst::OwnWrite {
+                layout,
+                field,
+                from,
+                stmt,
+            } => self.own_write(at, *layout, *field, *from, *stmt),
+            Inst::Acc {
+                op,
+                layout,
+                field,
+                place,
+                from,
+                index,
+                stmt,
+            } => self.contribute(
+                at,
+                *op,
+                *layout,
+                *field,
+                *place,
+                *from,
+                index.as_slice(),
+                *stmt,
+            ),
+            Inst::Want {
+                layout,
+                index,
+                stmt,
+            } => self.want(at, *layout, index.as_slice(), *stmt),
+            Inst::If { cond, yes, no } => {
+                if at.reg(*cond) == 0 {
+                    self.run_all(no.as_slice(), at)
                 } else {
-                    self.run_all(at, yes.as_slice())
+                    self.run_all(yes.as_slice(), at)
                 }
             }
-            TypedKind::For { var, range, body } => {
-                let lo = self.value(at, &range.lo)?;
-                let hi = self.value(at, &range.hi)?;
-                self.run_turns(at, *var, lo, hi, body.as_slice())
-            }
+            Inst::For { var, lo, hi, body } => self.run_turns(*var, *lo, *hi, body.as_slice(), at),
         }
     }
 
-    /// Runs the body of an inner loop, with its variable at each of the numbers from one word up to below another.
-    #[cycle(statements)]
+    /// Runs the body of an inner loop, with its variable at each of the numbers from one up to below another.
+    #[cycle(insts)]
     fn run_turns(
         &self,
-        at: &mut Moment,
         var: u32,
-        lo: u32,
-        hi: u32,
-        body: &[TypedStmt],
+        lo: i32,
+        hi: i32,
+        body: &[Inst],
+        at: &mut Moment,
     ) -> Result<(), Memory>
-        ensures { OnOk result ((state : FlatState) → AllZip StandsFor self.now.stores.now.list state.layouts →
-            (now : values.Moment) → IsMoment at.old.words.items at.old.writes now →
-            IsMoment at.new.words.items at.new.writes
-            (run_turns var (map (action_of (world_in self.now.stores.now.list state)) body.now) now
-            (numbers (number ty.I32 lo) (number ty.I32 hi)))) }
+        ensures { OnOk result ((state : FlatState) → AllZip StandsFor self.now.stores.now.list state.layouts → (now : Moved) →
+            Follows self.now.stores.now.list self.now.at at.old.regs.items at.old.vars.items at.old.places at.old.writes at.old.wants.items now →
+            Follows self.now.stores.now.list self.now.at at.new.regs.items at.new.vars.items at.new.places at.new.writes at.new.wants.items
+            (run_turns (seen_in self.now.stores.now.list state self.now.at) var body.now now (numbers lo hi))) }
     {
         for k in 0..count_between(lo, hi) {
-            let turn = turn_word(lo, k);
-            at.set(var, turn)?;
-            self.run_all(at, body)?;
+            at.set_var(var, turn_word(lo, k))?;
+            self.run_all(body, at)?;
         }
         Ok(())
     }
 }
 
-/// How many parts a coordinate has. There are never 2^32, which no memory has room for.
-fn part_count(parts: usize) -> Result<u32, Memory>
-    ensures { IfOk result (λ n. n ≡ parts) }
-{
-    match u32::try_from(parts) {
-        Ok(n) => Ok(n),
-        Err(_) => Err(Memory),
-    }
-}
-
-/// The coordinate with these words as its parts.
-fn coord_from(n: u32, a: u32, b: u32, c: u32) -> Coord
-    ensures { result ≡ coord_from n a b c }
-{
-    Coord {
-        n,
-        a: a.cast_signed(),
-        b: b.cast_signed(),
-        c: c.cast_signed(),
-    }
-}
-
-/// The word of the number that is `k` past a word read as `I32`.
-fn turn_word(lo: u32, k: u64) -> u32
+/// The word of the number that is `k` past another.
+fn turn_word(lo: i32, k: u64) -> u32
     requires { k < 2 ^ 33 }
-    ensures { result ≡ word_of (number ty.I32 lo +ℤ pos k) }
+    ensures { result ≡ word_of (lo +ℤ pos k) }
 {
-    word_of(number(Ty::I32, lo) + k as i64)
+    word_of(i64::from(lo) + k as i64)
 }
 
-/// How many numbers there are from one word up to below another, both read as `I32`.
-fn count_between(lo: u32, hi: u32) -> u64
-    ensures value { result ≡ count_of (number ty.I32 hi -ℤ number ty.I32 lo) }
+/// How many numbers there are from one up to below another.
+fn count_between(lo: i32, hi: i32) -> u64
+    ensures value { result ≡ count_of (hi -ℤ lo) }
     ensures few { result < 2 ^ 33 }
 {
-    let count = number(Ty::I32, hi) - number(Ty::I32, lo);
+    let count = i64::from(hi) - i64::from(lo);
     if count < 0 { 0 } else { count as u64 }
 }

@@ -1,10 +1,12 @@
 ghost use Rattle.std.specs.Prelude.{◌≡◌, ◌∷◌, [], List, map, length, Contains, OnOk, unwrap_or};
 ghost use Rattle.std.specs.List.{AllZip};
+ghost use Rattle.sg_coord.specs.declared.coord.Coord.{Coord};
+ghost use Rattle.sg_flat.specs.declared.effects.Turn.{Turn};
 ghost use Rattle.sg_flat.specs.declared.state.FlatLayout.{FlatLayout};
 ghost use Rattle.sg_flat.specs.declared.state.FlatState.{FlatState};
 ghost use Rattle.sg_flat.specs.Effects.{land, writes_of};
 ghost use Rattle.sg_store.specs.StandsFor.{StandsFor};
-ghost use Rattle.sg_exec.specs.steps.Moments.{world_in, turn_in};
+ghost use Rattle.sg_exec.specs.steps.Machines.{AreNamedAt, AreTurnsOf};
 ghost use Rattle.sg_exec.specs.steps.Landing.{current, landed_layout, Lands};
 
 use crate::iteration::World;
@@ -12,31 +14,32 @@ use crate::moment::Moment;
 use crate::values::ONE_POINT;
 use sg_coord::{Coord, numbering};
 use sg_flat::{Way, Write};
+use sg_ir::Inst;
 use sg_layout::{closure_closes, closure_members};
 use sg_store::{Store, Stores};
-use sg_types::TypedStmt;
 use sg_words::{Memory, Ty, fold};
 use std::alloc::Global;
 
-/// Lands in the copies what the statements write at these points. They read the stores.
+/// Lands in the copies what code writes at these points. It reads the stores.
 pub(crate) fn land_points(
     alloc: Global,
     stores: &Stores,
     copies: &mut Vec<Option<Store>>,
     points: &[Coord],
-    stmts: &[TypedStmt],
+    code: &[Inst],
 ) -> Result<(), Memory>
     requires room { length copies.old.items ≡ length stores.now.list }
     ensures lands { OnOk result ((state : FlatState) → AllZip StandsFor stores.now.list state.layouts →
-        Lands (current copies.old.items stores.now.list) (current copies.new.items stores.now.list)
-        (writes_of (map (turn_in (world_in stores.now.list state) stmts.now) points.now))) }
+        AreNamedAt stores.now.list state code.now points.now →
+        (turn : Coord → Turn) → AreTurnsOf stores.now.list state code.now points.now turn →
+        Lands (current copies.old.items stores.now.list) (current copies.new.items stores.now.list) (writes_of (map turn points.now))) }
     ensures room { length copies.new.items ≡ length stores.now.list }
 {
-    let world = World { stores };
-    let mut moment = Moment::new(alloc);
+    let mut moment = Moment::new(alloc, stores);
     for at in points {
         moment.start(*at)?;
-        world.run_all(&mut moment, stmts)?;
+        let world = World { stores, at: *at };
+        world.run_all(code, &mut moment)?;
         land_all(alloc, stores, copies, moment.writes.as_slice())?;
     }
     Ok(())

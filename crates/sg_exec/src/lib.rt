@@ -1,11 +1,16 @@
 //! Runs of kernels over stores, and loads, on one thread.
 #![tactic(auto)]
 
+mod accesses;
+mod held;
+mod instructions;
 mod iteration;
 mod landing;
 mod moment;
+mod places;
 mod points;
 mod reached;
+mod row;
 pub mod run;
 #[cfg(test)]
 mod tests;

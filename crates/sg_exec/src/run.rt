@@ -11,14 +11,12 @@ use crate::points::domain_points;
 use crate::reached::reached;
 use crate::values::ONE_POINT;
 use crate::wants::{points_wants, rows_wants};
-use sg_admit::Admitted;
-use sg_admit::laws::{domain_is_constant, own_writes_stand, slice_wants_what_is_written};
 use sg_coord::numbering;
 use sg_flat::{RunFault, Write};
+use sg_ir::KernelCode;
 use sg_layout::{Layouts, closure_closes, closure_members};
 use sg_store::{Store, Stores};
 use sg_words::Stop;
-use sg_words::laws::words_are_numbers;
 use std::alloc::Global;
 
 /// Runs a kernel over the stores of these layouts, or refuses it. After a refusal, or where memory runs out, the stores are as
@@ -27,7 +25,7 @@ pub fn run_kernel(
     alloc: Global,
     stores: &mut Stores,
     layouts: &Layouts,
-    kernel: &Admitted,
+    kernel: &KernelCode,
 ) -> Result<(), Stop<RunFault>>
     requires runnable { IsRunnable layouts.now.list kernel.now }
     ensures answer { (state : FlatState) → StandForState layouts.now.list stores.old.list state →
@@ -63,7 +61,7 @@ pub fn load_rows(
 pub(crate) fn kernel_copies(
     alloc: Global,
     stores: &Stores,
-    kernel: &Admitted,
+    kernel: &KernelCode,
 ) -> Result<Vec<Option<Store>>, Stop<RunFault>>
     ensures ran { IsRunnable (shapes_of stores.now.list) kernel.now → (state : FlatState) → AllZip StandsFor stores.now.list state.layouts →
         CopiesRan (λ copies. current copies.items stores.now.list) (shapes_of stores.now.list) result
@@ -71,23 +69,19 @@ pub(crate) fn kernel_copies(
     ensures room { IfOk result (λ copies. length copies.items ≡ length stores.now.list) }
 {
     // for the laws that they ensure
-    words_are_numbers();
     numbering(&ONE_POINT);
     closure_members();
     closure_closes();
-    slice_wants_what_is_written();
-    domain_is_constant();
-    own_writes_stand();
     let points = domain_points(alloc, stores, kernel.domain)?;
     let points = points.as_slice();
-    let wants = points_wants(alloc, stores, points, kernel.slice.as_slice())?;
+    let wants = points_wants(alloc, stores, points, kernel.slice.body.as_slice())?;
     let mut copies = reached(alloc, stores, &wants)?;
     land_points(
         alloc,
         stores,
         &mut copies,
         points,
-        kernel.kernel.body.as_slice(),
+        kernel.code.body.as_slice(),
     )?;
     Ok(copies)
 }

@@ -8,7 +8,7 @@ ghost use Rattle.sg_flat.specs.Kernel.{is_inside_of, outside_among};
 ghost use Rattle.sg_store.specs.StandsFor.{StandsFor};
 ghost use Rattle.sg_exec.specs.Running.{turn_of};
 ghost use Rattle.sg_exec.specs.Standing.{shapes_of};
-ghost use Rattle.sg_exec.specs.steps.Moments.{world_in, turn_in};
+ghost use Rattle.sg_exec.specs.steps.Machines.{AreNamedAt, slice_turn};
 ghost use Rattle.sg_exec.specs.steps.Wants.{AreWants, AreInside, HasOneMore, TurnWanted, AllWanted};
 
 use crate::iteration::World;
@@ -17,38 +17,38 @@ use crate::thinning::Pace;
 use crate::values::ONE_POINT;
 use sg_coord::{Coord, inside, numbering};
 use sg_flat::{RunFault, Write};
+use sg_ir::Inst;
 use sg_store::Stores;
-use sg_types::TypedStmt;
 use sg_words::{Items, Memory, Stop};
 use std::alloc::Global;
 
-/// For each layout the coordinates that the statements write at these points and that aren't active, or the first write
-/// outside.
+/// For each layout the coordinates that a slice wants at these points and that aren't active, or the first one outside.
 pub(crate) fn points_wants(
     alloc: Global,
     stores: &Stores,
     points: &[Coord],
-    stmts: &[TypedStmt],
+    slice: &[Inst],
 ) -> Result<Vec<Items<Coord>>, Stop<RunFault>>
     ensures wanted { (state : FlatState) → AllZip StandsFor stores.now.list state.layouts →
+        AreNamedAt stores.now.list state slice.now points.now →
         AllWanted (λ wants. wants.items) (shapes_of stores.now.list) state.layouts
-        (map (turn_in (world_in stores.now.list state) stmts.now) points.now) result }
+        (map (slice_turn stores.now.list state slice.now) points.now) result }
     ensures inside { IfOk result (λ wants. AreInside stores.now.list wants.items) }
 {
-    let world = World { stores };
     let mut wants = no_wants(alloc, stores)?;
     let mut pace = Pace::new();
-    let mut moment = Moment::new(alloc);
+    let mut moment = Moment::new(alloc, stores);
     for at in points {
         moment.start(*at)?;
-        world.run_all(&mut moment, stmts)?;
+        let world = World { stores, at: *at };
+        world.run_all(slice, &mut moment)?;
         take_turn(
             alloc,
             stores,
             &mut wants,
             &mut pace,
             *at,
-            moment.writes.as_slice(),
+            moment.wants.as_slice(),
         )?;
     }
     Ok(wants)

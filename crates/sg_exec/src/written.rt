@@ -1,5 +1,5 @@
 ghost use Rattle.std.specs.Prelude.{◌≡◌, ◌&&◌, ◌==◌, OnErr, OnOk};
-ghost use Rattle.sg_types.specs.Values.{is_own};
+ghost use Rattle.sg_ir.specs.Runs.{is_own};
 ghost use Rattle.sg_exec.specs.steps.Written.{is_own_to, is_same_field, replaced};
 
 use sg_flat::{Way, Write};
@@ -28,7 +28,7 @@ impl Model for Written {
 
 impl Written {
     ghost use Rattle.std.specs.Prelude.{◌≡◌, ◌++◌, ◌∷◌, [], OnOk};
-    ghost use Rattle.sg_types.specs.Values.{own_write};
+    ghost use Rattle.sg_exec.specs.steps.Written.{own_write};
 
     /// No writes.
     pub fn new(alloc: Global) -> Written

@@ -1,11 +1,16 @@
 -- What every compiled program keeps, from the answer of compiling and the laws of names and types.
 use Rattle.std.proofs.Common.{◌≡◌, ℕ, zero, suc, ◌<◌, ◌≤◌, Bool, true, false, List, [], ◌∷◌, ◌++◌, length, Option, Some, None, Result, Ok, Err, IfOk, refl, sym, ap, ◌∙◌, subst, arith}
-use Rattle.std.specs.Prelude.{if◌then◌else◌, ◌==◌, nat_lt, slice_get, option_map}
-use Rattle.std.specs.List.{AllByRecursion, list_all, cons_option, filter_map, repeat}
+use Rattle.std.specs.Prelude.{if◌then◌else◌, ◌==◌, nat_lt, map, slice_get, option_map, IsTrue}
+use Rattle.std.specs.Result.{IsOkAnd}
+use Rattle.std.specs.List.{AllByRecursion, AllZip, list_all, cons_option, filter_map, repeat}
 use Rattle.std.proofs.lemmas.Bool.{leb-false}
 use Rattle.std.proofs.lemmas.Option.{slice_get_within}
 use Rattle.sg_words.specs.declared.memory.Memory.{Memory}
+use Rattle.sg_words.specs.Results.{◌>>=◌, fault_or}
 use Rattle.sg_admit.specs.Neutral.{is_neutral_kernel}
+use Rattle.sg_ast.specs.Grammar.{is_program}
+use Rattle.sg_ir.specs.declared.code.KernelCode.{KernelCode}
+use Rattle.sg_exec.specs.Running.{IsRunnable}
 use Rattle.sg_words.proofs.Uses.{neither, neither_holds}
 use Rattle.sg_ast.specs.declared.token.Name.{Name}
 use Rattle.sg_ast.specs.declared.command.Command.{Command, out-Command}
@@ -28,6 +33,7 @@ use Rattle.sg_types.specs.Laws.{TablesFit, declared_shapes, DeclaredLayoutsFit, 
 use Rattle.sg_types.specs.WellTyped.{is_well_typed_kernel}
 use Rattle.sg_store.specs.WellFormed.{is_built_shape}
 use Rattle.sg_admit.specs.declared.admitted.Admitted.{Admitted}
+use Rattle.sg_session.specs.declared.refusal.Refusal.{Refusal}
 use Rattle.sg_session.specs.declared.refusal.Refusal.TheVariants as refusal
 use Rattle.sg_session.specs.declared.tasks.Task.{Task}
 use Rattle.sg_session.specs.declared.tasks.Task.TheVariants.{Load, Run, Dump}
@@ -36,10 +42,10 @@ use Rattle.sg_session.specs.declared.tasks.Stage.TheVariants.{Once, Times}
 use Rattle.sg_session.specs.CommandRules.{breaks_layer, some_breaks, is_large_layer, layer_refusal, commands_refusal}
 use Rattle.sg_session.specs.Tasks.{simple_task, body_tasks, layer_stage, stages_of}
 use Rattle.sg_session.specs.Limits.{most_times}
-use Rattle.sg_session.specs.Compiled.{CompiledProgram, field_numbered, IsField, IsTask, IsStage, IsCompiled, unfolded}
+use Rattle.sg_session.specs.Compiled.{CheckedProgram, CompiledProgram, Compiles, IsCodeOf, field_numbered, IsField, IsTask, IsStage, IsCompiled, unfolded}
 use Rattle.sg_session.specs.Compiling.{layouts_of, kernels_of, compiled_with, compiled_parts}
 use Rattle.sg_session.proofs.Lists.{count_map}
-use Rattle.sg_session.proofs.Answered.{layouts_kept, built_kept, runnable, typed_ready, kernels_kept, parts_kept}
+use Rattle.sg_session.proofs.Answered.{layouts_kept, built_kept, lowerable, typed_ready, kernels_kept, parts_kept}
 
 -- ---- lists of what is there
 
@@ -175,19 +181,32 @@ module _ (program : Program) (names : Tables) (laws : HasLaws program) (named : 
 abbrev named_layout : LayoutDecl → NamedLayout
 named_layout decl = record { name = decl.name; axes = length decl.axes }
 
-kept_parts : (program : Program) (names : Tables) (layouts : List Shape) (kernels : List Admitted) → HasLaws program → tables_of program ≡ Ok names
-    → layouts_of names program ≡ Ok layouts → kernels_of names program ≡ Ok kernels → commands_refusal names layouts 1 program.items ≡ None
-    → IsCompiled (compiled_parts names layouts kernels program)
-kept_parts program names layouts kernels laws named layouts_are kernels_are none =
-    let value = compiled_parts names layouts kernels program in
+-- codes of kernels, one for one, can be run, and are as many
+codes_run : (layouts : List Shape) (kernels : List Admitted) (codes : List KernelCode) → AllZip (IsCodeOf layouts) kernels codes
+    → AllByRecursion (IsRunnable layouts) codes × (length codes ≡ length kernels)
+codes_run layouts [] [] all = (tt, refl)
+codes_run layouts [] (code ∷ codes) all = absurd all
+codes_run layouts (kernel ∷ kernels) [] all = absurd all
+codes_run layouts (kernel ∷ kernels) (code ∷ codes) all = let rest = codes_run layouts kernels codes all.1 in ((all.0.runnable, rest.0), ap suc rest.1)
+
+-- a compiled program of these parts
+abbrev made_of : Tables → List Shape → List KernelCode → List Bool → List Stage → CompiledProgram
+made_of names layouts codes neutral commands = record { names = names; layouts = layouts; kernels = codes; neutral = neutral; commands = commands }
+
+kept_parts : (program : Program) (names : Tables) (layouts : List Shape) (kernels : List Admitted) (codes : List KernelCode) → IsTrue (is_program program) → HasLaws program → tables_of program ≡ Ok names
+    → layouts_of names program ≡ Ok layouts → kernels_of names program ≡ Ok kernels → commands_refusal names layouts 1 program.items ≡ None → AllZip (IsCodeOf layouts) kernels codes
+    → IsCompiled (made_of names layouts codes (map (λ kernel. is_neutral_kernel kernel.kernel) kernels) (stages_of names program.items))
+kept_parts program names layouts kernels codes grammar laws named layouts_are kernels_are none all =
+    let value = made_of names layouts codes (map (λ kernel. is_neutral_kernel kernel.kernel) kernels) (stages_of names program.items) in
     let lays = layouts_kept names program layouts layouts_are in
     let from = kernels_kept names program kernels kernels_are in
     let fit : TablesFit names layouts = fits program names laws named value refl lays.0 in
     let typed : list_all (is_well_typed_kernel layouts) from.typed.kernels ≡ true = laws.typed names layouts program from.typed fit from.typed_is in
-    let ready = typed_ready names layouts program from.typed laws.variables typed from.typed_is in
-    let run = runnable layouts 0 from.typed.kernels kernels from.admitted ready.0 in
-    let many : length names.kernels ≡ length kernels =
-    ap length (laws.kernels names named) ∙ count_map (λ (decl : KernelDecl). decl.name) (kernel_decls program.items) ∙ sym ready.1 ∙ sym run.1 in
+    let ready = typed_ready names layouts program from.typed laws.variables grammar typed from.typed_is in
+    let run = lowerable layouts 0 from.typed.kernels kernels from.admitted ready.0 in
+    let coded = codes_run layouts kernels codes all in
+    let many : length names.kernels ≡ length codes =
+    ap length (laws.kernels names named) ∙ count_map (λ (decl : KernelDecl). decl.name) (kernel_decls program.items) ∙ sym ready.1 ∙ sym run.1 ∙ sym coded.1 in
     let layout_count : length names.layouts ≡ length layouts =
     ap length (laws.layouts names named) ∙ count_map named_layout (layout_decls program.items)
     ∙ sym (count_map (shape_of names) (layout_decls program.items)) ∙ sym (ap length lays.0) in
@@ -196,15 +215,44 @@ kept_parts program names layouts kernels laws named layouts_are kernels_are none
       few_words = lays.1;
       built = subst (λ (ls : List Shape). list_all is_built_shape ls ≡ true) (sym lays.0) (built_kept names 1 program.items from.built);
       numbers = record { layouts = layout_count; kernels = many; fields = number_known program names laws named value refl lays.0 };
-      neutral = refl;
-      kernels = run.0;
+      neutral = count_map (λ (kernel : Admitted). is_neutral_kernel kernel.kernel) kernels ∙ sym coded.1;
+      kernels = coded.0;
       commands = stages_known names value knows 1 program.items none;
     }
 
-pub compiled_keeps : (program : Program) (names : Tables) (value : CompiledProgram) → HasLaws program → tables_of program ≡ Ok names → compiled_with names program ≡ Ok value → IsCompiled value
-compiled_keeps program names value laws named e =
-    let parts = parts_kept names program value e in
-    subst IsCompiled parts.is (kept_parts program names parts.layouts parts.kernels laws named parts.layouts_are parts.kernels_are parts.rules)
+-- what a program is compiled to, put together from its parts
+rebuilt : (program : CheckedProgram) (value : CompiledProgram) → Compiles program value → made_of program.names program.layouts value.kernels program.neutral program.commands ≡ value
+rebuilt program value compiles =
+    ap (λ (ts : Tables). made_of ts program.layouts value.kernels program.neutral program.commands) (sym compiles.names)
+    ∙ ap (λ (ls : List Shape). made_of value.names ls value.kernels program.neutral program.commands) (sym compiles.layouts)
+    ∙ ap (λ (bs : List Bool). made_of value.names value.layouts value.kernels bs program.commands) (sym compiles.neutral)
+    ∙ ap (λ (ss : List Stage). made_of value.names value.layouts value.kernels value.neutral ss) (sym compiles.commands)
+
+pub compiled_keeps : (program : Program) (names : Tables) (value : CompiledProgram) → IsTrue (is_program program) → HasLaws program → tables_of program ≡ Ok names
+    → IsOkAnd (compiled_with names program) (λ checked. Compiles checked value) → IsCompiled value
+compiled_keeps program names value grammar laws named compiles = by_answer (compiled_with names program) refl compiles
+  where
+    by_answer : (r : Result CheckedProgram Refusal) → compiled_with names program ≡ r → IsOkAnd r (λ checked. Compiles checked value) → IsCompiled value
+    by_answer (Err why) e h = absurd h
+    by_answer (Ok checked) e h =
+        let parts = parts_kept names program checked e in
+        let same : Compiles (compiled_parts names parts.layouts parts.kernels program) value = subst (λ (it : CheckedProgram). Compiles it value) (sym parts.is) h in
+        subst IsCompiled (rebuilt (compiled_parts names parts.layouts parts.kernels program) value same)
+        (kept_parts program names parts.layouts parts.kernels value.kernels grammar laws named parts.layouts_are parts.kernels_are parts.rules same.kernels)
+
+-- the parts of a program and the codes of its kernels are what it is compiled to
+pub parts_compile : (names : Tables) (program : Program) (layouts : List Shape) (kernels : List Admitted) (value : CompiledProgram) → layouts_of names program ≡ Ok layouts → kernels_of names program ≡ Ok kernels
+    → commands_refusal names layouts 1 program.items ≡ None → value.names ≡ names → value.layouts ≡ layouts → AllZip (IsCodeOf layouts) kernels value.kernels
+    → value.neutral ≡ map (λ kernel. is_neutral_kernel kernel.kernel) kernels → value.commands ≡ stages_of names program.items
+    → IsOkAnd (compiled_with names program) (λ checked. Compiles checked value)
+unfolding compiled_with
+parts_compile names program layouts kernels value layouts_are kernels_are none names_are shapes_are codes neutral commands =
+    let is : compiled_with names program ≡ Ok (compiled_parts names layouts kernels program) =
+    ap (λ (r : Result (List Shape) Refusal). r >>= (λ layouts. kernels_of names program >>= (λ kernels. fault_or (commands_refusal names layouts 1 program.items) (Ok (compiled_parts names layouts kernels program))))) layouts_are
+    ∙ ap (λ (r : Result (List Admitted) Refusal). r >>= (λ kernels. fault_or (commands_refusal names layouts 1 program.items) (Ok (compiled_parts names layouts kernels program)))) kernels_are
+    ∙ ap (λ (o : Option Refusal). fault_or o (Ok (compiled_parts names layouts kernels program))) none in
+    subst (λ (r : Result CheckedProgram Refusal). IsOkAnd r (λ checked. Compiles checked value)) (sym is)
+    (record { names = names_are; layouts = shapes_are; kernels = codes; neutral = neutral; commands = commands })
 
 -- layouts that are answered fit the names
 pub layouts_fit : (program : Program) (names : Tables) (layouts : List Shape) → DeclaredLayoutsFit → tables_of program ≡ Ok names → layouts_of names program ≡ Ok layouts → TablesFit names layouts
@@ -219,4 +267,4 @@ tasks_there value stages (Err why) kept same is = tt
 
 -- each kernel has a name, and is neutral or not
 pub neutral_many : (value : CompiledProgram) → IsCompiled value → length value.neutral ≡ length value.names.kernels
-neutral_many value kept = ap length kept.neutral ∙ count_map (λ (kernel : Admitted). is_neutral_kernel kernel.kernel) value.kernels ∙ sym kept.numbers.kernels
+neutral_many value kept = kept.neutral ∙ sym kept.numbers.kernels

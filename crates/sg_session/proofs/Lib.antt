@@ -5,6 +5,7 @@ mod Openings
 mod Spelling
 mod Answered
 mod Kept
+mod Coded
 mod Behind
 mod Declared
 mod KernelLines

@@ -28,7 +28,7 @@ use Rattle.sg_session.specs.declared.tasks.Stage.{Stage}
 use Rattle.sg_session.specs.declared.tasks.Stage.TheVariants.{Once, Times}
 use Rattle.sg_session.specs.Built.{is_built_simple, are_built, is_built_layer, is_built_item, first_not_built}
 use Rattle.sg_session.specs.Tasks.{simple_task, body_tasks, layer_stage, stages_of}
-use Rattle.sg_session.specs.Compiled.{CompiledProgram}
+use Rattle.sg_session.specs.Compiled.{CheckedProgram}
 use Rattle.sg_session.specs.Compiling.{compiled_with, compiled_tree}
 use Rattle.sg_session.specs.Laws.{as_command, IsTaskOf, IsStageOf, CommandsAreKept}
 use Rattle.sg_session.proofs.Answered.{bound_ok, as_ok, next_built, parts_kept, kernels_kept}
@@ -274,5 +274,5 @@ commands_are_kept program compiled e =
     let named = as_ok refusal.Name (tables_of program) found.x found.is in
     let parts = parts_kept found.x program compiled found.gives in
     let kernels = kernels_kept found.x program parts.kernels parts.kernels_are in
-    subst (λ (it : CompiledProgram). AllZip (λ command stage. IsStageOf it.names (out-Command command) stage) (filter_map as_command program.items) it.commands) parts.is
+    subst (λ (it : CheckedProgram). AllZip (λ command stage. IsStageOf it.names (out-Command command) stage) (filter_map as_command program.items) it.commands) parts.is
     (all_kept found.x no_tables 0 1 1 program.items named kernels.built)

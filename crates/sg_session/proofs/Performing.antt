@@ -1,38 +1,39 @@
 -- From what a run, a load or a dump over stores answers to the meaning of a task.
 use Rattle.std.proofs.Common.{◌≡◌, ℕ, zero, suc, ◌<◌, List, [], ◌∷◌, map, length, Option, Some, None, Result, Ok, Err, IfOk, refl, sym, ap, ◌∙◌, subst, arith}
-use Rattle.std.specs.Prelude.{slice_get, option_map}
+use Rattle.std.specs.Prelude.{slice_get, option_map, OnErr}
 use Rattle.std.specs.List.{AllZip}
 use Rattle.std.specs.Result.{IsOkAnd}
 use Rattle.std.proofs.lemmas.Option.{slice_get-map, slice_get_within}
 use Rattle.sg_words.specs.Results.{◌>>=◌, fault_as}
 use Rattle.sg_words.specs.declared.memory.Memory.{Memory}
+use Rattle.sg_words.specs.declared.memory.Stop.{Stop}
 use Rattle.sg_words.specs.declared.text.Text.{Text}
 use Rattle.sg_layout.specs.declared.shape.Shape.{Shape}
-use Rattle.sg_coord.specs.Bounds.{Bounds}
-use Rattle.sg_layout.specs.Axes.{bounds_of_shape}
 use Rattle.sg_flat.specs.declared.effects.RunFault.{RunFault}
-use Rattle.sg_flat.specs.declared.effects.Write.{Write}
+use Rattle.sg_flat.specs.declared.effects.Effects.{Effects}
+use Rattle.sg_flat.specs.Kernel.{kernel_meaning}
+use Rattle.sg_flat.specs.State.{AreFlatLayouts, IsFlat}
+use Rattle.sg_types.specs.Iterations.{kernel_effects}
+use Rattle.sg_ir.specs.declared.code.KernelCode.{KernelCode}
 use Rattle.sg_flat.specs.declared.state.FlatLayout.{FlatLayout}
 use Rattle.sg_flat.specs.declared.state.FlatState.{FlatState}
 use Rattle.sg_store.specs.StoreWords.{StoreWords}
+use Rattle.sg_store.specs.declared.store.Stores.{Stores}
 use Rattle.sg_store.specs.StandsFor.{StandsFor}
 use Rattle.sg_names.specs.declared.tables.FieldAt.{FieldAt}
 use Rattle.sg_words.specs.declared.operators.Ty.{Ty}
 use Rattle.sg_types.specs.WellTyped.{field_in}
 use Rattle.sg_admit.specs.declared.admitted.Admitted.{Admitted}
-use Rattle.sg_grid.specs.declared.grid.GridRow.{GridRow}
-use Rattle.sg_grid.specs.declared.grid.GridFault.{GridFault}
-use Rattle.sg_grid.specs.Reading.{rows_of}
 use Rattle.sg_grid.specs.Dump.{dump_text}
-use Rattle.sg_outside.specs.Files.{Reading, Bytes, Missing}
+use Rattle.sg_outside.specs.Files.{Reading, Missing}
 use Rattle.sg_exec.specs.Standing.{StandForState}
-use Rattle.sg_exec.specs.Running.{run_meaning, load_meaning}
+use Rattle.sg_exec.specs.Running.{run_meaning}
 use Rattle.sg_session.specs.declared.refusal.RunRefusal.{RunRefusal}
 use Rattle.sg_session.specs.declared.refusal.RunRefusal.TheVariants as refusal
 use Rattle.sg_session.specs.declared.tasks.Task.TheVariants.{Load, Run, Dump}
-use Rattle.sg_session.specs.Compiled.{CompiledProgram}
-use Rattle.sg_session.specs.Commands.{Left, without_text, after_kernel, bounds_or_none, row_write, field_writes, grid_refusal, text_of_field, task_meaning}
-use Rattle.sg_session.specs.Performed.{Leaves, HasState}
+use Rattle.sg_session.specs.Compiled.{CheckedProgram, CompiledProgram, Compiles, IsCodeOf, world_of}
+use Rattle.sg_session.specs.Commands.{without_text, after_kernel, text_of_field, load_made, dump_made, task_meaning}
+use Rattle.sg_session.specs.Performed.{Leaves, HasState, Performs}
 use Rattle.sg_session.proofs.Lists.{then_some, count_map}
 
 -- ---- the state that stores stand for
@@ -67,59 +68,11 @@ leaves_by : (layouts : List Shape) (after : List StoreWords) (text : List ℕ) (
 leaves_by layouts after text tell (Ok state) none h = record { left = without_text state; is = refl; stand = h; text_is = none }
 leaves_by layouts after text tell (Err fault) none h = absurd h
 
-pub run_done : (compiled : CompiledProgram) (state : FlatState) (kernel : ℕ) (admitted : Admitted) (after : List StoreWords) (text : List ℕ)
-    → slice_get compiled.kernels kernel ≡ Some admitted → text ≡ [] → IsOkAnd (run_meaning compiled.layouts state admitted) (StandForState compiled.layouts after)
-    → Leaves compiled.layouts after text (task_meaning compiled state (Run kernel) Missing)
-run_done compiled state kernel admitted after text there none h =
-    subst (λ (o : Option Admitted). Leaves compiled.layouts after text (fault_as (refusal.Run (Some kernel)) (after_kernel compiled.layouts state o) >>= (λ state. Ok (without_text state))))
-    (sym there) (leaves_by compiled.layouts after text (refusal.Run (Some kernel)) (run_meaning compiled.layouts state admitted) none h)
-
-pub run_refused : (compiled : CompiledProgram) (state : FlatState) (kernel : ℕ) (admitted : Admitted) (fault : RunFault)
-    → slice_get compiled.kernels kernel ≡ Some admitted → run_meaning compiled.layouts state admitted ≡ Err fault
-    → task_meaning compiled state (Run kernel) Missing ≡ Err (refusal.Run (Some kernel) fault)
-run_refused compiled state kernel admitted fault there h =
-    ap (λ (o : Option Admitted). fault_as (refusal.Run (Some kernel)) (after_kernel compiled.layouts state o) >>= (λ state. Ok (without_text state))) there
-    ∙ ap (λ (m : Result FlatState RunFault). fault_as (refusal.Run (Some kernel)) m >>= (λ state. Ok (without_text state))) h
-
--- what a load of rows makes
-abbrev load_by : CompiledProgram → FlatState → FieldAt → Result (List Write) GridFault → Result Left RunRefusal
-load_by compiled state at writes =
-    (fault_as (grid_refusal at.number) writes >>= (λ rows. fault_as (refusal.Run None) (load_meaning compiled.layouts state rows))) >>= (λ after. Ok (without_text after))
-
-pub load_done : (compiled : CompiledProgram) (state : FlatState) (at : FieldAt) (bytes : List ℕ) (rows : List Write) (after : List StoreWords) (text : List ℕ)
-    → field_writes compiled at bytes ≡ Ok rows → text ≡ [] → IsOkAnd (load_meaning compiled.layouts state rows) (StandForState compiled.layouts after)
-    → Leaves compiled.layouts after text (task_meaning compiled state (Load at) (Bytes bytes))
-load_done compiled state at bytes rows after text wrote none h =
-    subst (λ (w : Result (List Write) GridFault). Leaves compiled.layouts after text (load_by compiled state at w)) (sym wrote)
-    (leaves_by compiled.layouts after text (refusal.Run None) (load_meaning compiled.layouts state rows) none h)
-
-pub load_refused : (compiled : CompiledProgram) (state : FlatState) (at : FieldAt) (bytes : List ℕ) (rows : List Write) (fault : RunFault)
-    → field_writes compiled at bytes ≡ Ok rows → load_meaning compiled.layouts state rows ≡ Err fault
-    → task_meaning compiled state (Load at) (Bytes bytes) ≡ Err (refusal.Run None fault)
-load_refused compiled state at bytes rows fault wrote h =
-    ap (load_by compiled state at) wrote ∙ ap (λ (m : Result FlatState RunFault). fault_as (refusal.Run None) m >>= (λ after. Ok (without_text after))) h
-
-pub load_bad : (compiled : CompiledProgram) (state : FlatState) (at : FieldAt) (bytes : List ℕ) (fault : GridFault)
-    → field_writes compiled at bytes ≡ Err fault → task_meaning compiled state (Load at) (Bytes bytes) ≡ Err (grid_refusal at.number fault)
-load_bad compiled state at bytes fault wrote = ap (load_by compiled state at) wrote
-
--- ---- the rows of a text
-
-abbrev writes_by : CompiledProgram → FieldAt → List ℕ → Option Shape → Result (List Write) GridFault
-writes_by compiled at bytes shape = rows_of (bounds_or_none shape) at.ty bytes >>= (λ rows. Ok (map (row_write at.layout at.place) rows))
-
-module _ (compiled : CompiledProgram) (at : FieldAt) (bytes : List ℕ) (shape : Shape) (bounds : Bounds) (there : slice_get compiled.layouts at.layout ≡ Some shape) (same : bounds ≡ bounds_of_shape shape) where
-  pub writes_done : (rows : List GridRow) (writes : List Write) → rows_of bounds at.ty bytes ≡ Ok rows → writes ≡ map (row_write at.layout at.place) rows → field_writes compiled at bytes ≡ Ok writes
-  writes_done rows writes read made =
-      ap (writes_by compiled at bytes) there
-      ∙ ap (λ (b : Bounds). rows_of b at.ty bytes >>= (λ rows. Ok (map (row_write at.layout at.place) rows))) (sym same)
-      ∙ ap (λ (r : Result (List GridRow) GridFault). r >>= (λ rows. Ok (map (row_write at.layout at.place) rows))) read ∙ ap Ok (sym made)
-
-  pub writes_bad : (fault : GridFault) → rows_of bounds at.ty bytes ≡ Err fault → field_writes compiled at bytes ≡ Err fault
-  writes_bad fault read =
-      ap (writes_by compiled at bytes) there
-      ∙ ap (λ (b : Bounds). rows_of b at.ty bytes >>= (λ rows. Ok (map (row_write at.layout at.place) rows))) (sym same)
-      ∙ ap (λ (r : Result (List GridRow) GridFault). r >>= (λ rows. Ok (map (row_write at.layout at.place) rows))) read
+-- the run of a kernel that is there
+run_of : (program : CheckedProgram) (state : FlatState) (kernel : ℕ) (admitted : Admitted) → slice_get program.kernels kernel ≡ Some admitted
+    → task_meaning program state (Run kernel) Missing
+    ≡ (fault_as (refusal.Run (Some kernel)) (kernel_meaning program.layouts state (kernel_effects (world_of program.layouts state) admitted.kernel)) >>= (λ state. Ok (without_text state)))
+run_of program state kernel admitted there = ap (λ (o : Option Admitted). fault_as (refusal.Run (Some kernel)) (after_kernel program.layouts state o) >>= (λ state. Ok (without_text state))) there
 
 -- ---- dumps
 
@@ -132,26 +85,106 @@ dump_done layouts stores place k store (Ok text) at h = λ state stand.
     ∙ ap (λ (o : Option FlatLayout). text_of_field place (Some store.shape) o) here.there)
 dump_done layouts stores place k store (Err why) at h = tt
 
-pub dump_leaves : (compiled : CompiledProgram) (state : FlatState) (at : FieldAt) (stores : List StoreWords) (text : List ℕ) (given : Reading)
-    → StandForState compiled.layouts stores state → text ≡ text_of_field at.place (slice_get compiled.layouts at.layout) (slice_get state.layouts at.layout)
-    → Leaves compiled.layouts stores text (task_meaning compiled state (Dump at) given)
-dump_leaves compiled state at stores text given stand h =
-    record { left = record { state = state; text = text_of_field at.place (slice_get compiled.layouts at.layout) (slice_get state.layouts at.layout) }; is = refl; stand = stand; text_is = h }
+-- what a dump answers
+pub dump_performs : (layouts : List Shape) (stores : List StoreWords) (at : FieldAt) (result : Result Text Memory)
+    → IfOk result (λ text. (state : FlatState) → StandForState layouts stores state → text.bytes ≡ text_of_field at.place (slice_get layouts at.layout) (slice_get state.layouts at.layout))
+    → IfOk result (λ text. (state : FlatState) → StandForState layouts stores state → Leaves layouts stores text.bytes (dump_made layouts state at))
+dump_performs layouts stores at (Ok text) h = λ state stand. record {
+  left = record { state = state; text = text_of_field at.place (slice_get layouts at.layout) (slice_get state.layouts at.layout) };
+  is = refl;
+  stand = stand;
+  text_is = h state stand;
+}
+dump_performs layouts stores at (Err why) h = tt
 
--- ---- over layouts that are those of the program
+-- ---- loads and dumps in a program that is compiled to this
 
-module _ (compiled : CompiledProgram) (inner : List Shape) (kernel : ℕ) (admitted : Admitted) (stores after : List StoreWords) (same : inner ≡ compiled.layouts) (there : slice_get compiled.kernels kernel ≡ Some admitted) where
-  pub run_done_over : (text : List ℕ) → text ≡ [] → ((state : FlatState) → StandForState inner stores state → IsOkAnd (run_meaning inner state admitted) (StandForState inner after))
-      → (state : FlatState) → StandForState compiled.layouts stores state → Leaves compiled.layouts after text (task_meaning compiled state (Run kernel) Missing)
+pub load_over : (program : CheckedProgram) (compiled : CompiledProgram) (stores : List StoreWords) (result : Result Text (Stop RunRefusal)) (state : FlatState) (at : FieldAt) (given : Reading) → Compiles program compiled
+    → Performs compiled.layouts stores result (load_made compiled.layouts state at given) → Performs compiled.layouts stores result (task_meaning program state (Load at) given)
+load_over program compiled stores result state at given compiles h = subst (λ (ls : List Shape). Performs compiled.layouts stores result (load_made ls state at given)) compiles.layouts h
+
+pub dump_over : (program : CheckedProgram) (compiled : CompiledProgram) (stores : List StoreWords) (result : Result Text (Stop RunRefusal)) (state : FlatState) (at : FieldAt) (given : Reading) → Compiles program compiled
+    → Performs compiled.layouts stores result (dump_made compiled.layouts state at) → Performs compiled.layouts stores result (task_meaning program state (Dump at) given)
+dump_over program compiled stores result state at given compiles h = subst (λ (ls : List Shape). Performs compiled.layouts stores result (dump_made ls state at)) compiles.layouts h
+
+-- ---- runs of code
+
+-- the kernel of a code
+pub record HasKernel (program : CheckedProgram) (kernel : ℕ) (code : KernelCode) : Type 0 where
+  pub admitted : Admitted
+  pub there : slice_get program.kernels kernel ≡ Some admitted
+  pub is : IsCodeOf program.layouts admitted code
+
+kernel_in : (layouts : List Shape) (kernels : List Admitted) (codes : List KernelCode) (k : ℕ) (code : KernelCode) → AllZip (IsCodeOf layouts) kernels codes → slice_get codes k ≡ Some code
+    → (admitted : Admitted) × (slice_get kernels k ≡ Some admitted) × IsCodeOf layouts admitted code
+kernel_in layouts [] [] k code all e = absurd (cc)
+kernel_in layouts [] (other ∷ codes) k code all e = absurd all
+kernel_in layouts (kernel ∷ kernels) [] k code all e = absurd all
+kernel_in layouts (kernel ∷ kernels) (other ∷ codes) zero code all e = let same : other ≡ code = cc in (kernel, refl, subst (IsCodeOf layouts kernel) same all.0)
+kernel_in layouts (kernel ∷ kernels) (other ∷ codes) (suc k) code all e = kernel_in layouts kernels codes k code all.1 e
+
+has_kernel : (program : CheckedProgram) (compiled : CompiledProgram) (kernel : ℕ) (code : KernelCode) → Compiles program compiled → slice_get compiled.kernels kernel ≡ Some code → HasKernel program kernel code
+has_kernel program compiled kernel code compiles e =
+    let found = kernel_in program.layouts program.kernels compiled.kernels kernel code compiles.kernels e in
+    record { admitted = found.0; there = found.1; is = found.2 }
+
+-- stores stand for flat states
+stands_flat : (stores : List StoreWords) (flats : List FlatLayout) → AllZip StandsFor stores flats → AreFlatLayouts (map (λ (s : StoreWords). s.shape) stores) flats
+stands_flat [] [] all = tt
+stands_flat [] (flat ∷ flats) all = absurd all
+stands_flat (store ∷ stores) [] all = absurd all
+stands_flat (store ∷ stores) (flat ∷ flats) all = (all.0.is_flat, stands_flat stores flats all.1)
+
+pub state_flat : (layouts : List Shape) (stores : List StoreWords) (state : FlatState) → StandForState layouts stores state → IsFlat layouts state
+state_flat layouts stores state stand = subst (λ (ls : List Shape). IsFlat ls state) stand.shapes_are (stands_flat stores state.layouts stand.stand)
+
+module _ (program : CheckedProgram) (compiled : CompiledProgram) (inner : List Shape) (kernel : ℕ) (code : KernelCode) (stores after : List StoreWords) (compiles : Compiles program compiled)
+    (same : inner ≡ compiled.layouts) (there : slice_get compiled.kernels kernel ≡ Some code) where
+  layouts_are : inner ≡ program.layouts
+  layouts_are = same ∙ compiles.layouts
+
+  -- the run of the kernel means the run of its code
+  means : (state : FlatState) → StandForState compiled.layouts stores state
+      → task_meaning program state (Run kernel) Missing ≡ (fault_as (refusal.Run (Some kernel)) (run_meaning inner state code) >>= (λ state. Ok (without_text state)))
+  means state stand =
+      let has = has_kernel program compiled kernel code compiles there in
+      let fine : IsFlat program.layouts state = subst (λ (ls : List Shape). IsFlat ls state) compiles.layouts (state_flat compiled.layouts stores state stand) in
+      run_of program state kernel has.admitted has.there
+      ∙ ap (λ (it : Effects). fault_as (refusal.Run (Some kernel)) (kernel_meaning program.layouts state it) >>= (λ state. Ok (without_text state))) (sym (has.is.effects state fine))
+      ∙ ap (λ (ls : List Shape). fault_as (refusal.Run (Some kernel)) (run_meaning ls state code) >>= (λ state. Ok (without_text state))) (sym layouts_are)
+
+  pub run_done_over : (text : List ℕ) → text ≡ [] → ((state : FlatState) → StandForState inner stores state → IsOkAnd (run_meaning inner state code) (StandForState inner after))
+      → (state : FlatState) → StandForState compiled.layouts stores state → Leaves compiled.layouts after text (task_meaning program state (Run kernel) Missing)
   run_done_over text none h state stand =
-      run_done compiled state kernel admitted after text there none
-      (subst (λ (ls : List Shape). (state : FlatState) → StandForState ls stores state → IsOkAnd (run_meaning ls state admitted) (StandForState ls after)) same h state stand)
+      subst (Leaves compiled.layouts after text) (sym (means state stand))
+      (leaves_by compiled.layouts after text (refusal.Run (Some kernel)) (run_meaning inner state code) none
+      (subst (λ (ls : List Shape). IsOkAnd (run_meaning inner state code) (StandForState ls after)) same (h state (subst (λ (ls : List Shape). StandForState ls stores state) (sym same) stand))))
 
-  pub run_refused_over : (fault : RunFault) → ((state : FlatState) → StandForState inner stores state → run_meaning inner state admitted ≡ Err fault)
-      → (state : FlatState) → StandForState compiled.layouts stores state → task_meaning compiled state (Run kernel) Missing ≡ Err (refusal.Run (Some kernel) fault)
+  pub run_refused_over : (fault : RunFault) → ((state : FlatState) → StandForState inner stores state → run_meaning inner state code ≡ Err fault)
+      → (state : FlatState) → StandForState compiled.layouts stores state → task_meaning program state (Run kernel) Missing ≡ Err (refusal.Run (Some kernel) fault)
   run_refused_over fault h state stand =
-      run_refused compiled state kernel admitted fault there
-      (subst (λ (ls : List Shape). (state : FlatState) → StandForState ls stores state → run_meaning ls state admitted ≡ Err fault) same h state stand)
+      means state stand
+      ∙ ap (λ (m : Result FlatState RunFault). fault_as (refusal.Run (Some kernel)) m >>= (λ state. Ok (without_text state)))
+      (h state (subst (λ (ls : List Shape). StandForState ls stores state) (sym same) stand))
+
+-- ---- what stores stand for after a run
+
+ok_state : (P : FlatState → Type 0) (m : Result FlatState RunFault) → IsOkAnd m P → (state : FlatState) × P state
+ok_state P (Ok state) h = (state, h)
+ok_state P (Err fault) h = absurd h
+
+-- a run leaves stores that stand for a state
+pub run_stands : (layouts inner : List Shape) (code : KernelCode) (stores after : List StoreWords) → inner ≡ layouts
+    → ((state : FlatState) → StandForState inner stores state → IsOkAnd (run_meaning inner state code) (StandForState inner after)) → HasState layouts stores → HasState layouts after
+run_stands layouts inner code stores after same ran had =
+    subst (λ (ls : List Shape). HasState ls after) same
+    (ok_state (StandForState inner after) (run_meaning inner had.0 code) (ran had.0 (subst (λ (ls : List Shape). StandForState ls stores had.0) (sym same) had.1)))
+
+-- whatever a task answered
+pub still_stand : (layouts : List Shape) (old new : Stores) (result : Result Text (Stop RunRefusal)) → HasState layouts old.list → IfOk result (λ text. HasState layouts old.list → HasState layouts new.list)
+    → OnErr result (new ≡ old) → HasState layouts new.list
+still_stand layouts old new (Ok text) had stand stays = stand had
+still_stand layouts old new (Err why) had stand stays = subst (λ (ss : Stores). HasState layouts ss.list) (sym stays) had
 
 -- a field's layout has a store
 pub has_store : (layouts : List Shape) (stores : List StoreWords) (k place : ℕ) (type : Ty) → HasState layouts stores → field_in layouts k place ≡ Some type → k < length stores

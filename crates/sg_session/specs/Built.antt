@@ -10,7 +10,7 @@ use Rattle.sg_ast.specs.declared.program.Item.TheVariants as item
 use Rattle.sg_names.specs.Shapes.{node_kind}
 use Rattle.sg_store.specs.WellFormed.{is_built}
 
--- a layout of nodes of which stores are built: dense, bitmasked and pointer nodes
+-- a layout of nodes of which stores are built: those of every kind
 abbrev pub is_built_layout : LayoutDecl → Bool
 is_built_layout decl = list_all (λ node. is_built (node_kind node.kind)) decl.nodes
 

@@ -12,21 +12,23 @@ use Rattle.sg_flat.specs.declared.state.FlatState.{FlatState}
 use Rattle.sg_flat.specs.declared.effects.Write.{Write}
 use Rattle.sg_flat.specs.declared.effects.Way.TheVariants.{Own}
 use Rattle.sg_names.specs.declared.tables.FieldAt.{FieldAt}
-use Rattle.sg_names.specs.Tables.{field_name_of}
+use Rattle.sg_flat.specs.Kernel.{kernel_meaning}
+use Rattle.sg_names.specs.Tables.{Tables, field_name_of}
+use Rattle.sg_types.specs.Iterations.{kernel_effects}
 use Rattle.sg_admit.specs.declared.admitted.Admitted.{Admitted}
 use Rattle.sg_grid.specs.declared.grid.GridFault.{GridFault}
 use Rattle.sg_grid.specs.declared.grid.GridFault.TheVariants as grid
 use Rattle.sg_grid.specs.declared.grid.GridRow.{GridRow}
 use Rattle.sg_grid.specs.Reading.{rows_of}
 use Rattle.sg_grid.specs.Dump.{dump_text}
-use Rattle.sg_exec.specs.Running.{run_meaning, load_meaning}
+use Rattle.sg_exec.specs.Running.{load_meaning}
 use Rattle.sg_outside.specs.Files.{Reading, Bytes, TooMany, Missing}
 use Rattle.sg_session.specs.declared.binds.Bind.{Bind}
 use Rattle.sg_session.specs.declared.refusal.RunRefusal.{RunRefusal}
 use Rattle.sg_session.specs.declared.refusal.RunRefusal.TheVariants as refusal
 use Rattle.sg_session.specs.declared.tasks.Task.{Task}
 use Rattle.sg_session.specs.declared.tasks.Task.TheVariants.{Load, Run, Dump}
-use Rattle.sg_session.specs.Compiled.{CompiledProgram}
+use Rattle.sg_session.specs.Compiled.{CheckedProgram, world_of}
 
 -- ---- the files of fields
 
@@ -35,14 +37,14 @@ abbrev pub file_bound : List Bind → Name → Option (List ℕ)
 file_bound binds name = option_map (λ bind. string_bytes bind.file) (find (λ bind. same_name name bind.name) binds)
 
 -- the file of a field
-abbrev pub file_of_field : CompiledProgram → List Bind → FieldAt → Option (List ℕ)
-file_of_field compiled binds at = option_and_then (file_bound binds) (field_name_of compiled.names at.number)
+abbrev pub file_of_field : Tables → List Bind → FieldAt → Option (List ℕ)
+file_of_field names binds at = option_and_then (file_bound binds) (field_name_of names at.number)
 
 -- the file that a task reads: only a load reads one
-abbrev pub file_of : CompiledProgram → List Bind → Task → Option (List ℕ)
-file_of compiled binds (Load field) = file_of_field compiled binds field
-file_of compiled binds (Run kernel) = None
-file_of compiled binds (Dump field) = None
+abbrev pub file_of : Tables → List Bind → Task → Option (List ℕ)
+file_of names binds (Load field) = file_of_field names binds field
+file_of names binds (Run kernel) = None
+file_of names binds (Dump field) = None
 
 -- ---- what a task makes of a state
 
@@ -55,10 +57,10 @@ pub record Left : Type 0 where
 abbrev pub without_text : FlatState → Left
 without_text state = record { state = state; text = [] }
 
--- the run of a kernel that may be there
+-- the run of a kernel that may be there: what its iterations write, each at the state at the start
 abbrev pub after_kernel : List Shape → FlatState → Option Admitted → Result FlatState RunFault
 after_kernel layouts state None = Ok state
-after_kernel layouts state (Some kernel) = run_meaning layouts state kernel
+after_kernel layouts state (Some kernel) = kernel_meaning layouts state (kernel_effects (world_of layouts state) kernel.kernel)
 
 -- why bytes are no grid of a field
 abbrev pub grid_refusal : ℕ → GridFault → RunRefusal
@@ -78,22 +80,22 @@ abbrev pub row_write : ℕ → ℕ → GridRow → Write
 row_write layout place row = record { layout = layout; place = place; stmt = 0; at = row.at; way = Own; value = row.word }
 
 -- the writes that the rows of a grid text are: each listed coordinate gets its value
-abbrev pub field_writes : CompiledProgram → FieldAt → List ℕ → Result (List Write) GridFault
-field_writes compiled at bytes = do
-  rows ← rows_of (bounds_or_none (slice_get compiled.layouts at.layout)) at.ty bytes
+abbrev pub field_writes : List Shape → FieldAt → List ℕ → Result (List Write) GridFault
+field_writes layouts at bytes = do
+  rows ← rows_of (bounds_or_none (slice_get layouts at.layout)) at.ty bytes
   Ok (map (row_write at.layout at.place) rows)
 
 -- the load of bytes: the listed coordinates are written, each with its value, and activated
-abbrev pub loaded : CompiledProgram → FlatState → FieldAt → List ℕ → Result FlatState RunRefusal
-loaded compiled state at bytes = do
-  rows ← fault_as (grid_refusal at.number) (field_writes compiled at bytes)
-  fault_as (refusal.Run None) (load_meaning compiled.layouts state rows)
+abbrev pub loaded : List Shape → FlatState → FieldAt → List ℕ → Result FlatState RunRefusal
+loaded layouts state at bytes = do
+  rows ← fault_as (grid_refusal at.number) (field_writes layouts at bytes)
+  fault_as (refusal.Run None) (load_meaning layouts state rows)
 
 -- what a load makes of what the read of its file gave
-abbrev pub after_load : CompiledProgram → FlatState → FieldAt → Reading → Result FlatState RunRefusal
-after_load compiled state at Missing = Err (refusal.Read at.number)
-after_load compiled state at TooMany = Err (refusal.GridBytes at.number)
-after_load compiled state at (Bytes bytes) = loaded compiled state at bytes
+abbrev pub after_load : List Shape → FlatState → FieldAt → Reading → Result FlatState RunRefusal
+after_load layouts state at Missing = Err (refusal.Read at.number)
+after_load layouts state at TooMany = Err (refusal.GridBytes at.number)
+after_load layouts state at (Bytes bytes) = loaded layouts state at bytes
 
 -- the dump of a field of a layout that may be there
 abbrev pub text_of_field : ℕ → Option Shape → Option FlatLayout → List ℕ
@@ -101,13 +103,24 @@ text_of_field place None flat = []
 text_of_field place (Some shape) None = []
 text_of_field place (Some shape) (Some flat) = dump_text shape flat place
 
+-- what a load leaves
+abbrev pub load_made : List Shape → FlatState → FieldAt → Reading → Result Left RunRefusal
+load_made layouts state at reading = do
+  after ← after_load layouts state at reading
+  Ok (without_text after)
+
+-- what the run of a kernel of this number leaves
+abbrev pub run_made : List Shape → FlatState → ℕ → Option Admitted → Result Left RunRefusal
+run_made layouts state number kernel = do
+  after ← fault_as (refusal.Run (Some number)) (after_kernel layouts state kernel)
+  Ok (without_text after)
+
+-- what a dump leaves
+abbrev pub dump_made : List Shape → FlatState → FieldAt → Result Left RunRefusal
+dump_made layouts state at = Ok (record { state = state; text = text_of_field at.place (slice_get layouts at.layout) (slice_get state.layouts at.layout) })
+
 -- What a task makes of a state, and its text; or its refusal, which leaves the state. What the read of its file gave counts for a load.
-abbrev pub task_meaning : CompiledProgram → FlatState → Task → Reading → Result Left RunRefusal
-task_meaning compiled state (Load field) reading = do
-  after ← after_load compiled state field reading
-  Ok (without_text after)
-task_meaning compiled state (Run kernel) reading = do
-  after ← fault_as (refusal.Run (Some kernel)) (after_kernel compiled.layouts state (slice_get compiled.kernels kernel))
-  Ok (without_text after)
-task_meaning compiled state (Dump field) reading =
-    Ok (record { state = state; text = text_of_field field.place (slice_get compiled.layouts field.layout) (slice_get state.layouts field.layout) })
+abbrev pub task_meaning : CheckedProgram → FlatState → Task → Reading → Result Left RunRefusal
+task_meaning program state (Load field) reading = load_made program.layouts state field reading
+task_meaning program state (Run kernel) reading = run_made program.layouts state kernel (slice_get program.kernels kernel)
+task_meaning program state (Dump field) reading = dump_made program.layouts state field

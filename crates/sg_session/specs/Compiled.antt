@@ -1,30 +1,65 @@
 -- What a program is compiled to, and what every compiled program keeps.
-use Rattle.std.specs.Prelude.{◌≡◌, ℕ, ◌≤◌, ◌<◌, Bool, true, List, [], ◌∷◌, map, length, Option, Some, option_map, slice_get}
-use Rattle.std.specs.List.{AllByRecursion, flat_map, list_all, repeat}
+use Rattle.std.specs.Prelude.{◌≡◌, ℕ, ◌≤◌, ◌<◌, Bool, true, List, [], ◌∷◌, length, Option, Some, option_map, slice_get}
+use Rattle.std.specs.List.{AllByRecursion, AllZip, flat_map, list_all, repeat}
+use Rattle.sg_coord.specs.declared.coord.Coord.{Coord}
 use Rattle.sg_layout.specs.declared.shape.Shape.{Shape}
 use Rattle.sg_layout.specs.StorageWords.{total_words}
 use Rattle.sg_layout.specs.Limits.{most_words}
 use Rattle.sg_names.specs.declared.tables.FieldAt.{FieldAt}
 use Rattle.sg_names.specs.Tables.{Tables}
+use Rattle.sg_flat.specs.declared.state.FlatState.{FlatState}
+use Rattle.sg_flat.specs.State.{IsFlat}
 use Rattle.sg_types.specs.WellTyped.{field_in}
+use Rattle.sg_types.specs.Values.{World, coord_of}
+use Rattle.sg_types.specs.Iterations.{part_words, writes_at, kernel_effects}
 use Rattle.sg_admit.specs.declared.admitted.Admitted.{Admitted}
-use Rattle.sg_admit.specs.Neutral.{is_neutral_kernel}
 use Rattle.sg_store.specs.WellFormed.{is_built_shape}
-use Rattle.sg_exec.specs.Running.{IsRunnable}
+use Rattle.sg_ir.specs.declared.code.KernelCode.{KernelCode}
+use Rattle.sg_exec.specs.Running.{IsRunnable, code_turn, code_effects}
 use Rattle.sg_session.specs.declared.tasks.Task.{Task}
 use Rattle.sg_session.specs.declared.tasks.Task.TheVariants.{Load, Run, Dump}
 use Rattle.sg_session.specs.declared.tasks.Stage.{Stage}
 use Rattle.sg_session.specs.declared.tasks.Stage.TheVariants.{Once, Times}
 use Rattle.sg_session.specs.Limits.{most_times}
 
--- what a program is compiled to: its names, the shapes of its layouts, its kernels with what is known of them, for each kernel whether
--- it is neutral, and its commands, all in order of declaration
-pub record CompiledProgram : Type 0 where
+-- a file that keeps all rules: its names, the shapes of its layouts, its kernels with what is known of them, for each kernel whether it is
+-- neutral, and its commands, all in order of declaration
+pub record CheckedProgram : Type 0 where
   pub names : Tables
   pub layouts : List Shape
   pub kernels : List Admitted
   pub neutral : List Bool
   pub commands : List Stage
+
+-- what it is compiled to: the same, with the access code of each kernel in its place
+pub record CompiledProgram : Type 0 where
+  pub names : Tables
+  pub layouts : List Shape
+  pub kernels : List KernelCode
+  pub neutral : List Bool
+  pub commands : List Stage
+
+-- what all iterations of a run see
+abbrev pub world_of : List Shape → FlatState → World
+world_of shapes state = record { shapes = shapes; state = state }
+
+-- Access code that is that of a kernel: it can be run, it goes over the kernel's domain, and it has the kernel's effects. Over every flat state an
+-- iteration writes what the kernel's does, writes outside included, at every coordinate that has as many parts as the loop has variables, all of
+-- them numbers of words; and so the effects of all iterations are the kernel's.
+pub record IsCodeOf (shapes : List Shape) (kernel : Admitted) (code : KernelCode) : Type 0 where
+  pub runnable : IsRunnable shapes code
+  pub domain : code.domain ≡ kernel.domain
+  pub writes : (state : FlatState) → IsFlat shapes state → (at : Coord) → length (part_words at) ≡ kernel.kernel.vars → coord_of (part_words at) ≡ at
+      → (code_turn shapes state code at).writes ≡ writes_at (world_of shapes state) kernel.kernel at
+  pub effects : (state : FlatState) → IsFlat shapes state → code_effects shapes state code ≡ kernel_effects (world_of shapes state) kernel.kernel
+
+-- a program is compiled to this: each kernel to its code, one for one and in order, and all else is the same
+pub record Compiles (program : CheckedProgram) (compiled : CompiledProgram) : Type 0 where
+  pub names : compiled.names ≡ program.names
+  pub layouts : compiled.layouts ≡ program.layouts
+  pub kernels : AllZip (IsCodeOf program.layouts) program.kernels compiled.kernels
+  pub neutral : compiled.neutral ≡ program.neutral
+  pub commands : compiled.commands ≡ program.commands
 
 -- where the field of a number is
 abbrev pub field_numbered : Tables → ℕ → Option FieldAt
@@ -57,7 +92,7 @@ pub record IsCompiled (compiled : CompiledProgram) : Type 0 where
   pub few_words : total_words compiled.layouts ≤ most_words
   pub built : list_all is_built_shape compiled.layouts ≡ true
   pub numbers : AreNumbers compiled
-  pub neutral : compiled.neutral ≡ map (λ kernel. is_neutral_kernel kernel.kernel) compiled.kernels
+  pub neutral : length compiled.neutral ≡ length compiled.kernels
   pub kernels : AllByRecursion (IsRunnable compiled.layouts) compiled.kernels
   pub commands : AllByRecursion (IsStage compiled) compiled.commands
 

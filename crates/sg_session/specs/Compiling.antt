@@ -1,5 +1,8 @@
 -- What a file is compiled to, or why it is refused before any of its commands runs: the first cause in the one order.
-use Rattle.std.specs.Prelude.{ℕ, suc, nat_le, if◌then◌else◌, List, [], ◌∷◌, map, option_map, Result, Ok, Err}
+use Rattle.std.specs.Prelude.{◌≡◌, ℕ, suc, nat_le, if◌then◌else◌, List, [], ◌∷◌, map, option_map, Result, Ok, Err}
+use Rattle.std.specs.Result.{IsOkAnd}
+use Rattle.sg_words.specs.declared.memory.Stop.{Stop}
+use Rattle.sg_words.specs.declared.memory.Stop.TheVariants as stop
 use Rattle.sg_words.specs.Results.{◌>>=◌, fault_or, fault_as}
 use Rattle.sg_ast.specs.declared.program.Program.{Program}
 use Rattle.sg_lexer.specs.Lexing.{tokens}
@@ -21,7 +24,7 @@ use Rattle.sg_session.specs.declared.refusal.Refusal.TheVariants as refusal
 use Rattle.sg_session.specs.Built.{first_not_built}
 use Rattle.sg_session.specs.CommandRules.{commands_refusal}
 use Rattle.sg_session.specs.Tasks.{stages_of}
-use Rattle.sg_session.specs.Compiled.{CompiledProgram}
+use Rattle.sg_session.specs.Compiled.{CheckedProgram, CompiledProgram, Compiles}
 
 -- the program that bytes spell
 unfoldable pub spelled_program : List ℕ → Result Program Refusal
@@ -60,7 +63,7 @@ kernels_of names program = do
   fault_or (option_map refusal.NotBuilt (first_not_built 1 program.items)) (admitted_kernels 0 typed.kernels)
 
 -- a program with these names, layouts and kernels
-abbrev pub compiled_parts : Tables → List Shape → List Admitted → Program → CompiledProgram
+abbrev pub compiled_parts : Tables → List Shape → List Admitted → Program → CheckedProgram
 compiled_parts names layouts kernels program = record {
   names = names;
   layouts = layouts;
@@ -70,18 +73,24 @@ compiled_parts names layouts kernels program = record {
 }
 
 -- a program with these names: layouts, then kernels, then commands
-unfoldable pub compiled_with : Tables → Program → Result CompiledProgram Refusal
+unfoldable pub compiled_with : Tables → Program → Result CheckedProgram Refusal
 compiled_with names program = do
   layouts ← layouts_of names program
   kernels ← kernels_of names program
   fault_or (commands_refusal names layouts 1 program.items) (Ok (compiled_parts names layouts kernels program))
 
 -- a program: names, then the rest
-unfoldable pub compiled_tree : Program → Result CompiledProgram Refusal
+unfoldable pub compiled_tree : Program → Result CheckedProgram Refusal
 compiled_tree program = do
   names ← fault_as refusal.Name (tables_of program)
   compiled_with names program
 
 -- the bytes of a file
-unfoldable pub compiled_program : List ℕ → Result CompiledProgram Refusal
+unfoldable pub compiled_program : List ℕ → Result CheckedProgram Refusal
 compiled_program bytes = spelled_program bytes >>= compiled_tree
+
+-- what compiling answered is what is defined: with Ok what the defined program is compiled to; a refusal is the defined one; want of memory is free
+abbrev pub CompilesAs : {A : Type 0} → (A → CompiledProgram) → Result A (Stop Refusal) → Result CheckedProgram Refusal → Type 0
+CompilesAs view (Ok value) meaning = IsOkAnd meaning (λ program. Compiles program (view value))
+CompilesAs view (Err stop.Memory) meaning = Unit {0}
+CompilesAs view (Err (stop.Refused refusal)) meaning = meaning ≡ Err refusal

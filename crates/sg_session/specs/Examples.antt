@@ -1,5 +1,5 @@
 -- Worked equations.
-use Rattle.std.specs.Prelude.{◌≡◌, refl, false, [], ◌∷◌, Some, None, pos, codes}
+use Rattle.std.specs.Prelude.{◌≡◌, refl, true, [], ◌∷◌, Some, None, pos, codes}
 use Rattle.sg_ast.specs.declared.command.Command.TheOpen as c
 use Rattle.sg_ast.specs.declared.layout.NodeKind.TheVariants as kind
 use Rattle.sg_names.specs.Tables.{no_tables}
@@ -38,11 +38,19 @@ rows_of_a_grid = refl
 line_of_a_grid : grid_refusal 4 (grid.NotRising 3) ≡ run.Grid 4 3
 line_of_a_grid = refl
 
--- a layout with a hash node isn't built
+-- a layout with a hash node is built, and so is one with a dynamic node
 hashed : is_built_layout (record {
   name = record { text = codes "A" };
   axes = [];
   nodes = record { kind = kind.Hash; axes = []; chunk = None; cap = None } ∷ [];
   fields = [];
-}) ≡ false
+}) ≡ true
 hashed = refl
+
+chained : is_built_layout (record {
+  name = record { text = codes "A" };
+  axes = [];
+  nodes = record { kind = kind.Dynamic; axes = []; chunk = None; cap = None } ∷ [];
+  fields = [];
+}) ≡ true
+chained = refl

@@ -12,7 +12,7 @@ use Rattle.sg_session.specs.declared.tasks.Task.{Task}
 use Rattle.sg_session.specs.declared.tasks.Task.TheVariants.{Load, Run, Dump}
 use Rattle.sg_session.specs.declared.tasks.Stage.{Stage}
 use Rattle.sg_session.specs.declared.tasks.Stage.TheVariants.{Once, Times}
-use Rattle.sg_session.specs.Compiled.{CompiledProgram}
+use Rattle.sg_session.specs.Compiled.{CheckedProgram}
 use Rattle.sg_session.specs.Compiling.{compiled_tree}
 
 -- the command that an item is
@@ -41,5 +41,5 @@ IsStageOf names _ _ = ⊥
 
 -- The commands of a compiled program are those of its file, one for one and in order.
 abbrev pub CommandsAreKept : Type 0
-CommandsAreKept = (program : Program) (compiled : CompiledProgram) → compiled_tree program ≡ Ok compiled →
+CommandsAreKept = (program : Program) (compiled : CheckedProgram) → compiled_tree program ≡ Ok compiled →
     AllZip (λ command stage. IsStageOf compiled.names (out-Command command) stage) (commands_of program) compiled.commands

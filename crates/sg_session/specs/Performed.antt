@@ -6,6 +6,7 @@ use Rattle.sg_words.specs.declared.text.Text.{Text}
 use Rattle.sg_layout.specs.declared.shape.Shape.{Shape}
 use Rattle.sg_flat.specs.declared.state.FlatState.{FlatState}
 use Rattle.sg_store.specs.StoreWords.{StoreWords}
+use Rattle.sg_names.specs.Tables.{Tables}
 use Rattle.sg_exec.specs.Standing.{StandForState}
 use Rattle.sg_grid.specs.Limits.{most_grid_bytes}
 use Rattle.sg_outside.specs.Counts.{one_more, Rose}
@@ -64,7 +65,7 @@ asked_after None asked = asked
 asked_after (Some name) asked = asked_too asked name
 
 -- a load's field has a file
-abbrev pub HasFile : CompiledProgram → List Bind → Task → Type 0
-HasFile compiled binds (Load field) = IsSome (file_of_field compiled binds field)
-HasFile compiled binds (Run kernel) = Unit {0}
-HasFile compiled binds (Dump field) = Unit {0}
+abbrev pub HasFile : Tables → List Bind → Task → Type 0
+HasFile names binds (Load field) = IsSome (file_of_field names binds field)
+HasFile names binds (Run kernel) = Unit {0}
+HasFile names binds (Dump field) = Unit {0}

@@ -1,7 +1,7 @@
 -- The text of mode check.
 use Rattle.std.specs.Prelude.{◌≡◌, refl, ℕ, Bool, true, false, List, [], ◌∷◌, ◌++◌, codes}
 use Rattle.sg_ast.specs.declared.token.Name.{Name}
-use Rattle.sg_session.specs.Compiled.{CompiledProgram}
+use Rattle.sg_names.specs.Tables.{Tables}
 
 -- the word for a neutral kernel, and for every other
 abbrev pub neutral_word : Bool → List ℕ
@@ -17,9 +17,9 @@ abbrev pub kernel_lines : List Name → List Bool → List ℕ
 kernel_lines (name ∷ names) (neutral ∷ more) = kernel_line name neutral ++ kernel_lines names more
 kernel_lines _ _ = []
 
--- the text of a program
-abbrev pub check_text : CompiledProgram → List ℕ
-check_text compiled = kernel_lines compiled.names.kernels compiled.neutral
+-- the text of a program with these names, by whether each kernel is neutral
+abbrev pub check_text : Tables → List Bool → List ℕ
+check_text names neutral = kernel_lines names.kernels neutral
 
 -- ---- examples
 two_kernels : kernel_lines (record { text = codes "k" } ∷ record { text = codes "m" } ∷ []) (true ∷ false ∷ [])

@@ -41,7 +41,7 @@ fn is_built_layout(decl: &LayoutDecl) -> bool
         .all(|node| is_built_node(node.kind))
 }
 
-/// Stores are built for dense, bitmasked and pointer nodes.
+/// Stores are built for nodes of every kind.
 fn is_built_node(kind: NodeKind) -> bool
     ensures { result ≡ is_built (node_kind kind) }
 {
@@ -49,8 +49,8 @@ fn is_built_node(kind: NodeKind) -> bool
         NodeKind::Dense => true,
         NodeKind::Bitmasked => true,
         NodeKind::Pointer => true,
-        NodeKind::Hash => false,
-        NodeKind::Dynamic => false,
+        NodeKind::Hash => true,
+        NodeKind::Dynamic => true,
     }
 }
 

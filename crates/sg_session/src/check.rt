@@ -9,7 +9,7 @@ use std::alloc::Global;
 
 /// For each kernel in order a line that says whether it is neutral or layout-bound.
 pub fn check_text(alloc: Global, compiled: &Compiled) -> Result<Text, Memory>
-    ensures { IfOk result (λ text. text.bytes ≡ spec.check_text compiled.now) }
+    ensures { IfOk result (λ text. text.bytes ≡ spec.check_text compiled.now.names compiled.now.neutral) }
 {
     let mut bytes = Vec::new(alloc);
     push_lines(&mut bytes, &compiled.names, compiled.neutral.as_slice())?;

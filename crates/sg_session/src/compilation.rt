@@ -1,22 +1,21 @@
 ghost use Rattle.std.specs.Prelude.{◌≡◌, ◌≤◌, length, Ok, IfOk};
-ghost use Rattle.sg_words.specs.Answers.{Answers, AnswersAs};
 ghost use Rattle.sg_lexer.specs.Limits.{most_file_bytes};
 ghost use Rattle.sg_names.specs.Names.{tables_of};
 ghost use Rattle.sg_session.specs.Compiled.{IsCompiled};
-ghost use Rattle.sg_session.specs.Compiling.{compiled_program, compiled_tree, compiled_with};
+ghost use Rattle.sg_session.specs.Compiling.{CompilesAs, compiled_program, compiled_tree, compiled_with};
 ghost use Rattle.sg_session.specs.Spelled.{IsSpelled};
 ghost use Rattle.sg_session.specs.steps.Parts.{with_tables};
 
 use crate::compiled::Compiled;
-use crate::kernels::{kernels_of, neutral_of};
+use crate::kernels::{kernels_of, lower_all, neutral_of};
 use crate::layouts::layouts_of;
 use crate::refusal::Refusal;
 use crate::rules::Judge;
 use crate::spelled::spell;
 use crate::stages::stages_of;
 use crate::tasks::Stage;
-use sg_admit::Admitted;
 use sg_ast::Program;
+use sg_ir::KernelCode;
 use sg_layout::Layouts;
 use sg_names::{Names, name_tables};
 use sg_words::{Items, Stop};
@@ -26,7 +25,7 @@ use std::alloc::Global;
 #[tactic(auto, unfolding(crate::specs::Compiling::compiled_program))]
 pub fn compile(alloc: Global, bytes: &[u8]) -> Result<Compiled, Stop<Refusal>>
     requires { length bytes.now ≤ most_file_bytes }
-    ensures answer { Answers result (compiled_program bytes.now) }
+    ensures answer { CompilesAs (λ compiled. compiled) result (compiled_program bytes.now) }
     ensures compiled { IfOk result IsCompiled }
 {
     match spell(alloc, bytes) {
@@ -39,7 +38,7 @@ pub fn compile(alloc: Global, bytes: &[u8]) -> Result<Compiled, Stop<Refusal>>
 #[tactic(auto, unfolding(crate::specs::Compiling::compiled_tree))]
 fn compile_tree(alloc: Global, program: &Program) -> Result<Compiled, Stop<Refusal>>
     requires { IsSpelled program.now }
-    ensures answer { Answers result (compiled_tree program.now) }
+    ensures answer { CompilesAs (λ compiled. compiled) result (compiled_tree program.now) }
     ensures compiled { IfOk result IsCompiled }
 {
     match name_tables(alloc, program) {
@@ -53,7 +52,7 @@ fn compile_tree(alloc: Global, program: &Program) -> Result<Compiled, Stop<Refus
 fn with_names(alloc: Global, program: &Program, names: Names) -> Result<Compiled, Stop<Refusal>>
     requires spelled { IsSpelled program.now }
     requires names { tables_of program.now ≡ Ok names }
-    ensures answer { Answers result (compiled_with names program.now) }
+    ensures answer { CompilesAs (λ compiled. compiled) result (compiled_with names program.now) }
     ensures compiled { IfOk result IsCompiled }
 {
     // for the laws that they ensure
@@ -85,17 +84,17 @@ fn with_names(alloc: Global, program: &Program, names: Names) -> Result<Compiled
 #[derive(Drop)]
 struct Parts {
     layouts: Layouts,
-    kernels: Items<Admitted>,
+    kernels: Items<KernelCode>,
     neutral: Items<bool>,
     commands: Items<Stage>,
 }
 
-/// What a program with these names is compiled to: layouts, then kernels, then commands.
+/// What a program with these names is compiled to: layouts, then kernels, then commands; then the code of the kernels.
 #[tactic(auto, unfolding(crate::specs::Compiling::compiled_with))]
 fn parts_of(alloc: Global, program: &Program, names: &Names) -> Result<Parts, Stop<Refusal>>
     requires spelled { IsSpelled program.now }
     requires names { tables_of program.now ≡ Ok names.now }
-    ensures { AnswersAs (with_tables names.now) result (compiled_with names.now program.now) }
+    ensures { CompilesAs (with_tables names.now) result (compiled_with names.now program.now) }
 {
     // for the law that it ensures
     sg_types::laws::declared_layouts_fit();
@@ -111,9 +110,10 @@ fn parts_of(alloc: Global, program: &Program, names: &Names) -> Result<Parts, St
     }
     let neutral = neutral_of(alloc, kernels.as_slice())?;
     let commands = stages_of(alloc, names, items)?;
+    let codes = lower_all(alloc, kernels.as_slice(), &layouts)?;
     Ok(Parts {
         layouts,
-        kernels,
+        kernels: codes,
         neutral,
         commands,
     })

@@ -3,21 +3,21 @@ ghost use Rattle.std.specs.List.{AllByRecursion, repeat};
 ghost use Rattle.sg_session.specs.Compiled.{stage_tasks, unfolded};
 
 use crate::tasks::{Stage, Task};
-use sg_admit::Admitted;
+use sg_ir::KernelCode;
 use sg_layout::Layouts;
 use sg_names::Names;
 use sg_words::{Items, Memory};
 use std::alloc::Global;
 use std::marker::Model;
 
-/// What a program is compiled to: its names, layouts and kernels, for each kernel whether it is neutral, and its commands, each in order
-/// of declaration. The numbers in its names are those of its layouts, of their fields and of its kernels; its commands name what is there
-/// and keep their rules; its kernels are admitted.
+/// What a program is compiled to: its names, its layouts, the access code of its kernels, for each kernel whether it is neutral, and its
+/// commands, each in order of declaration. The numbers in its names are those of its layouts, of their fields and of its kernels; its
+/// commands name what is there and keep their rules; its kernels are well typed and apt for its layouts.
 #[derive(Drop)]
 pub struct Compiled {
     pub names: Names,
     pub layouts: Layouts,
-    pub kernels: Items<Admitted>,
+    pub kernels: Items<KernelCode>,
     pub neutral: Items<bool>,
     pub commands: Items<Stage>,
 }
@@ -25,12 +25,11 @@ pub struct Compiled {
 impl Model for Compiled {
     ghost use Rattle.sg_session.specs.Compiled.{CompiledProgram, IsCompiled};
     ghost use Rattle.std.specs.Coded.{codes};
-    ghost use Rattle.sg_types.specs.contracts.typed.TypedExpr as expr;
-    ghost use Rattle.sg_types.specs.contracts.typed.TypedStmt as stmt;
+    ghost use Rattle.sg_ir.specs.contracts.code.Inst as inst;
 
     ghost Value = { CompiledProgram };
 
-    ghost coded = { Prim.hlevel (codes, expr.the_row.coded, stmt.the_row.coded) };
+    ghost coded = { Prim.hlevel (codes, inst.the_row.coded) };
 
     ghost view = { λ c. record { names = c.names; layouts = c.layouts.list; kernels = c.kernels; neutral = c.neutral; commands = c.commands } };
 

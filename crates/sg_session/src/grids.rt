@@ -5,9 +5,8 @@ ghost use Rattle.std.specs.Option.{option_copied};
 ghost use Rattle.sg_flat.specs.declared.state.FlatState.{FlatState};
 ghost use Rattle.sg_exec.specs.Standing.{StandForState};
 ghost use Rattle.sg_outside.specs.Files.{Held, Reading, Bytes};
-ghost use Rattle.sg_session.specs.declared.tasks.Task.TheVariants.{Load};
 ghost use Rattle.sg_session.specs.Compiled.{IsField};
-ghost use Rattle.sg_session.specs.Commands.{file_bound, file_of_field, field_writes, grid_refusal, row_write, task_meaning};
+ghost use Rattle.sg_session.specs.Commands.{file_bound, file_of_field, field_writes, grid_refusal, row_write, load_made};
 ghost use Rattle.sg_session.specs.Performed.{Performs, reading_of, StepCause, reads_after, asked_after};
 ghost use Rattle.sg_words.specs.Answers.{Answers};
 ghost use Rattle.sg_session.specs.steps.Reads.{is_read_refusal};
@@ -39,17 +38,17 @@ pub fn load<F: Files>(
     files: &mut F,
 ) -> Result<Text, Stop<RunRefusal>>
     requires field { IsField compiled.now at }
-    requires bound { IsSome (file_of_field compiled.now binds.now.list at) }
+    requires bound { IsSome (file_of_field compiled.now.names binds.now.list at) }
     ensures told { (held : Held) → F.holds files.old ≡ Some held → (state : FlatState) →
         StandForState compiled.now.layouts stores.old.list state →
-        Performs compiled.now.layouts stores.new.list result (task_meaning compiled.now state (Load at)
-        (reading_of held (file_of_field compiled.now binds.now.list at) result)) }
+        Performs compiled.now.layouts stores.new.list result (load_made compiled.now.layouts state at
+        (reading_of held (file_of_field compiled.now.names binds.now.list at) result)) }
     ensures performed { (state : FlatState) → StandForState compiled.now.layouts stores.old.list state →
-        (given : Reading) × Performs compiled.now.layouts stores.new.list result (task_meaning compiled.now state (Load at) given) }
+        (given : Reading) × Performs compiled.now.layouts stores.new.list result (load_made compiled.now.layouts state at given) }
     ensures stays { OnErr result (stores.new ≡ stores.old) }
     ensures holds { F.holds files.new ≡ F.holds files.old }
-    ensures asked { F.asked files.new ≡ asked_after (file_of_field compiled.now binds.now.list at) (F.asked files.old) }
-    ensures reads { F.reads files.new ≡ reads_after (file_of_field compiled.now binds.now.list at) (F.reads files.old) }
+    ensures asked { F.asked files.new ≡ asked_after (file_of_field compiled.now.names binds.now.list at) (F.asked files.old) }
+    ensures reads { F.reads files.new ≡ reads_after (file_of_field compiled.now.names binds.now.list at) (F.reads files.old) }
     ensures cause { StepCause result (F.faults files.old) (F.faults files.new) }
     ensures never_falls { F.faults files.old ≤ F.faults files.new }
 {
@@ -68,7 +67,7 @@ pub fn load<F: Files>(
 /// The file that a field is read from.
 fn file_of_field<'a>(compiled: &Compiled, binds: &'a Binds, at: FieldAt) -> Option<&'a str>
     requires { IsField compiled.now at }
-    ensures { option_copied result ≡ file_of_field compiled.now binds.now.list at }
+    ensures { option_copied result ≡ file_of_field compiled.now.names binds.now.list at }
 {
     file_bound(binds, compiled.names.field_name(at.number))
 }
@@ -95,7 +94,7 @@ fn load_bytes(
 ) -> Result<Text, Stop<RunRefusal>>
     requires field { IsField compiled.now at }
     ensures performed { (state : FlatState) → StandForState compiled.now.layouts stores.old.list state →
-        Performs compiled.now.layouts stores.new.list result (task_meaning compiled.now state (Load at) (Bytes bytes.now)) }
+        Performs compiled.now.layouts stores.new.list result (load_made compiled.now.layouts state at (Bytes bytes.now)) }
     ensures read { is_read_refusal result ≡ false }
     ensures stays { OnErr result (stores.new ≡ stores.old) }
 {
@@ -121,7 +120,7 @@ fn rows_of(
     bytes: &[u8],
 ) -> Result<Items<Write>, Stop<GridFault>>
     requires { IsField compiled.now at }
-    ensures { Answers result (field_writes compiled.now at bytes.now) }
+    ensures { Answers result (field_writes compiled.now.layouts at bytes.now) }
 {
     let layout = &compiled.layouts.list.as_slice()[at.layout as usize];
     match read_grid(alloc, bytes, &layout.extents(), at.ty) {

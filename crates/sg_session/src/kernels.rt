@@ -1,20 +1,24 @@
 //! The kernels of a program.
 
 ghost use Rattle.std.specs.Prelude.{◌≡◌, ◌≤◌, ◌+◌, ◌<◌, ◌^◌, true, length, map, Ok, IfOk};
-ghost use Rattle.std.specs.List.{AllByRecursion};
+ghost use Rattle.std.specs.List.{AllByRecursion, AllZip};
 ghost use Rattle.sg_words.specs.Answers.{Answers};
 ghost use Rattle.sg_names.specs.Names.{tables_of};
 ghost use Rattle.sg_types.specs.Laws.{TablesFit, declared_shapes};
 ghost use Rattle.sg_admit.specs.Neutral.{is_neutral_kernel};
+ghost use Rattle.sg_session.specs.Compiled.{IsCodeOf};
 ghost use Rattle.sg_session.specs.Compiling.{kernels_of, admitted_kernels};
 ghost use Rattle.sg_session.specs.Spelled.{IsSpelled};
-ghost use Rattle.sg_session.specs.steps.Kernels.{IsReady};
+ghost use Rattle.sg_session.specs.steps.Kernels.{IsReady, IsLowerable};
 
 use crate::built::first_not_built;
 use crate::refusal::Refusal;
+use sg_admit::laws::{domain_is_constant, own_writes_stand};
 use sg_admit::{Admitted, admit, is_neutral};
 use sg_ast::Program;
+use sg_ir::KernelCode;
 use sg_layout::Layouts;
+use sg_lower::lower;
 use sg_names::Names;
 use sg_types::{Typed, TypedKernel, type_program};
 use sg_words::{Items, Memory, Stop};
@@ -32,7 +36,8 @@ pub fn kernels_of(
     requires spelled { IsSpelled program.now }
     requires names { tables_of program.now ≡ Ok names.now }
     requires fit { TablesFit names.now layouts.now.list }
-    ensures { Answers result (kernels_of names.now program.now) }
+    ensures answer { Answers result (kernels_of names.now program.now) }
+    ensures lowerable { IfOk result (AllByRecursion (IsLowerable layouts.now.list)) }
 {
     // for the laws that they ensure
     sg_types::laws::typed_is_well_typed();
@@ -73,6 +78,33 @@ fn admit_all(
         }
     }
     Ok(admitted)
+}
+
+/// The access code of kernels, one after the other.
+pub fn lower_all(
+    alloc: Global,
+    kernels: &[Admitted],
+    layouts: &Layouts,
+) -> Result<Items<KernelCode>, Memory>
+    requires { AllByRecursion (IsLowerable layouts.now.list) kernels.now }
+    ensures { IfOk result (AllZip (IsCodeOf layouts.now.list) kernels.now) }
+{
+    let mut codes = Items::new(alloc);
+    for kernel in kernels {
+        codes.push(code_of(alloc, kernel, layouts)?)?;
+    }
+    Ok(codes)
+}
+
+/// The access code of a kernel.
+fn code_of(alloc: Global, kernel: &Admitted, layouts: &Layouts) -> Result<KernelCode, Memory>
+    requires { IsLowerable layouts.now.list kernel.now }
+    ensures { IfOk result (IsCodeOf layouts.now.list kernel.now) }
+{
+    // for the laws that they ensure
+    domain_is_constant();
+    own_writes_stand();
+    lower(alloc, kernel, layouts)
 }
 
 /// For each kernel whether it is neutral.

@@ -1,13 +1,14 @@
 //! Runs of kernels and dumps over stores.
 
-ghost use Rattle.std.specs.Prelude.{◌≡◌, ◌<◌, [], length, OnErr, IfOk, slice_get};
+ghost use Rattle.std.specs.Prelude.{◌≡◌, ◌<◌, false, [], length, OnErr, IfOk, slice_get};
 ghost use Rattle.sg_flat.specs.declared.state.FlatState.{FlatState};
 ghost use Rattle.sg_exec.specs.Standing.{StandForState};
 ghost use Rattle.sg_outside.specs.Files.{Missing};
 ghost use Rattle.sg_session.specs.declared.tasks.Task.TheVariants.{Run};
-ghost use Rattle.sg_session.specs.Compiled.{IsField};
-ghost use Rattle.sg_session.specs.Commands.{task_meaning, text_of_field};
+ghost use Rattle.sg_session.specs.Compiled.{CheckedProgram, Compiles, IsField};
+ghost use Rattle.sg_session.specs.Commands.{task_meaning, dump_made, text_of_field};
 ghost use Rattle.sg_session.specs.Performed.{HasState, Performs};
+ghost use Rattle.sg_session.specs.steps.Reads.{is_read_refusal};
 
 use crate::compiled::Compiled;
 use crate::refusal::RunRefusal;
@@ -25,12 +26,14 @@ pub fn run(
     kernel: u32,
 ) -> Result<Text, Stop<RunRefusal>>
     requires { kernel < length compiled.now.kernels }
-    ensures performed { (state : FlatState) → StandForState compiled.now.layouts stores.old.list state →
-        Performs compiled.now.layouts stores.new.list result (task_meaning compiled.now state (Run kernel) Missing) }
+    ensures performed { (program : CheckedProgram) → Compiles program compiled.now → (state : FlatState) → StandForState compiled.now.layouts stores.old.list state →
+        Performs compiled.now.layouts stores.new.list result (task_meaning program state (Run kernel) Missing) }
+    ensures stand { IfOk result (λ text. HasState compiled.now.layouts stores.old.list → HasState compiled.now.layouts stores.new.list) }
+    ensures read { is_read_refusal result ≡ false }
     ensures stays { OnErr result (stores.new ≡ stores.old) }
 {
-    let admitted = &compiled.kernels.as_slice()[kernel as usize];
-    match run_kernel(alloc, stores, &compiled.layouts, admitted) {
+    let code = &compiled.kernels.as_slice()[kernel as usize];
+    match run_kernel(alloc, stores, &compiled.layouts, code) {
         Ok(()) => Ok(no_text(alloc)),
         Err(Stop::Refused(fault)) => Err(Stop::Refused(RunRefusal::Run {
             kernel: Some(kernel),
@@ -49,13 +52,26 @@ pub fn no_text(alloc: Global) -> Text
     }
 }
 
-/// The grid text of a field.
-pub fn dump(
+/// Gives the grid text of a field.
+pub fn write_out(
     alloc: Global,
     compiled: &Compiled,
     stores: &Stores,
     at: FieldAt,
-) -> Result<Text, Memory>
+) -> Result<Text, Stop<RunRefusal>>
+    requires field { IsField compiled.now at }
+    requires stand { HasState compiled.now.layouts stores.now.list }
+    ensures { (state : FlatState) → StandForState compiled.now.layouts stores.now.list state →
+        Performs compiled.now.layouts stores.now.list result (dump_made compiled.now.layouts state at) }
+{
+    match dump(alloc, compiled, stores, at) {
+        Ok(text) => Ok(text),
+        Err(Memory) => Err(Stop::Memory),
+    }
+}
+
+/// The grid text of a field.
+fn dump(alloc: Global, compiled: &Compiled, stores: &Stores, at: FieldAt) -> Result<Text, Memory>
     requires field { IsField compiled.now at }
     requires stand { HasState compiled.now.layouts stores.now.list }
     ensures { IfOk result (λ text. (state : FlatState) → StandForState compiled.now.layouts stores.now.list state →

@@ -12,12 +12,11 @@ pub struct Session {
 impl Model for Session {
     ghost use Rattle.sg_session.specs.Performed.{SessionParts, HasState};
     ghost use Rattle.std.specs.Coded.{codes};
-    ghost use Rattle.sg_types.specs.contracts.typed.TypedExpr as expr;
-    ghost use Rattle.sg_types.specs.contracts.typed.TypedStmt as stmt;
+    ghost use Rattle.sg_ir.specs.contracts.code.Inst as inst;
 
     ghost Value = { SessionParts };
 
-    ghost coded = { Prim.hlevel (codes, expr.the_row.coded, stmt.the_row.coded) };
+    ghost coded = { Prim.hlevel (codes, inst.the_row.coded) };
 
     ghost view = { λ s. record { compiled = s.compiled; stores = s.stores.list } };
 

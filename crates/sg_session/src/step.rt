@@ -3,7 +3,7 @@
 use crate::binds::Binds;
 use crate::compiled::Compiled;
 use crate::grids::load;
-use crate::perform::{dump, run};
+use crate::perform::{run, write_out};
 use crate::refusal::RunRefusal;
 use crate::session::Session;
 use crate::tasks::Task;
@@ -16,7 +16,7 @@ impl Session {
     ghost use Rattle.sg_flat.specs.declared.state.FlatState.{FlatState};
     ghost use Rattle.sg_outside.specs.Files.{Held, Reading};
     ghost use Rattle.sg_exec.specs.Standing.{StandForState};
-    ghost use Rattle.sg_session.specs.Compiled.{IsTask};
+    ghost use Rattle.sg_session.specs.Compiled.{CheckedProgram, Compiles, IsTask};
     ghost use Rattle.sg_session.specs.Commands.{file_of, task_meaning};
     ghost use Rattle.sg_session.specs.Performed.{Performs, reading_of, StepCause, HasFile, reads_after, asked_after};
 
@@ -30,30 +30,32 @@ impl Session {
         files: &mut F,
     ) -> Result<Text, Stop<RunRefusal>>
         requires there { IsTask self.old.compiled task }
-        requires bound { HasFile self.old.compiled binds.now.list task }
+        requires bound { HasFile self.old.compiled.names binds.now.list task }
 
-        // What the files tell is what a load means; a failed read is told by its refusal alone.
-        ensures told { (held : Held) → F.holds files.old ≡ Some held → (state : FlatState) →
+        // What a task means is what it means in each program that is compiled to the session's. What the files tell is what a load means;
+        // a failed read is told by its refusal alone.
+        ensures told { (program : CheckedProgram) → Compiles program self.old.compiled →
+            (held : Held) → F.holds files.old ≡ Some held → (state : FlatState) →
             StandForState self.old.compiled.layouts self.old.stores state →
-            Performs self.old.compiled.layouts self.new.stores result (task_meaning self.old.compiled state task
-            (reading_of held (file_of self.old.compiled binds.now.list task) result)) }
+            Performs self.old.compiled.layouts self.new.stores result (task_meaning program state task
+            (reading_of held (file_of self.old.compiled.names binds.now.list task) result)) }
         // Where they tell nothing, some reading of the file is what the load means.
-        ensures performed { (state : FlatState) →
+        ensures performed { (program : CheckedProgram) → Compiles program self.old.compiled → (state : FlatState) →
             StandForState self.old.compiled.layouts self.old.stores state →
-            (given : Reading) × Performs self.old.compiled.layouts self.new.stores result (task_meaning self.old.compiled state task given) }
+            (given : Reading) × Performs self.old.compiled.layouts self.new.stores result (task_meaning program state task given) }
         ensures compiled { self.new.compiled ≡ self.old.compiled }
         ensures stays { OnErr result (self.new.stores ≡ self.old.stores) }
 
         ensures holds { F.holds files.new ≡ F.holds files.old }
-        ensures asked { F.asked files.new ≡ asked_after (file_of self.old.compiled binds.now.list task) (F.asked files.old) }
-        ensures reads { F.reads files.new ≡ reads_after (file_of self.old.compiled binds.now.list task) (F.reads files.old) }
+        ensures asked { F.asked files.new ≡ asked_after (file_of self.old.compiled.names binds.now.list task) (F.asked files.old) }
+        ensures reads { F.reads files.new ≡ reads_after (file_of self.old.compiled.names binds.now.list task) (F.reads files.old) }
         ensures cause { StepCause result (F.faults files.old) (F.faults files.new) }
         ensures never_falls { F.faults files.old ≤ F.faults files.new }
     {
         match task {
             Task::Load(field) => load(alloc, &self.compiled, &mut self.stores, field, binds, files),
             Task::Run { kernel } => run(alloc, &self.compiled, &mut self.stores, kernel),
-            Task::Dump(field) => Ok(dump(alloc, &self.compiled, &self.stores, field)?),
+            Task::Dump(field) => write_out(alloc, &self.compiled, &self.stores, field),
         }
     }
 }

@@ -1,12 +1,13 @@
-use crate::{Binds, Compiled, Refusal, Session, Task, check_text, compile};
+mod codes;
+mod runs;
+
+use crate::{Compiled, Refusal, check_text, compile};
 use sg_admit::AdmitFault;
-use sg_coord::Coord;
 use sg_layout::LayoutFault;
 use sg_lexer::LexFault;
 use sg_names::NameFault;
-use sg_outside::MemFiles;
 use sg_parser::ParseFault;
-use sg_words::{Items, Memory, Stop};
+use sg_words::{Memory, Stop};
 use std::alloc::{AllocError, Global};
 use std::test::Fail;
 
@@ -125,8 +126,8 @@ static REFUSED: &[(&str, Refusal)] = &[
         Refusal::Words,
     ),
     (
-        "layout A(i) { hash(i: 4) cap 2; field x: i32; } kernel k { for i in A { x[i] += x[i]; } } times 0 { run k; }",
-        Refusal::NotBuilt { item: 1 },
+        "layout A(i) { hash(i: 4) cap 2; field x: i32; } kernel k { for i in A { x[i] += x[i]; } } times 0 { stats A; }",
+        Refusal::NotBuilt { item: 3 },
     ),
     (
         "kernel k { for i in 0..1048577 { let t = i; } } times 0 { run k; }",
@@ -248,78 +249,5 @@ fn locals_are_dirty_from_the_last_to_the_first(rt: HostRuntime) -> Result<(), Fa
     let clean = chain(alloc, "i")?;
     let text = program(alloc, clean.as_str())?;
     assert!(rt; shows(alloc, text.as_str(), "kernel k layout-bound\n")?);
-    Ok(())
-}
-
-/// The value of the first field of the first layout at a coordinate, where it is active.
-fn value_at(session: &Session, a: i32) -> Option<u32> {
-    let store = session.stores.list.get(0)?;
-    if store.layout().shape().fields.is_empty() {
-        return None;
-    }
-    let at = Coord {
-        n: 1,
-        a,
-        b: 0,
-        c: 0,
-    };
-    let cell = store.cell_of(at)?;
-    Some(store.value(0, cell))
-}
-
-/// Runs the first kernel, where there is one.
-fn run_first(alloc: Global, session: &mut Session) -> Result<bool, Memory> {
-    if session.compiled.kernels.is_empty() {
-        return Ok(false);
-    }
-    let binds = Binds {
-        list: Items::new(alloc),
-    };
-    let mut files = MemFiles::new(Vec::new(alloc), Vec::new(alloc));
-    match session.step(alloc, Task::Run { kernel: 0 }, &binds, &mut files) {
-        Ok(_text) => Ok(true),
-        Err(Stop::Refused(_refusal)) => Ok(false),
-        Err(Stop::Memory) => Err(Memory),
-    }
-}
-
-/// Whether the values at 5, 6 and 10 are these when the first kernel ran twice; before it ran nothing is active.
-fn runs_to(alloc: Global, session: &mut Session, values: [Option<u32>; 3]) -> Result<bool, Memory> {
-    if value_at(session, 6).is_some()
-        || !run_first(alloc, session)?
-        || !run_first(alloc, session)?
-    {
-        return Ok(false);
-    }
-    let found = [
-        value_at(session, 5),
-        value_at(session, 6),
-        value_at(session, 10),
-    ];
-    Ok(found == values)
-}
-
-/// Whether a program is compiled, and its first kernel, run twice from its start, leaves these values.
-fn leaves(alloc: Global, text: &str, values: [Option<u32>; 3]) -> Result<bool, Memory> {
-    if text.len() > 65_536 {
-        return Err(Memory);
-    }
-    match compile(alloc, text.as_bytes()) {
-        Ok(compiled) => match Session::open(alloc, compiled) {
-            Ok(mut session) => runs_to(alloc, &mut session, values),
-            Err(Memory) => Err(Memory),
-        },
-        Err(Stop::Refused(_refusal)) => Ok(false),
-        Err(Stop::Memory) => Err(Memory),
-    }
-}
-
-static SUMS: &str =
-    "layout A(i) { pointer(i: 4) cap 2; bitmasked(i: 4); field x: i32; } kernel k { for i in 5..7 { if i > 5 { x[i] += i; } else { x[2 * i] += 3; } } }";
-
-#[test]
-fn kernels_run_over_stores(rt: HostRuntime) -> Result<(), Fail> {
-    let alloc = rt.alloc();
-    assert!(rt; leaves(alloc, SUMS, [None, Some(12), Some(6)])?);
     Ok(())
 }

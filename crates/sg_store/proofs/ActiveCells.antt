@@ -25,13 +25,15 @@ use Rattle.sg_layout.specs.ClosureLaws.{ClosureIsTested}
 use Rattle.sg_layout.specs.PathLaws.{PathIsSlot, PathTellsCoordinate, WholePathIsOffsets, LastDecides}
 use Rattle.sg_layout.specs.Slots.{IsSlot}
 use Rattle.sg_flat.specs.declared.state.FlatLayout.{FlatLayout}
+use Rattle.sg_hash.specs.Tables.{beside}
 use Rattle.sg_store.specs.declared.node.NodeWords.{NodeWords}
 use Rattle.sg_store.specs.StoreWords.{StoreWords}
 use Rattle.sg_store.specs.Slots.{slot_under, linked, is_set, place_below, active_below}
 use Rattle.sg_store.specs.Walks.{place_after, own_answer, is_on, cell_along, cell_in}
-use Rattle.sg_store.specs.WellFormed.{AreNodes, is_root, IsWellFormed}
+use Rattle.sg_store.specs.WellFormed.{IsNode, AreNodes, is_root, IsWellFormed}
 use Rattle.sg_store.specs.StandsFor.{IsSlotOf, StandsFor}
 use Rattle.sg_store.specs.steps.Walking.{AreOffsets}
+use Rattle.sg_store.proofs.Chains.{below_leads}
 use Rattle.sg_store.proofs.Walking.{active_leads, active_are_one, walks_apart}
 
 -- ── Nodes and slots ──
@@ -84,16 +86,22 @@ on_the_way (node ∷ later) (kept ∷ words) p (o ∷ (v ∷ s)) x e (suc i) wit
 -- ── Where all is on a walk leads to a cell ──
 
 -- a slot that is set leads on
-pub set_leads : (kind : Kind) (node : NodeShape) (kept : NodeWords) (q : ℕ) → is_set kind node kept q ≡ true → (n : ℕ) × (active_below kind node kept q ≡ Some n) × (place_below kind node kept q ≡ Some n)
-set_leads Dense node kept q on = (q, refl, refl)
-set_leads Bitmasked node kept q on = (q, ap (λ b. cond b (Some q) None) on, refl)
-set_leads Pointer node kept q on = follow (slice_index kept.links q) on
+pub set_leads : (kind : Kind) (node : NodeShape) (kept : NodeWords) (slots : ℕ) (live : ℕ → Bool) → IsNode kind node kept slots live → (q : ℕ) → is_set kind node kept q ≡ true → (n : ℕ) × (active_below kind node kept q ≡ Some n) × (place_below kind node kept q ≡ Some n)
+set_leads Dense node kept slots live is q on = (q, refl, refl)
+set_leads Bitmasked node kept slots live is q on = (q, ap (λ b. cond b (Some q) None) on, refl)
+set_leads Pointer node kept slots live is q on = follow (slice_index kept.links q) on
   where
     follow : (word : ℕ) → not (word == 0) ≡ true → (n : ℕ) × (cond (not (word == 0)) (linked word) None ≡ Some n) × (linked word ≡ Some n)
     follow zero on = absurd (false≢true on)
     follow (suc word) on = (word, ap (λ b. cond b (linked (suc word)) None) on, refl)
-set_leads Hash node kept q on = absurd (false≢true on)
-set_leads Dynamic node kept q on = absurd (false≢true on)
+set_leads Hash node kept slots live is q on = some_is (beside kept.keys kept.links q) on
+  where
+    some_is : (o : Option ℕ) → is_some o ≡ true → (n : ℕ) × (cond (is_some o) o None ≡ Some n) × (o ≡ Some n)
+    some_is None e = absurd (false≢true e)
+    some_is (Some n) e = (n, refl, refl)
+set_leads Dynamic node kept slots live is q on =
+    let found = below_leads node kept slots live is q on in
+    (found.0, ap (λ b. cond b (place_below Dynamic node kept q) None) on ∙ found.1, found.1)
 
 -- at each of the first nodes that isn't dense the slot is on
 abbrev pub AllOn : List NodeShape → List NodeWords → ℕ → List ℕ → Type 0
@@ -107,15 +115,15 @@ first_set Pointer node kept q on = on (λ e. cc)
 first_set Hash node kept q on = on (λ e. cc)
 first_set Dynamic node kept q on = on (λ e. cc)
 
-pub walk_there : (nodes : List NodeShape) (words : List NodeWords) (p : ℕ) (s : List ℕ) → length s ≤ length nodes → length words ≡ length nodes → AllOn nodes words p s → (x : ℕ) × (place_after active_below nodes words p s ≡ Some x)
-walk_there nodes words p [] long many on = (p, refl)
-walk_there [] words p (o ∷ s) long many on = absurd (omega (arith, long))
-walk_there (node ∷ later) [] p (o ∷ s) long many on = absurd (omega (arith, many))
-walk_there (node ∷ later) (kept ∷ words) p (o ∷ s) long many on =
+pub walk_there : (nodes : List NodeShape) (words : List NodeWords) (places : ℕ) (live : ℕ → Bool) → AreNodes nodes words places live → (p : ℕ) (s : List ℕ) → length s ≤ length nodes → AllOn nodes words p s → (x : ℕ) × (place_after active_below nodes words p s ≡ Some x)
+walk_there nodes words places live are p [] long on = (p, refl)
+walk_there [] words places live are p (o ∷ s) long on = absurd (omega (arith, long))
+walk_there (node ∷ later) [] places live are p (o ∷ s) long on = absurd are
+walk_there (node ∷ later) (kept ∷ words) places live are p (o ∷ s) long on =
     let q : ℕ = slot_under node p o in
     let set : is_set node.kind node kept q ≡ true = first_set node.kind node kept q (on zero (omega arith)) in
-    let next = set_leads node.kind node kept q set in
-    let rest = walk_there later words next.0 s (omega (arith, long)) (omega (arith, many)) (below s next.0 next.2 on) in
+    let next = set_leads node.kind node kept _ _ are.1 q set in
+    let rest = walk_there later words _ _ are.2 next.0 s (omega (arith, long)) (below s next.0 next.2 on) in
     (rest.0, ap (option_and_then (λ n. place_after active_below later words n s)) next.1 ∙ rest.1)
   where
     below : (s : List ℕ) (n : ℕ) → place_below node.kind node kept (slot_under node p o) ≡ Some n → AllOn (node ∷ later) (kept ∷ words) p (o ∷ s) → AllOn later words n s
@@ -231,7 +239,7 @@ active_has_cell store flat laws well stands at active =
     let sparse : kind_at nodes (suc i) ≢ Dense = λ e. other (sym (ap (λ n. kind_or (slice_get nodes n)) same) ∙ e) in
     stands.live_slots (suc i) (path store.shape at (suc i)) (slot_of store.shape laws well.accepted at i (omega arith) sparse)
     ∙ path_is_live store.shape flat.active at (suc i) active in
-    let there = walk_there nodes store.nodes 0 (offsets nodes at) (omega arith) (as_many_words nodes store.nodes 1 is_root well.nodes_fit) on in
+    let there = walk_there nodes store.nodes 1 is_root well.nodes_fit 0 (offsets nodes at) (omega arith) on in
     (there.0, cell_from_parts store at there.0 inside there.1)
 
 -- ── Different coordinates have different cells ──

@@ -1,9 +1,9 @@
 -- A store of fresh words and rows of zeros is well-formed, and stands for the layout in which nothing is written.
-use Rattle.std.proofs.Common.{◌≡◌, ◌≢◌, ℕ, zero, suc, ◌*◌, ◌<◌, ◌≤◌, ◌^◌, Bool, true, false, not, ◌&&◌, ◌==◌, List, [], ◌∷◌, length, map, get_or, refl, sym, ap, ◌∙◌, subst, arith, cond}
+use Rattle.std.proofs.Common.{◌≡◌, ◌≢◌, ℕ, zero, suc, ◌+◌, ◌*◌, ◌<◌, ◌≤◌, ◌^◌, Bool, true, false, not, ◌&&◌, ◌==◌, List, [], ◌∷◌, length, drop, map, get_or, refl, sym, ap, ◌∙◌, subst, arith, cond}
 use Rattle.std.specs.Prelude.{IsTrue, nat_lt, nat_le, Option, Some, None, slice_get}
 use Rattle.std.specs.Option.{option_map}
 use Rattle.std.specs.List.{All, list_all, filter, range_with_len}
-use Rattle.std.proofs.lemmas.Bool.{and_parts}
+use Rattle.std.proofs.lemmas.Bool.{false≢true, and_parts, eqb-true}
 use Rattle.std.proofs.lemmas.Bool.Decides.{nat_tests}
 use Rattle.std.proofs.lemmas.List.{length-map, append-nil}
 use Rattle.std.proofs.lemmas.List.Elements.{All-map}
@@ -17,7 +17,7 @@ use Rattle.sg_layout.specs.declared.shape.NodeShape.{NodeShape}
 use Rattle.sg_layout.specs.declared.shape.Shape.{Shape}
 use Rattle.sg_layout.specs.Axes.{count_of, size_of, slots_of, bounds_of_shape}
 use Rattle.sg_layout.specs.Accepted.{IsAccepted}
-use Rattle.sg_layout.specs.Rules.{is_field, is_cap, has_good_caps}
+use Rattle.sg_layout.specs.Rules.{is_field, is_cap, has_good_caps, has_good_order}
 use Rattle.sg_layout.specs.RuleLaws.{AcceptedKeepsRules}
 use Rattle.sg_layout.specs.Closure.{closure}
 use Rattle.sg_layout.specs.ClosureLaws.{ClosureIsClosed}
@@ -29,13 +29,13 @@ use Rattle.sg_flat.specs.Words.{word_at}
 use Rattle.sg_flat.specs.State.{IsFlatField, IsFlatLayout, value_in, words_or_none, value_at, opening_layout}
 use Rattle.sg_store.specs.declared.node.NodeWords.{NodeWords}
 use Rattle.sg_store.specs.StoreWords.{StoreWords}
-use Rattle.sg_store.specs.WellFormed.{is_built_shape, cell_count, is_root, IsWellFormed}
+use Rattle.sg_store.specs.WellFormed.{places_below, cell_count, is_root, IsWellFormed}
 use Rattle.sg_store.specs.StandsFor.{IsSlotOf, StandsFor}
-use Rattle.sg_store.specs.steps.Fresh.{AreFresh, IsCapped, IsRoomy, IsZeroRow}
+use Rattle.sg_store.specs.steps.Fresh.{AreFresh, IsCapped, KeysFit, EndWithDynamic, IsRoomy, IsZeroRow}
 use Rattle.sg_store.proofs.Walking.{own_kind, own_kind_is}
 use Rattle.sg_store.proofs.Opened.{slot_long}
 use Rattle.sg_store.proofs.Opening.{fresh_fit, fresh_within, fresh_off}
-use Rattle.sg_store.proofs.Roomy.{few_cells}
+use Rattle.sg_store.proofs.Roomy.{AreLater, AreOrdered, few_cells, few_chains, some_parts, at_least}
 
 -- ── Accepted shapes are roomy ──
 
@@ -60,13 +60,18 @@ cap_is node good =
     let parts = and_parts (nat_lt 0 (count_of node.cap)) (nat_le (count_of node.cap) (2 ^ 16)) good in
     (above_zero (count_of node.cap) parts.0, within (count_of node.cap) (2 ^ 16) parts.1)
 
-capped : (kind : Kind) (node : NodeShape) → has_good_caps kind node ≡ true → IsCapped kind node
+pub capped : (kind : Kind) (node : NodeShape) → has_good_caps kind node ≡ true → IsCapped kind node
 capped Dense node good = tt
 capped Bitmasked node good = tt
 capped Pointer node good = cap_is node good
 capped Hash node good = cap_is node good
 capped Dynamic node good =
-    cap_is node (and_parts (is_cap node.cap) (nat_lt 0 (count_of node.chunk) && nat_le (count_of node.chunk) (size_of node.sizes)) good).0
+    let some : Bool = nat_lt 0 (count_of node.chunk) in
+    let few : Bool = nat_le (count_of node.chunk) (size_of node.sizes) in
+    let parts = and_parts (is_cap node.cap) (some && few) good in
+    let chunks = and_parts some few parts.1 in
+    let cap = cap_is node parts.0 in
+    (cap.0, cap.1, above_zero (count_of node.chunk) chunks.0, within (count_of node.chunk) (size_of node.sizes) chunks.1)
 
 pub caps_of : (shape : Shape) → AcceptedKeepsRules shape → IsAccepted shape → All (λ node. IsCapped node.kind node) shape.nodes
 caps_of shape rules accepted k d below =
@@ -84,8 +89,71 @@ some_product zero y one two = absurd (omega (arith, one))
 some_product (suc x) zero one two = absurd (omega (arith, two))
 some_product (suc x) (suc y) one two = omega arith
 
-pub roomy_start : (shape : Shape) → RoomLaws shape → IsAccepted shape → IsTrue (is_built_shape shape) → IsRoomy shape.nodes 1
-roomy_start shape laws accepted built =
+-- a hash node is the first
+hash_first : (kind : Kind) (number : ℕ) (later : List NodeShape) → has_good_order kind number later ≡ true → kind ≡ Hash → number ≡ 1
+hash_first kind number later good is = eqb-true number 1 (sym (ap (λ k. has_good_order k number later) is) ∙ good)
+
+-- and a dynamic node the last
+dynamic_last : (number : ℕ) (later : List NodeShape) → has_good_order Dynamic number later ≡ true → later ≡ []
+dynamic_last number [] good = refl
+dynamic_last number (node ∷ later) good = absurd (false≢true good)
+
+last_where : (kind : Kind) (number : ℕ) (later : List NodeShape) → has_good_order kind number later ≡ true → kind ≡ Dynamic → later ≡ []
+last_where kind number later good is = dynamic_last number later (sym (ap (λ k. has_good_order k number later) is) ∙ good)
+
+-- each of the nodes, numbered from the given number on, keeps the rule of order
+abbrev pub InOrder : ℕ → List NodeShape → Type 0
+InOrder number [] = Unit {0}
+InOrder number (node ∷ later) = (has_good_order node.kind number later ≡ true) × InOrder (suc number) later
+
+later_from : (number : ℕ) (nodes : List NodeShape) → 2 ≤ number → InOrder number nodes → AreLater nodes
+later_from number [] far order = tt
+later_from number (node ∷ later) far order = (
+  λ hash. let first : number ≡ 1 = hash_first node.kind number later order.0 hash in absurd (omega (arith, far, first)),
+  λ dynamic. last_where node.kind number later order.0 dynamic,
+  later_from (suc number) later (omega (arith, far)) order.1,
+)
+
+in_order : (number : ℕ) (nodes : List NodeShape) → ((k : ℕ) (node : NodeShape) → slice_get nodes k ≡ Some node → has_good_order node.kind (number + k) (drop (suc k) nodes) ≡ true) → InOrder number nodes
+in_order number [] each = tt
+in_order number (node ∷ later) each =
+    let zeroth : number + 0 ≡ number = omega arith in (
+      subst (λ n. has_good_order node.kind n later ≡ true) zeroth (each 0 node refl),
+      in_order (suc number) later (λ k n at. let next : number + suc k ≡ suc number + k = omega arith in subst (λ m. has_good_order n.kind m (drop (suc k) later) ≡ true) next (each (suc k) n at)),
+    )
+
+pub ordered : (shape : Shape) → AcceptedKeepsRules shape → IsAccepted shape → AreOrdered shape.nodes
+ordered shape rules accepted =
+    follow shape.nodes (in_order 1 shape.nodes (λ k node at. let next : suc k ≡ 1 + k = omega arith in
+    subst (λ m. has_good_order node.kind m (drop (suc k) shape.nodes) ≡ true) next ((rules.0 accepted.keeps_rules).0 k node at).order))
+  where
+    follow : (nodes : List NodeShape) → InOrder 1 nodes → AreOrdered nodes
+    follow [] order = tt
+    follow (node ∷ later) order = (λ dynamic. last_where node.kind 1 later order.0 dynamic, later_from 2 later (omega arith) order.1)
+
+later_end : (nodes : List NodeShape) → AreLater nodes → EndWithDynamic nodes
+later_end [] are = tt
+later_end (node ∷ later) are = (are.1, later_end later are.2)
+
+ordered_end : (nodes : List NodeShape) → AreOrdered nodes → EndWithDynamic nodes
+ordered_end [] are = tt
+ordered_end (node ∷ later) are = (are.0, later_end later are.1)
+
+-- the slots of a hash node, which is the first, have numbers that are keys
+no_keys : (nodes : List NodeShape) (places : ℕ) → AreLater nodes → KeysFit nodes places
+no_keys [] places are = tt
+no_keys (node ∷ others) places are =
+    (λ hash. absurd (are.0 hash), no_keys others (places_below node.kind node (places * size_of node.sizes)) are.2)
+
+first_keys : (nodes : List NodeShape) → AreOrdered nodes → 1 ≤ slots_of nodes → slots_of nodes ≤ 2 ^ 30 → KeysFit nodes 1
+first_keys [] are some few = tt
+first_keys (node ∷ others) are some few =
+    let rest : 1 ≤ slots_of others = (some_parts (size_of node.sizes) (slots_of others) some).1 in
+    let grown : size_of node.sizes ≤ size_of node.sizes * slots_of others = at_least (size_of node.sizes) (slots_of others) rest in
+    (λ hash. omega (arith, few), no_keys others (places_below node.kind node (1 * size_of node.sizes)) are.1)
+
+pub roomy_start : (shape : Shape) → RoomLaws shape → IsAccepted shape → words_of_shape shape ≤ most_words → IsRoomy shape.nodes 1
+roomy_start shape laws accepted few =
     let many : slots_of shape.nodes ≡ volume (bounds_of_shape shape) = laws.fill accepted in
     let bounds : Bounds = bounds_of_shape shape in
     record {
@@ -93,15 +161,19 @@ roomy_start shape laws accepted built =
       few = omega (arith, many, laws.bounds.volume_most);
       some = subst (λ n. 1 ≤ n) (sym many) (some_product (bounds.a * bounds.b) bounds.c (some_product bounds.a bounds.b laws.bounds.a_some laws.bounds.b_some) laws.bounds.c_some);
       caps = caps_of shape laws.rules accepted;
-      built = built;
+      keys_fit = first_keys shape.nodes (ordered shape laws.rules accepted)
+          (subst (λ n. 1 ≤ n) (sym many) (some_product (bounds.a * bounds.b) bounds.c (some_product bounds.a bounds.b laws.bounds.a_some laws.bounds.b_some) laws.bounds.c_some))
+          (omega (arith, many, laws.bounds.volume_most));
+      few_chains = omega (arith, few_chains shape (ordered shape laws.rules accepted), few);
+      last = ordered_end shape.nodes (ordered shape laws.rules accepted);
     }
 
 -- ── A fresh store ──
 
--- fresh words and rows of zeros for a shape whose nodes are built and whose storage words are few enough
+-- fresh words and rows of zeros for a shape whose storage words are few enough
 pub record IsFreshStore (store : StoreWords) : Type 0 where
   pub accepted : IsAccepted store.shape
-  pub built : IsTrue (is_built_shape store.shape)
+  pub order : AreOrdered store.shape.nodes
   pub few_words : words_of_shape store.shape ≤ most_words
   pub words : AreFresh store.shape.nodes store.nodes 1
   pub field_count : length store.fields ≡ length store.shape.fields
@@ -112,7 +184,7 @@ fresh_well_formed store fresh = record {
   accepted = fresh.accepted;
   nodes_fit = fresh_fit store.shape.nodes store.nodes 1 is_root fresh.words;
   within_caps = fresh_within store.shape.nodes store.nodes 1 fresh.words;
-  few_cells = omega (arith, few_cells store.shape fresh.built (some_fields store.shape fresh.accepted), fresh.few_words);
+  few_cells = omega (arith, few_cells store.shape fresh.order (some_fields store.shape fresh.accepted), fresh.few_words);
   field_count = fresh.field_count;
   rows_fit = λ k d below.
       let row : IsZeroRow (cell_count store.shape) (get_or store.fields k d) = fresh.zeros k d below in
@@ -183,12 +255,12 @@ fresh_stands store fresh laws = record {
 }
 
 -- one that was made for a shape
-pub fresh_made : (shape copy : Shape) (words : List NodeWords) (rows : List (List ℕ)) (fields cells : ℕ) → copy ≡ shape → IsAccepted shape → IsTrue (is_built_shape shape) → words_of_shape shape ≤ most_words → AreFresh shape.nodes words 1 → length rows ≡ fields → fields ≡ length shape.fields → cells ≡ cell_count shape → All (IsZeroRow cells) rows → IsFreshStore (record { shape = copy; nodes = words; fields = rows })
-fresh_made shape copy words rows fields cells same accepted built few fresh many as_many counted zeros =
+pub fresh_made : (shape copy : Shape) (words : List NodeWords) (rows : List (List ℕ)) (fields cells : ℕ) → copy ≡ shape → AcceptedKeepsRules shape → IsAccepted shape → words_of_shape shape ≤ most_words → AreFresh shape.nodes words 1 → length rows ≡ fields → fields ≡ length shape.fields → cells ≡ cell_count shape → All (IsZeroRow cells) rows → IsFreshStore (record { shape = copy; nodes = words; fields = rows })
+fresh_made shape copy words rows fields cells same rules accepted few fresh many as_many counted zeros =
     let made : Shape → StoreWords = λ s. record { shape = s; nodes = words; fields = rows } in
     let here : IsFreshStore (made shape) = record {
       accepted = accepted;
-      built = built;
+      order = ordered shape rules accepted;
       few_words = few;
       words = fresh;
       field_count = many ∙ as_many;

@@ -1,13 +1,12 @@
 -- Cells and the words in them: where a cell stands, and what setting a word changes.
 use Rattle.std.proofs.Common.{◌≡◌, ℕ, zero, suc, ◌-◌, ◌<◌, ◌^◌, true, false, List, [], ◌∷◌, length, get_or, sym, ap, ◌∙◌, subst, arith, cond, inl, inr}
 use Rattle.std.specs.Prelude.{Option, Some, None, slice_get, slice_set, slice_index, slice_index_or}
-use Rattle.std.proofs.lemmas.Bool.{cases_eq}
+use Rattle.std.proofs.lemmas.Bool.{false≢true, cases_eq}
 use Rattle.std.proofs.lemmas.List.{length-set, get_or-set_same, get_or-set_other, get_or_default}
 use Rattle.std.proofs.lemmas.Option.{same_Some}
 use Rattle.sg_coord.specs.declared.coord.Coord.{Coord}
 use Rattle.sg_coord.specs.Bounds.{Bounds}
 use Rattle.sg_coord.specs.Coord.{is_inside}
-use Rattle.sg_layout.specs.declared.shape.Kind.TheVariants.{Dense, Pointer}
 use Rattle.sg_layout.specs.declared.shape.NodeShape.{NodeShape}
 use Rattle.sg_layout.specs.declared.shape.Shape.{Shape}
 use Rattle.sg_layout.specs.Axes.{bounds_of_shape}
@@ -20,7 +19,7 @@ use Rattle.sg_store.specs.declared.node.NodeWords.{NodeWords}
 use Rattle.sg_store.specs.StoreWords.{StoreWords, word_in}
 use Rattle.sg_store.specs.Slots.{active_below}
 use Rattle.sg_store.specs.Walks.{place_after, cell_along, cell_in}
-use Rattle.sg_store.specs.WellFormed.{cell_count, is_root, IsFieldRow, IsReached, IsWellFormed}
+use Rattle.sg_store.specs.WellFormed.{has_cap, cell_count, is_root, IsFieldRow, IsReached, IsWellFormed}
 use Rattle.sg_store.specs.StandsFor.{IsSlotOf, StandsFor, SetsValue}
 use Rattle.sg_store.proofs.ActiveCells.{as_many_words, slot_offsets, slot_length, offsets_are_slot, cell_parts}
 use Rattle.sg_store.proofs.Stepping.{links_lead, cell_within}
@@ -80,7 +79,7 @@ row_set store row cell word fits reached = record {
   ];
 }
 
-same_rows : (store : StoreWords) (fields : List (List ℕ)) (row : List ℕ) → IsFieldRow store row → IsFieldRow (record store { fields = fields }) row
+pub same_rows : (store : StoreWords) (fields : List (List ℕ)) (row : List ℕ) → IsFieldRow store row → IsFieldRow (record store { fields = fields }) row
 same_rows store fields row fits = record {
   cells = fits.cells;
   only_reached = λ cell some. let was = fits.only_reached cell some in record { slot = was.slot; is_slot = was.is_slot; leads = was.leads };
@@ -159,11 +158,8 @@ set_stands store place cell word well field reached differ flat now at stands he
 
 -- ── The words of a pointer node ──
 
-pub pointer_within : (nodes : List NodeShape) (index : ℕ) → kind_or (slice_get nodes index) ≡ Pointer → index < length nodes
-pointer_within [] index is = absurd (apart is)
-  where
-    apart : Dense ≡ Pointer → ⊥
-    apart e = cc
+pub pointer_within : (nodes : List NodeShape) (index : ℕ) → has_cap (kind_or (slice_get nodes index)) ≡ true → index < length nodes
+pointer_within [] index is = absurd (false≢true is)
 pointer_within (node ∷ later) zero is = omega arith
 pointer_within (node ∷ later) (suc index) is = omega (arith, pointer_within later index is)
 
@@ -188,7 +184,7 @@ row_reads store rows row place cell well same is field =
     let there : place < length store.fields = omega (arith, well.field_count) in
     ap (λ r. slice_index r cell) (here ∙ get_or_default store.fields place row [] there)
 
-pub node_within : (store : StoreWords) → IsWellFormed store → (number : ℕ) → kind_at store.shape.nodes number ≡ Pointer → number - 1 < length store.nodes
+pub node_within : (store : StoreWords) → IsWellFormed store → (number : ℕ) → has_cap (kind_at store.shape.nodes number) ≡ true → number - 1 < length store.nodes
 node_within store well number is =
     omega (arith, pointer_within store.shape.nodes (number - 1) is, as_many_words store.shape.nodes store.nodes 1 is_root well.nodes_fit)
 

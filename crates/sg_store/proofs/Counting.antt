@@ -8,9 +8,10 @@ use Rattle.std.proofs.lemmas.Bool.Decides.{nat_tests}
 use Rattle.std.proofs.lemmas.List.{get_or_default, get_or_past}
 use Rattle.std.proofs.lemmas.Option.{same_Some}
 use Rattle.sg_coord.specs.declared.coord.Coord.{Coord}
-use Rattle.sg_layout.specs.declared.shape.Kind.TheVariants.{Pointer, Dynamic}
+use Rattle.sg_layout.specs.declared.shape.Kind.TheVariants.{Dynamic}
 use Rattle.sg_layout.specs.declared.shape.NodeShape.{NodeShape}
 use Rattle.sg_layout.specs.Axes.{size_of}
+use Rattle.sg_layout.specs.StorageWords.{ends_segment}
 use Rattle.sg_layout.specs.Path.{path}
 use Rattle.sg_layout.specs.Live.{kind_at, is_live}
 use Rattle.sg_layout.specs.Need.{reached_slots}
@@ -114,7 +115,7 @@ numbers_fit store i links coords numbers reached other are once linked_all =
     let words : suc a ≡ suc b = sym left.2 ∙ ap (slice_index links) same ∙ right.2 in
     omega (arith, words))
 
--- ── A pointer node whose slots are on exactly where they are live ──
+-- ── A node with links whose slots are on exactly where they are live ──
 
 -- a number that isn't 0 is within the list
 pub index_within : (xs : List ℕ) (q : ℕ) → slice_index xs q ≢ 0 → q < length xs
@@ -123,42 +124,48 @@ index_within xs q some = elim (cases_lt q (length xs)) [
   | inr past ↦ absurd (some (get_or_past xs q 0 past))
 ]
 
--- the pointer node with an index, well-formed among the others
-pub record PointerAt (store : StoreWords) (i : ℕ) (node : NodeShape) (kept : NodeWords) : Type 0 where
+-- a node's words with these links
+abbrev pub with_links : NodeWords → List ℕ → NodeWords
+with_links kept links = record kept { links = links }
+
+-- the node is this one, and with these links it is as a pointer node
+pub record IsOwn (node : NodeShape) (kept : NodeWords) (links : List ℕ) (own : NodeShape) (mine : NodeWords) (slots : ℕ) (live : ℕ → Bool) : Type 0 where
+  pub same : own ≡ node
+  pub same_words : mine ≡ kept
+  pub as_pointer : IsPointerNode node (with_links kept links) slots live
+
+-- the node with an index, which has child containers, well-formed among the others, and the links of its slots
+pub record LinkedAt (store : StoreWords) (i : ℕ) (node : NodeShape) (kept : NodeWords) (links : List ℕ) : Type 0 where
   pub within : suc i ≤ length store.shape.nodes
   pub are_nodes : AreNodes store.shape.nodes store.nodes 1 is_root
   pub at : slice_get store.shape.nodes i ≡ Some node
   pub has : slice_get store.nodes i ≡ Some kept
-  pub pointer : node.kind ≡ Pointer
+  pub linked : ends_segment node.kind ≡ true
+  pub own : AtNodeOf (IsOwn node kept links) store i
+  pub set : (q : ℕ) → is_set node.kind node kept q ≡ not (slice_index links q == 0)
 
--- what its own facts say holds of it
-says_here : (Says : OfNode) (node own : NodeShape) (kept mine : NodeWords) (slots : ℕ) (live : ℕ → Bool) → own ≡ node → mine ≡ kept → node.kind ≡ Pointer → ((slots : ℕ) (live : ℕ → Bool) → IsPointerNode node kept slots live → Says node kept slots live) → IsNode own.kind own mine slots live → Says own mine slots live
-says_here Says node own kept mine slots live a b pointer follows is =
-    let here : IsNode node.kind node kept slots live = subst (λ (n : NodeShape). IsNode n.kind n kept slots live) a (subst (λ (k : NodeWords). IsNode own.kind own k slots live) b is) in
-    let says : Says node kept slots live = follows slots live (subst (λ k. IsNode k node kept slots live) pointer here) in
-    subst (λ (n : NodeShape). Says n mine slots live) (sym a) (subst (λ (k : NodeWords). Says node k slots live) (sym b) says)
+-- what its links say holds of it
+pub pointer_says : (Says : OfNode) (store : StoreWords) (i : ℕ) (node : NodeShape) (kept : NodeWords) (links : List ℕ) → LinkedAt store i node kept links → ((slots : ℕ) (live : ℕ → Bool) → IsPointerNode node (with_links kept links) slots live → Says node kept slots live) → AtNodeOf Says store i
+pointer_says Says store i node kept links is follows =
+    at_node_from (IsOwn node kept links) Says store.shape.nodes store.nodes 1 is_root i
+    (λ own mine slots live at has one.
+    subst (λ (n : NodeShape). Says n mine slots live) (sym one.same) (subst (λ (k : NodeWords). Says node k slots live) (sym one.same_words) (follows slots live one.as_pointer)))
+    is.own
 
-pub pointer_says : (Says : OfNode) (store : StoreWords) (i : ℕ) (node : NodeShape) (kept : NodeWords) → PointerAt store i node kept → ((slots : ℕ) (live : ℕ → Bool) → IsPointerNode node kept slots live → Says node kept slots live) → AtNodeOf Says store i
-pointer_says Says store i node kept is follows =
-    at_node_from OfWellFormed Says store.shape.nodes store.nodes 1 is_root i
-    (λ own mine slots live at has one. says_here Says node own kept mine slots live (same_Some own node (sym at ∙ is.at)) (same_Some mine kept (sym has ∙ is.has)) is.pointer follows one)
-    (nodes_at store.shape.nodes store.nodes 1 is_root i is.are_nodes (omega (arith, is.within)))
-
--- its own facts
-pub pointer_node : (store : StoreWords) (i : ℕ) (node : NodeShape) (kept : NodeWords) → PointerAt store i node kept → (slots : ℕ) × (live : ℕ → Bool) × IsPointerNode node kept slots live
-pointer_node store i node kept is =
-    let Says : OfNode = λ own mine slots live. IsPointerNode node kept slots live in
-    let found = node_of Says store.shape.nodes store.nodes 1 is_root i (pointer_says Says store i node kept is (λ slots live one. one)) in
+pub pointer_node : (store : StoreWords) (i : ℕ) (node : NodeShape) (kept : NodeWords) (links : List ℕ) → LinkedAt store i node kept links → (slots : ℕ) × (live : ℕ → Bool) × IsPointerNode node (with_links kept links) slots live
+pointer_node store i node kept links is =
+    let Says : OfNode = λ own mine slots live. IsPointerNode node (with_links kept links) slots live in
+    let found = node_of Says store.shape.nodes store.nodes 1 is_root i (pointer_says Says store i node kept links is (λ slots live one. one)) in
     (found.slots, found.live, found.says)
 
-link_live : (store : StoreWords) (i : ℕ) (node : NodeShape) (kept : NodeWords) → PointerAt store i node kept → (q : ℕ) → slice_index kept.links q ≢ 0 → AtNodeOf (InLive q) store i
-link_live store i node kept is q some =
-    pointer_says (InLive q) store i node kept is
-    (λ slots live one. record { within = omega (arith, index_within kept.links q some, one.link_count); is_live = one.in_live q some })
+link_live : (store : StoreWords) (i : ℕ) (node : NodeShape) (kept : NodeWords) (links : List ℕ) → LinkedAt store i node kept links → (q : ℕ) → slice_index links q ≢ 0 → AtNodeOf (InLive q) store i
+link_live store i node kept links is q some =
+    pointer_says (InLive q) store i node kept links is
+    (λ slots live one. record { within = omega (arith, index_within links q some, one.link_count); is_live = one.in_live q some })
 
-pub link_word : (word : ℕ) → not (word == 0) ≡ true → (n : ℕ) × (word ≡ suc n)
-link_word zero e = absurd (false≢true e)
-link_word (suc n) e = (n, refl)
+pub word_number : (word : ℕ) → not (word == 0) ≡ true → (n : ℕ) × (word ≡ suc n)
+word_number zero e = absurd (false≢true e)
+word_number (suc n) e = (n, refl)
 
 pub word_set : (word : ℕ) → word ≢ 0 → not (word == 0) ≡ true
 word_set word some = grind (arith, nat_tests)
@@ -171,39 +178,43 @@ pub record IsOnFor (store : StoreWords) (i : ℕ) (coords : List Coord) : Type 0
   pub once : ReachedOnce store.shape
   pub one_slot : kind_at store.shape.nodes (suc i) ≢ Dynamic
 
-pub on_is : (store : StoreWords) (i : ℕ) (node : NodeShape) (kept : NodeWords) → PointerAt store i node kept → (slot : List ℕ) → IsSlot (take (suc i) store.shape.nodes) slot → is_on store.shape.nodes store.nodes 0 slot ≡ unwrap_or (option_map (λ q. not (slice_index kept.links q == 0)) (slot_number_in store.shape.nodes store.nodes 0 slot)) false
-on_is store i node kept is slot is_slot =
+pub on_is : (store : StoreWords) (i : ℕ) (node : NodeShape) (kept : NodeWords) (links : List ℕ) → LinkedAt store i node kept links → (slot : List ℕ) → IsSlot (take (suc i) store.shape.nodes) slot → is_on store.shape.nodes store.nodes 0 slot ≡ unwrap_or (option_map (λ q. not (slice_index links q == 0)) (slot_number_in store.shape.nodes store.nodes 0 slot)) false
+on_is store i node kept links is slot is_slot =
     ap (λ o. unwrap_or o false) (own_answer_at is_set store.shape.nodes store.nodes i node kept is.at is.has 0 slot (slot_long store.shape.nodes (suc i) slot is.within is_slot))
-    ∙ ap (λ k. unwrap_or (option_map (is_set k node kept) (slot_number_in store.shape.nodes store.nodes 0 slot)) false) is.pointer
+    ∙ same (slot_number_in store.shape.nodes store.nodes 0 slot)
+  where
+    same : (number : Option ℕ) → unwrap_or (option_map (is_set node.kind node kept) number) false ≡ unwrap_or (option_map (λ q. not (slice_index links q == 0)) number) false
+    same None = refl
+    same (Some q) = is.set q
 
 -- a slot that is on has a link
 on_linked : (links : List ℕ) (number : Option ℕ) → unwrap_or (option_map (λ q. not (slice_index links q == 0)) number) false ≡ true → (q : ℕ) × (number ≡ Some q) × (n : ℕ) × (slice_index links q ≡ suc n)
 on_linked links None e = absurd (false≢true e)
-on_linked links (Some q) e = let word = link_word (slice_index links q) e in (q, refl, word.0, word.1)
+on_linked links (Some q) e = let word = word_number (slice_index links q) e in (q, refl, word.0, word.1)
 
-own_links : (store : StoreWords) (i : ℕ) (node : NodeShape) (kept : NodeWords) (coords : List Coord) → PointerAt store i node kept → IsOnFor store i coords → Links store i kept.links coords
-own_links store i node kept coords is for = record {
+own_links : (store : StoreWords) (i : ℕ) (node : NodeShape) (kept : NodeWords) (links : List ℕ) (coords : List Coord) → LinkedAt store i node kept links → IsOnFor store i coords → Links store i links coords
+own_links store i node kept links coords is for = record {
   within = is.within;
   are_nodes = is.are_nodes;
-  in_live = link_live store i node kept is;
+  in_live = link_live store i node kept links is;
   live = λ slot q is_slot number some.
-      sym (for.on slot is_slot) ∙ on_is store i node kept is slot is_slot
-      ∙ ap (λ o. unwrap_or (option_map (λ q. not (slice_index kept.links q == 0)) o) false) number ∙ word_set (slice_index kept.links q) some;
+      sym (for.on slot is_slot) ∙ on_is store i node kept links is slot is_slot
+      ∙ ap (λ o. unwrap_or (option_map (λ q. not (slice_index links q == 0)) o) false) number ∙ word_set (slice_index links q) some;
 }
 
-live_fits : (store : StoreWords) (i : ℕ) (node : NodeShape) (kept : NodeWords) (coords : List Coord) → PointerAt store i node kept → IsOnFor store i coords → live_count kept.pool ≤ length (reached_slots store.shape coords (suc i))
-live_fits store i node kept coords is for =
-    let own = pointer_node store i node kept is in
+live_fits : (store : StoreWords) (i : ℕ) (node : NodeShape) (kept : NodeWords) (links : List ℕ) (coords : List Coord) → LinkedAt store i node kept links → IsOnFor store i coords → live_count kept.pool ≤ length (reached_slots store.shape coords (suc i))
+live_fits store i node kept links coords is for =
+    let own = pointer_node store i node kept links is in
     omega (
       arith,
       length-live_numbers kept.pool,
-      numbers_fit store i kept.links coords (live_numbers kept.pool) for.reached for.one_slot (own_links store i node kept coords is for)
+      numbers_fit store i links coords (live_numbers kept.pool) for.reached for.one_slot (own_links store i node kept links coords is for)
           (live_numbers_once kept.pool) (λ n has. (own.2.live_linked n).0 (from_live_numbers kept.pool n has)),
     )
 
-reached_fit : (store : StoreWords) (i : ℕ) (node : NodeShape) (kept : NodeWords) (coords : List Coord) → PointerAt store i node kept → IsOnFor store i coords → length (reached_slots store.shape coords (suc i)) ≤ live_count kept.pool
-reached_fit store i node kept coords is for =
-    let own = pointer_node store i node kept is in
+reached_fit : (store : StoreWords) (i : ℕ) (node : NodeShape) (kept : NodeWords) (links : List ℕ) (coords : List Coord) → LinkedAt store i node kept links → IsOnFor store i coords → length (reached_slots store.shape coords (suc i)) ≤ live_count kept.pool
+reached_fit store i node kept links coords is for =
+    let own = pointer_node store i node kept links is in
     let nodes : List NodeShape = store.shape.nodes in
     let is_slot : (slot : List ℕ) → Contains (reached_slots store.shape coords (suc i)) slot → IsSlot (take (suc i) nodes) slot = λ slot has.
     let found = path_from_live store.shape coords (suc i) slot for.one_slot ((for.reached coords (suc i) for.one_slot slot).0 has) in
@@ -211,12 +222,12 @@ reached_fit store i node kept coords is for =
     omega (
       arith,
       length-live_numbers kept.pool,
-      fewer (λ slot n. HasNumber store kept.links n slot) (reached_slots store.shape coords (suc i)) (live_numbers kept.pool) (for.once coords (suc i))
+      fewer (λ slot n. HasNumber store links n slot) (reached_slots store.shape coords (suc i)) (live_numbers kept.pool) (for.once coords (suc i))
           (λ slot has.
           let there = is_slot slot has in
           let on : is_on nodes store.nodes 0 slot ≡ true = for.on slot there ∙ (for.reached coords (suc i) for.one_slot slot).0 has in
-          let linked = on_linked kept.links (slot_number_in nodes store.nodes 0 slot) (sym (on_is store i node kept is slot there) ∙ on) in
-          let alive : is_live_number kept.pool linked.2 ≡ true = (own.2.live_linked linked.2).1 (index_contains kept.links linked.0 linked.2 linked.3) in
+          let linked = on_linked links (slot_number_in nodes store.nodes 0 slot) (sym (on_is store i node kept links is slot there) ∙ on) in
+          let alive : is_live_number kept.pool linked.2 ≡ true = (own.2.live_linked linked.2).1 (index_contains links linked.0 linked.2 linked.3) in
           (linked.2, in_live_numbers kept.pool linked.2 alive, (linked.0, linked.1, linked.3)))
           (λ a b n p r left right.
           let same : left.0 ≡ right.0 = own.2.once left.0 right.0 (λ none. cc) (left.2 ∙ sym right.2) in
@@ -225,6 +236,6 @@ reached_fit store i node kept coords is for =
     )
 
 -- as many containers are live as slots are reached
-pub live_is_reached : (store : StoreWords) (i : ℕ) (node : NodeShape) (kept : NodeWords) (coords : List Coord) → PointerAt store i node kept → IsOnFor store i coords → live_count kept.pool ≡ length (reached_slots store.shape coords (suc i))
-live_is_reached store i node kept coords is for =
-    omega (arith, live_fits store i node kept coords is for, reached_fit store i node kept coords is for)
+pub live_is_reached : (store : StoreWords) (i : ℕ) (node : NodeShape) (kept : NodeWords) (links : List ℕ) (coords : List Coord) → LinkedAt store i node kept links → IsOnFor store i coords → live_count kept.pool ≡ length (reached_slots store.shape coords (suc i))
+live_is_reached store i node kept links coords is for =
+    omega (arith, live_fits store i node kept links coords is for, reached_fit store i node kept links coords is for)

@@ -11,7 +11,7 @@ use Rattle.sg_layout.specs.Axes.{size_of}
 use Rattle.sg_store.specs.declared.node.NodeWords.{NodeWords}
 use Rattle.sg_store.specs.Slots.{slot_under, is_set, place_below, active_below}
 use Rattle.sg_store.specs.Walks.{place_after, own_answer, slot_number_in, is_on}
-use Rattle.sg_store.specs.WellFormed.{IsNode, live_below, live_slot, AreNodes}
+use Rattle.sg_store.specs.WellFormed.{IsPointerNode, IsNode, by_slots, live_below, live_slot, AreNodes}
 use Rattle.sg_store.specs.steps.AtNode.{AtNode}
 use Rattle.sg_store.specs.steps.Walking.{AreOffsets}
 use Rattle.sg_store.specs.steps.Settling.{Grows}
@@ -20,25 +20,44 @@ use Rattle.sg_store.proofs.Walking.{active_leads, own_kind, off_below_dead}
 -- ── The nodes are well-formed again ──
 
 -- more places may be live
-is_node_more : (kind : Kind) (node : NodeShape) (kept : NodeWords) (slots : ℕ) (few more : ℕ → Bool) → ((q : ℕ) → few q ≡ true → more q ≡ true) → IsNode kind node kept slots few → IsNode kind node kept slots more
-is_node_more Dense node kept slots few more grows is = tt
-is_node_more Bitmasked node kept slots few more grows is = record { word_count = is.word_count; in_live = λ q on. grows q (is.in_live q on) }
-is_node_more Pointer node kept slots few more grows is = record {
+pointer_more : (node : NodeShape) (kept : NodeWords) (slots : ℕ) (few more : ℕ → Bool) → ((q : ℕ) → few q ≡ true → more q ≡ true) → IsPointerNode node kept slots few → IsPointerNode node kept slots more
+pointer_more node kept slots few more grows is = record {
   link_count = is.link_count;
   places = is.places;
   live_linked = is.live_linked;
   once = is.once;
   in_live = λ q on. grows q (is.in_live q on);
 }
-is_node_more Hash node kept slots few more grows is = is
-is_node_more Dynamic node kept slots few more grows is = is
+
+is_node_more : (kind : Kind) (node : NodeShape) (kept : NodeWords) (slots : ℕ) (few more : ℕ → Bool) → ((q : ℕ) → few q ≡ true → more q ≡ true) → IsNode kind node kept slots few → IsNode kind node kept slots more
+is_node_more Dense node kept slots few more grows is = tt
+is_node_more Bitmasked node kept slots few more grows is = record { word_count = is.word_count; in_live = λ q on. grows q (is.in_live q on) }
+is_node_more Pointer node kept slots few more grows is = pointer_more node kept slots few more grows is
+is_node_more Hash node kept slots few more grows is = record {
+  key_count = is.key_count;
+  table = is.table;
+  links_beside = is.links_beside;
+  few_slots = is.few_slots;
+  keys_are_slots = is.keys_are_slots;
+  as_pointer = pointer_more node (by_slots kept slots) slots few more grows is.as_pointer;
+}
+is_node_more Dynamic node kept slots few more grows is = record {
+  length_count = is.length_count;
+  short = is.short;
+  chain_count = is.chain_count;
+  chains_fit = is.chains_fit;
+  places = is.places;
+  exact = is.exact;
+  some_chunk = is.some_chunk;
+  in_live = λ q on. grows q (is.in_live q on);
+}
 
 below_more : (kind : Kind) (kept : NodeWords) (few more : ℕ → Bool) → ((q : ℕ) → few q ≡ true → more q ≡ true) → (n : ℕ) → live_below kind kept few n ≡ true → live_below kind kept more n ≡ true
 below_more Dense kept few more grows n live = grows n live
 below_more Bitmasked kept few more grows n live = grows n live
 below_more Pointer kept few more grows n live = live
 below_more Hash kept few more grows n live = live
-below_more Dynamic kept few more grows n live = grows n live
+below_more Dynamic kept few more grows n live = live
 
 pub nodes_more : (nodes : List NodeShape) (words : List NodeWords) (places : ℕ) (few more : ℕ → Bool) → ((p : ℕ) → few p ≡ true → more p ≡ true) → AreNodes nodes words places few → AreNodes nodes words places more
 nodes_more [] [] places few more grows are = tt
@@ -49,6 +68,7 @@ nodes_more (node ∷ later) (kept ∷ words) places few more grows are = (
   is_node_more node.kind node kept _ (live_slot node few) (live_slot node more) (λ q. grows (q / size_of node.sizes)) are.1,
   nodes_more later words _ (live_below node.kind kept (live_slot node few)) (live_below node.kind kept (live_slot node more))
       (below_more node.kind kept (live_slot node few) (live_slot node more) (λ q. grows (q / size_of node.sizes))) are.2,
+  are.3,
 )
 
 pub nodes_grown : (nodes : List NodeShape) (words : List NodeWords) (places : ℕ) (live : ℕ → Bool) (i : ℕ) (after : NodeWords) → AreNodes nodes words places live → AtNode (Grows after) nodes words places live i → AreNodes nodes (slice_set words i after) places live
@@ -58,9 +78,10 @@ nodes_grown (node ∷ later) (kept ∷ words) places live zero after are grown =
   are.0,
   grown.is_node,
   nodes_more later words _ (live_below node.kind kept (live_slot node live)) (live_below node.kind after (live_slot node live)) grown.live_stays are.2,
+  are.3,
 )
 nodes_grown (node ∷ later) (kept ∷ words) places live (suc i) after are grown =
-    (are.0, are.1, nodes_grown later words _ _ i after are.2 grown)
+    (are.0, are.1, nodes_grown later words _ _ i after are.2 grown, are.3)
 
 -- ── What led to a place leads to it still ──
 

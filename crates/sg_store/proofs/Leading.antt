@@ -1,6 +1,6 @@
 -- Numbers of slots and slots: the number of a slot to which links lead is in a live container, and each number in a
 -- live container is that of a slot.
-use Rattle.std.proofs.Common.{◌≡◌, ℕ, zero, suc, ◌*◌, ◌/◌, ◌%◌, ◌<◌, Bool, true, List, [], ◌∷◌, length, refl, sym, ap, ◌∙◌, subst, arith}
+use Rattle.std.proofs.Common.{◌≡◌, ◌≢◌, ℕ, zero, suc, ◌+◌, ◌*◌, ◌/◌, ◌%◌, ◌<◌, Bool, true, List, [], ◌∷◌, length, refl, sym, ap, ◌∙◌, subst, arith}
 use Rattle.std.specs.Prelude.{Some, option_and_then, slice_index}
 use Rattle.std.proofs.Math.Nat.{div-lt_iff_lt-mul, pos_of_ne-zero}
 use Rattle.std.proofs.lemmas.Nat.{div-mul-add, mul-add-lt, mod_below, div-add-mod'}
@@ -9,15 +9,16 @@ use Rattle.std.proofs.lemmas.Option.{none-some, same_Some, option_and_then_some}
 use Rattle.sg_layout.specs.declared.shape.Kind.{Kind}
 use Rattle.sg_layout.specs.declared.shape.Kind.TheVariants.{Dense, Bitmasked, Pointer, Hash, Dynamic}
 use Rattle.sg_layout.specs.declared.shape.NodeShape.{NodeShape}
-use Rattle.sg_layout.specs.Axes.{size_of}
+use Rattle.sg_layout.specs.Axes.{count_of, size_of}
 use Rattle.sg_pool.specs.Numbers.{is_live_number}
 use Rattle.sg_pool.proofs.Uses.{live_is_number}
 use Rattle.sg_store.specs.declared.node.NodeWords.{NodeWords}
 use Rattle.sg_store.specs.Slots.{slot_under, place_below}
 use Rattle.sg_store.specs.Walks.{slot_number_in}
-use Rattle.sg_store.specs.WellFormed.{IsNode, places_below, live_below, live_slot, AreNodes}
+use Rattle.sg_store.specs.WellFormed.{IsPointerNode, IsNode, by_slots, places_below, live_below, live_slot, AreNodes}
 use Rattle.sg_store.specs.steps.AtNode.{AtNode}
 use Rattle.sg_store.specs.steps.Walking.{AreOffsets}
+use Rattle.sg_store.proofs.BySlots.{hash_leads}
 use Rattle.sg_store.proofs.Walking.{linked_is, linked_some, index_contains}
 
 -- the slot with this number is there, and in a live container
@@ -27,15 +28,26 @@ pub record InLive (q : ℕ) (node : NodeShape) (kept : NodeWords) (slots : ℕ) 
 
 -- ── From slots to numbers ──
 
--- where a slot in a live container leads is live
-pub leads_live : (kind : Kind) (node : NodeShape) (kept : NodeWords) (slots : ℕ) (live : ℕ → Bool) → IsNode kind node kept slots live → (q n : ℕ) → q < slots → live q ≡ true → place_below kind node kept q ≡ Some n → (n < places_below kind node slots) × (live_below kind kept live n ≡ true)
-leads_live Dense node kept slots live is q n below on e = let same : q ≡ n = same_Some q n e in (omega arith, sym (ap live same) ∙ on)
-leads_live Bitmasked node kept slots live is q n below on e = let same : q ≡ n = same_Some q n e in (omega arith, sym (ap live same) ∙ on)
-leads_live Pointer node kept slots live is q n below on e =
+pointer_leads_live : (node : NodeShape) (kept : NodeWords) (slots : ℕ) (live : ℕ → Bool) → IsPointerNode node kept slots live → (q n : ℕ) → place_below Pointer node kept q ≡ Some n → (n < count_of node.cap + 17) × (is_live_number kept.pool n ≡ true)
+pointer_leads_live node kept slots live is q n e =
     let alive : is_live_number kept.pool n ≡ true = (is.live_linked n).1 (index_contains kept.links q n (linked_is (slice_index kept.links q) n e)) in
     (omega (arith, live_is_number kept.pool n alive, is.places), alive)
-leads_live Hash node kept slots live is q n below on e = absurd is
-leads_live Dynamic node kept slots live is q n below on e = absurd is
+
+pointer_parent : (node : NodeShape) (kept : NodeWords) (slots : ℕ) (live : ℕ → Bool) → IsPointerNode node kept slots live → (n : ℕ) → is_live_number kept.pool n ≡ true → (q : ℕ) × (q < slots) × (live q ≡ true) × (place_below Pointer node kept q ≡ Some n)
+pointer_parent node kept slots live is n on =
+    let found = (is.live_linked n).0 on in
+    let q : ℕ = found.0 in
+    let word : slice_index kept.links q ≡ suc n = get_or_default kept.links q 0 (suc n) found.1 ∙ found.2 in
+    (q, omega (arith, found.1, is.link_count), is.in_live q (λ none. cc), linked_some (slice_index kept.links q) n word)
+
+-- where a slot in a live container leads is live
+pub leads_live : (kind : Kind) (node : NodeShape) (kept : NodeWords) (slots : ℕ) (live : ℕ → Bool) → kind ≢ Dynamic → IsNode kind node kept slots live → (q n : ℕ) → q < slots → live q ≡ true → place_below kind node kept q ≡ Some n → (n < places_below kind node slots) × (live_below kind kept live n ≡ true)
+leads_live Dense node kept slots live other is q n below on e = let same : q ≡ n = same_Some q n e in (omega arith, sym (ap live same) ∙ on)
+leads_live Bitmasked node kept slots live other is q n below on e = let same : q ≡ n = same_Some q n e in (omega arith, sym (ap live same) ∙ on)
+leads_live Pointer node kept slots live other is q n below on e = pointer_leads_live node kept slots live is q n e
+leads_live Hash node kept slots live other is q n below on e =
+    pointer_leads_live node (by_slots kept slots) slots live is.as_pointer q n (sym (hash_leads node kept slots live is q) ∙ e)
+leads_live Dynamic node kept slots live other is q n below on e = absurd (other refl)
 
 under_live : (node : NodeShape) (kept : NodeWords) (places : ℕ) (live : ℕ → Bool) (p o : ℕ) → p < places → live p ≡ true → o < size_of node.sizes → InLive (slot_under node p o) node kept (places * size_of node.sizes) (live_slot node live)
 under_live node kept places live p o within on below = record {
@@ -54,22 +66,21 @@ number_live (node ∷ later) (kept ∷ words) places live are p within on (o ∷
 number_live (node ∷ later) (kept ∷ words) places live are p within on (o ∷ (v ∷ s)) ins (suc i) long q e =
     let here = under_live node kept places live p o within on ins.0 in
     option_and_then_some _ _ q e (λ n there rest.
-    let below = leads_live node.kind node kept _ _ are.1 (slot_under node p o) n here.within here.is_live there in
+    let other : node.kind ≢ Dynamic = λ dynamic. subst (λ nodes. AreOffsets nodes (v ∷ s)) (are.3 dynamic) ins.1 in
+    let below = leads_live node.kind node kept _ _ other are.1 (slot_under node p o) n here.within here.is_live there in
     number_live later words _ _ are.2 n below.0 below.1 (v ∷ s) ins.1 i (omega (arith, long)) q rest)
 
 -- ── From numbers to slots ──
 
 -- a live place is one to which a slot in a live container leads
-pub parent_of : (kind : Kind) (node : NodeShape) (kept : NodeWords) (slots : ℕ) (live : ℕ → Bool) → IsNode kind node kept slots live → (n : ℕ) → n < places_below kind node slots → live_below kind kept live n ≡ true → (q : ℕ) × (q < slots) × (live q ≡ true) × (place_below kind node kept q ≡ Some n)
-parent_of Dense node kept slots live is n below on = (n, below, on, refl)
-parent_of Bitmasked node kept slots live is n below on = (n, below, on, refl)
-parent_of Pointer node kept slots live is n below on =
-    let found = (is.live_linked n).0 on in
-    let q : ℕ = found.0 in
-    let word : slice_index kept.links q ≡ suc n = get_or_default kept.links q 0 (suc n) found.1 ∙ found.2 in
-    (q, omega (arith, found.1, is.link_count), is.in_live q (λ none. cc), linked_some (slice_index kept.links q) n word)
-parent_of Hash node kept slots live is n below on = absurd is
-parent_of Dynamic node kept slots live is n below on = absurd is
+pub parent_of : (kind : Kind) (node : NodeShape) (kept : NodeWords) (slots : ℕ) (live : ℕ → Bool) → kind ≢ Dynamic → IsNode kind node kept slots live → (n : ℕ) → n < places_below kind node slots → live_below kind kept live n ≡ true → (q : ℕ) × (q < slots) × (live q ≡ true) × (place_below kind node kept q ≡ Some n)
+parent_of Dense node kept slots live other is n below on = (n, below, on, refl)
+parent_of Bitmasked node kept slots live other is n below on = (n, below, on, refl)
+parent_of Pointer node kept slots live other is n below on = pointer_parent node kept slots live is n on
+parent_of Hash node kept slots live other is n below on =
+    let found = pointer_parent node (by_slots kept slots) slots live is.as_pointer n on in
+    (found.0, found.1, found.2, hash_leads node kept slots live is found.0 ∙ found.3)
+parent_of Dynamic node kept slots live other is n below on = absurd (other refl)
 
 -- a slot from a live place, with this number at the node with this index
 pub record LeadsTo (nodes : List NodeShape) (words : List NodeWords) (places : ℕ) (live : ℕ → Bool) (i q : ℕ) : Type 0 where
@@ -95,6 +106,11 @@ step_up : (node : NodeShape) (kept : NodeWords) (later : List NodeShape) (words 
 step_up node kept later words p o n [] i q long there e = absurd (omega (arith, long))
 step_up node kept later words p o n (a ∷ v) i q long there e = ap (option_and_then (λ under. slot_number_in later words under (a ∷ v))) there ∙ e
 
+-- below a last node there is none
+last_has_none : (nodes : List NodeShape) (words : List NodeWords) (places : ℕ) (live : ℕ → Bool) (i q : ℕ) → nodes ≡ [] → AtNode (InLive q) nodes words places live i → ⊥
+last_has_none [] words places live i q none here = here
+last_has_none (node ∷ later) words places live i q none here = cc
+
 pub leads_from : (nodes : List NodeShape) (words : List NodeWords) (places : ℕ) (live : ℕ → Bool) → AreNodes nodes words places live → (i q : ℕ) → AtNode (InLive q) nodes words places live i → LeadsTo nodes words places live i q
 leads_from [] words places live are i q here = absurd here
 leads_from (node ∷ later) [] places live are i q here = absurd here
@@ -111,7 +127,8 @@ leads_from (node ∷ later) (kept ∷ words) places live are zero q here =
     }
 leads_from (node ∷ later) (kept ∷ words) places live are (suc i) q here =
     let rest = leads_from later words _ _ are.2 i q here in
-    let up = parent_of node.kind node kept _ _ are.1 rest.start rest.within rest.is_live in
+    let other : node.kind ≢ Dynamic = λ dynamic. last_has_none later words _ _ i q (are.3 dynamic) here in
+    let up = parent_of node.kind node kept _ _ other are.1 rest.start rest.within rest.is_live in
     let above : ℕ = up.0 in
     let parts = split_slot node places above up.1 in
     record {

@@ -62,7 +62,7 @@ can_remask store i masks can kept has =
     let found = node_of (CanSettleMasks masks) store.shape.nodes store.nodes 1 is_root i can in
     subst (λ (k : NodeWords). length masks ≡ length k.masks) (same_Some found.kept kept (sym found.has ∙ has)) found.says.as_many
 
-grows_at : (store : StoreWords) (i : ℕ) (masks : List ℕ) (kept after : NodeWords) → IsWellFormed store → AtNodeOf (CanSettleMasks masks) store i → slice_get store.nodes i ≡ Some kept → IsRemasked masks kept after → AtNodeOf (Grows after) store i
+pub grows_at : (store : StoreWords) (i : ℕ) (masks : List ℕ) (kept after : NodeWords) → IsWellFormed store → AtNodeOf (CanSettleMasks masks) store i → slice_get store.nodes i ≡ Some kept → IsRemasked masks kept after → AtNodeOf (Grows after) store i
 grows_at store i masks kept after is can has re =
     at_node_from (Both OfWellFormed (CanSettleMasks masks)) (Grows after) store.shape.nodes store.nodes 1 is_root i
     (λ node mine slots live at mine_at both.
@@ -87,7 +87,7 @@ masked_well_formed store i masks now is can changed =
 abbrev pub OfAll : (ℕ → OfNode) → List ℕ → OfNode
 OfAll Says numbers node kept slots live = (k : ℕ) → k < length numbers → Says (get_or numbers k 0) node kept slots live
 
-all_at : (Says : ℕ → OfNode) (numbers : List ℕ) (nodes : List NodeShape) (words : List NodeWords) (places : ℕ) (live : ℕ → Bool) (i : ℕ) → length words ≡ length nodes → i < length nodes → ((k : ℕ) → k < length numbers → AtNode (Says (get_or numbers k 0)) nodes words places live i) → AtNode (OfAll Says numbers) nodes words places live i
+pub all_at : (Says : ℕ → OfNode) (numbers : List ℕ) (nodes : List NodeShape) (words : List NodeWords) (places : ℕ) (live : ℕ → Bool) (i : ℕ) → length words ≡ length nodes → i < length nodes → ((k : ℕ) → k < length numbers → AtNode (Says (get_or numbers k 0)) nodes words places live i) → AtNode (OfAll Says numbers) nodes words places live i
 all_at Says numbers [] words places live i many within each = absurd (omega (arith, within))
 all_at Says numbers (node ∷ later) [] places live i many within each = absurd (omega (arith, many))
 all_at Says numbers (node ∷ later) (kept ∷ words) places live zero many within each = each

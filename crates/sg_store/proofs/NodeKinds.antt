@@ -1,5 +1,5 @@
 -- The node with an index, by its kind.
-use Rattle.std.proofs.Common.{◌≡◌, ℕ, suc, ◌<◌, ◌≤◌, Bool, List, ◌++◌, length, get_or, refl, sym, ap, ◌∙◌, subst, arith, inl, inr, cond}
+use Rattle.std.proofs.Common.{◌≡◌, ℕ, suc, ◌<◌, ◌≤◌, Bool, true, List, ◌++◌, length, get_or, refl, sym, ap, ◌∙◌, subst, arith, inl, inr, cond}
 use Rattle.std.specs.Prelude.{Some, Result, Ok, Err, IfErr, slice_get}
 use Rattle.sg_words.specs.declared.memory.Stop.{Stop}
 use Rattle.sg_words.specs.declared.memory.Stop.TheVariants as stop
@@ -10,13 +10,17 @@ use Rattle.sg_layout.specs.declared.shape.Kind.{Kind}
 use Rattle.sg_layout.specs.declared.shape.Kind.TheVariants.{Dense, Pointer, Hash, Dynamic}
 use Rattle.sg_layout.specs.declared.shape.NodeShape.{NodeShape}
 use Rattle.sg_layout.specs.Axes.{count_of}
+use Rattle.sg_layout.specs.StorageWords.{ends_segment}
 use Rattle.sg_layout.specs.Live.{kind_at, is_live}
+use Rattle.sg_layout.specs.Need.{reached_slots, need_of}
 use Rattle.sg_store.specs.declared.node.NodeWords.{NodeWords}
 use Rattle.sg_store.specs.declared.reach.Full.{Full}
 use Rattle.sg_store.specs.StoreWords.{StoreWords}
 use Rattle.sg_store.specs.WellFormed.{IsNode, IsWellFormed, is_root}
 use Rattle.sg_store.specs.steps.AtNode.{AtNodeOf}
-use Rattle.sg_store.specs.steps.Levels.{IsOfKind, IsPointerOf, OpensNext, IsPastCap, IsFullNode, IfRefused}
+use Rattle.sg_store.specs.steps.Levels.{IsOfKind, IsPointerOf, IsHashOf, OpensNext, IsPastCap, IsFullNode, IfRefused}
+use Rattle.sg_store.specs.steps.Raising.{IsDynamicOf}
+use Rattle.sg_store.proofs.NodeNeed.{need_linked}
 use Rattle.sg_store.proofs.Opened.{same_bool}
 use Rattle.sg_store.proofs.Counting.{node_of, nodes_at, OfWellFormed, at_node_from}
 use Rattle.sg_store.proofs.Reached.{kind_there}
@@ -39,19 +43,25 @@ pointer_of store i node cap well at is cap_is =
     (ap (λ (n : NodeShape). n.kind) same ∙ is, ap (λ (n : NodeShape). count_of n.cap) same ∙ sym cap_is))
     (nodes_at store.shape.nodes store.nodes 1 is_root i well.nodes_fit (slice_get_within store.shape.nodes i node at))
 
--- stores have nodes of the kinds that are built alone
-pub is_some_node : (store : StoreWords) (i : ℕ) (node : NodeShape) → IsWellFormed store → slice_get store.shape.nodes i ≡ Some node → (kept : NodeWords) × (slots : ℕ) × (live : ℕ → Bool) × IsNode node.kind node kept slots live
-is_some_node store i node well at =
-    let found = node_of OfWellFormed store.shape.nodes store.nodes 1 is_root i
-    (nodes_at store.shape.nodes store.nodes 1 is_root i well.nodes_fit (slice_get_within store.shape.nodes i node at)) in
-    let same : found.node ≡ node = same_Some found.node node (sym found.at ∙ at) in
-    (found.kept, found.slots, found.live, subst (λ (n : NodeShape). IsNode n.kind n found.kept found.slots found.live) same found.says)
+pub hash_of : (store : StoreWords) (i : ℕ) (node : NodeShape) (cap : ℕ) → IsWellFormed store → slice_get store.shape.nodes i ≡ Some node → node.kind ≡ Hash → cap ≡ count_of node.cap → AtNodeOf (IsHashOf cap) store i
+hash_of store i node cap well at is cap_is =
+    at_node_from OfWellFormed (IsHashOf cap) store.shape.nodes store.nodes 1 is_root i
+    (λ own mine slots live own_at has one.
+    let same : own ≡ node = same_Some own node (sym own_at ∙ at) in
+    (ap (λ (n : NodeShape). n.kind) same ∙ is, ap (λ (n : NodeShape). count_of n.cap) same ∙ sym cap_is))
+    (nodes_at store.shape.nodes store.nodes 1 is_root i well.nodes_fit (slice_get_within store.shape.nodes i node at))
 
-pub no_hash : (store : StoreWords) (i : ℕ) (node : NodeShape) → IsWellFormed store → slice_get store.shape.nodes i ≡ Some node → node.kind ≡ Hash → ⊥
-no_hash store i node well at is = let here = is_some_node store i node well at in subst (λ k. IsNode k node here.0 here.1 here.2) is here.3
-
-pub no_dynamic : (store : StoreWords) (i : ℕ) (node : NodeShape) → IsWellFormed store → slice_get store.shape.nodes i ≡ Some node → node.kind ≡ Dynamic → ⊥
-no_dynamic store i node well at is = let here = is_some_node store i node well at in subst (λ k. IsNode k node here.0 here.1 here.2) is here.3
+pub dynamic_of : (store : StoreWords) (i : ℕ) (node : NodeShape) (cap chunk : ℕ) → IsWellFormed store → slice_get store.shape.nodes i ≡ Some node → node.kind ≡ Dynamic → cap ≡ count_of node.cap → chunk ≡ count_of node.chunk → AtNodeOf (IsDynamicOf cap chunk) store i
+dynamic_of store i node cap chunk well at is cap_is chunk_is =
+    at_node_from OfWellFormed (IsDynamicOf cap chunk) store.shape.nodes store.nodes 1 is_root i
+    (λ own mine slots live own_at own_has one.
+    let same : own ≡ node = same_Some own node (sym own_at ∙ at) in
+    record {
+      is_dynamic = ap (λ (n : NodeShape). n.kind) same ∙ is;
+      cap_is = ap (λ (n : NodeShape). count_of n.cap) same ∙ sym cap_is;
+      chunk_is = ap (λ (n : NodeShape). count_of n.chunk) same ∙ sym chunk_is;
+    })
+    (nodes_at store.shape.nodes store.nodes 1 is_root i well.nodes_fit (slice_get_within store.shape.nodes i node at))
 
 -- a dense node opens by itself
 pub dense_opens : (store : StoreWords) (i : ℕ) (node : NodeShape) (wanted : List Coord) → slice_get store.shape.nodes i ≡ Some node → node.kind ≡ Dense → OpensNext store store wanted i
@@ -64,14 +74,19 @@ dense_opens store i node wanted at is old was_open number slot is_slot =
       | inr other ↦ le-leb number i (omega arith)
     ]))
 
--- the refusal of a pointer node, as that of a node
-pub full_node : (store : StoreWords) (wanted : List Coord) (i cap : ℕ) (r : Result Unit (Stop Full)) → AtNodeOf (IsPointerOf cap) store i → IfErr r (IfRefused (λ full. (full ≡ record { node = suc i; cap = cap }) × IsPastCap store wanted i cap)) → IfErr r (IfRefused (IsFullNode store wanted i))
-full_node store wanted i cap (Ok done) pointer h = tt
-full_node store wanted i cap (Err stop.Memory) pointer h = tt
-full_node store wanted i cap (Err (stop.Refused full)) pointer h =
+-- the refusal of a node with child containers, as that of a node
+pub full_node : (store : StoreWords) (wanted : List Coord) (i cap : ℕ) (node : NodeShape) (r : Result Unit (Stop Full)) → slice_get store.shape.nodes i ≡ Some node → ends_segment node.kind ≡ true → cap ≡ count_of node.cap → IfErr r (IfRefused (λ full. (full ≡ record { node = suc i; cap = cap }) × IsPastCap store wanted i cap)) → IfErr r (IfRefused (IsFullNode store wanted i))
+full_node store wanted i cap node (Ok done) at linked cap_is h = tt
+full_node store wanted i cap node (Err stop.Memory) at linked cap_is h = tt
+full_node store wanted i cap node (Err (stop.Refused full)) at linked cap_is h =
     let same : full.cap ≡ cap = ap (λ (f : Full). f.cap) h.0 in
     record {
       number = ap (λ (f : Full). f.node) h.0;
-      pointer = subst (λ n. AtNodeOf (IsPointerOf n) store i) (sym same) pointer;
-      past = subst (λ n. IsPastCap store wanted i n) (sym same) h.1;
+      node = node;
+      there = at;
+      cap_is = sym cap_is ∙ sym same;
+      past = λ old was_open.
+          let need : need_of store.shape (old ++ wanted) (suc i) node ≡ length (reached_slots store.shape (old ++ wanted) (suc i)) =
+          need_linked node.kind store.shape (old ++ wanted) (suc i) (count_of node.chunk) linked in
+          omega (arith, same, need, h.1 old was_open);
     }

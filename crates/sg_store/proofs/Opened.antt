@@ -1,6 +1,6 @@
 -- A store in which the words of one node have grown: it is well-formed again, its cells stay, and where the node keeps
 -- the slots of wanted coordinates besides the old ones, it is open one node further.
-use Rattle.std.proofs.Common.{◌≡◌, ◌≢◌, ℕ, zero, suc, ◌≤◌, Bool, false, ◌||◌, List, [], ◌∷◌, ◌++◌, take, get_or, refl, sym, ap, ◌∙◌, subst, arith, cond, inl, inr}
+use Rattle.std.proofs.Common.{◌≡◌, ◌≢◌, ℕ, zero, suc, ◌≤◌, Bool, false, ◌||◌, List, [], ◌∷◌, ◌++◌, take, get_or, refl, sym, ap, ◌∙◌, subst, arith, cond, inl, inr, length}
 use Rattle.std.specs.Prelude.{Option, Some, None, unwrap_or, slice_get, slice_set, ◌==◌, nat_le}
 use Rattle.std.specs.Option.{option_map}
 use Rattle.std.specs.List.{AllZip, list_any}
@@ -17,7 +17,7 @@ use Rattle.sg_store.specs.declared.node.NodeWords.{NodeWords}
 use Rattle.sg_store.specs.StoreWords.{StoreWords}
 use Rattle.sg_store.specs.Slots.{is_set}
 use Rattle.sg_store.specs.Walks.{slot_number_in, is_on}
-use Rattle.sg_store.specs.WellFormed.{IsWithinCap, IsFieldRow, IsWellFormed, is_root, cell_count}
+use Rattle.sg_store.specs.WellFormed.{AreNodes, IsWithinCap, IsFieldRow, IsWellFormed, is_root, cell_count}
 use Rattle.sg_store.specs.StandsFor.{IsSlotOf}
 use Rattle.sg_store.specs.Reaching.{KeepsCells}
 use Rattle.sg_store.specs.steps.AtNode.{OfNode, AtNode, AtNodeOf}
@@ -77,14 +77,36 @@ well_formed_grown store i after is grown capped = record {
 
 -- ── Open one node further ──
 
--- the node keeps the slots with these numbers as active besides the old ones
+-- besides the old slots the node keeps as active those that go with these numbers
+abbrev pub AddsBy : (ℕ → ℕ → Bool) → NodeWords → List ℕ → NodeShape → NodeWords → Type 0
+AddsBy goes after slots node kept =
+    (q : ℕ) → is_set node.kind node after q ≡ (is_set node.kind node kept q || list_any (λ x. goes x q) slots)
+
+-- those with these numbers alone
 abbrev pub AddsSlots : NodeWords → List ℕ → NodeShape → NodeWords → Type 0
-AddsSlots after slots node kept =
-    (q : ℕ) → is_set node.kind node after q ≡ (is_set node.kind node kept q || list_any (λ x. x == q) slots)
+AddsSlots after slots node kept = AddsBy (λ x q. x == q) after slots node kept
+
+-- at a node that the store is open for, those slots go with the numbers that are live for the wanted coordinates
+pub record GoesLive (store : StoreWords) (i : ℕ) (wanted : List Coord) (slots : List ℕ) (goes : ℕ → ℕ → Bool) : Type 0 where
+  pub paths : (at : Coord) (n : ℕ) → IsSlot (take n store.shape.nodes) (path store.shape at n)
+  pub within : suc i ≤ length store.shape.nodes
+  pub are_nodes : AreNodes store.shape.nodes store.nodes 1 is_root
+  pub some : (slot : List ℕ) → IsSlot (take (suc i) store.shape.nodes) slot → (q : ℕ) → slot_number_in store.shape.nodes store.nodes 0 slot ≡ Some q → list_any (λ x. goes x q) slots ≡ is_live store.shape wanted (suc i) slot
+  pub none : ((at : Coord) → Contains wanted at → (q : ℕ) × (slot_number_in store.shape.nodes store.nodes 0 (path store.shape at (suc i)) ≡ Some q)) → (slot : List ℕ) → IsSlot (take (suc i) store.shape.nodes) slot → slot_number_in store.shape.nodes store.nodes 0 slot ≡ None → is_live store.shape wanted (suc i) slot ≡ false
+
+-- at a node that isn't dynamic each goes alone
+pub goes_alone : (store : StoreWords) (i : ℕ) (wanted : List Coord) (slots : List ℕ) → Wants store i wanted slots → GoesLive store i wanted slots (λ x q. x == q)
+goes_alone store i wanted slots wants = record {
+  paths = wants.paths;
+  within = wants.within;
+  are_nodes = wants.are_nodes;
+  some = λ slot is q e. wanted_some store i wanted slots wants slot is q e;
+  none = λ numbered slot is e. wanted_none store i wanted slots wants numbered slot e;
+}
 
 -- what is on at the node: what was, and what is wanted
-on_here : (store : StoreWords) (i : ℕ) (after : NodeWords) (wanted : List Coord) (slots : List ℕ) (node : NodeShape) (kept : NodeWords) → Wants store i wanted slots → ((at : Coord) → Contains wanted at → (q : ℕ) × (slot_number_in store.shape.nodes store.nodes 0 (path store.shape at (suc i)) ≡ Some q)) → slice_get store.shape.nodes i ≡ Some node → slice_get store.nodes i ≡ Some kept → slice_get (slice_set store.nodes i after) i ≡ Some after → AddsSlots after slots node kept → (slot : List ℕ) → IsSlot (take (suc i) store.shape.nodes) slot → is_on store.shape.nodes (slice_set store.nodes i after) 0 slot ≡ (is_on store.shape.nodes store.nodes 0 slot || is_live store.shape wanted (suc i) slot)
-on_here store i after wanted slots node kept wants numbered at has now adds slot is =
+on_here : (store : StoreWords) (i : ℕ) (after : NodeWords) (wanted : List Coord) (slots : List ℕ) (node : NodeShape) (kept : NodeWords) (goes : ℕ → ℕ → Bool) → GoesLive store i wanted slots goes → ((at : Coord) → Contains wanted at → (q : ℕ) × (slot_number_in store.shape.nodes store.nodes 0 (path store.shape at (suc i)) ≡ Some q)) → slice_get store.shape.nodes i ≡ Some node → slice_get store.nodes i ≡ Some kept → slice_get (slice_set store.nodes i after) i ≡ Some after → AddsBy goes after slots node kept → (slot : List ℕ) → IsSlot (take (suc i) store.shape.nodes) slot → is_on store.shape.nodes (slice_set store.nodes i after) 0 slot ≡ (is_on store.shape.nodes store.nodes 0 slot || is_live store.shape wanted (suc i) slot)
+on_here store i after wanted slots node kept goes wants numbered at has now adds slot is =
     let nodes : List NodeShape = store.shape.nodes in
     let long = slot_long nodes (suc i) slot wants.within is in
     let number : Option ℕ = slot_number_in nodes store.nodes 0 slot in
@@ -96,8 +118,8 @@ on_here store i after wanted slots node kept wants numbered at has now adds slot
     new ∙ split number refl ∙ ap (λ b. b || is_live store.shape wanted (suc i) slot) (sym old)
   where
     split : (n : Option ℕ) → slot_number_in store.shape.nodes store.nodes 0 slot ≡ n → unwrap_or (option_map (is_set node.kind node after) n) false ≡ (unwrap_or (option_map (is_set node.kind node kept) n) false || is_live store.shape wanted (suc i) slot)
-    split None none = sym (wanted_none store i wanted slots wants numbered slot none)
-    split (Some q) some = adds q ∙ ap (λ b. is_set node.kind node kept q || b) (wanted_some store i wanted slots wants slot is q some)
+    split None none = sym (wants.none numbered slot is none)
+    split (Some q) some = adds q ∙ ap (λ b. is_set node.kind node kept q || b) (wants.some slot is q some)
 
 nat_le_same : (n i : ℕ) → n ≢ suc i → nat_le n (suc i) ≡ nat_le n i
 nat_le_same n i other = same_bool _ _
@@ -111,8 +133,8 @@ own_kind_of shape number (o ∷ slot) is = λ dense. is.has_activity (
     ∙ sym (own_kind_is shape.nodes o slot) ∙ dense)
 
 -- the node with an index, of nodes that are well-formed
-pub opens_next : (store : StoreWords) (i : ℕ) (after : NodeWords) (wanted : List Coord) (slots : List ℕ) (node : NodeShape) (kept : NodeWords) → Wants store i wanted slots → AtNodeOf (Grows after) store i → slice_get store.shape.nodes i ≡ Some node → slice_get store.nodes i ≡ Some kept → slice_get (slice_set store.nodes i after) i ≡ Some after → AddsSlots after slots node kept → OpensNext store (with_node store i after) wanted i
-opens_next store i after wanted slots node kept wants grown at has now adds old was_open number slot is =
+pub opens_by : (store : StoreWords) (i : ℕ) (after : NodeWords) (wanted : List Coord) (slots : List ℕ) (node : NodeShape) (kept : NodeWords) (goes : ℕ → ℕ → Bool) → GoesLive store i wanted slots goes → AtNodeOf (Grows after) store i → slice_get store.shape.nodes i ≡ Some node → slice_get store.nodes i ≡ Some kept → slice_get (slice_set store.nodes i after) i ≡ Some after → AddsBy goes after slots node kept → OpensNext store (with_node store i after) wanted i
+opens_by store i after wanted slots node kept goes wants grown at has now adds old was_open number slot is =
     elim (cases_eq number (suc i)) [
       | inl here ↦
           let is_slot : IsSlot (take (suc i) store.shape.nodes) slot = subst (λ n. IsSlot (take n store.shape.nodes) slot) here is.is_slot in
@@ -120,7 +142,7 @@ opens_next store i after wanted slots node kept wants grown at has now adds old 
           was_open number slot is ∙ ap (λ b. is_live store.shape (cond b (old ++ wanted) old) number slot) (nat_le_past number i here) ∙ ap (λ n. is_live store.shape old n slot) here in
           let numbered : (at : Coord) → Contains wanted at → (q : ℕ) × (slot_number_in store.shape.nodes store.nodes 0 (path store.shape at (suc i)) ≡ Some q) = λ c found.
           number_there store i (old ++ wanted) (open_for store old wanted i wants.paths wants.are_nodes (omega (arith, wants.within)) was_open) (omega (arith, wants.within)) c (Contains-append_right old wanted c found) in
-          on_here store i after wanted slots node kept wants numbered at has now adds slot is_slot
+          on_here store i after wanted slots node kept goes wants numbered at has now adds slot is_slot
           ∙ ap (λ b. b || is_live store.shape wanted (suc i) slot) was
           ∙ sym (list_any-append _ old wanted)
           ∙ sym (ap (λ n. is_live store.shape (old ++ wanted) n slot) here)
@@ -134,3 +156,7 @@ opens_next store i after wanted slots node kept wants grown at has now adds old 
   where
     nat_le_past : (n j : ℕ) → n ≡ suc j → nat_le n j ≡ false
     nat_le_past n j e = not_true _ (λ h. let low : n ≤ j = leb-true n j h in absurd (omega (arith, e)))
+
+pub opens_next : (store : StoreWords) (i : ℕ) (after : NodeWords) (wanted : List Coord) (slots : List ℕ) (node : NodeShape) (kept : NodeWords) → Wants store i wanted slots → AtNodeOf (Grows after) store i → slice_get store.shape.nodes i ≡ Some node → slice_get store.nodes i ≡ Some kept → slice_get (slice_set store.nodes i after) i ≡ Some after → AddsSlots after slots node kept → OpensNext store (with_node store i after) wanted i
+opens_next store i after wanted slots node kept wants grown at has now adds =
+    opens_by store i after wanted slots node kept (λ x q. x == q) (goes_alone store i wanted slots wants) grown at has now adds

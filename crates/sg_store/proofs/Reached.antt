@@ -22,8 +22,9 @@ use Rattle.sg_layout.specs.Axes.{count_of, bounds_of_shape}
 use Rattle.sg_layout.specs.Path.{offsets}
 use Rattle.sg_layout.specs.Live.{kind_or, kind_at, is_live}
 use Rattle.sg_layout.specs.Closure.{closure}
+use Rattle.sg_layout.specs.StorageWords.{ends_segment}
 use Rattle.sg_layout.specs.Need.{FullNode, reached_slots, need_of, first_full_from, first_full, need_by}
-use Rattle.sg_layout.specs.NeedLaws.{ReachedAreLive, ReachedOnce, AllInside}
+use Rattle.sg_layout.specs.NeedLaws.{ReachedAreLive, ReachedOnce, ParentsHaveLive, LiveUpToGreatest, AllInside}
 use Rattle.sg_layout.specs.ClosureLaws.{ClosureIsInside, ClosureGrows, ClosureIsClosed}
 use Rattle.sg_layout.specs.LiveLaws.{LiveAbsorbs}
 use Rattle.sg_layout.specs.PathLaws.{PathIsSlot}
@@ -35,17 +36,18 @@ use Rattle.sg_store.specs.declared.node.NodeWords.{NodeWords}
 use Rattle.sg_store.specs.declared.reach.Full.{Full}
 use Rattle.sg_store.specs.StoreWords.{StoreWords, word_in}
 use Rattle.sg_store.specs.Walks.{cell_along, cell_in}
-use Rattle.sg_store.specs.WellFormed.{IsNode, IsWithinCap, IsWellFormed, is_root}
+use Rattle.sg_store.specs.WellFormed.{has_cap, IsNode, IsWithinCap, IsWellFormed, is_root}
 use Rattle.sg_store.specs.StandsFor.{HasValues, StandsFor}
 use Rattle.sg_store.specs.Reaching.{KeepsCells, IsOpenThrough, unless_full}
-use Rattle.sg_store.specs.steps.Levels.{IsPointerOf, OpensNext, IsFullNode, IfRefused}
+use Rattle.sg_store.specs.steps.Levels.{IsLinkedOf, OpensNext, IsFullNode, IfRefused}
 use Rattle.sg_store.specs.Slots.{active_below}
 use Rattle.sg_store.proofs.Walking.{walks_apart, active_are_one}
 use Rattle.sg_store.proofs.ActiveCells.{CellLaws, slot_offsets, slot_length, offsets_are_slot, cell_parts, cell_from_parts, active_has_cell, from_some}
 use Rattle.sg_store.proofs.OneFlat.{idle_is_zero}
 use Rattle.sg_store.proofs.Opened.{not_true}
-use Rattle.sg_store.proofs.Counting.{node_of, nodes_at, OfWellFormed, live_is_reached}
+use Rattle.sg_store.proofs.Counting.{node_of, nodes_at, OfWellFormed}
 use Rattle.sg_store.proofs.PointerLevel.{cap_at}
+use Rattle.sg_store.proofs.NodeNeed.{NeedLaws, node_need}
 
 -- ── What holds of a copy while its nodes are opened ──
 
@@ -133,6 +135,8 @@ pub record ReachLaws (shape : Shape) : Type 0 where
   pub paths : PathIsSlot shape
   pub reached : ReachedAreLive shape
   pub once : ReachedOnce shape
+  pub parents : ParentsHaveLive shape
+  pub up_to : LiveUpToGreatest shape
   pub absorbs : LiveAbsorbs shape
   pub inside : ClosureIsInside shape
   pub grows : ClosureGrows shape
@@ -145,31 +149,17 @@ kind_there nodes i node at =
     let back : suc i - 1 ≡ i = omega arith in
     ap (λ k. kind_or (slice_get nodes k)) back ∙ ap kind_or at
 
--- a pointer node that is open has as many live containers as slots are reached
-pub open_count : (next : StoreWords) (i j : ℕ) (old all : List Coord) (node : NodeShape) (kept : NodeWords) → ReachLaws next.shape → IsWellFormed next → IsOpenThrough next old all i → j < i → slice_get next.shape.nodes j ≡ Some node → slice_get next.nodes j ≡ Some kept → node.kind ≡ Pointer → live_count kept.pool ≡ length (reached_slots next.shape all (suc j))
-open_count next i j old all node kept laws well is_open below at has pointer =
-    let within : suc j ≤ length next.shape.nodes = omega (arith, slice_get_within next.shape.nodes j node at) in
-    let kind : kind_at next.shape.nodes (suc j) ≡ Pointer = kind_there next.shape.nodes j node at ∙ pointer in
-    live_is_reached next j node kept all
-    (record { within = within; are_nodes = well.nodes_fit; at = at; has = has; pointer = pointer })
-    (record {
-      paths = λ c. laws.paths well.accepted c (suc j);
-      on = λ slot is_slot.
-          is_open (suc j) slot (record { first = omega arith; within = within; has_activity = λ dense. cc (sym kind ∙ dense); is_slot = is_slot })
-          ∙ ap (λ b. is_live next.shape (cond b all old) (suc j) slot) (le-leb (suc j) i (omega (arith, below)));
-      reached = laws.reached;
-      once = laws.once;
-      one_slot = λ dynamic. cc (sym kind ∙ dynamic);
-    })
+-- the laws on needs among them
+need_laws : (shape : Shape) → ReachLaws shape → NeedLaws shape
+need_laws shape laws = record { is_slot = laws.paths; reached = laws.reached; once = laws.once; parents = laws.parents; up_to = laws.up_to }
 
 -- what a node needs is what is live there
-need_fits : (kind : Kind) (shape : Shape) (all : List Coord) (number : ℕ) (node : NodeShape) (kept : NodeWords) (slots : ℕ) (live : ℕ → Bool) → node.kind ≡ kind → IsWithinCap kind node kept → IsNode kind node kept slots live → (kind ≡ Pointer → live_count kept.pool ≡ length (reached_slots shape all number)) → need_of shape all number node ≤ count_of node.cap
-need_fits Dense shape all number node kept slots live e capped is count = subst (λ k. need_by k shape all number (count_of node.chunk) ≤ count_of node.cap) (sym e) (omega arith)
-need_fits Bitmasked shape all number node kept slots live e capped is count = subst (λ k. need_by k shape all number (count_of node.chunk) ≤ count_of node.cap) (sym e) (omega arith)
-need_fits Pointer shape all number node kept slots live e capped is count =
-    subst (λ k. need_by k shape all number (count_of node.chunk) ≤ count_of node.cap) (sym e) (omega (arith, count refl, capped))
-need_fits Hash shape all number node kept slots live e capped is count = absurd is
-need_fits Dynamic shape all number node kept slots live e capped is count = absurd is
+need_fits : (kind : Kind) (shape : Shape) (all : List Coord) (number : ℕ) (node : NodeShape) (kept : NodeWords) → node.kind ≡ kind → IsWithinCap kind node kept → (has_cap kind ≡ true → live_count kept.pool ≡ need_of shape all number node) → need_of shape all number node ≤ count_of node.cap
+need_fits Dense shape all number node kept e capped count = subst (λ k. need_by k shape all number (count_of node.chunk) ≤ count_of node.cap) (sym e) (omega arith)
+need_fits Bitmasked shape all number node kept e capped count = subst (λ k. need_by k shape all number (count_of node.chunk) ≤ count_of node.cap) (sym e) (omega arith)
+need_fits Pointer shape all number node kept e capped count = omega (arith, count refl, capped)
+need_fits Hash shape all number node kept e capped count = omega (arith, count refl, capped)
+need_fits Dynamic shape all number node kept e capped count = omega (arith, count refl, capped)
 
 -- so the needs of the nodes that are open fit
 pub open_fits : (next : StoreWords) (i : ℕ) (old all : List Coord) → ReachLaws next.shape → IsWellFormed next → IsOpenThrough next old all i → (j : ℕ) (node : NodeShape) → j < i → slice_get next.shape.nodes j ≡ Some node → need_of next.shape all (1 + j) node ≤ count_of node.cap
@@ -178,9 +168,10 @@ open_fits next i old all laws well is_open j node below at =
     let found = node_of OfWellFormed next.shape.nodes next.nodes 1 is_root j
     (nodes_at next.shape.nodes next.nodes 1 is_root j well.nodes_fit (slice_get_within next.shape.nodes j node at)) in
     let fits : need_of next.shape all (suc j) found.node ≤ count_of found.node.cap =
-    need_fits found.node.kind next.shape all (suc j) found.node found.kept found.slots found.live refl
-    (cap_at next.shape.nodes next.nodes j found.node found.kept well.within_caps found.at found.has) found.says
-    (λ pointer. open_count next i j old all found.node found.kept laws well is_open below found.at found.has pointer) in
+    need_fits found.node.kind next.shape all (suc j) found.node found.kept refl
+    (cap_at next.shape.nodes next.nodes j found.node found.kept well.within_caps found.at found.has)
+    (λ capped. node_need next j found.node found.kept all (need_laws next.shape laws) well found.at found.has capped (λ slot is_slot.
+    is_open (suc j) slot is_slot ∙ ap (λ b. is_live next.shape (cond b all old) (suc j) slot) (le-leb (suc j) i (omega (arith, below))))) in
     subst (λ n. need_of next.shape all n node ≤ count_of node.cap) (sym one)
     (subst (λ (n : NodeShape). need_of next.shape all (suc j) n ≤ count_of n.cap) (same_Some found.node node (sym found.at ∙ at)) fits)
 
@@ -192,16 +183,14 @@ refused_first store next wanted i full laws is refusal flat stands =
     let same : next.shape ≡ store.shape = is.keeps.same_shape in
     let here : ReachLaws next.shape = subst ReachLaws (sym same) laws in
     let is_open = is.opens flat.active (open_at_start store flat wanted stands) in
-    let found = node_of (IsPointerOf full.cap) next.shape.nodes next.nodes 1 is_root i refusal.pointer in
-    let past : full.cap < length (reached_slots next.shape all (suc i)) = refusal.past flat.active is_open in
+    let node : NodeShape = refusal.node in
     let one : 1 + i ≡ suc i = omega arith in
-    let needs : count_of found.node.cap < need_of next.shape all (1 + i) found.node =
-    subst (λ n. count_of found.node.cap < need_of next.shape all n found.node) (sym one)
-    (subst (λ k. count_of found.node.cap < need_by k next.shape all (suc i) (count_of found.node.chunk)) (sym found.says.0) (omega (arith, found.says.1))) in
-    let first : first_full next.shape all ≡ Some (full_node (1 + i) (count_of found.node.cap)) =
-    full_some next.shape all 1 next.shape.nodes i found.node found.at (λ j other below at. open_fits next i flat.active all here is.well_formed is_open j other below at) needs in
+    let needs : count_of node.cap < need_of next.shape all (1 + i) node =
+    subst (λ n. count_of node.cap < need_of next.shape all n node) (sym one) (omega (arith, refusal.past flat.active is_open, refusal.cap_is)) in
+    let first : first_full next.shape all ≡ Some (full_node (1 + i) (count_of node.cap)) =
+    full_some next.shape all 1 next.shape.nodes i node refusal.there (λ j other below at. open_fits next i flat.active all here is.well_formed is_open j other below at) needs in
     ap (λ (s : Shape). unless_full (first_full s all)) (sym same) ∙ ap unless_full first
-    ∙ ap (λ n. Err (full_at n (count_of found.node.cap))) (one ∙ sym refusal.number) ∙ ap (λ c. Err (full_at full.node c)) found.says.1
+    ∙ ap (λ n. Err (full_at n (count_of node.cap))) (one ∙ sym refusal.number) ∙ ap (λ c. Err (full_at full.node c)) refusal.cap_is
   where
     full_node : ℕ → ℕ → FullNode
     full_node n m = record { node = n; cap = m }
@@ -288,7 +277,7 @@ all_inside shape flat wanted laws is within at has = elim (Contains-append_cases
   | inr new ↦ All-contains (Inside (bounds_of_shape shape)) wanted at within new
 ]
 
-stands_whole : (store : StoreWords) (nodes : List NodeWords) (flat : FlatLayout) (wanted : List Coord) → ReachLaws store.shape → IsWellFormed store → IsWellFormed (record store { nodes = nodes }) → KeepsCells store (record store { nodes = nodes }) → All (Inside (bounds_of_shape store.shape)) wanted → IsOpenThrough (record store { nodes = nodes }) flat.active (flat.active ++ wanted) (length store.shape.nodes) → StandsFor store flat → StandsFor (record store { nodes = nodes }) (record flat { active = closure store.shape (flat.active ++ wanted) })
+pub stands_whole : (store : StoreWords) (nodes : List NodeWords) (flat : FlatLayout) (wanted : List Coord) → ReachLaws store.shape → IsWellFormed store → IsWellFormed (record store { nodes = nodes }) → KeepsCells store (record store { nodes = nodes }) → All (Inside (bounds_of_shape store.shape)) wanted → IsOpenThrough (record store { nodes = nodes }) flat.active (flat.active ++ wanted) (length store.shape.nodes) → StandsFor store flat → StandsFor (record store { nodes = nodes }) (record flat { active = closure store.shape (flat.active ++ wanted) })
 stands_whole store nodes flat wanted laws well after keeps within is_open stands =
     let shape : Shape = store.shape in
     let all : List Coord = flat.active ++ wanted in
@@ -303,7 +292,7 @@ stands_whole store nodes flat wanted laws well after keeps within is_open stands
       values = values_after store nodes flat laws well after keeps stands;
     }
 
-same_whole : (store next : StoreWords) → KeepsCells store next → next ≡ record store { nodes = next.nodes }
+pub same_whole : (store next : StoreWords) → KeepsCells store next → next ≡ record store { nodes = next.nodes }
 same_whole store next keeps =
     let make : Shape → List (List ℕ) → StoreWords = λ shape fields. record { shape = shape; nodes = next.nodes; fields = fields } in
     ap (λ s. make s next.fields) keeps.same_shape ∙ ap (λ f. make store.shape f) keeps.same_fields

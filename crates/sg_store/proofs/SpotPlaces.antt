@@ -3,7 +3,7 @@ use Rattle.std.proofs.Common.{◌≡◌, ◌≢◌, ℕ, zero, suc, ◌+◌, ◌
 use Rattle.std.specs.Prelude.{IsSome, ◌↔◌, Option, Some, None, is_some, option_and_then, unwrap_or, slice_get, slice_index}
 use Rattle.std.specs.Option.{option_map}
 use Rattle.std.specs.List.{All, list_all}
-use Rattle.std.proofs.Math.Nat.{mul-le-mul_right, div-add-mod, div-lt_iff_lt-mul}
+use Rattle.std.proofs.Math.Nat.{mul-le-mul_left, mul-le-mul_right, div-add-mod, div-lt_iff_lt-mul}
 use Rattle.std.proofs.Math.Seq.{take-length}
 use Rattle.std.proofs.lemmas.Bool.{false≢true, and_parts}
 use Rattle.std.proofs.lemmas.Nat.{mul-add-lt, mod_below}
@@ -15,7 +15,7 @@ use Rattle.sg_layout.specs.declared.shape.Kind.{Kind}
 use Rattle.sg_layout.specs.declared.shape.Kind.TheVariants.{Dense, Bitmasked, Pointer, Hash, Dynamic}
 use Rattle.sg_layout.specs.declared.shape.NodeShape.{NodeShape}
 use Rattle.sg_layout.specs.declared.shape.Shape.{Shape}
-use Rattle.sg_layout.specs.Axes.{size_of, sizes_of, slots_of, bounds_of_shape}
+use Rattle.sg_layout.specs.Axes.{count_of, size_of, sizes_of, slots_of, bounds_of_shape}
 use Rattle.sg_layout.specs.RuleLaws.{AcceptedKeepsRules}
 use Rattle.sg_layout.specs.Live.{kind_or, kind_at, is_live}
 use Rattle.sg_layout.specs.Slots.{IsSlot}
@@ -34,6 +34,7 @@ use Rattle.sg_store.specs.steps.Walking.{AreOffsets, IsPlaceAt}
 use Rattle.sg_store.proofs.ActiveCells.{as_many_words, from_some, on_the_way, first_set, set_leads}
 use Rattle.sg_store.proofs.Beginning.{caps_of}
 use Rattle.sg_store.proofs.Opened.{slot_offsets}
+use Rattle.sg_store.proofs.Walking.{node_is}
 use Rattle.sg_store.proofs.Roomy.{at_least, some_parts}
 use Rattle.sg_store.proofs.Stepping.{step_more, answer_more, links_lead, place_fits, leads_within, size_at}
 use Rattle.sg_store.proofs.PathWalks.{there, StepIs}
@@ -101,23 +102,31 @@ width_more (first ∷ later) (suc i) node width at = width_more later i node (wi
 -- ── Copies are few ──
 
 -- the places below a node, where those above it are at most 2^17 copies of so many slots
-below_few : (kind : Kind) (node : NodeShape) (places width size : ℕ) → is_built kind ≡ true → IsCapped kind node → places ≤ 2 ^ 17 * width → places_below kind node (places * size) ≤ 2 ^ 17 * width_past kind (width * size)
-below_few Dense node places width size built capped few = let grown : places * size ≤ 2 ^ 17 * width * size = mul-le-mul_right size few in omega arith
-below_few Bitmasked node places width size built capped few = let grown : places * size ≤ 2 ^ 17 * width * size = mul-le-mul_right size few in omega arith
-below_few Pointer node places width size built capped few = omega (arith, capped.1)
-below_few Hash node places width size built capped few = absurd (false≢true built)
-below_few Dynamic node places width size built capped few = absurd (false≢true built)
+below_few : (kind : Kind) (node : NodeShape) (places width size : ℕ) → size ≡ size_of node.sizes → 1 ≤ width → IsCapped kind node → places ≤ 2 ^ 17 * width → places_below kind node (places * size) ≤ 2 ^ 17 * width_past kind (width * size)
+below_few Dense node places width size sized some capped few = let grown : places * size ≤ 2 ^ 17 * width * size = mul-le-mul_right size few in omega arith
+below_few Bitmasked node places width size sized some capped few = let grown : places * size ≤ 2 ^ 17 * width * size = mul-le-mul_right size few in omega arith
+below_few Pointer node places width size sized some capped few = omega (arith, capped.1)
+below_few Hash node places width size sized some capped few = omega (arith, capped.1)
+below_few Dynamic node places width size sized some capped few =
+    let caps : count_of node.cap * count_of node.chunk ≤ 2 ^ 16 * count_of node.chunk = mul-le-mul_right (count_of node.chunk) capped.1 in
+    let chunks : 2 ^ 16 * count_of node.chunk ≤ 2 ^ 16 * size = mul-le-mul_left (2 ^ 16) (omega (arith, capped.3, sized)) in
+    let grown : 1 * size ≤ width * size = mul-le-mul_right size some in
+    omega (arith, caps, chunks, grown)
 
-pub copies_few : (nodes : List NodeShape) (words : List NodeWords) (places width : ℕ) (live : ℕ → Bool) → AreNodes nodes words places live → list_all (λ node. is_built node.kind) nodes ≡ true → All (λ node. IsCapped node.kind node) nodes → places ≤ 2 ^ 17 * width → (p : ℕ) → p < places → (s : List ℕ) → AreOffsets nodes s → (x : ℕ) → place_after place_below nodes words p s ≡ Some x → x < 2 ^ 17 * width_from width nodes (length s)
-copies_few nodes words places width live are built caps few p within [] ins x e = omega (arith, same_Some p x e)
-copies_few [] words places width live are built caps few p within (v ∷ s) ins x e = absurd ins
-copies_few (node ∷ later) [] places width live are built caps few p within (v ∷ s) ins x e = absurd are
-copies_few (node ∷ later) (kept ∷ words) places width live are built caps few p within (v ∷ s) ins x e =
+some_width : (places width p : ℕ) → p < places → places ≤ 2 ^ 17 * width → 1 ≤ width
+some_width places zero p within few = absurd (omega (arith, within, few))
+some_width places (suc width) p within few = omega arith
+
+pub copies_few : (nodes : List NodeShape) (words : List NodeWords) (places width : ℕ) (live : ℕ → Bool) → AreNodes nodes words places live → All (λ node. IsCapped node.kind node) nodes → places ≤ 2 ^ 17 * width → (p : ℕ) → p < places → (s : List ℕ) → AreOffsets nodes s → (x : ℕ) → place_after place_below nodes words p s ≡ Some x → x < 2 ^ 17 * width_from width nodes (length s)
+copies_few nodes words places width live are caps few p within [] ins x e = omega (arith, same_Some p x e)
+copies_few [] words places width live are caps few p within (v ∷ s) ins x e = absurd ins
+copies_few (node ∷ later) [] places width live are caps few p within (v ∷ s) ins x e = absurd are
+copies_few (node ∷ later) (kept ∷ words) places width live are caps few p within (v ∷ s) ins x e =
     let size : ℕ = size_of node.sizes in
-    let parts = and_parts (is_built node.kind) (list_all (λ (n : NodeShape). is_built n.kind) later) built in
-    let next = below_few node.kind node places width size parts.0 (All-head (λ (n : NodeShape). IsCapped n.kind n) node later caps) few in
+    let some : 1 ≤ width = some_width places width p within few in
+    let next = below_few node.kind node places width size refl some (All-head (λ (n : NodeShape). IsCapped n.kind n) node later caps) few in
     option_and_then_some _ _ x e (λ n here rest.
-    copies_few later words _ (width_past node.kind (width * size)) _ are.2 parts.1 (All-tail (λ (n : NodeShape). IsCapped n.kind n) node later caps) next n
+    copies_few later words _ (width_past node.kind (width * size)) _ are.2 (All-tail (λ (n : NodeShape). IsCapped n.kind n) node later caps) next n
     (leads_within node.kind node kept _ _ are.1 (slot_under node p v) n (omega (arith, mul-add-lt p size v places within ins.0)) here) s ins.1 x rest)
 
 -- ── Widths as the code computes them ──
@@ -240,7 +249,8 @@ passes store flat spot path offset node kept going stands passable =
     let set : is_set node.kind node kept slot ≡ true = first_set node.kind node kept slot (λ sparse.
     let own : kind_at store.shape.nodes (suc spot.node) ≢ Dense = λ e. sparse (sym kind ∙ e) in
     sym (own_set store spot path offset node kept going) ∙ slot_live store flat spot path offset node kept going stands own ∙ passable own) in
-    let led = set_leads node.kind node kept slot set in
+    let own = node_is store.shape.nodes store.nodes 1 is_root going.well.nodes_fit spot.node node kept going.at going.has in
+    let led = set_leads node.kind node kept own.0 own.1 own.2 slot set in
     (led.0, goes_on store spot path offset node kept going ∙ led.1)
 
 -- ── As the code goes ──
@@ -307,20 +317,6 @@ past_size offset size passable below past none = (
   λ both. absurd (omega (arith, both.0, past)),
 )
 
--- kinds that are well-formed are built
-kind_built : (kind : Kind) (node : NodeShape) (kept : NodeWords) (slots : ℕ) (live : ℕ → Bool) → IsNode kind node kept slots live → is_built kind ≡ true
-kind_built Dense node kept slots live is = refl
-kind_built Bitmasked node kept slots live is = refl
-kind_built Pointer node kept slots live is = refl
-kind_built Hash node kept slots live is = absurd is
-kind_built Dynamic node kept slots live is = absurd is
-
-nodes_built : (nodes : List NodeShape) (words : List NodeWords) (places : ℕ) (live : ℕ → Bool) → AreNodes nodes words places live → list_all (λ node. is_built node.kind) nodes ≡ true
-nodes_built [] words places live are = refl
-nodes_built (node ∷ later) [] places live are = absurd are
-nodes_built (node ∷ later) (kept ∷ words) places live are =
-    ap (λ b. b && list_all (λ (n : NodeShape). is_built n.kind) later) (kind_built node.kind node kept _ _ are.1) ∙ nodes_built later words _ _ are.2
-
 -- a number of a copy is small
 pub part_small : (store : StoreWords) (spot : Spot) (path : List ℕ) (offset width place size below wide : ℕ) → IsStepping store spot path offset width place size → AcceptedKeepsRules store.shape → cell_along store (path ++ offset ∷ []) ≡ Some below → 1 ≤ wide → wide ≡ width_after store.shape.nodes (suc spot.node) → below / wide < 2 ^ 32
 part_small store spot path offset width place size below wide step rules leads some is =
@@ -330,7 +326,7 @@ part_small store spot path offset width place size below wide step rules leads s
     let long : length whole ≡ suc spot.node = omega (arith, step.leads.node, length-append path (offset ∷ [])) in
     let fits : AreOffsets nodes whole = slot_offsets nodes (suc spot.node) whole (next_slot nodes spot.node path offset going.0 going.2.leads.is_slot going.2.at going.2.below) in
     let few : below < 2 ^ 17 * width_from 1 nodes (length whole) =
-    copies_few nodes store.nodes 1 1 is_root step.well.nodes_fit (nodes_built nodes store.nodes 1 is_root step.well.nodes_fit) (caps_of store.shape rules step.well.accepted)
+    copies_few nodes store.nodes 1 1 is_root step.well.nodes_fit (caps_of store.shape rules step.well.accepted)
     (omega arith) 0 (omega arith) whole fits below (links_lead nodes store.nodes 0 whole below leads) in
     let here : below < 2 ^ 17 * wide = subst (λ w. below < 2 ^ 17 * w) (ap (width_from 1 nodes) long ∙ sym is) few in
     few_parts below wide some here

@@ -1,5 +1,5 @@
 -- A walk that goes one step further, and where its places and numbers end.
-use Rattle.std.proofs.Common.{◌≡◌, ℕ, zero, suc, ◌+◌, ◌*◌, ◌^◌, ◌<◌, Bool, true, false, List, [], ◌∷◌, ◌++◌, length, get_or, refl, ap, ◌∙◌, arith}
+use Rattle.std.proofs.Common.{◌≡◌, ℕ, zero, suc, ◌+◌, ◌*◌, ◌^◌, ◌<◌, Bool, true, false, List, [], ◌∷◌, ◌++◌, length, get_or, refl, sym, ap, ◌∙◌, arith}
 use Rattle.std.specs.Prelude.{Option, Some, None, option_and_then, slice_get, slice_index}
 use Rattle.std.specs.Option.{option_map}
 use Rattle.std.proofs.lemmas.Nat.{mul-add-lt}
@@ -7,16 +7,18 @@ use Rattle.std.proofs.lemmas.Option.{none-some, same_Some, option_and_then_some,
 use Rattle.sg_layout.specs.declared.shape.Kind.{Kind}
 use Rattle.sg_layout.specs.declared.shape.Kind.TheVariants.{Dense, Bitmasked, Pointer, Hash, Dynamic}
 use Rattle.sg_layout.specs.declared.shape.NodeShape.{NodeShape}
-use Rattle.sg_layout.specs.Axes.{size_of, sizes_of}
+use Rattle.sg_layout.specs.Axes.{count_of, size_of, sizes_of}
 use Rattle.sg_pool.specs.Numbers.{is_live_number}
 use Rattle.sg_pool.proofs.Uses.{live_is_number}
 use Rattle.sg_store.specs.declared.node.NodeWords.{NodeWords}
 use Rattle.sg_store.specs.StoreWords.{StoreWords}
 use Rattle.sg_store.specs.Slots.{slot_under, place_below, active_below}
 use Rattle.sg_store.specs.Walks.{Step, place_after, own_answer}
-use Rattle.sg_store.specs.WellFormed.{IsNode, places_below, AreNodes, is_root, cells_below}
+use Rattle.sg_store.specs.WellFormed.{IsPointerNode, IsNode, by_slots, places_below, AreNodes, is_root, cells_below}
 use Rattle.sg_store.specs.steps.AtNode.{AtNode, AtNodeOf}
 use Rattle.sg_store.specs.steps.Walking.{AreOffsets, IsPlaceAt, step_of}
+use Rattle.sg_store.proofs.BySlots.{hash_leads}
+use Rattle.sg_store.proofs.Chains.{chunks_within}
 use Rattle.sg_store.proofs.Walking.{linked_is, index_contains, active_leads}
 
 -- the walk over one offset more, at the node with an index
@@ -90,14 +92,18 @@ either_leads false nodes words p s x e = e
 
 -- ── Places are within their numbers ──
 
+pointer_within : (node : NodeShape) (kept : NodeWords) (slots : ℕ) (live : ℕ → Bool) → IsPointerNode node kept slots live → (q n : ℕ) → place_below Pointer node kept q ≡ Some n → n < count_of node.cap + 17
+pointer_within node kept slots live is q n e =
+    let alive : is_live_number kept.pool n ≡ true = (is.live_linked n).1 (index_contains kept.links q n (linked_is (slice_index kept.links q) n e)) in
+    omega (arith, live_is_number kept.pool n alive, is.places)
+
 pub leads_within : (kind : Kind) (node : NodeShape) (kept : NodeWords) (slots : ℕ) (live : ℕ → Bool) → IsNode kind node kept slots live → (q n : ℕ) → q < slots → place_below kind node kept q ≡ Some n → n < places_below kind node slots
 leads_within Dense node kept slots live is q n below e = let same : q ≡ n = same_Some q n e in omega arith
 leads_within Bitmasked node kept slots live is q n below e = let same : q ≡ n = same_Some q n e in omega arith
-leads_within Pointer node kept slots live is q n below e =
-    let alive : is_live_number kept.pool n ≡ true = (is.live_linked n).1 (index_contains kept.links q n (linked_is (slice_index kept.links q) n e)) in
-    omega (arith, live_is_number kept.pool n alive, is.places)
-leads_within Hash node kept slots live is q n below e = absurd is
-leads_within Dynamic node kept slots live is q n below e = absurd is
+leads_within Pointer node kept slots live is q n below e = pointer_within node kept slots live is q n e
+leads_within Hash node kept slots live is q n below e =
+    pointer_within node (by_slots kept slots) slots live is.as_pointer q n (sym (hash_leads node kept slots live is q) ∙ e)
+leads_within Dynamic node kept slots live is q n below e = chunks_within node kept slots live is q n e
 
 pub place_fits : (nodes : List NodeShape) (words : List NodeWords) (places : ℕ) (live : ℕ → Bool) → AreNodes nodes words places live → (p : ℕ) → p < places → (s : List ℕ) → AreOffsets nodes s → (x : ℕ) → place_after place_below nodes words p s ≡ Some x → length s < length nodes → AtNode (IsPlaceAt x) nodes words places live (length s)
 place_fits [] words places live are p within s ins x e more = absurd (omega (arith, more))

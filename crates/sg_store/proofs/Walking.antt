@@ -1,5 +1,5 @@
 -- Walks down the nodes: different slots lead to different places, and nothing is on below a place that isn't live.
-use Rattle.std.proofs.Common.{◌≡◌, ◌≢◌, ℕ, zero, suc, ◌-◌, ◌<◌, Bool, true, false, not, List, [], ◌∷◌, length, refl, sym, ap, ◌∙◌, arith, cond}
+use Rattle.std.proofs.Common.{◌≡◌, ◌≢◌, ℕ, zero, suc, ◌-◌, ◌*◌, ◌<◌, Bool, true, false, not, List, [], ◌∷◌, length, refl, sym, ap, ◌∙◌, subst, arith, cond}
 use Rattle.std.specs.Prelude.{Option, Some, None, option_and_then, unwrap_or, slice_get, slice_index, ◌==◌}
 use Rattle.std.specs.List.{Contains}
 use Rattle.std.proofs.lemmas.Bool.{false≢true}
@@ -13,8 +13,10 @@ use Rattle.sg_layout.specs.Live.{kind_or, kind_at}
 use Rattle.sg_store.specs.declared.node.NodeWords.{NodeWords}
 use Rattle.sg_store.specs.Slots.{slot_under, linked, is_set, place_below, active_below}
 use Rattle.sg_store.specs.Walks.{Step, place_after, own_answer, slot_number_in, is_on}
-use Rattle.sg_store.specs.WellFormed.{IsNode, live_below, live_slot, AreNodes}
+use Rattle.sg_store.specs.WellFormed.{IsPointerNode, IsNode, by_slots, live_below, live_slot, AreNodes}
 use Rattle.sg_store.specs.steps.Walking.{AreOffsets}
+use Rattle.sg_store.proofs.BySlots.{hash_leads, hash_set}
+use Rattle.sg_store.proofs.Chains.{chunks_one}
 
 -- ── One node ──
 
@@ -45,19 +47,37 @@ active_leads kind node kept slot place e =
 abbrev pub IsOne : Step → NodeShape → NodeWords → Type 0
 IsOne step node kept = (x y place : ℕ) → step node.kind node kept x ≡ Some place → step node.kind node kept y ≡ Some place → x ≡ y
 
-links_one : (kind : Kind) (node : NodeShape) (kept : NodeWords) (slots : ℕ) (live : ℕ → Bool) → IsNode kind node kept slots live → (x y place : ℕ) → place_below kind node kept x ≡ Some place → place_below kind node kept y ≡ Some place → x ≡ y
-links_one Dense node kept slots live is x y place p q = same_Some x place p ∙ sym (same_Some y place q)
-links_one Bitmasked node kept slots live is x y place p q = same_Some x place p ∙ sym (same_Some y place q)
-links_one Pointer node kept slots live is x y place p q =
+pointer_one : (node : NodeShape) (kept : NodeWords) (slots : ℕ) (live : ℕ → Bool) → IsPointerNode node kept slots live → (x y place : ℕ) → place_below Pointer node kept x ≡ Some place → place_below Pointer node kept y ≡ Some place → x ≡ y
+pointer_one node kept slots live is x y place p q =
     let left = linked_is (slice_index kept.links x) place p in
     let right = linked_is (slice_index kept.links y) place q in
     is.once x y (λ none. cc) (left ∙ sym right)
-links_one Hash node kept slots live is x y place p q = absurd is
-links_one Dynamic node kept slots live is x y place p q = absurd is
+
+links_one : (kind : Kind) (node : NodeShape) (kept : NodeWords) (slots : ℕ) (live : ℕ → Bool) → IsNode kind node kept slots live → (x y place : ℕ) → place_below kind node kept x ≡ Some place → place_below kind node kept y ≡ Some place → x ≡ y
+links_one Dense node kept slots live is x y place p q = same_Some x place p ∙ sym (same_Some y place q)
+links_one Bitmasked node kept slots live is x y place p q = same_Some x place p ∙ sym (same_Some y place q)
+links_one Pointer node kept slots live is x y place p q = pointer_one node kept slots live is x y place p q
+links_one Hash node kept slots live is x y place p q =
+    pointer_one node (by_slots kept slots) slots live is.as_pointer x y place
+    (sym (hash_leads node kept slots live is x) ∙ p) (sym (hash_leads node kept slots live is y) ∙ q)
+links_one Dynamic node kept slots live is x y place p q = chunks_one node kept slots live is x y place p q
 
 active_one : (kind : Kind) (node : NodeShape) (kept : NodeWords) (slots : ℕ) (live : ℕ → Bool) → IsNode kind node kept slots live → (x y place : ℕ) → active_below kind node kept x ≡ Some place → active_below kind node kept y ≡ Some place → x ≡ y
 active_one kind node kept slots live is x y place p q =
     links_one kind node kept slots live is x y place (active_leads kind node kept x place p).1 (active_leads kind node kept y place q).1
+
+-- a node among well-formed ones is so
+pub node_is : (nodes : List NodeShape) (words : List NodeWords) (places : ℕ) (live : ℕ → Bool) → AreNodes nodes words places live → (i : ℕ) (node : NodeShape) (kept : NodeWords) → slice_get nodes i ≡ Some node → slice_get words i ≡ Some kept → (slots : ℕ) × (own : ℕ → Bool) × IsNode node.kind node kept slots own
+node_is [] words places live are i node kept at has = absurd (none-some node at)
+node_is (first ∷ later) [] places live are i node kept at has = absurd (none-some kept has)
+node_is (first ∷ later) (own ∷ words) places live are zero node kept at has =
+    let n : ℕ = places * size_of first.sizes in (
+      n,
+      live_slot first live,
+      subst (λ (f : NodeShape). IsNode f.kind f kept n (live_slot first live)) (same_Some first node at)
+          (subst (λ (k : NodeWords). IsNode first.kind first k n (live_slot first live)) (same_Some own kept has) are.1),
+    )
+node_is (first ∷ later) (own ∷ words) places live are (suc i) node kept at has = node_is later words _ _ are.2 i node kept at has
 
 -- ── Different slots lead to different places ──
 
@@ -142,21 +162,29 @@ own_kind_is (node ∷ later) o (v ∷ s) = own_kind_is later v s ∙ sym (kind_p
 not_live_slot : (node : NodeShape) (live : ℕ → Bool) (p o : ℕ) → o < size_of node.sizes → live_slot node live (slot_under node p o) ≡ live p
 not_live_slot node live p o below = ap live (div-mul-add p (size_of node.sizes) o below)
 
+pointer_set_live : (node : NodeShape) (kept : NodeWords) (slots : ℕ) (live : ℕ → Bool) → IsPointerNode node kept slots live → (q : ℕ) → is_set Pointer node kept q ≡ true → live q ≡ true
+pointer_set_live node kept slots live is q on = is.in_live q (λ none. absurd (false≢true (sym (ap (λ n. not (n == 0)) none) ∙ on)))
+
+pointer_dead : (node : NodeShape) (kept : NodeWords) (slots : ℕ) (live : ℕ → Bool) → IsPointerNode node kept slots live → (q n : ℕ) → live q ≡ false → place_below Pointer node kept q ≡ Some n → ⊥
+pointer_dead node kept slots live is q n dead e = false≢true (sym dead ∙ is.in_live q (λ none. cc (linked_is (slice_index kept.links q) n e)))
+
 -- a slot that is set is in a live container
 pub set_is_live : (kind : Kind) (node : NodeShape) (kept : NodeWords) (slots : ℕ) (live : ℕ → Bool) → IsNode kind node kept slots live → kind ≢ Dense → (q : ℕ) → is_set kind node kept q ≡ true → live q ≡ true
 set_is_live Dense node kept slots live is other q on = absurd (other refl)
 set_is_live Bitmasked node kept slots live is other q on = is.in_live q on
-set_is_live Pointer node kept slots live is other q on = is.in_live q (λ none. absurd (false≢true (sym (ap (λ n. not (n == 0)) none) ∙ on)))
-set_is_live Hash node kept slots live is other q on = absurd is
-set_is_live Dynamic node kept slots live is other q on = absurd is
+set_is_live Pointer node kept slots live is other q on = pointer_set_live node kept slots live is q on
+set_is_live Hash node kept slots live is other q on =
+    pointer_set_live node (by_slots kept slots) slots live is.as_pointer q (sym (hash_set node kept slots live is q) ∙ on)
+set_is_live Dynamic node kept slots live is other q on = is.in_live q on
 
 -- a slot that leads on from a place that isn't live leads to one that isn't
 dead_below : (kind : Kind) (node : NodeShape) (kept : NodeWords) (slots : ℕ) (live : ℕ → Bool) → IsNode kind node kept slots live → (q n : ℕ) → live q ≡ false → place_below kind node kept q ≡ Some n → live_below kind kept live n ≡ false
 dead_below Dense node kept slots live is q n dead e = sym (ap live (same_Some q n e)) ∙ dead
 dead_below Bitmasked node kept slots live is q n dead e = sym (ap live (same_Some q n e)) ∙ dead
-dead_below Pointer node kept slots live is q n dead e = absurd (false≢true (sym dead ∙ is.in_live q (λ none. cc (linked_is (slice_index kept.links q) n e))))
-dead_below Hash node kept slots live is q n dead e = absurd is
-dead_below Dynamic node kept slots live is q n dead e = absurd is
+dead_below Pointer node kept slots live is q n dead e = absurd (pointer_dead node kept slots live is q n dead e)
+dead_below Hash node kept slots live is q n dead e =
+    absurd (pointer_dead node (by_slots kept slots) slots live is.as_pointer q n dead (sym (hash_leads node kept slots live is q) ∙ e))
+dead_below Dynamic node kept slots live is q n dead e = refl
 
 not_set : (kind : Kind) (node : NodeShape) (kept : NodeWords) (slots : ℕ) (live : ℕ → Bool) → IsNode kind node kept slots live → kind ≢ Dense → (q : ℕ) → live q ≡ false → is_set kind node kept q ≡ false
 not_set kind node kept slots live is other q dead = split (is_set kind node kept q) (set_is_live kind node kept slots live is other q)

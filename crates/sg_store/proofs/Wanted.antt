@@ -1,6 +1,6 @@
 -- Coordinates that are wanted at a node: their slots there, and the numbers of these.
-use Rattle.std.proofs.Common.{◌≡◌, ◌≢◌, ℕ, zero, suc, ◌+◌, ◌-◌, ◌<◌, ◌≤◌, true, false, not, ◌&&◌, List, [], ◌∷◌, ◌++◌, length, take, get_or, refl, sym, ap, ◌∙◌, subst, arith, cond, inl, inr}
-use Rattle.std.specs.Prelude.{Option, Some, None, option_and_then, unwrap_or, slice_get, slice_index, ◌==◌}
+use Rattle.std.proofs.Common.{◌≡◌, ◌≢◌, ℕ, zero, suc, ◌+◌, ◌-◌, ◌<◌, ◌≤◌, Bool, true, false, not, ◌&&◌, List, [], ◌∷◌, ◌++◌, length, take, get_or, refl, sym, ap, ◌∙◌, subst, arith, cond, inl, inr}
+use Rattle.std.specs.Prelude.{Option, Some, None, is_some, option_and_then, unwrap_or, slice_get, slice_index, ◌==◌}
 use Rattle.std.specs.Option.{option_map}
 use Rattle.std.specs.List.{list_any}
 use Rattle.std.specs.Cmp.Lexicographic.{bytes_decides}
@@ -17,11 +17,12 @@ use Rattle.sg_layout.specs.declared.shape.Shape.{Shape}
 use Rattle.sg_layout.specs.Path.{path}
 use Rattle.sg_layout.specs.Live.{kind_or, kind_at, makes_live, is_live}
 use Rattle.sg_layout.specs.Slots.{IsSlot}
+use Rattle.sg_hash.specs.Tables.{beside}
 use Rattle.sg_store.specs.declared.node.NodeWords.{NodeWords}
 use Rattle.sg_store.specs.StoreWords.{StoreWords}
 use Rattle.sg_store.specs.Slots.{is_set, place_below}
 use Rattle.sg_store.specs.Walks.{slot_number_in, is_on}
-use Rattle.sg_store.specs.WellFormed.{AreNodes, is_root}
+use Rattle.sg_store.specs.WellFormed.{IsNode, AreNodes, is_root}
 use Rattle.sg_store.specs.Reaching.{IsOpenThrough}
 use Rattle.sg_store.specs.steps.AtNode.{AtNodeOf, AreNumbers}
 use Rattle.std.specs.List.{Contains}
@@ -29,7 +30,8 @@ use Rattle.sg_layout.specs.Path.{offsets}
 use Rattle.sg_layout.specs.Live.{is_at_or_below}
 use Rattle.sg_store.specs.Slots.{linked, slot_under}
 use Rattle.sg_store.specs.Walks.{place_after}
-use Rattle.sg_store.proofs.Walking.{links_are_one, numbers_apart}
+use Rattle.sg_store.proofs.Chains.{below_leads}
+use Rattle.sg_store.proofs.Walking.{node_is, links_are_one, numbers_apart}
 use Rattle.sg_store.proofs.Leading.{InLive, number_live}
 use Rattle.sg_store.proofs.Stepping.{step_more, answer_more, words_many}
 use Rattle.sg_store.proofs.PathWalks.{there, path_long, path_more}
@@ -78,16 +80,20 @@ wanted_some store i wanted slots wants slot is q some =
 
 -- ── Where the store is open, links lead to what is wanted ──
 
-set_leads : (kind : Kind) (node : NodeShape) (kept : NodeWords) (q : ℕ) → is_set kind node kept q ≡ true → (n : ℕ) × (place_below kind node kept q ≡ Some n)
-set_leads Dense node kept q on = (q, refl)
-set_leads Bitmasked node kept q on = (q, refl)
-set_leads Pointer node kept q on = leads (slice_index kept.links q) on
+set_leads : (kind : Kind) (node : NodeShape) (kept : NodeWords) (slots : ℕ) (live : ℕ → Bool) → IsNode kind node kept slots live → (q : ℕ) → is_set kind node kept q ≡ true → (n : ℕ) × (place_below kind node kept q ≡ Some n)
+set_leads Dense node kept slots live is q on = (q, refl)
+set_leads Bitmasked node kept slots live is q on = (q, refl)
+set_leads Pointer node kept slots live is q on = leads (slice_index kept.links q) on
   where
     leads : (word : ℕ) → not (word == 0) ≡ true → (n : ℕ) × (linked word ≡ Some n)
     leads zero e = absurd (false≢true e)
     leads (suc n) e = (n, refl)
-set_leads Hash node kept q on = absurd (false≢true on)
-set_leads Dynamic node kept q on = absurd (false≢true on)
+set_leads Hash node kept slots live is q on = some_is (beside kept.keys kept.links q) on
+  where
+    some_is : (o : Option ℕ) → is_some o ≡ true → (n : ℕ) × (o ≡ Some n)
+    some_is None e = absurd (false≢true e)
+    some_is (Some n) e = (n, refl)
+set_leads Dynamic node kept slots live is q on = below_leads node kept slots live is q on
 
 dense_or : (kind : Kind) (node : NodeShape) (kept : NodeWords) (q : ℕ) → (kind ≢ Dense → is_set kind node kept q ≡ true) → is_set kind node kept q ≡ true
 dense_or Dense node kept q h = refl
@@ -113,7 +119,7 @@ pub own_path_live : (shape : Shape) (coords : List Coord) (number : ℕ) (at : C
 own_path_live shape coords number at has =
     list_any-from_Any _ coords (has.0, at, has.1, has.2, live_itself (kind_at shape.nodes number) (path shape at number))
 
-kind_there : (nodes : List NodeShape) (i : ℕ) (node : NodeShape) → slice_get nodes i ≡ Some node → kind_at nodes (suc i) ≡ node.kind
+pub kind_there : (nodes : List NodeShape) (i : ℕ) (node : NodeShape) → slice_get nodes i ≡ Some node → kind_at nodes (suc i) ≡ node.kind
 kind_there nodes i node at =
     let back : suc i - 1 ≡ i = omega arith in
     ap (λ k. kind_or (slice_get nodes k)) back ∙ ap kind_or at
@@ -140,7 +146,8 @@ leads_through store i coords is at has (suc n) below within =
     ∙ sym (ap (λ a. unwrap_or a false) (answer_more is_set nodes store.nodes n node.0 kept.0 node.1 kept.1 0 (path store.shape at n) o long))
     ∙ sym (ap (is_on nodes store.nodes 0) next)
     ∙ is.on n (omega (arith, below)) at has (λ dense. other (sym (kind_there nodes n node.0 node.1) ∙ dense))) in
-    let on = set_leads node.0.kind node.0 kept.0 q set in (
+    let own = node_is nodes store.nodes 1 is_root is.are_nodes n node.0 kept.0 node.1 kept.1 in
+    let on = set_leads node.0.kind node.0 kept.0 own.0 own.1 own.2 q set in (
       on.0,
       ap (place_after place_below nodes store.nodes 0) next
           ∙ step_more place_below nodes store.nodes n node.0 kept.0 node.1 kept.1 0 (path store.shape at n) o long

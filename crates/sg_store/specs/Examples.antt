@@ -1,11 +1,14 @@
 -- Worked equations: a store of pointer(i: 4) cap 2; dense(i: 4); and one of pointer(i: 4) cap 2; bitmasked(i: 4);
 use Rattle.std.specs.Prelude.{◌≡◌, true, false, [], ◌∷◌, Some, None, pos, replicate, refl}
-use Rattle.sg_layout.specs.declared.shape.Kind.TheVariants.{Bitmasked, Pointer}
+use Rattle.sg_layout.specs.declared.shape.Kind.TheVariants.{Dense, Bitmasked, Pointer, Hash}
+use Rattle.sg_layout.specs.declared.shape.Shape.{Shape}
 use Rattle.sg_layout.specs.Examples.{at1, blocks, masked_blocks, growing, node1, shape_of}
+use Rattle.sg_links.specs.Lists.{Lists}
 use Rattle.sg_pool.specs.Numbers.{PoolNumbers}
 use Rattle.sg_store.specs.declared.node.NodeWords.{NodeWords}
 use Rattle.sg_store.specs.declared.spot.Spot.{Spot}
 use Rattle.sg_store.specs.StoreWords.{StoreWords, word_in}
+use Rattle.sg_store.specs.Slots.{links_by_slot}
 use Rattle.sg_store.specs.Walks.{is_on, cell_in, place_in}
 use Rattle.sg_store.specs.WellFormed.{is_built_shape, cell_count}
 use Rattle.sg_store.specs.Spots.{width_after, place_of}
@@ -17,12 +20,15 @@ two_live = record { live = true ∷ (true ∷ replicate 17 false) }
 abbrev pub no_numbers : PoolNumbers
 no_numbers = record { live = [] }
 
+abbrev pub no_chains : Lists
+no_chains = record { numbers = 0; lists = [] }
+
 -- block 0 has container 1, and block 2 has container 0
 abbrev pub two_links : NodeWords
-two_links = record { links = 2 ∷ (0 ∷ (1 ∷ (0 ∷ []))); masks = []; pool = two_live }
+two_links = record { keys = []; links = 2 ∷ (0 ∷ (1 ∷ (0 ∷ []))); masks = []; lengths = []; chains = no_chains; pool = two_live }
 
 abbrev pub no_words : NodeWords
-no_words = record { links = []; masks = []; pool = no_numbers }
+no_words = record { keys = []; links = []; masks = []; lengths = []; chains = no_chains; pool = no_numbers }
 
 abbrev pub block_store : StoreWords
 block_store = record { shape = blocks; nodes = two_links ∷ (no_words ∷ []); fields = (0 ∷ (7 ∷ (0 ∷ (0 ∷ (5 ∷ []))))) ∷ [] }
@@ -58,7 +64,7 @@ block_one_is_off = refl
 abbrev pub masked_store : StoreWords
 masked_store = record {
   shape = masked_blocks;
-  nodes = two_links ∷ (record { links = []; masks = 34 ∷ []; pool = no_numbers } ∷ []);
+  nodes = two_links ∷ (record { keys = []; links = []; masks = 34 ∷ []; lengths = []; chains = no_chains; pool = no_numbers } ∷ []);
   fields = [];
 }
 
@@ -83,8 +89,8 @@ five_has_no_bit = refl
 abbrev pub linked_below : StoreWords
 linked_below = record {
   shape = shape_of 1 (node1 Bitmasked (pos 2) (pos 0) (pos 0) ∷ (node1 Pointer (pos 4) (pos 2) (pos 0) ∷ []));
-  nodes = record { links = []; masks = 1 ∷ []; pool = no_numbers }
-      ∷ (record { links = 0 ∷ (0 ∷ (0 ∷ (0 ∷ (0 ∷ (1 ∷ (0 ∷ (0 ∷ []))))))); masks = []; pool = two_live } ∷ []);
+  nodes = record { keys = []; links = []; masks = 1 ∷ []; lengths = []; chains = no_chains; pool = no_numbers }
+      ∷ (record { keys = []; links = 0 ∷ (0 ∷ (0 ∷ (0 ∷ (0 ∷ (1 ∷ (0 ∷ (0 ∷ []))))))); masks = []; lengths = []; chains = no_chains; pool = two_live } ∷ []);
   fields = [];
 }
 
@@ -107,5 +113,62 @@ spot_is_cell = refl
 blocks_are_built : is_built_shape blocks ≡ true
 blocks_are_built = refl
 
-chains_are_not : is_built_shape growing ≡ false
-chains_are_not = refl
+chains_are_built : is_built_shape growing ≡ true
+chains_are_built = refl
+
+-- dynamic(i: 8) chunk 4 cap 2; with length 6: the first chunk of its chain is 1, the second 0
+abbrev pub grown_words : NodeWords
+grown_words = record {
+  keys = [];
+  links = [];
+  masks = [];
+  lengths = 6 ∷ [];
+  chains = record { numbers = 2; lists = (1 ∷ (0 ∷ [])) ∷ [] };
+  pool = record { live = true ∷ (true ∷ []) };
+}
+
+abbrev pub grown_store : StoreWords
+grown_store = record { shape = growing; nodes = grown_words ∷ []; fields = [] }
+
+-- coordinate 2 is in chunk 1, and 5 the second cell of chunk 0
+two_is_in_the_first_chunk : cell_in grown_store (at1 2) ≡ Some 6
+two_is_in_the_first_chunk = refl
+
+five_is_in_the_second_chunk : cell_in grown_store (at1 5) ≡ Some 1
+five_is_in_the_second_chunk = refl
+
+-- the last chunk has room for coordinate 6, which isn't below the length
+six_has_no_cell : cell_in grown_store (at1 6) ≡ None
+six_has_no_cell = refl
+
+growing_cells : cell_count growing ≡ 8
+growing_cells = refl
+
+-- hash(i: 4) cap 2; dense(i: 4); with a table of 4 places: block 2 has container 1, and block 3, which comes first, container 0
+abbrev pub hashed : Shape
+hashed = shape_of 1 (node1 Hash (pos 4) (pos 2) (pos 0) ∷ (node1 Dense (pos 4) (pos 0) (pos 0) ∷ []))
+
+abbrev pub hash_words : NodeWords
+hash_words = record { keys = 0 ∷ (0 ∷ (3 ∷ (4 ∷ []))); links = 0 ∷ (0 ∷ (2 ∷ (1 ∷ []))); masks = []; lengths = []; chains = no_chains; pool = two_live }
+
+abbrev pub hash_store : StoreWords
+hash_store = record { shape = hashed; nodes = hash_words ∷ (no_words ∷ []); fields = [] }
+
+nine_has_a_key : cell_in hash_store (at1 9) ≡ Some 5
+nine_has_a_key = refl
+
+block_three_leads_to_zero : cell_in hash_store (at1 13) ≡ Some 1
+block_three_leads_to_zero = refl
+
+five_has_no_key : cell_in hash_store (at1 5) ≡ None
+five_has_no_key = refl
+
+-- the link words of its slots
+by_its_slots : links_by_slot hash_words.keys hash_words.links 4 ≡ 0 ∷ (0 ∷ (2 ∷ (1 ∷ [])))
+by_its_slots = refl
+
+hashed_cells : cell_count hashed ≡ 76
+hashed_cells = refl
+
+tables_are_built : is_built_shape hashed ≡ true
+tables_are_built = refl

@@ -4,7 +4,11 @@ pub mod Walks
 pub mod WellFormed
 pub mod StandsFor
 pub mod Spots
+pub mod Rows
 pub mod Reaching
+pub mod Changes
+pub mod Opening
+pub mod OpeningLaws
 pub mod StoreLaws
 pub mod Examples
 pub mod steps

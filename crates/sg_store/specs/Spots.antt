@@ -43,6 +43,10 @@ pub record LeadsAlong (store : StoreWords) (spot : Spot) (slot : List ℕ) : Typ
   pub within : spot.slot < width_after store.shape.nodes spot.node
   pub leads : cell_along store slot ≡ Some (place_of store.shape.nodes spot)
 
+-- a spot of the store: it leads along some path
+abbrev pub IsSpot : StoreWords → Spot → Type 0
+IsSpot store spot = (path : List ℕ) × LeadsAlong store spot path
+
 -- a slot of a node, which is numbered from 1, can be gone through where these coordinates are active: the node has no
 -- activity of its own, or the slot is live
 abbrev pub IsPassable : Shape → List Coord → ℕ → List ℕ → Type 0

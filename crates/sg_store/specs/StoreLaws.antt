@@ -1,7 +1,6 @@
 -- The laws of stores and the flat layouts that they stand for.
-use Rattle.std.specs.Prelude.{◌≡◌, ◌↔◌, ℕ, ◌-◌, ◌<◌, length, Some, IsSome, Contains, slice_get}
+use Rattle.std.specs.Prelude.{◌≡◌, ◌↔◌, ℕ, ◌-◌, ◌<◌, true, length, Some, IsSome, Contains, slice_get}
 use Rattle.sg_coord.specs.declared.coord.Coord.{Coord}
-use Rattle.sg_layout.specs.declared.shape.Kind.TheVariants.{Pointer}
 use Rattle.sg_layout.specs.declared.shape.NodeShape.{NodeShape}
 use Rattle.sg_layout.specs.NeedLaws.{IsNode}
 use Rattle.sg_layout.specs.Need.{need_of}
@@ -10,7 +9,7 @@ use Rattle.sg_pool.specs.Numbers.{live_count}
 use Rattle.sg_store.specs.declared.node.NodeWords.{NodeWords}
 use Rattle.sg_store.specs.StoreWords.{StoreWords, word_in}
 use Rattle.sg_store.specs.Walks.{cell_in}
-use Rattle.sg_store.specs.WellFormed.{IsWellFormed}
+use Rattle.sg_store.specs.WellFormed.{has_cap, IsWellFormed}
 use Rattle.sg_store.specs.StandsFor.{StandsFor}
 
 -- a store stands for at most one flat layout
@@ -29,11 +28,11 @@ abbrev pub CellsDiffer : StoreWords → Type 0
 CellsDiffer store =
     IsWellFormed store → (x y : Coord) (cell : ℕ) → cell_in store x ≡ Some cell → cell_in store y ≡ Some cell → x ≡ y
 
--- as many containers of a pointer node are live as it needs for the active coordinates
+-- as many containers or chunks of a node with a cap are live as it needs for the active coordinates
 abbrev pub LiveIsNeed : StoreWords → Type 0
 LiveIsNeed store =
     IsWellFormed store → (flat : FlatLayout) → StandsFor store flat → (number : ℕ) (node : NodeShape) →
-    IsNode store.shape number node → node.kind ≡ Pointer → (kept : NodeWords) →
+    IsNode store.shape number node → has_cap node.kind ≡ true → (kept : NodeWords) →
     slice_get store.nodes (number - 1) ≡ Some kept → live_count kept.pool ≡ need_of store.shape flat.active number node
 
 -- two stores that stand for the same flat layout have the same values in the cells of a coordinate

@@ -3,5 +3,7 @@ pub mod Fresh
 pub mod AtNode
 pub mod Settling
 pub mod Filling
+pub mod Keying
 pub mod Levels
 pub mod Walking
+pub mod Raising

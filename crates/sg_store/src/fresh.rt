@@ -1,11 +1,16 @@
-ghost use Rattle.std.specs.Prelude.{◌≡◌, ◌↔◌, ℕ, ◌*◌, ◌^◌, ◌≤◌, true, length, All, IfOk, vec_len, slice_index};
+ghost use Rattle.std.specs.Prelude.{◌≡◌, ◌↔◌, ℕ, ◌*◌, ◌^◌, ◌<◌, ◌≤◌, true, length, All, IfOk, vec_len, slice_index};
+ghost use Rattle.sg_layout.specs.declared.shape.Kind.TheVariants.{Hash, Dynamic};
 ghost use Rattle.sg_layout.specs.Accepted.{IsAccepted};
-ghost use Rattle.sg_store.specs.WellFormed.{is_built, places_below, cell_count};
+ghost use Rattle.sg_layout.specs.Axes.{count_of, size_of};
+ghost use Rattle.sg_links.specs.Lists.{empty_lists};
+ghost use Rattle.sg_layout.specs.StorageWords.{power_for};
+ghost use Rattle.sg_store.specs.WellFormed.{places_below, cell_count};
 ghost use Rattle.sg_store.specs.steps.Fresh.{IsFreshNode, AreFresh, AreZeroWords, IsCapped, IsRoomy, IsZeroRow};
 
-use crate::node::NodeWords;
+use crate::node::{NodeWords, chunk_of};
 use sg_coord::count;
 use sg_layout::{Kind, Layout, NodeShape};
+use sg_links::Links;
 use sg_pool::Pool;
 use sg_words::{Items, Memory};
 use std::alloc::Global;
@@ -30,7 +35,7 @@ pub(crate) fn fresh_nodes(alloc: Global, layout: &Layout) -> Result<FreshNodes, 
     let mut places = 1;
     for (index, node) in layout.shape().nodes.as_slice().iter().enumerate() {
         let slots = places * layout.size(index) as usize;
-        words.push(fresh_node(alloc, node, slots)?)?;
+        words.push(fresh_node(alloc, node, places, slots)?)?;
         places = places_below(node, slots);
     }
     Ok(FreshNodes {
@@ -39,45 +44,140 @@ pub(crate) fn fresh_nodes(alloc: Global, layout: &Layout) -> Result<FreshNodes, 
     })
 }
 
-/// Such words for a node with so many slots.
-fn fresh_node(alloc: Global, node: &NodeShape, slots: usize) -> Result<NodeWords, Memory>
-    requires built { is_built node.now.kind ≡ true }
+/// How many words of each kind a node has, and how many numbers its pool has.
+#[derive(Clone, Copy, Debug)]
+struct Room {
+    keys: usize,
+    links: usize,
+    masks: usize,
+    lengths: usize,
+    numbers: u32,
+}
+
+const NONE: Room = Room {
+    keys: 0,
+    links: 0,
+    masks: 0,
+    lengths: 0,
+    numbers: 0,
+};
+
+/// Such words for a node under so many places, with so many slots.
+fn fresh_node(
+    alloc: Global,
+    node: &NodeShape,
+    places: usize,
+    slots: usize,
+) -> Result<NodeWords, Memory>
     requires capped { IsCapped node.now.kind node.now }
+    requires keyed { node.now.kind ≡ Hash → slots ≤ 2 ^ 32 }
+    requires headed { node.now.kind ≡ Dynamic → places < 2 ^ 32 }
+    requires sized { slots ≡ places * size_of node.now.sizes }
     ensures { IfOk result (λ kept. IsFreshNode node.now.kind node.now kept slots) }
 {
     match node.kind {
-        Kind::Dense => zero_words(alloc, 0, 0, 0),
-        Kind::Bitmasked => zero_words(alloc, 0, slots.div_ceil(64), 0),
-        Kind::Pointer => zero_words(alloc, slots, 0, count(node.cap) + SPARES),
-        Kind::Hash => unreachable!(),
-        Kind::Dynamic => unreachable!(),
+        Kind::Dense => zero_words(alloc, &NONE),
+        Kind::Bitmasked => {
+            let masks = slots.div_ceil(64);
+            zero_words(alloc, &Room { masks, ..NONE })
+        }
+        Kind::Pointer => {
+            let numbers = count(node.cap) + SPARES;
+            let links = slots;
+            zero_words(
+                alloc,
+                &Room {
+                    links,
+                    numbers,
+                    ..NONE
+                },
+            )
+        }
+        Kind::Hash => {
+            let keys = table_places(node);
+            let links = keys;
+            let numbers = count(node.cap) + SPARES;
+            zero_words(
+                alloc,
+                &Room {
+                    keys,
+                    links,
+                    numbers,
+                    ..NONE
+                },
+            )
+        }
+        Kind::Dynamic => {
+            let lengths = places;
+            let numbers = count(node.cap);
+            zero_words(
+                alloc,
+                &Room {
+                    lengths,
+                    numbers,
+                    ..NONE
+                },
+            )
+        }
     }
 }
 
 /// How many places stand below a node with so many slots.
 fn places_below(node: &NodeShape, slots: usize) -> usize
-    requires built { is_built node.now.kind ≡ true }
-    requires capped { IsCapped node.now.kind node.now }
+    requires { IsCapped node.now.kind node.now }
     ensures { result ≡ places_below node.now.kind node.now slots }
 {
     match node.kind {
         Kind::Pointer => (count(node.cap) + SPARES) as usize,
-        Kind::Hash => unreachable!(),
+        Kind::Hash => (count(node.cap) + SPARES) as usize,
         Kind::Dense => slots,
         Kind::Bitmasked => slots,
-        Kind::Dynamic => slots,
+        Kind::Dynamic => count(node.cap) as usize * chunk_of(node) as usize,
     }
 }
 
-/// So many link words and mask words, all 0, and a pool of so many numbers, none of them live.
-fn zero_words(alloc: Global, links: usize, masks: usize, places: u32) -> Result<NodeWords, Memory>
-    ensures { IfOk result (AreZeroWords links masks places) }
+/// The places of a hash node's table: the least power of two that is at least twice the cap.
+fn table_places(node: &NodeShape) -> usize
+    requires { IsCapped Hash node.now }
+    ensures { result ≡ power_for (2 * count_of node.now.cap) }
+{
+    let cap = count(node.cap) as usize;
+    (2 * cap).next_power_of_two()
+}
+
+/// So many words, all 0, an empty chain for each length, and a pool of so many numbers, none of them live.
+fn zero_words(alloc: Global, room: &Room) -> Result<NodeWords, Memory>
+    requires { room.now.lengths < 2 ^ 32 }
+    ensures { IfOk result (AreZeroWords room.now) }
 {
     Ok(NodeWords {
-        links: Items::from_vec(vec![in alloc; 0; links]?),
-        masks: Items::from_vec(vec![in alloc; 0; masks]?),
-        pool: Pool::make(alloc, places)?,
+        keys: Items::from_vec(vec![in alloc; 0; room.keys]?),
+        links: Items::from_vec(vec![in alloc; 0; room.links]?),
+        masks: Items::from_vec(vec![in alloc; 0; room.masks]?),
+        lengths: Items::from_vec(vec![in alloc; 0; room.lengths]?),
+        chains: empty_chains(alloc, room.numbers, room.lengths as u32)?,
+        pool: Pool::make(alloc, room.numbers)?,
     })
+}
+
+/// So many empty chains over so many numbers.
+fn empty_chains(alloc: Global, numbers: u32, heads: u32) -> Result<Links, Memory>
+    ensures { IfOk result (λ chains. chains ≡ empty_lists numbers heads) }
+{
+    match Links::make(alloc, numbers, heads) {
+        Ok(chains) => Ok(chains),
+        Err(_) => Err(Memory),
+    }
+}
+
+/// Equal chains.
+fn copy_chains(alloc: Global, chains: &Links) -> Result<Links, Memory>
+    ensures { IfOk result (λ copy. copy ≡ chains.now) }
+{
+    match chains.copy(alloc) {
+        Ok(copy) => Ok(copy),
+        Err(_) => Err(Memory),
+    }
 }
 
 /// A row of zeros for each of so many fields, with a word for each of so many cells.
@@ -102,8 +202,11 @@ impl NodeWords {
         ensures { IfOk result (λ copy. copy ≡ self.now) }
     {
         Ok(NodeWords {
+            keys: Items::from_slice(alloc, self.keys.as_slice())?,
             links: Items::from_slice(alloc, self.links.as_slice())?,
             masks: Items::from_slice(alloc, self.masks.as_slice())?,
+            lengths: Items::from_slice(alloc, self.lengths.as_slice())?,
+            chains: copy_chains(alloc, &self.chains)?,
             pool: self.pool.copy(alloc)?,
         })
     }

@@ -36,7 +36,7 @@ pub fn cells_are_active()
     layouts::last_sparse_decides();
 }
 
-/// A pointer node of a store that stands for a flat layout has as many live containers as the layout needs there.
+/// A node with a cap, of a store that stands for a flat layout, has as many live containers or chunks as the layout needs there.
 pub fn live_is_need()
     ensures { (store : StoreWords) → LiveIsNeed store }
 {

@@ -1,14 +1,21 @@
 //! Stores: the tree of containers of one layout, with the values of its cells.
 #![tactic(auto)]
 
+pub mod bits;
 pub mod cells;
+mod dynamic;
 mod fresh;
+mod hash;
 pub mod laws;
+pub mod levels;
 mod mask;
 pub mod node;
 pub mod pointer;
 pub mod reach;
+pub mod rows;
+pub mod slots;
 pub mod spot;
+pub mod spot_cell;
 pub mod store;
 mod walk;
 
@@ -16,5 +23,7 @@ pub use reach::Full;
 pub use spot::Spot;
 pub use store::{Store, Stores, is_built};
 
+#[cfg(test)]
+mod slot_tests;
 #[cfg(test)]
 mod tests;

@@ -58,7 +58,7 @@ fn remask_at(nodes: &mut Vec<NodeWords>, index: usize, masks: &[u64])
 
 impl Store {
     /// Gives the bitmasked node with this index, from 0, these masks.
-    pub(crate) fn settle_masks(&mut self, index: usize, masks: &[u64])
+    pub(crate) fn remask_node(&mut self, index: usize, masks: &[u64])
         requires there { index < length self.old.nodes }
         requires can { AtNodeOf (CanSettleMasks masks.now) self.old index }
         ensures { ChangesNode (IsRemasked masks.now) self.old self.new index }
@@ -86,7 +86,7 @@ impl Store {
         let kept = &self.nodes.as_slice()[index];
         let mut masks = Items::from_slice(alloc, kept.masks.as_slice())?;
         mark_all(&mut masks, slots);
-        self.settle_masks(index, masks.as_slice());
+        self.remask_node(index, masks.as_slice());
         Ok(())
     }
 }

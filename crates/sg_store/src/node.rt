@@ -1,48 +1,71 @@
-ghost use Rattle.std.specs.Prelude.{◌≡◌, length, slice_index};
-ghost use Rattle.sg_store.specs.Slots.{mask_bit, is_set, place_below};
-ghost use Rattle.sg_store.specs.steps.Walking.{step_of};
+ghost use Rattle.std.specs.Prelude.{◌≡◌, ◌<◌, length, slice_index};
+ghost use Rattle.sg_hash.specs.Tables.{beside};
+ghost use Rattle.sg_store.specs.Slots.{mask_bit, below_length, chunk_cell, is_set, place_below};
+ghost use Rattle.sg_links.specs.Lists.{list_of};
+ghost use Rattle.sg_layout.specs.Axes.{count_of, size_of};
+ghost use Rattle.sg_store.specs.steps.Walking.{step_of, CanFind, IsTableFor, IsChainFor};
 
+use sg_coord::count;
+use sg_hash::find;
 use sg_layout::{Kind, NodeShape};
+use sg_links::Links;
 use sg_pool::Pool;
 use sg_words::Items;
 
 /// The words of one node, over all copies of its segment: for a pointer node a link for each slot, which is 0 or one
-/// more than the number of the slot's container, and the pool of these numbers; for a bitmasked node a bit for each
-/// slot, 64 to a word.
+/// more than the number of the slot's container, and the pool of these numbers; for a hash node a table of keys, which are
+/// numbers of slots, with such links beside them, and the pool; for a bitmasked node a bit for each slot, 64 to a word; for a
+/// dynamic node the length of each parent and a chain of chunks for each, and the pool of the chunks.
 #[derive(Debug, Drop)]
 pub struct NodeWords {
+    pub keys: Items<u64>,
     pub links: Items<u64>,
     pub masks: Items<u64>,
+    pub lengths: Items<u64>,
+    pub chains: Links,
     pub pool: Pool,
 }
 
 impl NodeWords {
     /// Whether the node keeps the slot with this number as active.
-    pub(crate) fn is_set(&self, node: &NodeShape, slot: usize) -> bool
+    pub(crate) fn is_set(&self, node: &NodeShape, size: usize, slot: usize) -> bool
+        requires sized { size ≡ size_of node.now.sizes }
+        requires find { CanFind node.now.kind node.now self.now slot }
         ensures { result ≡ is_set node.now.kind node.now self.now slot }
     {
         match node.kind {
             Kind::Dense => true,
             Kind::Bitmasked => bit(&self.masks, slot),
             Kind::Pointer => word(&self.links, slot) != 0,
-            Kind::Hash | Kind::Dynamic => false,
+            Kind::Hash => beside(&self.keys, &self.links, slot).is_some(),
+            Kind::Dynamic => is_below(&self.lengths, size, slot),
         }
     }
 
     /// The place to which the slot with this number leads on: along links, and only where it is active or `bits` is
     /// false.
-    pub(crate) fn onward(&self, node: &NodeShape, slot: usize, bits: bool) -> Option<usize>
+    pub(crate) fn onward(
+        &self,
+        node: &NodeShape,
+        size: usize,
+        slot: usize,
+        bits: bool,
+    ) -> Option<usize>
+        requires sized { size ≡ size_of node.now.sizes }
+        requires find { CanFind node.now.kind node.now self.now slot }
         ensures { result ≡ step_of bits node.now.kind node.now self.now slot }
     {
-        if bits && !self.is_set(node, slot) {
+        if bits && !self.is_set(node, size, slot) {
             None
         } else {
-            self.place_below(node, slot)
+            self.place_below(node, size, slot)
         }
     }
 
     /// The place to which the slot with this number leads on by links.
-    pub(crate) fn place_below(&self, node: &NodeShape, slot: usize) -> Option<usize>
+    pub(crate) fn place_below(&self, node: &NodeShape, size: usize, slot: usize) -> Option<usize>
+        requires sized { size ≡ size_of node.now.sizes }
+        requires find { CanFind node.now.kind node.now self.now slot }
         ensures { result ≡ place_below node.now.kind node.now self.now slot }
     {
         match node.kind {
@@ -55,8 +78,46 @@ impl NodeWords {
                     Some((link - 1) as usize)
                 }
             }
-            Kind::Hash | Kind::Dynamic => None,
+            Kind::Hash => beside(&self.keys, &self.links, slot),
+            Kind::Dynamic => chunk_cell(&self.chains, chunk_of(node), slot / size, slot % size),
         }
+    }
+}
+
+/// Whether the slot with this number is below the length of its parent, where each has so many slots.
+fn is_below(lengths: &Items<u64>, size: usize, slot: usize) -> bool
+    requires { 0 < size }
+    ensures { result ≡ below_length lengths.now size slot }
+{
+    ((slot % size) as u64) < word(lengths, slot / size)
+}
+
+/// The cell of an index under a parent. None past the end of the parent's chain.
+fn chunk_cell(chains: &Links, chunk: u32, parent: usize, index: usize) -> Option<usize>
+    requires { IsChainFor chains.now chunk parent index }
+    ensures { result ≡ chunk_cell chunk (list_of chains.now parent) index }
+{
+    // for the bound that it ensures
+    let _heads = chains.heads();
+    let number = chains.nth(parent as u32, (index / chunk as usize) as u32)?;
+    Some(number as usize * chunk as usize + index % chunk as usize)
+}
+
+/// The chunk of a node; 0 where it is negative, as no accepted layout's is.
+pub(crate) fn chunk_of(node: &NodeShape) -> u32
+    ensures { result ≡ count_of node.now.chunk }
+{
+    if node.chunk < 0 { 0 } else { count(node.chunk) }
+}
+
+/// The number that stands beside a slot's number as a key. None where it is no key.
+pub(crate) fn beside(keys: &Items<u64>, links: &Items<u64>, slot: usize) -> Option<usize>
+    requires { IsTableFor keys.now links.now slot }
+    ensures { result ≡ beside keys.now links.now slot }
+{
+    match find(keys.as_slice(), links.as_slice(), slot as u32) {
+        Some(number) => Some(number as usize),
+        None => None,
     }
 }
 

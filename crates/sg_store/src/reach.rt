@@ -1,6 +1,7 @@
 ghost use Rattle.std.specs.Prelude.{◌≡◌};
 ghost use Rattle.sg_layout.specs.Axes.{count_of};
 
+use crate::node::chunk_of;
 use crate::store::Store;
 use sg_coord::{Coord, count, numbering};
 use sg_layout::{
@@ -82,8 +83,17 @@ impl Store {
                 let slots = self.numbers(alloc, index, wanted)?;
                 self.open_pointer(alloc, index, cap, wanted, slots.as_slice())
             }
-            Kind::Hash => unreachable!(),
-            Kind::Dynamic => unreachable!(),
+            Kind::Hash => {
+                let cap = cap_of(node);
+                let slots = self.numbers(alloc, index, wanted)?;
+                self.open_hash(alloc, index, cap, wanted, slots.as_slice())
+            }
+            Kind::Dynamic => {
+                let cap = cap_of(node);
+                let chunk = chunk_of(node);
+                let slots = self.numbers(alloc, index, wanted)?;
+                self.open_dynamic(alloc, index, cap, chunk, wanted, slots.as_slice())
+            }
         }
     }
 

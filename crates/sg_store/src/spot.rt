@@ -17,7 +17,7 @@ pub struct Spot {
 }
 
 /// The slots of one copy of its segment, after so many nodes of a layout.
-fn width_after(layout: &Layout, through: usize) -> usize
+pub(crate) fn width_after(layout: &Layout, through: usize) -> usize
     requires { through ≤ length layout.now.nodes }
     ensures width { result ≡ width_after layout.now.nodes through }
     ensures some { 1 ≤ result }
@@ -50,7 +50,7 @@ impl Store {
     ghost use Rattle.sg_flat.specs.declared.state.FlatLayout.{FlatLayout};
     ghost use Rattle.sg_store.specs.Walks.{cell_along};
     ghost use Rattle.sg_store.specs.StandsFor.{StandsFor};
-    ghost use Rattle.sg_store.specs.Spots.{LeadsAlong, IsPassable};
+    ghost use Rattle.sg_store.specs.Spots.{LeadsAlong, IsSpot, IsPassable};
 
     /// The spot before the first node.
     pub fn root(&self) -> Spot
@@ -65,14 +65,16 @@ impl Store {
 
     /// The spot after one more node, over this offset. None where the offset isn't below the node's size, and where the
     /// node has activity and the slot isn't active.
-    pub fn down(&self, spot: Spot, offset: u32) -> Option<Spot>
-        ghost path: { List ℕ }
-        requires leads { LeadsAlong self.now spot path }
+    pub fn under(&self, spot: Spot, offset: u32) -> Option<Spot>
+        requires leads { IsSpot self.now spot }
         requires not_last { spot.node < length self.now.shape.nodes }
-        ensures below { IfSome result (λ below. LeadsAlong self.now below (path ++ offset ∷ [])) }
-        ensures none { IfNone result ((slice_index (sizes_of self.now.shape.nodes) spot.node ≤ offset)
+        ensures below { IfSome result (λ below. (path : List ℕ) → LeadsAlong self.now spot path →
+            LeadsAlong self.now below (path ++ offset ∷ [])) }
+        ensures none { IfNone result ((path : List ℕ) → LeadsAlong self.now spot path →
+            (slice_index (sizes_of self.now.shape.nodes) spot.node ≤ offset)
             ⊎ (cell_along self.now (path ++ offset ∷ []) ≡ None)) }
-        ensures live { (flat : FlatLayout) → StandsFor self.now flat → IsSome result
+        ensures live { (flat : FlatLayout) → StandsFor self.now flat → (path : List ℕ) →
+            LeadsAlong self.now spot path → IsSome result
             ↔ ((offset < slice_index (sizes_of self.now.shape.nodes) spot.node)
             × IsPassable self.now.shape flat.active (suc spot.node) (path ++ offset ∷ [])) }
     {
@@ -91,5 +93,20 @@ impl Store {
             part: (below / wide) as u32,
             slot: (below % wide) as u32,
         })
+    }
+
+    /// The same, for one path along which the spot leads.
+    pub fn down(&self, spot: Spot, offset: u32) -> Option<Spot>
+        ghost path: { List ℕ }
+        requires leads { LeadsAlong self.now spot path }
+        requires not_last { spot.node < length self.now.shape.nodes }
+        ensures below { IfSome result (λ below. LeadsAlong self.now below (path ++ offset ∷ [])) }
+        ensures none { IfNone result ((slice_index (sizes_of self.now.shape.nodes) spot.node ≤ offset)
+            ⊎ (cell_along self.now (path ++ offset ∷ []) ≡ None)) }
+        ensures live { (flat : FlatLayout) → StandsFor self.now flat → IsSome result
+            ↔ ((offset < slice_index (sizes_of self.now.shape.nodes) spot.node)
+            × IsPassable self.now.shape flat.active (suc spot.node) (path ++ offset ∷ [])) }
+    {
+        self.under(spot, offset)
     }
 }

@@ -36,7 +36,7 @@ pub struct Stores {
     pub list: Items<Store>,
 }
 
-/// Whether stores are built for all nodes of a layout: for dense, bitmasked and pointer nodes.
+/// Whether stores are built for all nodes of a layout, as they are for nodes of every kind.
 pub fn is_built(layout: &Layout) -> bool
     ensures { result ≡ is_built_shape layout.now }
 {
@@ -55,8 +55,8 @@ fn is_built_kind(kind: Kind) -> bool
         Kind::Dense => true,
         Kind::Bitmasked => true,
         Kind::Pointer => true,
-        Kind::Hash => false,
-        Kind::Dynamic => false,
+        Kind::Hash => true,
+        Kind::Dynamic => true,
     }
 }
 

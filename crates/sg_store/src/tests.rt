@@ -4,7 +4,7 @@ ghost use Rattle.sg_coord.specs.Coord.{Inside};
 
 use crate::{Spot, Store, is_built};
 use sg_coord::{Coord, Extents, inside};
-use sg_layout::Kind::{Bitmasked, Dense, Pointer};
+use sg_layout::Kind::{Bitmasked, Dense, Dynamic, Hash, Pointer};
 use sg_layout::{Kind, Layout, NodeShape, Shape, Size, check_layout};
 use sg_words::{Items, Stop, Ty};
 use std::alloc::{AllocError, Global};
@@ -12,7 +12,7 @@ use std::process::Abort;
 use std::test::Fail;
 
 /// A node: its kind, its extents on the three axes, 0 for one that it doesn't name, and its cap.
-type Node = (Kind, [i32; 3], i32);
+pub(crate) type Node = (Kind, [i32; 3], i32);
 
 /// The number of a step, and a coordinate that it wants.
 type Wanted = (u32, [i32; 3]);
@@ -32,6 +32,14 @@ fn sizes_of(alloc: Global, extents: &[i32; 3]) -> Result<Items<Size>, AllocError
     Ok(sizes)
 }
 
+/// Chunks of four elements for a dynamic node.
+fn chunk_of(kind: Kind) -> i32 {
+    match kind {
+        Dynamic => 4,
+        _ => 0,
+    }
+}
+
 /// The shape of these nodes with two fields.
 fn shape_of(alloc: Global, axes: u32, nodes: &[Node]) -> Result<Shape, AllocError> {
     let mut shapes = Items::new(alloc);
@@ -40,7 +48,7 @@ fn shape_of(alloc: Global, axes: u32, nodes: &[Node]) -> Result<Shape, AllocErro
             kind: *kind,
             sizes: sizes_of(alloc, extents)?,
             cap: *cap,
-            chunk: 0,
+            chunk: chunk_of(*kind),
         })?;
     }
     Ok(Shape {
@@ -50,7 +58,12 @@ fn shape_of(alloc: Global, axes: u32, nodes: &[Node]) -> Result<Shape, AllocErro
     })
 }
 
-fn store_of(rt: &impl Abort, alloc: Global, axes: u32, nodes: &[Node]) -> Result<Store, Fail> {
+pub(crate) fn store_of(
+    rt: &impl Abort,
+    alloc: Global,
+    axes: u32,
+    nodes: &[Node],
+) -> Result<Store, Fail> {
     let shape = shape_of(alloc, axes, nodes)?;
     assert!(rt; shape.is_declared());
     let layout = check_layout(alloc, &shape)?;
@@ -104,7 +117,7 @@ fn cells(store: &Store, alloc: Global) -> Result<Vec<u32>, AllocError> {
 }
 
 /// What reaching coordinates answers, and how many coordinates are active afterwards, each in a cell of its own.
-fn reached(
+pub(crate) fn reached(
     rt: &impl Abort,
     alloc: Global,
     store: &mut Store,
@@ -147,9 +160,9 @@ fn story(
 
 static DENSE: [Node; 1] = [(Dense, [4, 2, 0], 0)];
 
-static BLOCKS: [Node; 2] = [(Pointer, [4, 0, 0], 2), (Dense, [4, 0, 0], 0)];
+pub(crate) static BLOCKS: [Node; 2] = [(Pointer, [4, 0, 0], 2), (Dense, [4, 0, 0], 0)];
 
-static POINTS: [Node; 2] = [(Pointer, [4, 0, 0], 2), (Bitmasked, [4, 0, 0], 0)];
+pub(crate) static POINTS: [Node; 2] = [(Pointer, [4, 0, 0], 2), (Bitmasked, [4, 0, 0], 0)];
 
 /// Dense nodes are active whole, a block with each of its coordinates, a bit alone; a full pool changes nothing.
 #[test]
@@ -226,6 +239,70 @@ fn pools_are_full_past_the_cap(rt: HostRuntime) -> Result<(), Fail> {
     Ok(())
 }
 
+static HASHED: [Node; 2] = [(Hash, [4, 0, 0], 2), (Dense, [4, 0, 0], 0)];
+
+static HASHED_GRID: [Node; 3] = [
+    (Hash, [8, 8, 0], 5),
+    (Pointer, [2, 2, 0], 4),
+    (Bitmasked, [2, 2, 0], 0),
+];
+
+/// A key leads as a link does, also where it stands behind others, and a table is full past the cap.
+#[test]
+fn keys_lead_to_containers(rt: HostRuntime) -> Result<(), Fail> {
+    let alloc = rt.alloc();
+    let blocks = [
+        (0, [5, 0, 0]),
+        (1, [6, 0, 0]),
+        (1, [15, 0, 0]),
+        (2, [4, 0, 0]),
+        (2, [0, 0, 0]),
+    ];
+    assert_eq!(rt;
+        story(&rt, alloc, 1, &HASHED, 3, &blocks)?.as_str(),
+        "4 8 full 1 2: 8 "
+    );
+    let grid = [
+        (0, [31, 31, 0]),
+        (0, [31, 27, 0]),
+        (0, [29, 31, 0]),
+        (1, [0, 31, 0]),
+        (2, [31, 0, 0]),
+        (2, [31, 4, 0]),
+        (3, [0, 0, 0]),
+        (3, [31, 31, 0]),
+    ];
+    assert_eq!(rt;
+        story(&rt, alloc, 2, &HASHED_GRID, 4, &grid)?.as_str(),
+        "3 4 full 2 4: 4 full 2 4: 4 "
+    );
+    Ok(())
+}
+
+static GROWING: [Node; 1] = [(Dynamic, [8, 0, 0], 2)];
+
+static ROWS: [Node; 2] = [(Pointer, [4, 0, 0], 2), (Dynamic, [0, 8, 0], 3)];
+
+/// Each parent has its indices up to the greatest that was wanted, in chunks of four, as long as there are chunks.
+#[test]
+fn lengths_grow_by_chunks(rt: HostRuntime) -> Result<(), Fail> {
+    let alloc = rt.alloc();
+    let one = [(0, [4, 0, 0]), (1, [2, 0, 0]), (2, [7, 0, 0])];
+    assert_eq!(rt; story(&rt, alloc, 1, &GROWING, 3, &one)?.as_str(), "5 5 8 ");
+    let rows = [
+        (0, [1, 2, 0]),
+        (1, [1, 5, 0]),
+        (2, [2, 4, 0]),
+        (3, [2, 3, 0]),
+        (3, [1, 0, 0]),
+    ];
+    assert_eq!(rt;
+        story(&rt, alloc, 2, &ROWS, 4, &rows)?.as_str(),
+        "3 6 full 2 3: 6 10 "
+    );
+    Ok(())
+}
+
 static BITS: [Node; 2] = [(Bitmasked, [16, 8, 0], 0), (Pointer, [0, 2, 0], 20)];
 
 static FOUR: [Node; 4] = [
@@ -263,7 +340,7 @@ fn nodes_stand_on_each_other(rt: HostRuntime) -> Result<(), Fail> {
     Ok(())
 }
 
-fn at(a: i32) -> Coord {
+pub(crate) fn at(a: i32) -> Coord {
     Coord {
         n: 1,
         a,
@@ -272,7 +349,7 @@ fn at(a: i32) -> Coord {
     }
 }
 
-fn value_at(store: &Store, place: u32, a: i32) -> Option<u32> {
+pub(crate) fn value_at(store: &Store, place: u32, a: i32) -> Option<u32> {
     if (place as usize) < store.layout().shape().fields.len() {
         if let Some(cell) = store.cell_of(at(a)) {
             return Some(store.value(place, cell));
@@ -281,7 +358,7 @@ fn value_at(store: &Store, place: u32, a: i32) -> Option<u32> {
     None
 }
 
-fn put(store: &mut Store, place: u32, a: i32, word: u32) {
+pub(crate) fn put(store: &mut Store, place: u32, a: i32, word: u32) {
     if (place as usize) < store.layout().shape().fields.len() {
         if let Some(cell) = store.cell_of(at(a)) {
             store.set(place, cell, word);

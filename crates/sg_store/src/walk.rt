@@ -31,8 +31,9 @@ impl Store {
             result ≡ step_of bits node.kind node kept (slot_under node place offset) }
     {
         let nodes = self.layout.shape().nodes.as_slice();
-        let slot = place * self.layout.size(index) as usize + offset as usize;
-        self.nodes.as_slice()[index].onward(&nodes[index], slot, bits)
+        let size = self.layout.size(index) as usize;
+        let slot = place * size + offset as usize;
+        self.nodes.as_slice()[index].onward(&nodes[index], size, slot, bits)
     }
 
     /// The place to which the root leads over the path of a coordinate through the first nodes.

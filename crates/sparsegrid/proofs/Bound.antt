@@ -4,11 +4,10 @@ use Rattle.std.specs.Prelude.{string_bytes, find, IsSome, is_none, option_and_th
 use Rattle.std.specs.List.{AllByRecursion}
 use Rattle.sg_ast.specs.declared.token.Name.{Name}
 use Rattle.sg_ast.specs.Token.{same_name}
-use Rattle.sg_names.specs.Tables.{field_name_of}
+use Rattle.sg_names.specs.Tables.{Tables, field_name_of}
 use Rattle.sg_session.specs.declared.binds.Bind.{Bind}
 use Rattle.sg_session.specs.declared.tasks.Task.{Task}
 use Rattle.sg_session.specs.declared.tasks.Task.TheVariants.{Load, Run, Dump}
-use Rattle.sg_session.specs.Compiled.{CompiledProgram}
 use Rattle.sg_session.specs.Commands as session
 use Rattle.sg_session.specs.Performed.{HasFile}
 use Rattle.sparsegrid.specs.Words.{Binding, binding_read}
@@ -51,31 +50,31 @@ same_file (bind ∷ binds) name = by_test (same_name name bind.name) (same_file 
   by_test true same = refl
   by_test false same = same
 
-pub same_files : (compiled : CompiledProgram) (binds : List Bind) (task : Task) → session.file_of compiled binds task ≡ file_of_task compiled (map binding_read binds) task
-same_files compiled binds (Load at) = by_name (field_name_of compiled.names at.number) where
+pub same_files : (names : Tables) (binds : List Bind) (task : Task) → session.file_of names binds task ≡ file_of_task names (map binding_read binds) task
+same_files names binds (Load at) = by_name (field_name_of names at.number) where
   by_name : (name : Option Name) → option_and_then (session.file_bound binds) name ≡ option_and_then (file_bound (map binding_read binds)) name
   by_name None = refl
   by_name (Some name) = same_file binds name
-same_files compiled binds (Run kernel) = refl
-same_files compiled binds (Dump at) = refl
+same_files names binds (Run kernel) = refl
+same_files names binds (Dump at) = refl
 
 some_of : {A : Type 0} (o : Option A) → is_none o ≡ false → IsSome o
 some_of (Some a) h = refl
 some_of None h = absurd (cc)
 
 -- where no load is without a file each has one
-pub all_bound : (compiled : CompiledProgram) (binds : List Bind) (tasks : List Task) → find (is_unbound compiled (map binding_read binds)) tasks ≡ None
-    → AllByRecursion (HasFile compiled binds) tasks
-all_bound compiled binds [] none = tt
-all_bound compiled binds (task ∷ tasks) none = by_test (is_unbound compiled (map binding_read binds) task) refl none (λ h. all_bound compiled binds tasks h) where
-  has_file : (t : Task) → is_unbound compiled (map binding_read binds) t ≡ false → HasFile compiled binds t
-  has_file (Load at) h = rw (same_files compiled binds (Load at)) (some_of (file_of_task compiled (map binding_read binds) (Load at)) h)
+pub all_bound : (names : Tables) (binds : List Bind) (tasks : List Task) → find (is_unbound names (map binding_read binds)) tasks ≡ None
+    → AllByRecursion (HasFile names binds) tasks
+all_bound names binds [] none = tt
+all_bound names binds (task ∷ tasks) none = by_test (is_unbound names (map binding_read binds) task) refl none (λ h. all_bound names binds tasks h) where
+  has_file : (t : Task) → is_unbound names (map binding_read binds) t ≡ false → HasFile names binds t
+  has_file (Load at) h = rw (same_files names binds (Load at)) (some_of (file_of_task names (map binding_read binds) (Load at)) h)
   has_file (Run kernel) h = tt
   has_file (Dump at) h = tt
 
-  by_test : (test : Bool) → is_unbound compiled (map binding_read binds) task ≡ test
-      → (if test then Some task else find (is_unbound compiled (map binding_read binds)) tasks) ≡ None
-      → (find (is_unbound compiled (map binding_read binds)) tasks ≡ None → AllByRecursion (HasFile compiled binds) tasks) → HasFile compiled binds task × AllByRecursion (HasFile compiled binds) tasks
+  by_test : (test : Bool) → is_unbound names (map binding_read binds) task ≡ test
+      → (if test then Some task else find (is_unbound names (map binding_read binds)) tasks) ≡ None
+      → (find (is_unbound names (map binding_read binds)) tasks ≡ None → AllByRecursion (HasFile names binds) tasks) → HasFile names binds task × AllByRecursion (HasFile names binds) tasks
   by_test true is h rest = absurd (cc)
   by_test false is h rest = (has_file task is, rest h)
 

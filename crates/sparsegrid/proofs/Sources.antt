@@ -1,7 +1,8 @@
 -- What a run does with what the read of its file gave, and with what the file is compiled to.
-use Rattle.std.proofs.Common.{◌≡◌, ◌≢◌, ◌⊎◌, inl, inr, ℕ, List, [], ◌∷◌, Option, Some, None, Result, Ok, Err, IfOk, refl, sym, ap, ◌∙◌, subst, arith}
+use Rattle.std.proofs.Common.{◌≡◌, ◌≢◌, ◌⊎◌, inl, inr, ℕ, Bool, List, [], ◌∷◌, Option, Some, None, Result, Ok, Err, IfOk, refl, sym, ap, ◌∙◌, subst, arith}
 use Rattle.std.specs.Prelude.{find, IsSome}
 use Rattle.std.specs.Option.{IfSome}
+use Rattle.std.specs.Result.{IsOkAnd}
 use Rattle.sg_words.specs.declared.memory.Stop.{Stop}
 use Rattle.sg_words.specs.declared.memory.Stop.TheVariants as stop
 use Rattle.sg_outside.specs.Counts.{Rose, one_more}
@@ -18,9 +19,13 @@ use Rattle.sg_parser.specs.declared.program.ParseFault.TheVariants.{Syntax}
 use Rattle.sg_names.specs.declared.fault.NameFault.TheVariants.{Unknown, Twice, TooMany}
 use Rattle.sg_layout.specs.declared.layout.LayoutFault.TheVariants as layout
 use Rattle.sg_admit.specs.declared.admitted.AdmitFault.TheVariants as admit
+use Rattle.sg_layout.specs.declared.shape.Shape.{Shape}
+use Rattle.sg_names.specs.Tables.{Tables}
+use Rattle.sg_session.specs.Texts.{check_text}
 use Rattle.sg_session.specs.declared.tasks.Task.{Task}
+use Rattle.sg_session.specs.declared.tasks.Stage.{Stage}
 use Rattle.sg_session.specs.Performed.{SessionParts}
-use Rattle.sg_session.specs.Compiled.{CompiledProgram, unfolded}
+use Rattle.sg_session.specs.Compiled.{CheckedProgram, CompiledProgram, Compiles, unfolded}
 use Rattle.sg_session.specs.Compiling.{spelled_program, compiled_program}
 use Rattle.sparsegrid.specs.declared.output.PutFailed.{PutFailed}
 use Rattle.sparsegrid.specs.declared.session.Done.{Done}
@@ -30,7 +35,7 @@ use Rattle.sparsegrid.specs.Words.{Asked, Binding, good_words}
 use Rattle.sparsegrid.specs.Lines.{read_last, file_bytes_last, no_file_last, refusal_last, field_text, words_last}
 use Rattle.sparsegrid.specs.Meaning.{Meaning, Readings, refused, all_done, asking, is_unbound, meaning_of_tasks, meaning_unless, meaning_of_run, meaning_in, items_or_none, meaning_of_compiled, meaning_of_source, meaning_of_asked, meaning_of_words, meaning_by}
 use Rattle.sparsegrid.specs.Outcome.{Outside, HasSession, StandsForLast}
-use Rattle.sparsegrid.specs.steps.Along.{Sends, WentAlong, Went, AskedAll, Followed, ReadsEnd, ended_with, names_of, IsEnd}
+use Rattle.sparsegrid.specs.steps.Along.{Sends, WentAlong, Went, AskedAll, Followed, ReadsEnd, ended_with, names_of, IsEnd, LeavesOnly, LeavesProgram}
 use Rattle.sg_outside.specs.Sink.{followed_by}
 use Rattle.sparsegrid.proofs.Writing.{followed_by-nil}
 use Rattle.sparsegrid.proofs.Going.{EndsInLine, went_nowhere, went_still, went_memory, went_failed, compose}
@@ -38,17 +43,17 @@ use Rattle.sparsegrid.proofs.Tasks.{refused_ends, tasks_end}
 
 -- ---- a meaning whose status isn't 0 ends in a line
 
-pub run_ends : (compiled : CompiledProgram) (bindings : List Binding) (readings : Readings) (tasks : List Task) → EndsInLine (meaning_of_run compiled bindings readings tasks)
-run_ends compiled bindings readings tasks = by_find (find (is_unbound compiled bindings) tasks) where
+pub run_ends : (compiled : CheckedProgram) (bindings : List Binding) (readings : Readings) (tasks : List Task) → EndsInLine (meaning_of_run compiled bindings readings tasks)
+run_ends compiled bindings readings tasks = by_find (find (is_unbound compiled.names bindings) tasks) where
   by_find : (o : Option Task) → EndsInLine (meaning_unless o compiled bindings readings tasks)
   by_find None = tasks_end compiled bindings readings 1 (opening compiled.layouts) tasks
   by_find (Some task) = λ other. refused_ends None (no_file_last (field_text compiled.names task))
 
-pub in_ends : (m : Mode) (compiled : CompiledProgram) (bindings : List Binding) (readings : Readings) → EndsInLine (meaning_in m compiled bindings readings)
+pub in_ends : (m : Mode) (compiled : CheckedProgram) (bindings : List Binding) (readings : Readings) → EndsInLine (meaning_in m compiled bindings readings)
 in_ends mode.Run compiled bindings readings = run_ends compiled bindings readings (unfolded compiled.commands)
 in_ends mode.Check compiled bindings readings = λ other. absurd (other refl)
 
-pub compiled_ends : (asked : Asked) (readings : Readings) (bytes : List ℕ) (answer : Result CompiledProgram Refusal) → EndsInLine (meaning_of_compiled asked readings bytes answer)
+pub compiled_ends : (asked : Asked) (readings : Readings) (bytes : List ℕ) (answer : Result CheckedProgram Refusal) → EndsInLine (meaning_of_compiled asked readings bytes answer)
 compiled_ends asked readings bytes (Err why) = λ other. refused_ends None (refusal_last (items_or_none (spelled_program bytes)) why)
 compiled_ends asked readings bytes (Ok compiled) = in_ends asked.mode compiled asked.bindings readings
 
@@ -223,19 +228,57 @@ went_kept m n before after session status done same kept went =
     ends (inl well) = inl (well.0, λ two. well.1 (sym same ∙ two))
     ends (inr failed) = inr (failed.0, same ∙ failed.1)
 
-pub run_unbound : (compiled : CompiledProgram) (bindings : List Binding) (readings : Readings) (tasks : List Task) (o : Option Task) → o ≡ find (is_unbound compiled bindings) tasks
+pub run_unbound : (compiled : CheckedProgram) (bindings : List Binding) (readings : Readings) (tasks : List Task) (o : Option Task) → o ≡ find (is_unbound compiled.names bindings) tasks
     → meaning_of_run compiled bindings readings tasks ≡ meaning_unless o compiled bindings readings tasks
 run_unbound compiled bindings readings tasks o is = ap (λ (f : Option Task). meaning_unless f compiled bindings readings tasks) (sym is)
 
 -- what tasks do from the opening state of a session is what they do from that of its program
-pub from_opened : (compiled : CompiledProgram) (bindings : List Binding) (tasks : List Task) (before after : Outside) (opened : SessionParts) (result : Result Done (Stop PutFailed))
-    → opened.compiled ≡ compiled → StandForState compiled.layouts opened.stores (opening compiled.layouts)
-    → ((state : FlatState) → StandForState opened.compiled.layouts opened.stores state → Went (λ readings. meaning_of_tasks opened.compiled bindings readings 1 state tasks) 1 before after result)
-    → Went (λ readings. meaning_of_tasks compiled bindings readings 1 (opening compiled.layouts) tasks) 1 before after result
-from_opened compiled bindings tasks before after opened result same stand went =
-    let here : StandForState opened.compiled.layouts opened.stores (opening compiled.layouts) =
-    subst (λ (c : CompiledProgram). StandForState c.layouts opened.stores (opening compiled.layouts)) (sym same) stand in
-    subst (λ (c : CompiledProgram). Went (λ readings. meaning_of_tasks c bindings readings 1 (opening compiled.layouts) tasks) 1 before after result) same (went (opening compiled.layouts) here)
+pub from_opened : (program : CheckedProgram) (compiled : CompiledProgram) (bindings : List Binding) (tasks : List Task) (before after : Outside) (opened : SessionParts) (result : Result Done (Stop PutFailed))
+    → Compiles program compiled → opened.compiled ≡ compiled → StandForState compiled.layouts opened.stores (opening compiled.layouts)
+    → ((p : CheckedProgram) → Compiles p opened.compiled → (state : FlatState) → StandForState opened.compiled.layouts opened.stores state → Went (λ readings. meaning_of_tasks p bindings readings 1 state tasks) 1 before after result)
+    → Went (λ readings. meaning_of_tasks program bindings readings 1 (opening program.layouts) tasks) 1 before after result
+from_opened program compiled bindings tasks before after opened result compiles same stand went =
+    went program (subst (Compiles program) (sym same) compiles) (opening program.layouts)
+    (subst (λ (ls : List Shape). StandForState opened.compiled.layouts opened.stores (opening ls)) compiles.layouts
+    (subst (λ (c : CompiledProgram). StandForState c.layouts opened.stores (opening compiled.layouts)) (sym same) stand))
+
+-- which task is the first without a file, in the words of the program that is compiled
+pub same_first : (program : CheckedProgram) (compiled : CompiledProgram) (bindings : List Binding) (tasks : List Task) (o : Option Task) → Compiles program compiled → tasks ≡ unfolded compiled.commands
+    → o ≡ find (is_unbound compiled.names bindings) tasks → o ≡ find (is_unbound program.names bindings) (unfolded program.commands)
+same_first program compiled bindings tasks o compiles are found =
+    found ∙ (ap (λ (t : Tables). find (is_unbound t bindings) tasks) compiles.names
+    ∙ ap (λ (ts : List Task). find (is_unbound program.names bindings) ts) (are ∙ ap (λ (ss : List Stage). unfolded ss) compiles.commands))
+
+-- and its last line
+pub line_named : (program : CheckedProgram) (compiled : CompiledProgram) (task : Task) (old new : Option (List ℕ)) (result : Result Done (Stop PutFailed)) → Compiles program compiled
+    → WentAlong (refused (no_file_last (field_text compiled.names task))) old new result → WentAlong (refused (no_file_last (field_text program.names task))) old new result
+line_named program compiled task old new result compiles along = subst (λ (t : Tables). WentAlong (refused (no_file_last (field_text t task))) old new result) compiles.names along
+
+-- what is done with a compiled program is what its file means
+pub compiled_went : (asked : Asked) (bytes : List ℕ) (answer : Result CheckedProgram Refusal) (compiled : CompiledProgram) (before after : Outside) (result : Result Done (Stop PutFailed))
+    → IsOkAnd answer (λ program. Compiles program compiled) → ((program : CheckedProgram) → Compiles program compiled → Went (meaning_in asked.mode program asked.bindings) 1 before after result)
+    → Went (λ readings. meaning_of_compiled asked readings bytes answer) 1 before after result
+compiled_went asked bytes (Ok program) compiled before after result compiles went = went program compiles
+compiled_went asked bytes (Err why) compiled before after result compiles went = absurd compiles
+
+-- a session that is left of this program is what its file is compiled to
+pub compiled_left : (answer : Result CheckedProgram Refusal) (compiled : CompiledProgram) (result : Result Done (Stop PutFailed)) → IsOkAnd answer (λ program. Compiles program compiled)
+    → LeavesProgram compiled result → LeavesOnly (λ session. IsOkAnd answer (λ program. Compiles program session.compiled)) result
+compiled_left answer compiled (Err why) compiles left = tt
+compiled_left answer compiled (Ok done) compiles left = by_session done.session left
+  where
+    by_session : (o : Option SessionParts) → IfSome o (λ session. session.compiled ≡ compiled) → IfSome o (λ session. IsOkAnd answer (λ program. Compiles program session.compiled))
+    by_session None same = tt
+    by_session (Some session) same = subst (λ (c : CompiledProgram). IsOkAnd answer (λ program. Compiles program c)) (sym same) compiles
+
+-- the lines of kernels, in the words of the program that is compiled
+pub checked_along : (program : CheckedProgram) (compiled : CompiledProgram) (old new : Option (List ℕ)) (result : Result Done (Stop PutFailed)) → Compiles program compiled
+    → WentAlong (all_done (check_text compiled.names compiled.neutral) (opening compiled.layouts)) old new result
+    → WentAlong (all_done (check_text program.names program.neutral) (opening program.layouts)) old new result
+checked_along program compiled old new result compiles along =
+    subst (λ (ls : List Shape). WentAlong (all_done (check_text program.names program.neutral) (opening ls)) old new result) compiles.layouts
+    (subst (λ (bs : List Bool). WentAlong (all_done (check_text program.names bs) (opening compiled.layouts)) old new result) compiles.neutral
+    (subst (λ (t : Tables). WentAlong (all_done (check_text t compiled.neutral) (opening compiled.layouts)) old new result) compiles.names along))
 
 -- ---- a text, and the stores as they are opened
 

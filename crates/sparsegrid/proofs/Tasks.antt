@@ -28,7 +28,7 @@ use Rattle.sg_session.specs.declared.binds.Bind.{Bind}
 use Rattle.sg_session.specs.Performed.{SessionParts}
 use Rattle.sg_session.specs.declared.tasks.Task.{Task}
 use Rattle.sg_session.specs.declared.tasks.Task.TheVariants.{Load, Run, Dump}
-use Rattle.sg_session.specs.Compiled.{CompiledProgram}
+use Rattle.sg_session.specs.Compiled.{CheckedProgram, CompiledProgram, Compiles}
 use Rattle.sg_session.specs.Commands as commands
 use Rattle.sg_session.specs.Commands.{Left, task_meaning}
 use Rattle.sg_session.specs.Performed.{HasFile, Leaves, Performs, StepCause, reading_of, asked_after, reads_after}
@@ -64,7 +64,7 @@ some_none (Some name) has is = absurd (cc)
 asking_none : (m : Meaning) → m ≡ asking [] m
 asking_none m = refl
 
-module _ (compiled : CompiledProgram) (bindings : List Binding) where
+module _ (compiled : CheckedProgram) (bindings : List Binding) where
   after_ends : (state : FlatState) (file : Option (List ℕ)) (task : Task) (more : FlatState → Meaning) (answer : Result Left RunRefusal)
       → ((next : FlatState) → EndsInLine (more next)) → EndsInLine (after_task compiled state file task more answer)
   after_ends state file task more (Ok left) rest = λ other. not_empty left.text (more left.state).text (rest left.state other)
@@ -73,7 +73,7 @@ module _ (compiled : CompiledProgram) (bindings : List Binding) where
   pub tasks_end : (readings : Readings) (n : ℕ) (state : FlatState) (tasks : List Task) → EndsInLine (meaning_of_tasks compiled bindings readings n state tasks)
   unfolding meaning_of_tasks
   tasks_end readings n state [] = λ other. absurd (other refl)
-  tasks_end readings n state (task ∷ tasks) = by_file (file_of_task compiled bindings task) (λ after next. tasks_end readings after next tasks) where
+  tasks_end readings n state (task ∷ tasks) = by_file (file_of_task compiled.names bindings task) (λ after next. tasks_end readings after next tasks) where
     more : ℕ → FlatState → Meaning
     more after next = meaning_of_tasks compiled bindings readings after next tasks
 
@@ -82,10 +82,10 @@ module _ (compiled : CompiledProgram) (bindings : List Binding) where
     by_file (Some name) rest =
         after_ends state (Some name) task (more (suc n)) (task_meaning compiled state task (readings (suc n) name most_grid_bytes)) (rest (suc n))
 
-module _ (compiled : CompiledProgram) (binds : List Bind) where
+module _ (compiled : CheckedProgram) (binds : List Bind) where
   tasks_step : (readings : Readings) (n : ℕ) (state : FlatState) (task : Task) (tasks : List Task)
       → meaning_of_tasks compiled (map binding_read binds) readings n state (task ∷ tasks)
-      ≡ task_and_more compiled readings n state task (λ after next. meaning_of_tasks compiled (map binding_read binds) readings after next tasks) (file_of_task compiled (map binding_read binds) task)
+      ≡ task_and_more compiled readings n state task (λ after next. meaning_of_tasks compiled (map binding_read binds) readings after next tasks) (file_of_task compiled.names (map binding_read binds) task)
   unfolding meaning_of_tasks
   tasks_step readings n state task tasks = refl
 
@@ -94,21 +94,21 @@ module _ (compiled : CompiledProgram) (binds : List Bind) where
   tasks_none readings n state = refl
 
   -- a task without a file means the same whatever was read
-  given_same : (state : FlatState) (task : Task) (given : Reading) → HasFile compiled binds task → file_of_task compiled (map binding_read binds) task ≡ None
+  given_same : (state : FlatState) (task : Task) (given : Reading) → HasFile compiled.names binds task → file_of_task compiled.names (map binding_read binds) task ≡ None
       → task_meaning compiled state task Missing ≡ task_meaning compiled state task given
-  given_same state (Load at) given has none = absurd (some_none (commands.file_of compiled binds (Load at)) has (same_files compiled binds (Load at) ∙ none))
+  given_same state (Load at) given has none = absurd (some_none (commands.file_of compiled.names binds (Load at)) has (same_files compiled.names binds (Load at) ∙ none))
   given_same state (Run kernel) given has none = refl
   given_same state (Dump at) given has none = refl
 
   -- what a task and those behind it mean, where its read gave this
-  one_task : (readings : Readings) (n : ℕ) (state : FlatState) (task : Task) (tasks : List Task) (given : Reading) → HasFile compiled binds task
-      → Agree readings n (load_reads (file_of_task compiled (map binding_read binds) task) given)
+  one_task : (readings : Readings) (n : ℕ) (state : FlatState) (task : Task) (tasks : List Task) (given : Reading) → HasFile compiled.names binds task
+      → Agree readings n (load_reads (file_of_task compiled.names (map binding_read binds) task) given)
       → meaning_of_tasks compiled (map binding_read binds) readings n state (task ∷ tasks)
-      ≡ asking (names_of (load_reads (file_of_task compiled (map binding_read binds) task) given))
-      (after_task compiled state (file_of_task compiled (map binding_read binds) task) task
-      (λ next. meaning_of_tasks compiled (map binding_read binds) readings (length (load_reads (file_of_task compiled (map binding_read binds) task) given) + n) next tasks)
+      ≡ asking (names_of (load_reads (file_of_task compiled.names (map binding_read binds) task) given))
+      (after_task compiled state (file_of_task compiled.names (map binding_read binds) task) task
+      (λ next. meaning_of_tasks compiled (map binding_read binds) readings (length (load_reads (file_of_task compiled.names (map binding_read binds) task) given) + n) next tasks)
       (task_meaning compiled state task given))
-  one_task readings n state task tasks given has agree = tasks_step readings n state task tasks ∙ by_file (file_of_task compiled (map binding_read binds) task) refl agree where
+  one_task readings n state task tasks given has agree = tasks_step readings n state task tasks ∙ by_file (file_of_task compiled.names (map binding_read binds) task) refl agree where
     more : ℕ → FlatState → Meaning
     more after next = meaning_of_tasks compiled (map binding_read binds) readings after next tasks
 
@@ -118,7 +118,7 @@ module _ (compiled : CompiledProgram) (binds : List Bind) where
     one_more_read : (name : List ℕ) → suc n ≡ length (load_reads (Some name) given) + n
     one_more_read name = omega arith
 
-    by_file : (file : Option (List ℕ)) → file_of_task compiled (map binding_read binds) task ≡ file → Agree readings n (load_reads file given)
+    by_file : (file : Option (List ℕ)) → file_of_task compiled.names (map binding_read binds) task ≡ file → Agree readings n (load_reads file given)
         → task_and_more compiled readings n state task more file
         ≡ asking (names_of (load_reads file given)) (after_task compiled state file task (more (length (load_reads file given) + n)) (task_meaning compiled state task given))
     by_file None none agrees =
@@ -183,10 +183,10 @@ reads_by_load None given reads = refl
 reads_by_load (Some name) given reads = refl
 
 -- a task whose read failed was told so: only a missing file means it
-pub read_refused : (compiled : CompiledProgram) (state : FlatState) (task : Task) (given : Reading) (field : ℕ) → task_meaning compiled state task given ≡ Err (refusal.Read field) → given ≡ Missing
+pub read_refused : (compiled : CheckedProgram) (state : FlatState) (task : Task) (given : Reading) (field : ℕ) → task_meaning compiled state task given ≡ Err (refusal.Read field) → given ≡ Missing
 read_refused compiled state (Load at) Missing field is = refl
 read_refused compiled state (Load at) TooMany field is = absurd (cc)
-read_refused compiled state (Load at) (Bytes bytes) field is = by_writes (commands.field_writes compiled at bytes) is where
+read_refused compiled state (Load at) (Bytes bytes) field is = by_writes (commands.field_writes compiled.layouts at bytes) is where
   by_writes : (writes : Result (List Write) GridFault) → ◌≡◌ {A = Result Left RunRefusal}
       ((fault_as (commands.grid_refusal at.number) writes >>= (λ rows. fault_as (refusal.Run None) (load_meaning compiled.layouts state rows))) >>= (λ after. Ok (commands.without_text after))) (Err (refusal.Read field))
       → Bytes bytes ≡ Missing
@@ -240,29 +240,29 @@ no_read_refusal (refusal.Run kernel fault) no_read = λ f e. absurd (cc)
 -- ---- performed tasks
 
 -- what the outside tells after a step, of which a task is known to have read this
-pub record Stepped (compiled : CompiledProgram) (binds : List Bind) (state : FlatState) (task : Task) (stores : List StoreWords) (result : Result Text (Stop RunRefusal)) (now next : Outside) : Type 0 where
-  pub has : HasFile compiled binds task
+pub record Stepped (compiled : CheckedProgram) (binds : List Bind) (state : FlatState) (task : Task) (stores : List StoreWords) (result : Result Text (Stop RunRefusal)) (now next : Outside) : Type 0 where
+  pub has : HasFile compiled.names binds task
   pub chosen : (given : Reading) × Performs compiled.layouts stores result (task_meaning compiled state task given)
-      × ((h : Held) → now.held ≡ Some h → given ≡ reading_of h (commands.file_of compiled binds task) result)
-  pub asked : next.asked ≡ asked_after (commands.file_of compiled binds task) now.asked
-  pub reads : next.reads ≡ reads_after (commands.file_of compiled binds task) now.reads
+      × ((h : Held) → now.held ≡ Some h → given ≡ reading_of h (commands.file_of compiled.names binds task) result)
+  pub asked : next.asked ≡ asked_after (commands.file_of compiled.names binds task) now.asked
+  pub reads : next.reads ≡ reads_after (commands.file_of compiled.names binds task) now.reads
   pub cause : StepCause result now.failed_reads next.failed_reads
   pub held : next.held ≡ now.held
 
-module _ (compiled : CompiledProgram) (binds : List Bind) where
+module _ (compiled : CheckedProgram) (binds : List Bind) where
   abbrev file : Task → Option (List ℕ)
-  file task = file_of_task compiled (map binding_read binds) task
+  file task = file_of_task compiled.names (map binding_read binds) task
 
   -- the reads of a step that didn't fail
   step_asked : (state : FlatState) (task : Task) (stores : List StoreWords) (result : Result Text (Stop RunRefusal)) (now next : Outside) (given : Reading)
       → Stepped compiled binds state task stores result now next → next.asked ≡ asked_more now.asked (names_of (load_reads (file task) given))
   step_asked state task stores result now next given did =
-      did.asked ∙ asked_by_load (commands.file_of compiled binds task) given now.asked ∙ ap (λ (f : Option (List ℕ)). asked_more now.asked (names_of (load_reads f given))) (same_files compiled binds task)
+      did.asked ∙ asked_by_load (commands.file_of compiled.names binds task) given now.asked ∙ ap (λ (f : Option (List ℕ)). asked_more now.asked (names_of (load_reads f given))) (same_files compiled.names binds task)
 
   step_reads : (state : FlatState) (task : Task) (stores : List StoreWords) (result : Result Text (Stop RunRefusal)) (now next : Outside) (given : Reading)
       → Stepped compiled binds state task stores result now next → next.reads ≡ counted_more now.reads (names_of (load_reads (file task) given))
   step_reads state task stores result now next given did =
-      did.reads ∙ reads_by_load (commands.file_of compiled binds task) given now.reads ∙ ap (λ (f : Option (List ℕ)). counted_more now.reads (names_of (load_reads f given))) (same_files compiled binds task)
+      did.reads ∙ reads_by_load (commands.file_of compiled.names binds task) given now.reads ∙ ap (λ (f : Option (List ℕ)). counted_more now.reads (names_of (load_reads f given))) (same_files compiled.names binds task)
 
   step_none : (state : FlatState) (task : Task) (stores : List StoreWords) (result : Result Text (Stop RunRefusal)) (now next : Outside)
       → IsNoRead result → (did : Stepped compiled binds state task stores result now next) → NoneFailed now next (load_reads (file task) did.chosen.0)
@@ -270,7 +270,7 @@ module _ (compiled : CompiledProgram) (binds : List Bind) where
       record {
         no_fault = cause_kept result now.failed_reads next.failed_reads no_read did.cause;
         told = λ h e. reads_told h (file task) result did.chosen.0 no_read
-            (did.chosen.2 h e ∙ ap (λ (f : Option (List ℕ)). reading_of h f result) (same_files compiled binds task));
+            (did.chosen.2 h e ∙ ap (λ (f : Option (List ℕ)). reading_of h f result) (same_files compiled.names binds task));
       }
 
   -- tasks before any of them was performed
@@ -354,7 +354,7 @@ module _ (compiled : CompiledProgram) (binds : List Bind) where
       compose _ _ 1 (length came.made + 1) came.made came.text before now after result refl came.is came.grew came.asked came.reads came.held came.none went
 
   -- no task is left
-  pub went_all : (start : FlatState) (tasks rest : List Task) (before now : Outside) (session : SessionParts) → rest ≡ [] → session.compiled ≡ compiled
+  pub went_all : (start : FlatState) (tasks rest : List Task) (before now : Outside) (session : SessionParts) → rest ≡ [] → Compiles compiled session.compiled
       → Came compiled (map binding_read binds) start tasks rest session.stores before now
       → Went (λ readings. meaning_of_tasks compiled (map binding_read binds) readings 1 start tasks) 1 before now (ended_with session (Ok 0))
   went_all start tasks rest before now session none same came =
@@ -369,7 +369,7 @@ module _ (compiled : CompiledProgram) (binds : List Bind) where
       along = record {
         bytes = sym (followed_by-nil now.written);
         status = refl;
-        last = subst (λ (c : CompiledProgram). StandForState c.layouts session.stores came.state) (sym same) came.stand;
+        last = subst (λ (ls : List Shape). StandForState ls session.stores came.state) (sym same.layouts) came.stand;
       }
 
   -- ---- where a task cuts the run short, or ends it
@@ -439,10 +439,10 @@ module _ (compiled : CompiledProgram) (binds : List Bind) where
 
   -- what was written of a last line goes along with it
   along_line : (state : FlatState) (last : LastLine) (old new : Option (List ℕ)) (session : SessionParts) (answer : Result ℕ (Stop PutFailed))
-      → WroteAll answer (line_text last) last.status old new → IfOk answer (λ status. status ≡ last.status) → session.compiled ≡ compiled → StandForState compiled.layouts session.stores state
+      → WroteAll answer (line_text last) last.status old new → IfOk answer (λ status. status ≡ last.status) → Compiles compiled session.compiled → StandForState compiled.layouts session.stores state
       → WentAlong (refused_with (Some state) last) old new (ended_with session answer)
   along_line state last old new session (Ok status) wrote is same stand =
-      record { bytes = wrote; status = is; last = subst (λ (c : CompiledProgram). StandForState c.layouts session.stores state) (sym same) stand }
+      record { bytes = wrote; status = is; last = subst (λ (ls : List Shape). StandForState ls session.stores state) (sym same.layouts) stand }
   along_line state last old new session (Err why) wrote is same stand = record { bytes = wrote; status = tt; last = tt }
 
   none_asked : (session : SessionParts) (answer : Result ℕ (Stop PutFailed)) → AskedAll (ended_with session answer) [] []
@@ -459,10 +459,10 @@ module _ (compiled : CompiledProgram) (binds : List Bind) where
 
   -- the task was refused, and its line written
   pub ended_in_task : (start : FlatState) (tasks rest rest' : List Task) (task : Task) (stores : List StoreWords) (session : SessionParts) (before now mid after : Outside) (why : RunRefusal) (answer : Result ℕ (Stop PutFailed))
-      → rest ≡ task ∷ rest' → session.compiled ≡ compiled → (came : Came compiled (map binding_read binds) start tasks rest stores before now)
+      → rest ≡ task ∷ rest' → Compiles compiled session.compiled → (came : Came compiled (map binding_read binds) start tasks rest stores before now)
       → Stepped compiled binds came.state task session.stores (Err (stop.Refused why)) now mid → session.stores ≡ stores → mid.written ≡ now.written
-      → WroteAll answer (line_text (run_last compiled.names (file_of_task compiled (map binding_read binds) task) task why)) (run_last compiled.names (file_of_task compiled (map binding_read binds) task) task why).status mid.written after.written
-      → IfOk answer (λ status. status ≡ (run_last compiled.names (file_of_task compiled (map binding_read binds) task) task why).status)
+      → WroteAll answer (line_text (run_last compiled.names (file_of_task compiled.names (map binding_read binds) task) task why)) (run_last compiled.names (file_of_task compiled.names (map binding_read binds) task) task why).status mid.written after.written
+      → IfOk answer (λ status. status ≡ (run_last compiled.names (file_of_task compiled.names (map binding_read binds) task) task why).status)
       → after.asked ≡ mid.asked → after.reads ≡ mid.reads → after.failed_reads ≡ mid.failed_reads
       → Went (λ readings. meaning_of_tasks compiled (map binding_read binds) readings 1 start tasks) 1 before after (ended_with session answer)
   ended_in_task start tasks rest rest' task stores session before now mid after why answer split same came did stay written wrote status asked reads faults =
@@ -502,8 +502,8 @@ module _ (compiled : CompiledProgram) (binds : List Bind) where
 
           by_file : (f : Option (List ℕ)) → file task ≡ f → Went (λ readings. meaning_of_tasks compiled (map binding_read binds) readings n came.state rest) n now after (ended_with session answer)
           by_file None none = absurd (no_load task did.has none means) where
-            no_load : (t : Task) → HasFile compiled binds t → file t ≡ None → task_meaning compiled came.state t did.chosen.0 ≡ Err (refusal.Read field) → ⊥
-            no_load (Load at) has nothing e = some_none (commands.file_of compiled binds (Load at)) has (same_files compiled binds (Load at) ∙ nothing)
+            no_load : (t : Task) → HasFile compiled.names binds t → file t ≡ None → task_meaning compiled came.state t did.chosen.0 ≡ Err (refusal.Read field) → ⊥
+            no_load (Load at) has nothing e = some_none (commands.file_of compiled.names binds (Load at)) has (same_files compiled.names binds (Load at) ∙ nothing)
             no_load (Run kernel) has nothing e = absurd_run (commands.after_kernel compiled.layouts came.state (slice_get compiled.kernels kernel)) e where
               absurd_run : (a : Result FlatState RunFault) → ◌≡◌ {A = Result Left RunRefusal} (fault_as (refusal.Run (Some kernel)) a >>= (λ next. Ok (commands.without_text next))) (Err (refusal.Read field)) → ⊥
               absurd_run (Ok next) h = absurd (cc)
@@ -541,39 +541,45 @@ head_of P xs rest x split all = (subst (AllByRecursion P) split all).0
 pub tail_of : {A : Type 0} (P : A → Type 0) (xs rest : List A) (x : A) → xs ≡ x ∷ rest → AllByRecursion P xs → AllByRecursion P rest
 tail_of P xs rest x split all = (subst (AllByRecursion P) split all).1
 
--- what a step of a session of this program did
-pub stepped : (compiled other : CompiledProgram) (binds : List Bind) (state : FlatState) (task : Task) (stores stores' : List StoreWords) (result : Result Text (Stop RunRefusal)) (now next : Outside)
-    → other ≡ compiled → StandForState compiled.layouts stores state → HasFile compiled binds task
-    → ((h : Held) → now.held ≡ Some h → (s : FlatState) → StandForState other.layouts stores s
-    → Performs other.layouts stores' result (task_meaning other s task (reading_of h (commands.file_of other binds task) result)))
-    → ((s : FlatState) → StandForState other.layouts stores s → (given : Reading) × Performs other.layouts stores' result (task_meaning other s task given))
-    → next.asked ≡ asked_after (commands.file_of other binds task) now.asked → next.reads ≡ reads_after (commands.file_of other binds task) now.reads
-    → StepCause result now.failed_reads next.failed_reads → next.held ≡ now.held → Stepped compiled binds state task stores' result now next
-stepped compiled other binds state task stores stores' result now next same stand has told performed asked reads cause held =
+-- the first of tasks that have a file has one by the program's names
+pub has_head : (program : CheckedProgram) (compiled : CompiledProgram) (binds : List Bind) (xs rest : List Task) (x : Task) → Compiles program compiled → xs ≡ x ∷ rest
+    → AllByRecursion (HasFile compiled.names binds) xs → HasFile program.names binds x
+has_head program compiled binds xs rest x compiles split all = subst (λ (t : Tables). HasFile t binds x) compiles.names (head_of (HasFile compiled.names binds) xs rest x split all)
+
+-- what a step of a session that is compiled from this program did
+pub stepped : (program : CheckedProgram) (other : CompiledProgram) (binds : List Bind) (state : FlatState) (task : Task) (stores stores' : List StoreWords) (result : Result Text (Stop RunRefusal)) (now next : Outside)
+    → Compiles program other → StandForState program.layouts stores state → HasFile program.names binds task
+    → ((p : CheckedProgram) → Compiles p other → (h : Held) → now.held ≡ Some h → (s : FlatState) → StandForState other.layouts stores s
+    → Performs other.layouts stores' result (task_meaning p s task (reading_of h (commands.file_of other.names binds task) result)))
+    → ((p : CheckedProgram) → Compiles p other → (s : FlatState) → StandForState other.layouts stores s → (given : Reading) × Performs other.layouts stores' result (task_meaning p s task given))
+    → next.asked ≡ asked_after (commands.file_of other.names binds task) now.asked → next.reads ≡ reads_after (commands.file_of other.names binds task) now.reads
+    → StepCause result now.failed_reads next.failed_reads → next.held ≡ now.held → Stepped program binds state task stores' result now next
+stepped program other binds state task stores stores' result now next compiles stand has told performed asked reads cause held =
     record {
       has = has;
-      chosen = given_chosen now.held (commands.file_of compiled binds task) result compiled.layouts stores' (task_meaning compiled state task)
-          (subst (λ (c : CompiledProgram). (h : Held) → now.held ≡ Some h → Performs c.layouts stores' result (task_meaning c state task (reading_of h (commands.file_of c binds task) result))) same
-          (λ h e. told h e state stand_other))
-          (subst (λ (c : CompiledProgram). (given : Reading) × Performs c.layouts stores' result (task_meaning c state task given)) same (performed state stand_other));
-      asked = asked ∙ ap (λ (c : CompiledProgram). asked_after (commands.file_of c binds task) now.asked) same;
-      reads = reads ∙ ap (λ (c : CompiledProgram). reads_after (commands.file_of c binds task) now.reads) same;
+      chosen = given_chosen now.held (commands.file_of program.names binds task) result program.layouts stores' (task_meaning program state task)
+          (λ h e. subst (λ (t : Tables). Performs program.layouts stores' result (task_meaning program state task (reading_of h (commands.file_of t binds task) result))) compiles.names
+          (subst (λ (ls : List Shape). Performs ls stores' result (task_meaning program state task (reading_of h (commands.file_of other.names binds task) result))) compiles.layouts
+          (told program compiles h e state stand_other)))
+          (subst (λ (ls : List Shape). (given : Reading) × Performs ls stores' result (task_meaning program state task given)) compiles.layouts (performed program compiles state stand_other));
+      asked = asked ∙ ap (λ (t : Tables). asked_after (commands.file_of t binds task) now.asked) compiles.names;
+      reads = reads ∙ ap (λ (t : Tables). reads_after (commands.file_of t binds task) now.reads) compiles.names;
       cause = cause;
       held = held;
     }
   where
     stand_other : StandForState other.layouts stores state
-    stand_other = subst (λ (c : CompiledProgram). StandForState c.layouts stores state) (sym same) stand
+    stand_other = subst (λ (ls : List Shape). StandForState ls stores state) (sym compiles.layouts) stand
 
--- a line that was written in the words of a session's program
-pub line_of : (compiled other : CompiledProgram) (binds : List Bind) (task : Task) (why : RunRefusal) (answer : Result ℕ (Stop PutFailed)) (old new : Option (List ℕ)) → other ≡ compiled
-    → WroteAll answer (line_text (run_last other.names (file_of_task other (map binding_read binds) task) task why)) (run_last other.names (file_of_task other (map binding_read binds) task) task why).status old new
-    → WroteAll answer (line_text (run_last compiled.names (file_of_task compiled (map binding_read binds) task) task why)) (run_last compiled.names (file_of_task compiled (map binding_read binds) task) task why).status old new
-line_of compiled other binds task why answer old new same wrote =
-    subst (λ (c : CompiledProgram). WroteAll answer (line_text (run_last c.names (file_of_task c (map binding_read binds) task) task why)) (run_last c.names (file_of_task c (map binding_read binds) task) task why).status old new) same wrote
+-- a line that was written in the words of other names
+pub line_of : (names other : Tables) (binds : List Bind) (task : Task) (why : RunRefusal) (answer : Result ℕ (Stop PutFailed)) (old new : Option (List ℕ)) → other ≡ names
+    → WroteAll answer (line_text (run_last other (file_of_task other (map binding_read binds) task) task why)) (run_last other (file_of_task other (map binding_read binds) task) task why).status old new
+    → WroteAll answer (line_text (run_last names (file_of_task names (map binding_read binds) task) task why)) (run_last names (file_of_task names (map binding_read binds) task) task why).status old new
+line_of names other binds task why answer old new same wrote =
+    subst (λ (t : Tables). WroteAll answer (line_text (run_last t (file_of_task t (map binding_read binds) task) task why)) (run_last t (file_of_task t (map binding_read binds) task) task why).status old new) same wrote
 
-pub line_status_of : (compiled other : CompiledProgram) (binds : List Bind) (task : Task) (why : RunRefusal) (answer : Result ℕ (Stop PutFailed)) → other ≡ compiled
-    → IfOk answer (λ status. status ≡ (run_last other.names (file_of_task other (map binding_read binds) task) task why).status)
-    → IfOk answer (λ status. status ≡ (run_last compiled.names (file_of_task compiled (map binding_read binds) task) task why).status)
-line_status_of compiled other binds task why answer same is =
-    subst (λ (c : CompiledProgram). IfOk answer (λ status. status ≡ (run_last c.names (file_of_task c (map binding_read binds) task) task why).status)) same is
+pub line_status_of : (names other : Tables) (binds : List Bind) (task : Task) (why : RunRefusal) (answer : Result ℕ (Stop PutFailed)) → other ≡ names
+    → IfOk answer (λ status. status ≡ (run_last other (file_of_task other (map binding_read binds) task) task why).status)
+    → IfOk answer (λ status. status ≡ (run_last names (file_of_task names (map binding_read binds) task) task why).status)
+line_status_of names other binds task why answer same is =
+    subst (λ (t : Tables). IfOk answer (λ status. status ≡ (run_last t (file_of_task t (map binding_read binds) task) task why).status)) same is

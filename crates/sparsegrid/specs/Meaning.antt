@@ -10,12 +10,12 @@ use Rattle.sg_grid.specs.Limits.{most_grid_bytes}
 use Rattle.sg_flat.specs.declared.state.FlatState.{FlatState}
 use Rattle.sg_flat.specs.State.{opening}
 use Rattle.sg_names.specs.declared.tables.FieldAt.{FieldAt}
-use Rattle.sg_names.specs.Tables.{field_name_of}
+use Rattle.sg_names.specs.Tables.{Tables, field_name_of}
 use Rattle.sg_session.specs.declared.refusal.Refusal.{Refusal}
 use Rattle.sg_session.specs.declared.refusal.RunRefusal.{RunRefusal}
 use Rattle.sg_session.specs.declared.tasks.Task.{Task}
 use Rattle.sg_session.specs.declared.tasks.Task.TheVariants.{Load, Run, Dump}
-use Rattle.sg_session.specs.Compiled.{CompiledProgram, unfolded}
+use Rattle.sg_session.specs.Compiled.{CheckedProgram, unfolded}
 use Rattle.sg_session.specs.Compiling.{spelled_program, compiled_program}
 use Rattle.sg_session.specs.Commands.{Left, task_meaning}
 use Rattle.sg_session.specs.Texts.{check_text}
@@ -64,66 +64,66 @@ abbrev pub file_bound : List Binding → Name → Option (List ℕ)
 file_bound bindings name = option_map (λ binding. binding.file) (find (λ binding. same_name name (record { text = binding.name })) bindings)
 
 -- the file of a field
-abbrev pub file_of_field : CompiledProgram → List Binding → FieldAt → Option (List ℕ)
-file_of_field compiled bindings at = option_and_then (file_bound bindings) (field_name_of compiled.names at.number)
+abbrev pub file_of_field : Tables → List Binding → FieldAt → Option (List ℕ)
+file_of_field names bindings at = option_and_then (file_bound bindings) (field_name_of names at.number)
 
 -- the file that a task reads: only a load reads one
-abbrev pub file_of_task : CompiledProgram → List Binding → Task → Option (List ℕ)
-file_of_task compiled bindings (Load field) = file_of_field compiled bindings field
-file_of_task compiled bindings (Run kernel) = None
-file_of_task compiled bindings (Dump field) = None
+abbrev pub file_of_task : Tables → List Binding → Task → Option (List ℕ)
+file_of_task names bindings (Load field) = file_of_field names bindings field
+file_of_task names bindings (Run kernel) = None
+file_of_task names bindings (Dump field) = None
 
 -- a load whose field has no file
-abbrev pub is_unbound : CompiledProgram → List Binding → Task → Bool
-is_unbound compiled bindings (Load field) = is_none (file_of_field compiled bindings field)
-is_unbound compiled bindings (Run kernel) = false
-is_unbound compiled bindings (Dump field) = false
+abbrev pub is_unbound : Tables → List Binding → Task → Bool
+is_unbound names bindings (Load field) = is_none (file_of_field names bindings field)
+is_unbound names bindings (Run kernel) = false
+is_unbound names bindings (Dump field) = false
 
 -- ---- the tasks of a program, one after the other
 
 -- after a task at a state: its text and then what follows; or its last line, with the state that was before it
-abbrev pub after_task : CompiledProgram → FlatState → Option (List ℕ) → Task → (FlatState → Meaning) → Result Left RunRefusal → Meaning
-after_task compiled state file task more (Ok left) = before left.text (more left.state)
-after_task compiled state file task more (Err why) = refused_with (Some state) (run_last compiled.names file task why)
+abbrev pub after_task : CheckedProgram → FlatState → Option (List ℕ) → Task → (FlatState → Meaning) → Result Left RunRefusal → Meaning
+after_task program state file task more (Ok left) = before left.text (more left.state)
+after_task program state file task more (Err why) = refused_with (Some state) (run_last program.names file task why)
 
 -- A task and what follows it, with the file that it reads, if any. So many reads were before it; what follows takes the number of reads and the
 -- state after it.
-abbrev pub task_and_more : CompiledProgram → Readings → ℕ → FlatState → Task → (ℕ → FlatState → Meaning) → Option (List ℕ) → Meaning
-task_and_more compiled readings reads state task more None = after_task compiled state None task (more reads) (task_meaning compiled state task Missing)
-task_and_more compiled readings reads state task more (Some name) =
-    asking (name ∷ []) (after_task compiled state (Some name) task (more (suc reads)) (task_meaning compiled state task (readings (suc reads) name most_grid_bytes)))
+abbrev pub task_and_more : CheckedProgram → Readings → ℕ → FlatState → Task → (ℕ → FlatState → Meaning) → Option (List ℕ) → Meaning
+task_and_more program readings reads state task more None = after_task program state None task (more reads) (task_meaning program state task Missing)
+task_and_more program readings reads state task more (Some name) =
+    asking (name ∷ []) (after_task program state (Some name) task (more (suc reads)) (task_meaning program state task (readings (suc reads) name most_grid_bytes)))
 
 -- tasks from a state on, up to the first that is refused; so many reads were before them
-unfoldable pub meaning_of_tasks : CompiledProgram → List Binding → Readings → ℕ → FlatState → List Task → Meaning
-meaning_of_tasks compiled bindings readings reads state [] = all_done [] state
-meaning_of_tasks compiled bindings readings reads state (task ∷ tasks) =
-    task_and_more compiled readings reads state task (λ after next. meaning_of_tasks compiled bindings readings after next tasks) (file_of_task compiled bindings task)
+unfoldable pub meaning_of_tasks : CheckedProgram → List Binding → Readings → ℕ → FlatState → List Task → Meaning
+meaning_of_tasks program bindings readings reads state [] = all_done [] state
+meaning_of_tasks program bindings readings reads state (task ∷ tasks) =
+    task_and_more program readings reads state task (λ after next. meaning_of_tasks program bindings readings after next tasks) (file_of_task program.names bindings task)
 
 -- ---- from the words to the tasks
 
 -- no task runs where a load has no file: the first of these is named
-abbrev pub meaning_unless : Option Task → CompiledProgram → List Binding → Readings → List Task → Meaning
-meaning_unless (Some task) compiled bindings readings tasks = refused (no_file_last (field_text compiled.names task))
-meaning_unless None compiled bindings readings tasks = meaning_of_tasks compiled bindings readings 1 (opening compiled.layouts) tasks
+abbrev pub meaning_unless : Option Task → CheckedProgram → List Binding → Readings → List Task → Meaning
+meaning_unless (Some task) program bindings readings tasks = refused (no_file_last (field_text program.names task))
+meaning_unless None program bindings readings tasks = meaning_of_tasks program bindings readings 1 (opening program.layouts) tasks
 
 -- the tasks of a program from its opening state on; its file was read before
-abbrev pub meaning_of_run : CompiledProgram → List Binding → Readings → List Task → Meaning
-meaning_of_run compiled bindings readings tasks = meaning_unless (find (is_unbound compiled bindings) tasks) compiled bindings readings tasks
+abbrev pub meaning_of_run : CheckedProgram → List Binding → Readings → List Task → Meaning
+meaning_of_run program bindings readings tasks = meaning_unless (find (is_unbound program.names bindings) tasks) program bindings readings tasks
 
 -- what is done with a compiled program: its tasks are performed, or its kernels are looked at
-abbrev pub meaning_in : Mode → CompiledProgram → List Binding → Readings → Meaning
-meaning_in mode.Run compiled bindings readings = meaning_of_run compiled bindings readings (unfolded compiled.commands)
-meaning_in mode.Check compiled bindings readings = all_done (check_text compiled) (opening compiled.layouts)
+abbrev pub meaning_in : Mode → CheckedProgram → List Binding → Readings → Meaning
+meaning_in mode.Run program bindings readings = meaning_of_run program bindings readings (unfolded program.commands)
+meaning_in mode.Check program bindings readings = all_done (check_text program.names program.neutral) (opening program.layouts)
 
 -- the items of a program, where there is one
 abbrev pub items_or_none : Result Program Refusal → List Item
 items_or_none (Ok program) = program.items
 items_or_none (Err refusal) = []
 
--- a compiled program, or the refusal of these bytes
-abbrev pub meaning_of_compiled : Asked → Readings → List ℕ → Result CompiledProgram Refusal → Meaning
+-- a checked program, or the refusal of these bytes
+abbrev pub meaning_of_compiled : Asked → Readings → List ℕ → Result CheckedProgram Refusal → Meaning
 meaning_of_compiled asked readings bytes (Err refusal) = refused (refusal_last (items_or_none (spelled_program bytes)) refusal)
-meaning_of_compiled asked readings bytes (Ok compiled) = meaning_in asked.mode compiled asked.bindings readings
+meaning_of_compiled asked readings bytes (Ok program) = meaning_in asked.mode program asked.bindings readings
 
 -- what the read of the file gave
 abbrev pub meaning_of_source : Asked → Readings → Reading → Meaning

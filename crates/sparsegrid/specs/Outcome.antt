@@ -1,6 +1,7 @@
 -- What a run does to the outside: what its files and its sink tell before it and after it, and how it ends.
-use Rattle.std.specs.Prelude.{◌≡◌, ◌≢◌, ℕ, ◌-◌, ◌<◌, ◌≤◌, ◌⊎◌, List, [], ◌∷◌, ◌++◌, Option, Some, None, option_map, refl, Ok}
+use Rattle.std.specs.Prelude.{◌≡◌, ◌≢◌, ℕ, ◌-◌, ◌<◌, ◌≤◌, ◌⊎◌, List, [], ◌∷◌, ◌++◌, Option, Some, None, option_map, refl}
 use Rattle.std.specs.Option.{IsSomeAnd}
+use Rattle.std.specs.Result.{IsOkAnd}
 use Rattle.sg_outside.specs.Counts.{Rose, one_more, last_count}
 use Rattle.sg_outside.specs.Files.{Held, Bytes, reading}
 use Rattle.sg_outside.specs.Sink.{followed_by}
@@ -10,6 +11,7 @@ use Rattle.sg_flat.specs.declared.state.FlatState.{FlatState}
 use Rattle.sg_exec.specs.Standing.{StandForState}
 use Rattle.sg_lexer.specs.Limits.{most_file_bytes}
 use Rattle.sg_session.specs.Performed.{SessionParts}
+use Rattle.sg_session.specs.Compiled.{Compiles}
 use Rattle.sg_session.specs.Compiling.{compiled_program}
 use Rattle.sparsegrid.specs.Words.{Asked, good_words}
 use Rattle.sparsegrid.specs.Meaning.{Meaning, Readings, meaning, meaning_by}
@@ -149,9 +151,10 @@ ReadCount (Some asked) before after status = IsEnding status → Rose before.rea
 
 -- ---- the session
 
--- a session is of the program of what good words ask for: its program is what the bytes of the named file compile to
+-- A session is of the program of what good words ask for: it is what the program of the named file is compiled to. So its kernels are well typed and
+-- apt for its layouts, and have the effects of the file's kernels, one for one and in order.
 abbrev pub IsOfAsked : Asked → Held → SessionParts → Type 0
-IsOfAsked asked held session = (bytes : List ℕ) × (reading held asked.file most_file_bytes ≡ Bytes bytes) × (compiled_program bytes ≡ Ok session.compiled)
+IsOfAsked asked held session = (bytes : List ℕ) × (reading held asked.file most_file_bytes ≡ Bytes bytes) × IsOkAnd (compiled_program bytes) (λ program. Compiles program session.compiled)
 
 -- words are good, and a session is of the program of what they ask for
 abbrev pub IsOfFile : List (List ℕ) → Held → SessionParts → Type 0

@@ -4,7 +4,7 @@ ghost use Rattle.std.specs.Prelude.{◌≡◌, ◌≢◌, ◌≤◌, map, None, 
 ghost use Rattle.std.specs.List.{AllByRecursion};
 ghost use Rattle.sg_flat.specs.declared.state.FlatState.{FlatState};
 ghost use Rattle.sg_exec.specs.Standing.{StandForState};
-ghost use Rattle.sg_session.specs.Compiled.{IsTask};
+ghost use Rattle.sg_session.specs.Compiled.{CheckedProgram, Compiles, IsTask};
 ghost use Rattle.sg_session.specs.Performed.{HasFile};
 ghost use Rattle.sparsegrid.specs.Words.{binding_read};
 ghost use Rattle.sparsegrid.specs.Lines.{run_last};
@@ -31,9 +31,10 @@ pub fn drive<F: Files, S: Sink>(
     out: &mut S,
 ) -> Result<u8, Stop<PutFailed>>
     requires there { AllByRecursion (IsTask session.old.compiled) tasks.now }
-    requires bound { AllByRecursion (HasFile session.old.compiled binds.now.list) tasks.now }
-    ensures went { (state : FlatState) → StandForState session.old.compiled.layouts session.old.stores state →
-        Went (λ readings. meaning_of_tasks session.old.compiled (map binding_read binds.now.list) readings 1 state tasks.now) 1
+    requires bound { AllByRecursion (HasFile session.old.compiled.names binds.now.list) tasks.now }
+    ensures went { (program : CheckedProgram) → Compiles program session.old.compiled →
+        (state : FlatState) → StandForState session.old.compiled.layouts session.old.stores state →
+        Went (λ readings. meaning_of_tasks program (map binding_read binds.now.list) readings 1 state tasks.now) 1
         (outside F.Files S.Sink files.old out.old) (outside F.Files S.Sink files.new out.new) (ended_with session.new result) }
     ensures compiled { session.new.compiled ≡ session.old.compiled }
     ensures holds { F.holds files.new ≡ F.holds files.old }
@@ -67,12 +68,12 @@ fn refuse_task<S: Sink>(
 ) -> Result<u8, Stop<PutFailed>>
     requires { IsTask compiled.now task }
     ensures wrote { WroteAll result
-        (line_text (run_last compiled.now.names (file_of_task compiled.now (map binding_read binds.now.list) task) task refusal))
-        (run_last compiled.now.names (file_of_task compiled.now (map binding_read binds.now.list) task) task refusal).status
+        (line_text (run_last compiled.now.names (file_of_task compiled.now.names (map binding_read binds.now.list) task) task refusal))
+        (run_last compiled.now.names (file_of_task compiled.now.names (map binding_read binds.now.list) task) task refusal).status
         (S.has out.old) (S.has out.new) }
     ensures cause { SendCause result (S.faults out.old) (S.faults out.new) }
     ensures status { IfOk result (λ status. status ≡
-        (run_last compiled.now.names (file_of_task compiled.now (map binding_read binds.now.list) task) task refusal).status) }
+        (run_last compiled.now.names (file_of_task compiled.now.names (map binding_read binds.now.list) task) task refusal).status) }
 {
     let file = file_of_task(compiled, binds, task);
     match run_last(alloc, compiled, file, task, refusal) {

@@ -1,6 +1,6 @@
-//! The programs of the folder `examples/` that load a grid, each with what it writes.
+//! The programs of the folder `examples/` that load grids, each with what it writes.
 
-/// A program with the words that bind its field to a grid, and the grid.
+/// A program with the words that bind its fields to grids, and the grids.
 pub(crate) struct LoadingExample {
     pub name: &'static str,
     pub source: &'static str,
@@ -314,6 +314,52 @@ grid 1 8
 5 90
 6 0
 7 0
+",
+    },
+    LoadingExample {
+        name: "dust.sg",
+        source: "// Motes of dust in a list that is as long as the grids that are loaded into it, gathered in the cells of a large sparse
+// space: dust.sg x=dust-x.grid y=dust-y.grid mass=dust-mass.grid
+layout Motes(mote) {
+  dynamic(mote: 1024) chunk 16 cap 64;
+  field x: i32;
+  field y: i32;
+  field mass: i32;
+}
+layout Space(row, column) {
+  hash(row: 64, column: 64) cap 256;
+  pointer(row: 4, column: 4) cap 1024;
+  bitmasked(row: 4, column: 4);
+  field cloud: i32;
+}
+
+// A cell of space is 16 places wide on each axis.
+kernel gather {
+  for mote in Motes { cloud[x[mote] >> 4, y[mote] >> 4] += mass[mote]; }
+}
+
+load x;
+load y;
+load mass;
+run gather;
+dump cloud;
+",
+        words: &[
+            "p.sg",
+            "x=dust-x.grid",
+            "y=dust-y.grid",
+            "mass=dust-mass.grid",
+        ],
+        others: &[
+            ("dust-x.grid", "grid 1 5\n0 5\n1 300\n2 5\n3 17\n4 16300\n"),
+            ("dust-y.grid", "grid 1 5\n0 8\n1 40\n2 8\n3 17\n4 0\n"),
+            ("dust-mass.grid", "grid 1 5\n0 2\n1 3\n2 5\n3 7\n4 11\n"),
+        ],
+        output: "grid 2 4
+0 0 7
+1 1 7
+18 2 3
+1018 0 11
 ",
     },
 ];

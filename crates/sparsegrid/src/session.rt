@@ -1,10 +1,11 @@
-ghost use Rattle.std.specs.Prelude.{◌≡◌, ◌≢◌, ◌≤◌, ◌↔◌, length, map, Option, Some, None, Ok, IsSome, IfOk, IfSome, find};
+ghost use Rattle.std.specs.Prelude.{◌≡◌, ◌≢◌, ◌≤◌, ◌↔◌, length, map, Option, Some, None, IsSome, IfOk, IfSome, find};
 ghost use Rattle.std.specs.List.{AllByRecursion};
+ghost use Rattle.std.specs.Result.{IsOkAnd};
 ghost use Rattle.sg_outside.specs.Files.{Held};
 ghost use Rattle.sg_lexer.specs.Limits.{most_file_bytes};
 ghost use Rattle.sg_session.specs.Compiling.{compiled_program, spelled_program};
 ghost use Rattle.sg_session.specs.Texts as texts_of;
-ghost use Rattle.sg_session.specs.Compiled.{IsTask, unfolded};
+ghost use Rattle.sg_session.specs.Compiled.{CheckedProgram, Compiles, IsTask, unfolded};
 ghost use Rattle.sg_flat.specs.State.{opening};
 ghost use Rattle.sparsegrid.specs.Texts.{texts};
 ghost use Rattle.sparsegrid.specs.Words.{asked_by, binding_read, good_words};
@@ -176,7 +177,7 @@ fn run_source<F: Files, S: Sink>(
     ensures never_falls { F.faults files.old ≤ F.faults files.new }
     ensures cause { SendCause result (S.faults out.old) (S.faults out.new) }
     ensures end { IfOk result IsEnd }
-    ensures program { LeavesOnly (λ session. compiled_program bytes.now ≡ Ok session.compiled) result }
+    ensures program { LeavesOnly (λ session. IsOkAnd (compiled_program bytes.now) (λ program. Compiles program session.compiled)) result }
 {
     match compile(alloc, bytes) {
         Ok(compiled) => run_compiled(alloc, asked, compiled, files, out),
@@ -193,7 +194,8 @@ fn run_compiled<F: Files, S: Sink>(
     files: &mut F,
     out: &mut S,
 ) -> Result<Done, Stop<PutFailed>>
-    ensures went { Went (meaning_in asked.now.mode compiled (map binding_read asked.now.binds.list)) 1
+    ensures went { (program : CheckedProgram) → Compiles program compiled →
+        Went (meaning_in asked.now.mode program (map binding_read asked.now.binds.list)) 1
         (outside F.Files S.Sink files.old out.old) (outside F.Files S.Sink files.new out.new) result }
     ensures holds { F.holds files.new ≡ F.holds files.old }
     ensures never_falls { F.faults files.old ≤ F.faults files.new }
@@ -209,7 +211,7 @@ fn run_compiled<F: Files, S: Sink>(
 
 /// Writes for each kernel whether it is neutral.
 fn check<S: Sink>(alloc: Global, compiled: Compiled, out: &mut S) -> Result<Done, Stop<PutFailed>>
-    ensures along { WentAlong (all_done (texts_of.check_text compiled) (opening compiled.layouts)) (S.has out.old) (S.has out.new) result }
+    ensures along { WentAlong (all_done (texts_of.check_text compiled.names compiled.neutral) (opening compiled.layouts)) (S.has out.old) (S.has out.new) result }
     ensures cause { SendCause result (S.faults out.old) (S.faults out.new) }
     ensures end { IfOk result IsEnd }
     ensures program { LeavesProgram compiled result }
@@ -254,7 +256,8 @@ fn perform<F: Files, S: Sink>(
     files: &mut F,
     out: &mut S,
 ) -> Result<Done, Stop<PutFailed>>
-    ensures went { Went (λ readings. meaning_of_run compiled (map binding_read binds.now.list) readings (unfolded compiled.commands)) 1
+    ensures went { (program : CheckedProgram) → Compiles program compiled →
+        Went (λ readings. meaning_of_run program (map binding_read binds.now.list) readings (unfolded program.commands)) 1
         (outside F.Files S.Sink files.old out.old) (outside F.Files S.Sink files.new out.new) result }
     ensures holds { F.holds files.new ≡ F.holds files.old }
     ensures never_falls { F.faults files.old ≤ F.faults files.new }
@@ -281,8 +284,9 @@ fn perform_tasks<F: Files, S: Sink>(
     out: &mut S,
 ) -> Result<Done, Stop<PutFailed>>
     requires there { AllByRecursion (IsTask compiled) tasks.now }
-    requires bound { find (is_unbound compiled (map binding_read binds.now.list)) tasks.now ≡ None }
-    ensures went { Went (λ readings. meaning_of_tasks compiled (map binding_read binds.now.list) readings 1 (opening compiled.layouts) tasks.now) 1
+    requires bound { find (is_unbound compiled.names (map binding_read binds.now.list)) tasks.now ≡ None }
+    ensures went { (program : CheckedProgram) → Compiles program compiled →
+        Went (λ readings. meaning_of_tasks program (map binding_read binds.now.list) readings 1 (opening program.layouts) tasks.now) 1
         (outside F.Files S.Sink files.old out.old) (outside F.Files S.Sink files.new out.new) result }
     ensures holds { F.holds files.new ≡ F.holds files.old }
     ensures never_falls { F.faults files.old ≤ F.faults files.new }

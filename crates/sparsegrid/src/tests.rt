@@ -2,6 +2,7 @@
 
 mod admissions;
 mod checks;
+mod containers;
 mod faults;
 mod kernels;
 mod language;

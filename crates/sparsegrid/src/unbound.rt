@@ -26,7 +26,7 @@ fn file_bound<'a>(binds: &'a Binds, name: &Name) -> Option<&'a str>
 /// The file that a task reads: only a load reads one.
 pub fn file_of_task<'a>(compiled: &Compiled, binds: &'a Binds, task: Task) -> Option<&'a str>
     requires { IsTask compiled.now task }
-    ensures { option_copied result ≡ spec.file_of_task compiled.now (map binding_read binds.now.list) task }
+    ensures { option_copied result ≡ spec.file_of_task compiled.now.names (map binding_read binds.now.list) task }
 {
     match task {
         Task::Load(field) => file_bound(binds, compiled.names.field_name(field.number)),
@@ -38,7 +38,7 @@ pub fn file_of_task<'a>(compiled: &Compiled, binds: &'a Binds, task: Task) -> Op
 /// Whether a task is a load whose field has no file.
 fn is_unbound(compiled: &Compiled, binds: &Binds, task: Task) -> bool
     requires { IsTask compiled.now task }
-    ensures { result ≡ spec.is_unbound compiled.now (map binding_read binds.now.list) task }
+    ensures { result ≡ spec.is_unbound compiled.now.names (map binding_read binds.now.list) task }
 {
     match task {
         Task::Load(_field) => file_of_task(compiled, binds, task).is_none(),
@@ -50,7 +50,7 @@ fn is_unbound(compiled: &Compiled, binds: &Binds, task: Task) -> bool
 /// The first load whose field has no file.
 pub fn first_unbound(compiled: &Compiled, binds: &Binds, tasks: &[Task]) -> Option<Task>
     requires { AllByRecursion (IsTask compiled.now) tasks.now }
-    ensures { result ≡ find (spec.is_unbound compiled.now (map binding_read binds.now.list)) tasks.now }
+    ensures { result ≡ find (spec.is_unbound compiled.now.names (map binding_read binds.now.list)) tasks.now }
 {
     for task in tasks {
         if is_unbound(compiled, binds, *task) {

@@ -1,5 +1,5 @@
 -- The coordinates that are wanted in each layout beside its active ones.
-use Rattle.std.specs.Prelude.{◌≡◌, ◌↔◌, ℕ, suc, List, [], ◌∷◌, ◌++◌, map, filter, ◌==◌, All, Contains, Option, Some, None, Result, Ok, Err, unwrap_or, slice_get}
+use Rattle.std.specs.Prelude.{◌≡◌, ◌↔◌, ℕ, suc, Bool, not, ◌&&◌, List, [], ◌∷◌, ◌++◌, map, filter, ◌==◌, All, Contains, Option, Some, None, Result, Ok, Err, unwrap_or, slice_get}
 use Rattle.std.specs.List.{AllZip}
 use Rattle.sg_words.specs.declared.memory.Stop.{Stop}
 use Rattle.sg_words.specs.declared.memory.Stop.TheVariants as stop
@@ -9,6 +9,8 @@ use Rattle.sg_layout.specs.declared.shape.Shape.{Shape}
 use Rattle.sg_layout.specs.Axes.{bounds_of_shape}
 use Rattle.sg_layout.specs.Closure.{closure}
 use Rattle.sg_layout.specs.Need.{first_full}
+use Rattle.sg_flat.specs.declared.effects.Domain.{Domain}
+use Rattle.sg_flat.specs.declared.effects.Way.TheVariants.{Own}
 use Rattle.sg_flat.specs.declared.effects.Write.{Write}
 use Rattle.sg_flat.specs.declared.effects.Turn.{Turn}
 use Rattle.sg_flat.specs.declared.effects.RunFault.{RunFault}
@@ -16,7 +18,17 @@ use Rattle.sg_flat.specs.declared.state.FlatLayout.{FlatLayout}
 use Rattle.sg_flat.specs.Effects.{writes_of, written_in}
 use Rattle.sg_flat.specs.Kernel.{outside_among, first_outside, full_fault, first_full_layout}
 use Rattle.sg_store.specs.StoreWords.{StoreWords}
+use Rattle.sg_ir.specs.Runs.{is_own}
+use Rattle.sg_ir.specs.Apt.{walks}
 use Rattle.sg_store.specs.StandsFor.{StandsFor}
+
+-- a write without its field and its value
+abbrev pub bare : Write → Write
+bare write = record { layout = write.layout; place = 0; stmt = write.stmt; at = write.at; way = Own; value = 0 }
+
+-- a write may activate unless it is an own write into the layout that the loop walks
+abbrev pub acts : Domain → Write → Bool
+acts domain write = not (is_own write.way && walks domain write.layout)
 
 -- the coordinates of the writes into a layout
 abbrev pub coords_in : ℕ → List Write → List Coord

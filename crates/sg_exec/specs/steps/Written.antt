@@ -1,11 +1,15 @@
 -- The writes of an iteration, with the last own write to each field at hand.
-use Rattle.std.specs.Prelude.{◌≡◌, ℕ, Bool, ◌&&◌, ◌==◌, List, [], ◌∷◌, find, if◌then◌else◌}
+use Rattle.std.specs.Prelude.{◌≡◌, ℕ, Bool, ◌&&◌, ◌==◌, List, [], ◌∷◌, find, reverse, Option, if◌then◌else◌}
 use Rattle.sg_flat.specs.declared.effects.Write.{Write}
-use Rattle.sg_types.specs.Values.{is_own, own_write}
+use Rattle.sg_ir.specs.Runs.{is_own}
 
 -- a write is an own write to this field
 abbrev pub is_own_to : ℕ → ℕ → Write → Bool
 is_own_to layout place write = is_own write.way && ((write.layout == layout) && (write.place == place))
+
+-- the last own write to a field
+abbrev pub own_write : ℕ → ℕ → List Write → Option Write
+own_write layout place writes = find (is_own_to layout place) (reverse writes)
 
 -- two writes are to one field
 abbrev pub is_same_field : Write → Write → Bool

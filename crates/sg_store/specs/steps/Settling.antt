@@ -4,11 +4,11 @@ use Rattle.sg_layout.specs.declared.shape.Kind.TheVariants.{Pointer, Bitmasked}
 use Rattle.sg_layout.specs.declared.shape.NodeShape.{NodeShape}
 use Rattle.sg_layout.specs.Axes.{count_of}
 use Rattle.sg_pool.specs.Numbers.{live_count}
-use Rattle.sg_pool.specs.Numbers.{CanSettle, IsSettled}
+use Rattle.sg_pool.specs.Numbers.{CanSettle}
 use Rattle.sg_store.specs.declared.node.NodeWords.{NodeWords}
-use Rattle.sg_store.specs.StoreWords.{StoreWords}
 use Rattle.sg_store.specs.Slots.{mask_bit, is_set, place_below}
 use Rattle.sg_store.specs.WellFormed.{IsNode, live_below}
+pub use Rattle.sg_store.specs.Changes.{IsRelinked, IsRemasked, ChangesNode}
 
 -- links that a pointer node may get: each old link stays, each new one stands in a live container and is one more than
 -- a number of `taken`, and each of these numbers is of the stock and in one slot
@@ -32,24 +32,12 @@ pub record CanRelink (links taken : List ℕ) (kept : NodeWords) : Type 0 where
   pub as_many : length links ≡ length kept.links
   pub free : CanSettle kept.pool taken
 
--- a node's words with other links, whose numbers of `taken` have become live
-pub record IsRelinked (links taken : List ℕ) (kept after : NodeWords) : Type 0 where
-  pub new_links : after.links ≡ links
-  pub same_masks : after.masks ≡ kept.masks
-  pub pool : IsSettled kept.pool after.pool taken
-
 -- masks that a bitmasked node may get: as many words, each set bit stays, and each new one stands in a live container
 pub record CanSettleMasks (masks : List ℕ) (node : NodeShape) (kept : NodeWords) (slots : ℕ) (live : ℕ → Bool) : Type 0 where
   pub is_masked : node.kind ≡ Bitmasked
   pub as_many : length masks ≡ length kept.masks
   pub stays : (slot : ℕ) → IsTrue (mask_bit kept.masks slot) → IsTrue (mask_bit masks slot)
   pub in_live : (slot : ℕ) → IsTrue (mask_bit masks slot) → IsTrue (live slot)
-
--- a node's words with other masks
-pub record IsRemasked (masks : List ℕ) (kept after : NodeWords) : Type 0 where
-  pub same_links : after.links ≡ kept.links
-  pub new_masks : after.masks ≡ masks
-  pub same_pool : after.pool ≡ kept.pool
 
 -- the words of the node with this index have become others, and those of all other nodes stay
 pub record ChangesAt (Change : NodeWords → NodeWords → Type 0) (old now : List NodeWords) (index : ℕ) : Type 0 where
@@ -58,14 +46,6 @@ pub record ChangesAt (Change : NodeWords → NodeWords → Type 0) (old now : Li
   pub after : NodeWords
   pub change : Change kept after
   pub now_is : now ≡ slice_set old index after
-
--- the store is as before but for the words of the node with this index, which have become others
-pub record ChangesNode (Change : NodeWords → NodeWords → Type 0) (old now : StoreWords) (index : ℕ) : Type 0 where
-  pub kept : NodeWords
-  pub was : slice_get old.nodes index ≡ Some kept
-  pub after : NodeWords
-  pub change : Change kept after
-  pub now_is : now ≡ record old { nodes = slice_set old.nodes index after }
 
 -- a node whose words have become others and which is well-formed again: what was active and linked stays, and a slot
 -- that leads on now and didn't before leads to a place that wasn't live

@@ -1,7 +1,11 @@
 -- One step of a walk, and from which places it can be taken.
-use Rattle.std.specs.Prelude.{ℕ, ◌^◌, ◌<◌, ◌≤◌, Bool, true, false, List, [], ◌∷◌}
+use Rattle.std.specs.Prelude.{ℕ, ◌^◌, ◌/◌, ◌%◌, ◌<◌, ◌≤◌, Bool, true, false, List, [], ◌∷◌, length}
 use Rattle.sg_layout.specs.declared.shape.NodeShape.{NodeShape}
-use Rattle.sg_layout.specs.Axes.{size_of}
+use Rattle.sg_layout.specs.Axes.{count_of, size_of}
+use Rattle.sg_layout.specs.declared.shape.Kind.{Kind}
+use Rattle.sg_layout.specs.declared.shape.Kind.TheVariants.{Dense, Bitmasked, Pointer, Hash, Dynamic}
+use Rattle.sg_hash.specs.Tables.{IsTable, AreBeside}
+use Rattle.sg_links.specs.Lists.{Lists}
 use Rattle.sg_store.specs.declared.node.NodeWords.{NodeWords}
 use Rattle.sg_store.specs.Slots.{slot_under, place_below, active_below}
 use Rattle.sg_store.specs.Walks.{Step}
@@ -21,3 +25,29 @@ pub record IsPlaceAt (x : ℕ) (node : NodeShape) (kept : NodeWords) (slots : �
 abbrev pub step_of : Bool → Step
 step_of true = active_below
 step_of false = place_below
+
+-- a table with room for a key, in which a key is looked for
+pub record IsTableFor (keys links : List ℕ) (key : ℕ) : Type 0 where
+  pub some : 0 < length keys
+  pub table : IsTable keys
+  pub links_beside : AreBeside keys links
+  pub few : key < 2 ^ 32
+
+-- chains in which the cell of an index under a parent is looked for
+pub record IsChainFor (chains : Lists) (chunk parent index : ℕ) : Type 0 where
+  pub there : parent < length chains.lists
+  pub some_chunk : 1 ≤ chunk
+  pub few : index < 2 ^ 32
+
+-- parents of so many slots, and a chain for the parent of this one
+pub record IsUnderParent (node : NodeShape) (kept : NodeWords) (slot : ℕ) : Type 0 where
+  pub some_size : 0 < size_of node.sizes
+  pub chain : IsChainFor kept.chains (count_of node.chunk) (slot / size_of node.sizes) (slot % size_of node.sizes)
+
+-- the words of a node in which a slot can be looked for
+abbrev pub CanFind : Kind → NodeShape → NodeWords → ℕ → Type 0
+CanFind Dense node kept slot = Unit {0}
+CanFind Bitmasked node kept slot = Unit {0}
+CanFind Pointer node kept slot = Unit {0}
+CanFind Hash node kept slot = IsTableFor kept.keys kept.links slot
+CanFind Dynamic node kept slot = IsUnderParent node kept slot

@@ -10,7 +10,7 @@ use Rattle.sg_outside.specs.Sink.{followed_by}
 use Rattle.sg_grid.specs.Limits.{most_grid_bytes}
 use Rattle.sg_session.specs.Performed.{SessionParts}
 use Rattle.sg_session.specs.declared.tasks.Task.{Task}
-use Rattle.sg_session.specs.Compiled.{CompiledProgram}
+use Rattle.sg_session.specs.Compiled.{CheckedProgram, CompiledProgram}
 use Rattle.sg_flat.specs.declared.state.FlatState.{FlatState}
 use Rattle.sg_store.specs.StoreWords.{StoreWords}
 use Rattle.sg_exec.specs.Standing.{StandForState}
@@ -156,18 +156,18 @@ pub record Went (m : Readings → Meaning) (earlier : ℕ) (before after : Outsi
 
 -- tasks were performed from a state on up to these that are left: `made` are the reads, `text` is what was written, and the stores stand for
 -- the state that is reached
-pub record Came (compiled : CompiledProgram) (bindings : List Binding) (start : FlatState) (tasks rest : List Task) (stores : List StoreWords) (before now : Outside) : Type 0 where
+pub record Came (program : CheckedProgram) (bindings : List Binding) (start : FlatState) (tasks rest : List Task) (stores : List StoreWords) (before now : Outside) : Type 0 where
   pub made : List ReadMade
   pub state : FlatState
   pub text : List ℕ
-  pub stand : StandForState compiled.layouts stores state
+  pub stand : StandForState program.layouts stores state
   pub grew : now.written ≡ followed_by before.written text
   pub asked : now.asked ≡ asked_more before.asked (names_of made)
   pub reads : now.reads ≡ counted_more before.reads (names_of made)
   pub held : now.held ≡ before.held
   pub none : NoneFailed before now made
   pub is : (readings : Readings) → Agree readings 1 made
-      → meaning_of_tasks compiled bindings readings 1 start tasks ≡ asking (names_of made) (before_text text (meaning_of_tasks compiled bindings readings (length made + 1) state rest))
+      → meaning_of_tasks program bindings readings 1 start tasks ≡ asking (names_of made) (before_text text (meaning_of_tasks program bindings readings (length made + 1) state rest))
 
 -- how a run that came to its end ended: not by a failed put or want of memory, and with a session exactly where its status leaves one
 abbrev pub IsEnd : Done → Type 0

@@ -11,6 +11,21 @@ static CHECKS: &[(&str, u8, &str)] = &[
         0,
         "kernel k neutral\nkernel m layout-bound\nkernel n neutral\nkernel o layout-bound\n",
     ),
+    (
+        "layout A(i, j) { dense(i: 8, j: 8); field x: i32; } kernel k { for i, j in A { if x[i, j] != 0 { x[i, j] = x[i, j] * 2; } } } load x; run k;",
+        0,
+        "kernel k neutral\n",
+    ),
+    (
+        "layout A(i, j) { pointer(i: 2, j: 2) cap 4; dense(i: 4, j: 4); field x: i32; } kernel k { for i, j in A { if x[i, j] != 0 { x[i, j] = x[i, j] * 2; } } } load x; run k;",
+        0,
+        "kernel k neutral\n",
+    ),
+    (
+        "layout A(i, j) { dense(i: 8, j: 8); field x: i32; } kernel k { for i, j in A { x[i, j] = x[i, j] * 2; } } load x; run k;",
+        0,
+        "kernel k layout-bound\n",
+    ),
     ("@", 4, "refused: bad byte: line 1\n"),
     (
         "layout A(i) { dense(i: 1); field x: i32; } kernel k { for i in A { x[i] += x[i]; } }",

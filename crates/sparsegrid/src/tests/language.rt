@@ -218,6 +218,30 @@ fn examples_of_the_page(rt: HostRuntime) -> Result<(), Fail> {
     compare(&rt, rt.alloc(), RUNS)
 }
 
+/// The declarations that the page shows whole, with a write at the last place of the layout and one behind it on each axis.
+static DECLARED: &[(&str, u8, &str)] = &[
+    (
+        "const N = 64; const LOW = -5; const S = 2654435761u; layout G(i, j) { dense(i: 8, j: N); field mass: i32; field flags: u32; } layout D(i) { dense(i: 1); field x: i32; field y: u32; } kernel last { for i, j in 7..8, 63..64 { mass[i, j] = LOW; flags[i, j] = S; } } kernel show { for i in D { x[i] = mass[7, 63]; y[i] = flags[7, 63]; } } run last; run show; dump x; dump y;",
+        0,
+        "grid 1 1\n0 -5\ngrid 1 1\n0 2654435761\n",
+    ),
+    (
+        "const N = 64; layout G(i, j) { dense(i: 8, j: N); field mass: i32; field flags: u32; } kernel k { for i, j in 7..8, 63..65 { mass[i, j] = 1; } } run k;",
+        7,
+        "refused: write outside: kernel k statement 1 at 7 64\n",
+    ),
+    (
+        "const N = 64; layout G(i, j) { dense(i: 8, j: N); field mass: i32; field flags: u32; } kernel k { for i, j in 7..9, 63..64 { flags[i, j] = 1u; } } run k;",
+        7,
+        "refused: write outside: kernel k statement 1 at 8 63\n",
+    ),
+];
+
+#[test]
+fn declarations_of_the_page(rt: HostRuntime) -> Result<(), Fail> {
+    compare(&rt, rt.alloc(), DECLARED)
+}
+
 /// Programs, with the status and the text of mode check.
 static CHECKS: &[(&str, u8, &str)] = &[
     (
@@ -297,6 +321,13 @@ static LOADS: &[(&[&str], &str, &[(&str, &str)], u8, &str)] = &[
         &[("x", "grid 1 4\n1 9\n2 3\n8 4\n11 -1\n")],
         0,
         "grid 1 4\n0 9\n1 0\n2 4\n3 0\n",
+    ),
+    (
+        &["p.sg", "x=x"],
+        "layout A(i, j) { dense(i: 8, j: 8); field x: i32; } layout B(i, j) { bitmasked(i: 8, j: 8); field y: i32; } kernel blur { for i, j in 1..7, 1..7 { y[i, j] = (x[i - 1, j] + x[i + 1, j] + x[i, j - 1] + x[i, j + 1]) / 4; } } load x; run blur; dump y;",
+        &[("x", "grid 2 4\n0 2 -7\n3 3 8\n3 4 5\n6 6 4\n")],
+        0,
+        "grid 2 36\n1 1 0\n1 2 -1\n1 3 0\n1 4 0\n1 5 0\n1 6 0\n2 1 0\n2 2 0\n2 3 2\n2 4 1\n2 5 0\n2 6 0\n3 1 0\n3 2 2\n3 3 1\n3 4 2\n3 5 1\n3 6 0\n4 1 0\n4 2 0\n4 3 2\n4 4 1\n4 5 0\n4 6 0\n5 1 0\n5 2 0\n5 3 0\n5 4 0\n5 5 0\n5 6 1\n6 1 0\n6 2 0\n6 3 0\n6 4 0\n6 5 1\n6 6 0\n",
     ),
     (
         &["p.sg", "x=x"],

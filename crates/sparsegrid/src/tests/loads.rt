@@ -119,6 +119,12 @@ static UNBOUND: &[(&str, &[&str], u8, &str)] = &[
         "refused: no file for y\n",
     ),
     (
+        "layout A(i) { dense(i: 1); field x: i32; } kernel k { for p in 0..1 { x[0] += 1; } } load x; run k; dump x;",
+        &["p.sg"],
+        1,
+        "refused: no file for x\n",
+    ),
+    (
         "layout A(i) { dense(i: 1); field x: i32; } dump x; load x;",
         &["p.sg", "--mode", "check"],
         0,
@@ -149,4 +155,57 @@ fn loads_then_runs(rt: HostRuntime) -> Result<(), Fail> {
         )
     };
     setting.ends(&rt, rt.alloc(), 0, "grid 1 1\n0 -2147483648\n")
+}
+
+/// Neighbours outside the extents count as 0.
+#[test]
+fn sums_of_neighbours(rt: HostRuntime) -> Result<(), Fail> {
+    let setting = Setting {
+        words: &["p.sg", "x=g"],
+        others: &[("g", "grid 2 3\n0 1 5\n1 0 7\n3 3 9\n")],
+        ..Setting::of(
+            "layout A(i, j) { dense(i: 4, j: 4); field x: i32; field y: i32; } kernel k { for i, j in A { y[i, j] = x[i - 1, j] + x[i + 1, j] + x[i, j - 1] + x[i, j + 1]; } } load x; run k; dump y;",
+        )
+    };
+    setting.ends(
+        &rt,
+        rt.alloc(),
+        0,
+        "grid 2 16\n0 0 12\n0 1 0\n0 2 5\n0 3 0\n1 0 0\n1 1 12\n1 2 0\n1 3 0\n2 0 7\n2 1 0\n2 2 0\n2 3 9\n3 0 0\n3 1 0\n3 2 9\n3 3 0\n",
+    )
+}
+
+/// Keys that have one first place in the table: three of them fit, and a fourth doesn't.
+#[test]
+fn keys_of_one_place(rt: HostRuntime) -> Result<(), Fail> {
+    let setting = Setting {
+        words: &["p.sg", "x=g"],
+        others: &[("g", "grid 1 3\n0 1\n8 1\n16 1\n")],
+        ..Setting::of(
+            "layout A(i) { hash(i: 64) cap 3; field x: i32; } kernel k { for i in 24..25 { x[i] = 1; } } load x; dump x; run k;",
+        )
+    };
+    setting.ends(
+        &rt,
+        rt.alloc(),
+        7,
+        "grid 1 3\n0 1\n8 1\n16 1\nrefused: pool full: A node 1 cap 3\n",
+    )
+}
+
+/// Particles are summed into a grid of three kinds of nodes.
+#[test]
+fn particles_in_a_grid(rt: HostRuntime) -> Result<(), Fail> {
+    let setting = Setting {
+        words: &["p.sg", "px=a", "py=b", "m=c"],
+        others: &[
+            ("a", "grid 1 4\n0 5\n1 300\n2 5\n3 17\n"),
+            ("b", "grid 1 4\n0 8\n1 40\n2 8\n3 17\n"),
+            ("c", "grid 1 4\n0 2\n1 3\n2 5\n3 7\n"),
+        ],
+        ..Setting::of(
+            "layout P(p) { dense(p: 4); field px: i32; field py: i32; field m: i32; } layout G(i, j) { hash(i: 4, j: 4) cap 16; pointer(i: 2, j: 2) cap 64; bitmasked(i: 8, j: 8); field g: i32; } kernel scatter { for p in P { g[px[p] >> 4, py[p] >> 4] += m[p]; } } load px; load py; load m; run scatter; dump g;",
+        )
+    };
+    setting.ends(&rt, rt.alloc(), 0, "grid 2 3\n0 0 7\n1 1 7\n18 2 3\n")
 }

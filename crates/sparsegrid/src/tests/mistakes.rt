@@ -32,12 +32,12 @@ static OTHERS: &[(&str, u8, &str)] = &[
     (
         "const N = 4; layout A(i) { dense(i: 4); field x: i32; } kernel k { for i in A { x[i + 1] = 2; } } layout H(i) { hash(i: 4) cap 4; field h: i32; }",
         5,
-        "refused: not built: item 4\n",
+        "refused: admission: kernel k statement 1 rule 2\n",
     ),
     (
         "const N = 4; layout A(i) { dense(i: 4); field x: i32; } kernel k { for i in A { x[i + 1] = 2; } } layout H(i) { dynamic(i: 4) chunk 2 cap 4; field h: i32; }",
         5,
-        "refused: not built: item 4\n",
+        "refused: admission: kernel k statement 1 rule 2\n",
     ),
     (
         "const N = 4; layout A(i) { dense(i: 4); field x: i32; } kernel k { for i in A { x[i + 1] = 2; } } image x 0 9;",
@@ -295,6 +295,11 @@ static NAMES: &[(&str, u8, &str)] = &[
         "kernel k { for i in 0..i { } }",
         5,
         "refused: type: kernel k statement 0 code 4\n",
+    ),
+    (
+        "layout A(i) { dense(i: 4); field x: i32; } kernel k { for i in 0..4 { let a = 1; if a > i { x[i] = a; } x[i] = b; } }",
+        5,
+        "refused: type: kernel k statement 4 code 4\n",
     ),
 ];
 

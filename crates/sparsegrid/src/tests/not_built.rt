@@ -3,8 +3,6 @@ use std::test::Fail;
 
 /// Items of forms that are not built, each after the layout and the kernel that it may name.
 static NOT_BUILT: &[&str] = &[
-    "layout B(i) { hash(i: 4) cap 2; field y: i32; }",
-    "layout B(i) { dynamic(i: 8) chunk 4 cap 2; field y: i32; }",
     "image x 0 9;",
     "stats A;",
     "prune A;",
@@ -20,6 +18,8 @@ static BUILT: &[&str] = &[
     "layout B(i, j) { dense(i: 512, j: 512); field y: u32; }",
     "layout B(i) { pointer(i: 4) cap 2; dense(i: 4); field y: i32; }",
     "layout B(i) { bitmasked(i: 4); field y: i32; }",
+    "layout B(i) { hash(i: 4) cap 2; field y: i32; }",
+    "layout B(i) { dynamic(i: 8) chunk 4 cap 2; field y: i32; }",
     "layout B(i) { dense(i: 4); dense(i: 4); field y: i32; }",
     "kernel m { for i, j in -N..N, -1..1 { let a = x[j, i]; } }",
     "kernel m { for i, j in 0..1024, 0..1024 { let a = i + j; } }",

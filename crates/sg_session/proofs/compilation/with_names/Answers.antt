@@ -15,7 +15,7 @@ invariant_of-result c =
       typed = c.typed_is_well_typed.ensures;
       variables = c.variables_are_numbered.ensures;
     } in
-    compiled_keeps program c.args.names (with_tables c.args.names c.in-Ok.field-0) laws c.requires.names c.in-Ok.ensures
+    compiled_keeps program c.args.names (with_tables c.args.names c.in-Ok.field-0) c.requires.spelled.grammar laws c.requires.names c.in-Ok.ensures
 
 pub returns-in-Ok-clause-compiled : goal.returns-in-Ok-clause-compiled
 returns-in-Ok-clause-compiled c = invariant_of-result c

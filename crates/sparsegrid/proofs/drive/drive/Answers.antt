@@ -1,18 +1,20 @@
-use Rattle.std.proofs.Common.{◌+◌, drop, ap, ◌∙◌, refl, subst, arith, List, ℕ, Err, Ok}
+use Rattle.std.proofs.Common.{◌+◌, drop, ap, ◌∙◌, refl, subst, sym, arith, List, ℕ, Err, Ok}
 use Rattle.std.proofs.lemmas.List.{drop_all}
 use Rattle.sg_words.specs.declared.memory.Stop.TheVariants as stop
 use Rattle.sg_outside.specs.Sink.{followed_by}
-use Rattle.sg_session.specs.Compiled.{IsTask}
+use Rattle.sg_layout.specs.declared.shape.Shape.{Shape}
+use Rattle.sg_exec.specs.Standing.{StandForState}
+use Rattle.sg_session.specs.Compiled.{CompiledProgram, Compiles, IsTask}
 use Rattle.sg_session.specs.Performed.{SessionParts, HasFile}
 use Rattle.sparsegrid.specs.Outcome.{outside}
 use Rattle.sparsegrid.specs.steps.Along.{Sends}
 use Rattle.sparsegrid.proofs.Bound.{split_at}
-use Rattle.sparsegrid.proofs.Tasks.{came_start, came_next, went_all, cut_in_send, cut_in_step, ended_in_task, stepped, head_of, tail_of, line_of, line_status_of}
+use Rattle.sparsegrid.proofs.Tasks.{came_start, came_next, went_all, cut_in_send, cut_in_step, ended_in_task, stepped, has_head, tail_of, line_of, line_status_of}
 use Rattle.sparsegrid.proofs.drive.drive.Goals as goal
 
 pub loop-task-init : goal.loop-task-init
 loop-task-init g c = record {
-  came = λ start stand. came_start c.args.session.now.compiled c.args.binds.now.list start c.args.tasks.now c.args.session.now.stores _ stand;
+  came = λ program compiles start stand. came_start program c.args.binds.now.list start c.args.tasks.now c.args.session.now.stores _ (subst (λ (ls : List Shape). StandForState ls c.args.session.now.stores start) compiles.layouts stand);
   compiled = refl;
   there = c.requires.there;
   bound = c.requires.bound;
@@ -29,76 +31,80 @@ loop-task-preserved g c =
     let i = c.loop-task.task-index in
     let split = split_at tasks i _ c.loop-task-test.true in
     record {
-      came = λ start stand. let came = c.loop-task.invariant.came start stand in
-          came_next compiled binds start tasks (drop i tasks) (drop (i + 1) tasks) _ c.loop-task.session.stores c.step.new.self.stores c.in-Ok.text _ _ _ split came
-          (stepped compiled c.loop-task.session.compiled binds came.state _ c.loop-task.session.stores c.step.new.self.stores (Ok c.in-Ok.text) _ _ c.loop-task.invariant.compiled came.stand
-          (head_of (HasFile compiled binds) (drop i tasks) (drop (i + 1) tasks) _ split c.loop-task.invariant.bound)
+      came = λ program compiles start stand. let came = c.loop-task.invariant.came program compiles start stand in
+          let here = subst (Compiles program) (sym c.loop-task.invariant.compiled) compiles in
+          came_next program binds start tasks (drop i tasks) (drop (i + 1) tasks) _ c.loop-task.session.stores c.step.new.self.stores c.in-Ok.text _ _ _ split came
+          (stepped program c.loop-task.session.compiled binds came.state _ c.loop-task.session.stores c.step.new.self.stores (Ok c.in-Ok.text) _ _ here came.stand
+          (has_head program compiled binds (drop i tasks) (drop (i + 1) tasks) _ compiles split c.loop-task.invariant.bound)
           c.in-Ok.ensures.told c.in-Ok.ensures.performed c.in-Ok.ensures.asked c.in-Ok.ensures.reads c.in-Ok.ensures.cause c.in-Ok.ensures.holds)
           (c.in-Ok-send.ensures.bytes ∙ ap (followed_by (g.S.Sink.has c.loop-task.out)) c.as_slice.ensures);
       compiled = c.step.ensures.compiled ∙ c.loop-task.invariant.compiled;
       there = tail_of (IsTask compiled) (drop i tasks) (drop (i + 1) tasks) _ split c.loop-task.invariant.there;
-      bound = tail_of (HasFile compiled binds) (drop i tasks) (drop (i + 1) tasks) _ split c.loop-task.invariant.bound;
+      bound = tail_of (HasFile compiled.names binds) (drop i tasks) (drop (i + 1) tasks) _ split c.loop-task.invariant.bound;
       holds = c.step.ensures.holds ∙ c.loop-task.invariant.holds;
       never_falls = omega (arith, c.step.ensures.never_falls, c.loop-task.invariant.never_falls);
       faults = c.in-Ok-send.ensures.cause ∙ c.loop-task.invariant.faults;
     }
 
 pub returns-in-Err-clause-went : goal.returns-in-Err-clause-went
-returns-in-Err-clause-went g c = λ start stand.
+returns-in-Err-clause-went g c = λ program compiles start stand.
     let compiled = c.args.session.now.compiled in
     let binds = c.args.binds.now.list in
     let tasks = c.args.tasks.now in
     let i = c.loop-task.task-index in
     let split = split_at tasks i _ c.loop-task-test.true in
-    let came = c.loop-task.invariant.came start stand in
-    cut_in_send compiled binds start tasks (drop i tasks) (drop (i + 1) tasks) _ c.loop-task.session.stores c.step.new.self.stores c.in-Ok.text _ _
+    let came = c.loop-task.invariant.came program compiles start stand in
+    let here = subst (Compiles program) (sym c.loop-task.invariant.compiled) compiles in
+    cut_in_send program binds start tasks (drop i tasks) (drop (i + 1) tasks) _ c.loop-task.session.stores c.step.new.self.stores c.in-Ok.text _ _
     (outside g.F.Files g.S.Sink c.step.new.files c.loop-task.out) _ c.in-Err.why split came
-    (stepped compiled c.loop-task.session.compiled binds came.state _ c.loop-task.session.stores c.step.new.self.stores (Ok c.in-Ok.text) _ _ c.loop-task.invariant.compiled came.stand
-    (head_of (HasFile compiled binds) (drop i tasks) (drop (i + 1) tasks) _ split c.loop-task.invariant.bound)
+    (stepped program c.loop-task.session.compiled binds came.state _ c.loop-task.session.stores c.step.new.self.stores (Ok c.in-Ok.text) _ _ here came.stand
+    (has_head program compiled binds (drop i tasks) (drop (i + 1) tasks) _ compiles split c.loop-task.invariant.bound)
     c.in-Ok.ensures.told c.in-Ok.ensures.performed c.in-Ok.ensures.asked c.in-Ok.ensures.reads c.in-Ok.ensures.cause c.in-Ok.ensures.holds)
     refl (subst (λ (text : List ℕ). Sends {A = Unit} (Err c.in-Err.why) (g.S.Sink.has c.loop-task.out) (g.S.Sink.has c.send.new.out) text) c.as_slice.ensures c.in-Err.ensures.bytes) refl refl refl
 
 pub returns-in-Err-Refused-clause-went : goal.returns-in-Err-Refused-clause-went
-returns-in-Err-Refused-clause-went g c = λ start stand.
+returns-in-Err-Refused-clause-went g c = λ program compiles start stand.
     let compiled = c.args.session.now.compiled in
     let binds = c.args.binds.now.list in
     let tasks = c.args.tasks.now in
     let i = c.loop-task.task-index in
     let split = split_at tasks i _ c.loop-task-test.true in
-    let came = c.loop-task.invariant.came start stand in
+    let came = c.loop-task.invariant.came program compiles start stand in
+    let here = subst (Compiles program) (sym c.loop-task.invariant.compiled) compiles in
     let same = c.step.ensures.compiled ∙ c.loop-task.invariant.compiled in
-    let inside = ap (λ (s : SessionParts). s.compiled) c.session.view_is ∙ same in
+    let inside = ap (λ (s : SessionParts). s.compiled.names) c.session.view_is ∙ (ap (λ (p : CompiledProgram). p.names) same ∙ compiles.names) in
     let told = rw c.in-Err-Refused.field-0-is at c.in-Err-Refused.ensures.told in
     let performed = rw c.in-Err-Refused.field-0-is at c.in-Err-Refused.ensures.performed in
     let cause = rw c.in-Err-Refused.field-0-is at c.in-Err-Refused.ensures.cause in
     let wrote = rw c.in-Err-Refused.field-0-is at c.refuse_task.ensures.wrote in
     let status = rw c.in-Err-Refused.field-0-is at c.refuse_task.ensures.status in
-    ended_in_task compiled binds start tasks (drop i tasks) (drop (i + 1) tasks) _ c.loop-task.session.stores c.step.new.self _ _
-    (outside g.F.Files g.S.Sink c.step.new.files c.loop-task.out) _ c.in-Err-Refused.refusal c.refuse_task.result split same came
-    (stepped compiled c.loop-task.session.compiled binds came.state _ c.loop-task.session.stores c.step.new.self.stores (Err (stop.Refused c.in-Err-Refused.refusal)) _ _ c.loop-task.invariant.compiled came.stand
-    (head_of (HasFile compiled binds) (drop i tasks) (drop (i + 1) tasks) _ split c.loop-task.invariant.bound)
+    ended_in_task program binds start tasks (drop i tasks) (drop (i + 1) tasks) _ c.loop-task.session.stores c.step.new.self _ _
+    (outside g.F.Files g.S.Sink c.step.new.files c.loop-task.out) _ c.in-Err-Refused.refusal c.refuse_task.result split (subst (Compiles program) (sym same) compiles) came
+    (stepped program c.loop-task.session.compiled binds came.state _ c.loop-task.session.stores c.step.new.self.stores (Err (stop.Refused c.in-Err-Refused.refusal)) _ _ here came.stand
+    (has_head program compiled binds (drop i tasks) (drop (i + 1) tasks) _ compiles split c.loop-task.invariant.bound)
     told performed c.in-Err-Refused.ensures.asked c.in-Err-Refused.ensures.reads cause c.in-Err-Refused.ensures.holds)
     c.in-Err-Refused.ensures.stays refl
-    (line_of compiled c.session.inside.compiled binds _ c.in-Err-Refused.refusal c.refuse_task.result _ _ inside wrote)
-    (line_status_of compiled c.session.inside.compiled binds _ c.in-Err-Refused.refusal c.refuse_task.result inside status) refl refl refl
+    (line_of program.names c.session.inside.compiled.names binds _ c.in-Err-Refused.refusal c.refuse_task.result _ _ inside wrote)
+    (line_status_of program.names c.session.inside.compiled.names binds _ c.in-Err-Refused.refusal c.refuse_task.result inside status) refl refl refl
 
 pub returns-in-Err-Memory-clause-went : goal.returns-in-Err-Memory-clause-went
-returns-in-Err-Memory-clause-went g c = λ start stand.
+returns-in-Err-Memory-clause-went g c = λ program compiles start stand.
     let compiled = c.args.session.now.compiled in
     let binds = c.args.binds.now.list in
     let tasks = c.args.tasks.now in
     let i = c.loop-task.task-index in
     let split = split_at tasks i _ c.loop-task-test.true in
-    let came = c.loop-task.invariant.came start stand in
+    let came = c.loop-task.invariant.came program compiles start stand in
+    let here = subst (Compiles program) (sym c.loop-task.invariant.compiled) compiles in
     let told = rw c.in-Err-Memory.field-0-is at c.in-Err-Memory.ensures.told in
     let performed = rw c.in-Err-Memory.field-0-is at c.in-Err-Memory.ensures.performed in
     let cause = rw c.in-Err-Memory.field-0-is at c.in-Err-Memory.ensures.cause in
-    cut_in_step compiled binds start tasks (drop i tasks) (drop (i + 1) tasks) _ c.loop-task.session.stores c.step.new.self.stores _ _ _ split came
-    (stepped compiled c.loop-task.session.compiled binds came.state _ c.loop-task.session.stores c.step.new.self.stores (Err stop.Memory) _ _ c.loop-task.invariant.compiled came.stand
-    (head_of (HasFile compiled binds) (drop i tasks) (drop (i + 1) tasks) _ split c.loop-task.invariant.bound)
+    cut_in_step program binds start tasks (drop i tasks) (drop (i + 1) tasks) _ c.loop-task.session.stores c.step.new.self.stores _ _ _ split came
+    (stepped program c.loop-task.session.compiled binds came.state _ c.loop-task.session.stores c.step.new.self.stores (Err stop.Memory) _ _ here came.stand
+    (has_head program compiled binds (drop i tasks) (drop (i + 1) tasks) _ compiles split c.loop-task.invariant.bound)
     told performed c.in-Err-Memory.ensures.asked c.in-Err-Memory.ensures.reads cause c.in-Err-Memory.ensures.holds) refl
 
 pub returns-clause-went : goal.returns-clause-went
-returns-clause-went g c = λ start stand.
-    went_all c.args.session.now.compiled c.args.binds.now.list start c.args.tasks.now (drop c.loop-task.task-index c.args.tasks.now) _ _ c.loop-task.session
-    (drop_all c.loop-task.task-index c.args.tasks.now (omega arith)) c.loop-task.invariant.compiled (c.loop-task.invariant.came start stand)
+returns-clause-went g c = λ program compiles start stand.
+    went_all program c.args.binds.now.list start c.args.tasks.now (drop c.loop-task.task-index c.args.tasks.now) _ _ c.loop-task.session
+    (drop_all c.loop-task.task-index c.args.tasks.now (omega arith)) (subst (Compiles program) (sym c.loop-task.invariant.compiled) compiles) (c.loop-task.invariant.came program compiles start stand)

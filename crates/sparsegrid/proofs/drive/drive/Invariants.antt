@@ -2,7 +2,7 @@ use Rattle.std.proofs.Common.{◌≡◌, ◌≤◌, map, drop}
 use Rattle.std.specs.List.{AllByRecursion}
 use Rattle.sg_flat.specs.declared.state.FlatState.{FlatState}
 use Rattle.sg_exec.specs.Standing.{StandForState}
-use Rattle.sg_session.specs.Compiled.{IsTask}
+use Rattle.sg_session.specs.Compiled.{CheckedProgram, Compiles, IsTask}
 use Rattle.sg_session.specs.Performed.{HasFile}
 use Rattle.sparsegrid.specs.Words.{binding_read}
 use Rattle.sparsegrid.specs.Outcome.{outside}
@@ -11,12 +11,12 @@ use Rattle.sparsegrid.proofs.drive.drive.Given as goal
 
 abbrev pub invariant-loop-task : goal.invariant-loop-task
 invariant-loop-task g l = record {
-  came : (start : FlatState) → StandForState l.fn.session.compiled.layouts l.fn.session.stores start
-      → Came l.fn.session.compiled (map binding_read l.binds.list) start l.tasks (drop l.task-index l.tasks) l.session.stores
+  came : (program : CheckedProgram) → Compiles program l.fn.session.compiled → (start : FlatState) → StandForState l.fn.session.compiled.layouts l.fn.session.stores start
+      → Came program (map binding_read l.binds.list) start l.tasks (drop l.task-index l.tasks) l.session.stores
       (outside g.F.Files g.S.Sink l.fn.files l.fn.out) (outside g.F.Files g.S.Sink l.files l.out);
   compiled : l.session.compiled ≡ l.fn.session.compiled;
   there : AllByRecursion (IsTask l.fn.session.compiled) (drop l.task-index l.tasks);
-  bound : AllByRecursion (HasFile l.fn.session.compiled l.binds.list) (drop l.task-index l.tasks);
+  bound : AllByRecursion (HasFile l.fn.session.compiled.names l.binds.list) (drop l.task-index l.tasks);
   holds : g.F.Files.holds l.files ≡ g.F.Files.holds l.fn.files;
   never_falls : g.F.Files.faults l.fn.files ≤ g.F.Files.faults l.files;
   faults : g.S.Sink.faults l.out ≡ g.S.Sink.faults l.fn.out;

@@ -6,7 +6,7 @@ use Rattle.sparsegrid.proofs.session.check.Goals as goal
 
 pub returns-in-Ok-clause-along : goal.returns-in-Ok-clause-along
 returns-in-Ok-clause-along g c =
-    along_text c.as_slice.result.now (check_text c.args.compiled) (opening c.args.compiled.layouts) _ _ c.leave_open.result (c.as_slice.ensures ∙ c.in-Ok.ensures) c.leave_open.ensures.along
+    along_text c.as_slice.result.now (check_text c.args.compiled.names c.args.compiled.neutral) (opening c.args.compiled.layouts) _ _ c.leave_open.result (c.as_slice.ensures ∙ c.in-Ok.ensures) c.leave_open.ensures.along
 
 pub returns-in-Err-clause-along : goal.returns-in-Err-clause-along
-returns-in-Err-clause-along g c = nothing_sent (check_text c.args.compiled) (opening c.args.compiled.layouts) _ _ refl
+returns-in-Err-clause-along g c = nothing_sent (check_text c.args.compiled.names c.args.compiled.neutral) (opening c.args.compiled.layouts) _ _ refl

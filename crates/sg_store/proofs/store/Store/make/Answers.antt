@@ -11,11 +11,11 @@ fresh_nodes-requires c = lemmas.roomy_start c.args.layout.now (record {
   rules = c.rules_decide.ensures.accepted c.args.layout.now;
   fill = c.paths_tell.ensures.fill c.args.layout.now;
   bounds = c.extents-extents.ensures.bounds;
-}) c.shape-shape.ensures.accepted c.requires.built
+}) c.shape-shape.ensures.accepted c.requires.few_words
 
 made : (c : goal.In_ok-zero_rows) → lemmas.IsFreshStore (record { shape = c.in_ok-copy.field-0; nodes = c.in_ok-words.field-0.words.items; fields = c.in_ok-zero_rows.field-0.items })
 made c = lemmas.fresh_made c.args.layout.now c.in_ok-copy.field-0 c.in_ok-words.field-0.words.items c.in_ok-zero_rows.field-0.items c.len.result c.in_ok-words.field-0.cells
-    c.in_ok-copy.ensures c.shape-shape.ensures.accepted c.requires.built c.requires.few_words c.in_ok-words.ensures.words
+    c.in_ok-copy.ensures (c.rules_decide.ensures.accepted c.args.layout.now) c.shape-shape.ensures.accepted c.requires.few_words c.in_ok-words.ensures.words
     c.in_ok-zero_rows.ensures.many (c.len.ensures ∙ ap (λ (s : Shape). length s.fields) c.shape-shape.ensures.value) c.in_ok-words.ensures.cells c.in_ok-zero_rows.ensures.zeros
 
 pub invariant_of-result : goal.invariant_of-result

@@ -36,8 +36,8 @@ mark_all-requires c =
     let copied : c.in_ok-masks.masks ≡ kept.masks = c.in_ok-masks.ensures ∙ c.as_slice-2.ensures in
     lemmas.bits_fit store c.args.index c.args.wanted.now c.args.slots.now kept c.in_ok-masks.masks is has copied
 
-pub settle_masks-requires-clause-there : goal.settle_masks-requires-clause-there
-settle_masks-requires-clause-there c =
+pub remask_node-requires-clause-there : goal.remask_node-requires-clause-there
+remask_node-requires-clause-there c =
     let store : StoreWords = c.args.self.now in
     let is : lemmas.IsMasking store c.args.index c.args.wanted.now c.args.slots.now = record {
       well = subst IsWellFormed c.self.view_is c.self.invariant;
@@ -49,8 +49,8 @@ settle_masks-requires-clause-there c =
     let within : c.args.index < length store.nodes = lemmas.within_words store c.args.index c.args.wanted.now c.args.slots.now is in
     within
 
-pub settle_masks-requires-clause-can : goal.settle_masks-requires-clause-can
-settle_masks-requires-clause-can c =
+pub remask_node-requires-clause-can : goal.remask_node-requires-clause-can
+remask_node-requires-clause-can c =
     let store : StoreWords = c.args.self.now in
     let is : lemmas.IsMasking store c.args.index c.args.wanted.now c.args.slots.now = record {
       well = subst IsWellFormed c.self.view_is c.self.invariant;
@@ -83,7 +83,7 @@ returns-clause-opened c =
     let copied : c.in_ok-masks.masks ≡ kept.masks = c.in_ok-masks.ensures ∙ c.as_slice-2.ensures in
     let marked : IsMarked c.in_ok-masks.masks c.as_slice-3.result.now c.args.slots.now =
     subst (λ (m : List ℕ). IsMarked c.in_ok-masks.masks m c.args.slots.now) (sym c.as_slice-3.ensures) c.mark_all.ensures in
-    lemmas.mask_opens store c.settle_masks.new.self c.args.index c.args.wanted.now c.args.slots.now kept c.in_ok-masks.masks c.as_slice-3.result.now is has copied marked c.settle_masks.ensures
+    lemmas.mask_opens store c.remask_node.new.self c.args.index c.args.wanted.now c.args.slots.now kept c.in_ok-masks.masks c.as_slice-3.result.now is has copied marked c.remask_node.ensures
 
 pub returns-clause-keeps : goal.returns-clause-keeps
 returns-clause-keeps c =
@@ -101,4 +101,4 @@ returns-clause-keeps c =
     let copied : c.in_ok-masks.masks ≡ kept.masks = c.in_ok-masks.ensures ∙ c.as_slice-2.ensures in
     let marked : IsMarked c.in_ok-masks.masks c.as_slice-3.result.now c.args.slots.now =
     subst (λ (m : List ℕ). IsMarked c.in_ok-masks.masks m c.args.slots.now) (sym c.as_slice-3.ensures) c.mark_all.ensures in
-    lemmas.mask_keeps store c.settle_masks.new.self c.args.index c.args.wanted.now c.args.slots.now kept c.in_ok-masks.masks c.as_slice-3.result.now is has copied marked c.settle_masks.ensures
+    lemmas.mask_keeps store c.remask_node.new.self c.args.index c.args.wanted.now c.args.slots.now kept c.in_ok-masks.masks c.as_slice-3.result.now is has copied marked c.remask_node.ensures

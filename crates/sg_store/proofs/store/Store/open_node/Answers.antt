@@ -2,9 +2,10 @@ use Rattle.std.proofs.Common.{◌≡◌, Some, ap, ◌∙◌, subst}
 use Rattle.std.specs.Prelude.{slice_get}
 use Rattle.sg_layout.specs.declared.shape.Kind.TheVariants.{Bitmasked}
 use Rattle.sg_layout.specs.declared.shape.Shape.{Shape}
+use Rattle.sg_layout.specs.StorageWords.{ends_segment}
 use Rattle.sg_store.specs.StoreWords.{StoreWords}
 use Rattle.sg_store.specs.WellFormed.{IsWellFormed}
-use Rattle.sg_store.proofs.NodeKinds.{read_there, of_kind, pointer_of, no_hash, no_dynamic, dense_opens, full_node}
+use Rattle.sg_store.proofs.NodeKinds.{read_there, of_kind, pointer_of, hash_of, dynamic_of, dense_opens, full_node}
 use Rattle.sg_store.proofs.store.Store.open_node.Goals as goal
 
 pub open_mask-requires-clause-masked : goal.open_mask-requires-clause-masked
@@ -21,19 +22,19 @@ open_pointer-requires-clause-pointer c =
     (c.as_slice.ensures ∙ ap (λ (s : Shape). s.nodes) c.shape.ensures.value ∙ ap (λ (s : StoreWords). s.shape.nodes) c.self.view_is) c.requires.there c.index-as_slice-index.is in
     pointer_of c.args.self.now c.args.index c.index-as_slice-index.result c.cap_of-cap.result (subst IsWellFormed c.self.view_is c.self.invariant) at c.in-Pointer.is c.cap_of-cap.ensures
 
-pub unreachable-requires : goal.unreachable-requires
-unreachable-requires c =
+pub open_hash-requires-clause-hash : goal.open_hash-requires-clause-hash
+open_hash-requires-clause-hash c =
     let at : slice_get c.args.self.now.shape.nodes c.args.index ≡ Some c.index-as_slice-index.result =
     read_there c.as_slice.result.now c.args.self.now.shape.nodes c.args.index c.index-as_slice-index.result
     (c.as_slice.ensures ∙ ap (λ (s : Shape). s.nodes) c.shape.ensures.value ∙ ap (λ (s : StoreWords). s.shape.nodes) c.self.view_is) c.requires.there c.index-as_slice-index.is in
-    no_hash c.args.self.now c.args.index c.index-as_slice-index.result (subst IsWellFormed c.self.view_is c.self.invariant) at c.in-Hash.is
+    hash_of c.args.self.now c.args.index c.index-as_slice-index.result c.cap_of-cap-in-Hash.result (subst IsWellFormed c.self.view_is c.self.invariant) at c.in-Hash.is c.cap_of-cap-in-Hash.ensures
 
-pub unreachable-requires-in-Dynamic : goal.unreachable-requires-in-Dynamic
-unreachable-requires-in-Dynamic c =
+pub open_dynamic-requires-clause-dynamic : goal.open_dynamic-requires-clause-dynamic
+open_dynamic-requires-clause-dynamic c =
     let at : slice_get c.args.self.now.shape.nodes c.args.index ≡ Some c.index-as_slice-index.result =
     read_there c.as_slice.result.now c.args.self.now.shape.nodes c.args.index c.index-as_slice-index.result
     (c.as_slice.ensures ∙ ap (λ (s : Shape). s.nodes) c.shape.ensures.value ∙ ap (λ (s : StoreWords). s.shape.nodes) c.self.view_is) c.requires.there c.index-as_slice-index.is in
-    no_dynamic c.args.self.now c.args.index c.index-as_slice-index.result (subst IsWellFormed c.self.view_is c.self.invariant) at c.in-Dynamic.is
+    dynamic_of c.args.self.now c.args.index c.index-as_slice-index.result c.cap_of-cap-in-Dynamic.result c.chunk_of-chunk.result (subst IsWellFormed c.self.view_is c.self.invariant) at c.in-Dynamic.is c.cap_of-cap-in-Dynamic.ensures c.chunk_of-chunk.ensures
 
 pub returns-in-Dense-clause-opened : goal.returns-in-Dense-clause-opened
 returns-in-Dense-clause-opened c =
@@ -47,5 +48,11 @@ returns-in_ok-slots-in-Pointer-clause-full c =
     let at : slice_get c.args.self.now.shape.nodes c.args.index ≡ Some c.index-as_slice-index.result =
     read_there c.as_slice.result.now c.args.self.now.shape.nodes c.args.index c.index-as_slice-index.result
     (c.as_slice.ensures ∙ ap (λ (s : Shape). s.nodes) c.shape.ensures.value ∙ ap (λ (s : StoreWords). s.shape.nodes) c.self.view_is) c.requires.there c.index-as_slice-index.is in
-    full_node c.args.self.now c.args.wanted.now c.args.index c.cap_of-cap.result c.open_pointer.result
-    (pointer_of c.args.self.now c.args.index c.index-as_slice-index.result c.cap_of-cap.result (subst IsWellFormed c.self.view_is c.self.invariant) at c.in-Pointer.is c.cap_of-cap.ensures) c.open_pointer.ensures.full
+    full_node c.args.self.now c.args.wanted.now c.args.index c.cap_of-cap.result c.index-as_slice-index.result c.open_pointer.result at (ap ends_segment c.in-Pointer.is) c.cap_of-cap.ensures c.open_pointer.ensures.full
+
+pub returns-in_ok-slots-in-Hash-clause-full : goal.returns-in_ok-slots-in-Hash-clause-full
+returns-in_ok-slots-in-Hash-clause-full c =
+    let at : slice_get c.args.self.now.shape.nodes c.args.index ≡ Some c.index-as_slice-index.result =
+    read_there c.as_slice.result.now c.args.self.now.shape.nodes c.args.index c.index-as_slice-index.result
+    (c.as_slice.ensures ∙ ap (λ (s : Shape). s.nodes) c.shape.ensures.value ∙ ap (λ (s : StoreWords). s.shape.nodes) c.self.view_is) c.requires.there c.index-as_slice-index.is in
+    full_node c.args.self.now c.args.wanted.now c.args.index c.cap_of-cap-in-Hash.result c.index-as_slice-index.result c.open_hash.result at (ap ends_segment c.in-Hash.is) c.cap_of-cap-in-Hash.ensures c.open_hash.ensures.full

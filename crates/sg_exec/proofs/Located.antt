@@ -1,0 +1,154 @@
+-- The writes of code, where its slice wants them.
+use Rattle.std.proofs.Common.{◌≡◌, ℕ, Bool, true, false, ◌&&◌, not, cond, inl, inr, List, [], ◌∷◌, map, Some, None, All, refl, sym, ap, ◌∙◌, subst}
+use Rattle.std.specs.Prelude.{filter, slice_get, Contains}
+use Rattle.std.specs.List.{AllZip}
+use Rattle.std.proofs.lemmas.Bool.{cases_Bool, cond-true, cond-false, and_parts, not-false, both_ways}
+use Rattle.std.proofs.lemmas.List.Elements.{All-head, All-tail}
+use Rattle.std.proofs.lemmas.Option.{same_Some}
+use Rattle.sg_words.proofs.Uses.{contains_none, contains_cases, contains_head, contains_rest}
+use Rattle.sg_coord.specs.declared.coord.Coord.{Coord}
+use Rattle.sg_layout.specs.declared.shape.Shape.{Shape}
+use Rattle.sg_flat.specs.declared.effects.Domain.{Domain}
+use Rattle.sg_flat.specs.declared.effects.Way.TheVariants as way
+use Rattle.sg_flat.specs.declared.effects.Write.{Write}
+use Rattle.sg_flat.specs.declared.effects.RunFault.TheVariants.{WriteOutside}
+use Rattle.sg_flat.specs.Kernel.{is_inside_of, outside_among}
+use Rattle.sg_ir.specs.Runs.{CodeWrite, CodeWant, is_own}
+use Rattle.sg_ir.specs.Apt.{walks, may_activate, IsWantOf}
+use Rattle.sg_exec.specs.Running.{place_of, wants_left, write_at, located}
+use Rattle.sg_exec.specs.steps.Machines.{code_write, IsAtLoop, want_write}
+use Rattle.sg_exec.specs.steps.Wants.{bare, acts}
+
+module _ (domain : Domain) (at : Coord) where
+  step : (write : CodeWrite) (writes : List CodeWrite) (wants : List CodeWant) (may : Bool) → may_activate domain write ≡ may
+      → located domain at wants (write ∷ writes) ≡ write_at write (place_of may wants at) ∷ located domain at (wants_left may wants) writes
+  step write writes wants may is = ap (λ (b : Bool). write_at write (place_of b wants at) ∷ located domain at (wants_left b wants) writes) is
+
+  kept : {X : Type 0} (test : X → Bool) (x : X) (xs : List X) → test x ≡ true → filter test (x ∷ xs) ≡ x ∷ filter test xs
+  kept test x xs is = cond-true (test x) (x ∷ filter test xs) (filter test xs) is
+
+  dropped : {X : Type 0} (test : X → Bool) (x : X) (xs : List X) → test x ≡ false → filter test (x ∷ xs) ≡ filter test xs
+  dropped test x xs is = cond-false (test x) (x ∷ filter test xs) (filter test xs) is
+
+  -- ---- what the slice wants
+
+  module _ (shapes : List Shape) where
+    abbrev Wanted : List CodeWant → List CodeWrite → Type 0
+    Wanted wants writes = AllZip (IsWantOf shapes) wants (filter (may_activate domain) writes)
+
+    same_want : (want : CodeWant) (write : CodeWrite) → IsWantOf shapes want write → want_write want ≡ bare (write_at write want.at)
+    same_want want write is = ap (λ (l : ℕ). record { layout = l; place = 0; stmt = want.stmt; at = want.at; way = way.Own; value = 0 }) is.layout
+        ∙ ap (λ (s : ℕ). record { layout = write.layout; place = 0; stmt = s; at = want.at; way = way.Own; value = 0 }) is.stmt
+
+    pub wanted_are : (wants : List CodeWant) (writes : List CodeWrite) → Wanted wants writes → map want_write wants ≡ map bare (filter (acts domain) (located domain at wants writes))
+    wanted_are [] [] zip = refl
+    wanted_are (want ∷ wants) [] zip = absurd zip
+    wanted_are wants (write ∷ writes) zip = elim (cases_Bool (may_activate domain write)) [
+      | inl may ↦ by_want wants (λ ws more. wanted_are ws writes more) (subst (λ (ws : List CodeWrite). AllZip (IsWantOf shapes) wants ws) (kept (may_activate domain) write writes may) zip) may
+      | inr not ↦ wanted_are wants writes (subst (λ (ws : List CodeWrite). AllZip (IsWantOf shapes) wants ws) (dropped (may_activate domain) write writes not) zip)
+          ∙ ap (map bare) (sym (dropped (acts domain) (write_at write at) (located domain at wants writes) not))
+          ∙ ap (λ (ws : List Write). map bare (filter (acts domain) ws)) (sym (step write writes wants false not))
+    ]
+      where
+        by_want : (wants : List CodeWant) → ((ws : List CodeWant) → Wanted ws writes → map want_write ws ≡ map bare (filter (acts domain) (located domain at ws writes)))
+            → AllZip (IsWantOf shapes) wants (write ∷ filter (may_activate domain) writes) → may_activate domain write ≡ true
+            → map want_write wants ≡ map bare (filter (acts domain) (located domain at wants (write ∷ writes)))
+        by_want [] rest zip may = absurd zip
+        by_want (want ∷ wants) rest zip may =
+            ap (λ (w : Write). w ∷ map want_write wants) (same_want want write zip.0)
+            ∙ ap (λ (ws : List Write). bare (write_at write want.at) ∷ ws) (rest wants zip.1)
+            ∙ ap (map bare) (sym (kept (acts domain) (write_at write want.at) (located domain at wants writes) may))
+            ∙ ap (λ (ws : List Write). map bare (filter (acts domain) ws)) (sym (step write writes (want ∷ wants) true may))
+
+    -- ---- the writes at their coordinates
+
+    at_want : (write : Write) (want : CodeWant) → IsWantOf shapes want (code_write shapes write) → is_inside_of (slice_get shapes write.layout) want.at ≡ true → want.at ≡ write.at
+    at_want write want is inside = elim is.at [
+      | inl there ↦ by_own (is_own write.way) (is_inside_of (slice_get shapes write.layout) write.at) there
+      | inr out ↦ absurd (both_ways (is_inside_of (slice_get shapes write.layout) want.at) (sym (ap (λ (l : ℕ). is_inside_of (slice_get shapes l) want.at) is.layout) ∙ out.0) inside)
+    ]
+      where
+        by_own : (own within : Bool) → cond own (Some write.at) (cond within (Some write.at) None) ≡ Some want.at → want.at ≡ write.at
+        by_own true within there = sym (same_Some write.at want.at there)
+        by_own false true there = sym (same_Some write.at want.at there)
+        by_own false false there = absurd (cc)
+
+    first_inside : (write : Write) (writes : List Write) → outside_among shapes at (write ∷ writes) ≡ None → (is_inside_of (slice_get shapes write.layout) write.at ≡ true) × (outside_among shapes at writes ≡ None)
+    first_inside write writes none = by_test (is_inside_of (slice_get shapes write.layout) write.at) refl none
+      where
+        by_test : (b : Bool) → is_inside_of (slice_get shapes write.layout) write.at ≡ b → cond b (outside_among shapes at writes) (Some (WriteOutside write.stmt at)) ≡ None
+            → (is_inside_of (slice_get shapes write.layout) write.at ≡ true) × (outside_among shapes at writes ≡ None)
+        by_test true is rest = (is, rest)
+        by_test false is rest = absurd (cc)
+
+    -- where none is outside, the writes are those whose code this is
+    pub located_back : (wants : List CodeWant) (writes : List Write) → Wanted wants (map (code_write shapes) writes) → All (IsAtLoop at) writes
+        → outside_among shapes at (located domain at wants (map (code_write shapes) writes)) ≡ None → located domain at wants (map (code_write shapes) writes) ≡ writes
+    located_back wants [] zip loop none = refl
+    located_back wants (write ∷ writes) zip loop none = elim (cases_Bool (acts domain write)) [
+      | inl may ↦ by_want (code_write shapes write) (map (code_write shapes) writes) refl wants (λ ws more inside. located_back ws writes more (All-tail (IsAtLoop at) write writes loop) inside)
+          (subst (λ (ws : List CodeWrite). AllZip (IsWantOf shapes) wants ws) (kept (may_activate domain) (code_write shapes write) (map (code_write shapes) writes) may) zip) may none
+      | inr not ↦
+          let split = step (code_write shapes write) (map (code_write shapes) writes) wants false not in
+          let rest = first_inside (write_at (code_write shapes write) at) (located domain at wants (map (code_write shapes) writes)) (sym (ap (outside_among shapes at) split) ∙ none) in
+          let here : write.at ≡ at = All-head (IsAtLoop at) write writes loop (and_parts (is_own write.way) (walks domain write.layout) (not-false (is_own write.way && walks domain write.layout) not)).0 in
+          split ∙ ap (λ (x : Coord). write_at (code_write shapes write) x ∷ located domain at wants (map (code_write shapes) writes)) (sym here)
+          ∙ ap (λ (ws : List Write). write ∷ ws) (located_back wants writes (subst (λ (ws : List CodeWrite). AllZip (IsWantOf shapes) wants ws) (dropped (may_activate domain) (code_write shapes write) (map (code_write shapes) writes) not) zip) (All-tail (IsAtLoop at) write writes loop) rest.1)
+    ]
+      where
+        by_want : (made : CodeWrite) (mades : List CodeWrite) → made ≡ code_write shapes write → (wants : List CodeWant)
+            → ((ws : List CodeWant) → AllZip (IsWantOf shapes) ws (filter (may_activate domain) mades) → outside_among shapes at (located domain at ws mades) ≡ None → located domain at ws mades ≡ writes)
+            → AllZip (IsWantOf shapes) wants (made ∷ filter (may_activate domain) mades) → may_activate domain made ≡ true → outside_among shapes at (located domain at wants (made ∷ mades)) ≡ None
+            → located domain at wants (made ∷ mades) ≡ write ∷ writes
+        by_want made mades is [] back zip may none = absurd zip
+        by_want made mades is (want ∷ wants) back zip may none =
+            let split = step made mades (want ∷ wants) true may in
+            let both = first_inside (write_at made want.at) (located domain at wants mades) (sym (ap (outside_among shapes at) split) ∙ none) in
+            let same : want.at ≡ write.at = at_want write want (subst (λ (w : CodeWrite). IsWantOf shapes want w) is zip.0) (subst (λ (w : CodeWrite). is_inside_of (slice_get shapes w.layout) want.at ≡ true) is both.0) in
+            split ∙ ap (λ (x : Coord). write_at made x ∷ located domain at wants mades) same
+            ∙ ap (λ (w : CodeWrite). write_at w write.at ∷ located domain at wants mades) is
+            ∙ ap (λ (ws : List Write). write ∷ ws) (back wants zip.1 both.1)
+
+  -- a write that may not activate is at the loop's coordinate, in the layout that it walks
+  pub left_at_loop : (wants : List CodeWant) (writes : List CodeWrite) (write : Write) → Contains (located domain at wants writes) write → acts domain write ≡ false → (write.at ≡ at) × (walks domain write.layout ≡ true)
+  left_at_loop wants [] write has out = absurd (contains_none write has)
+  left_at_loop wants (first ∷ writes) write has out = elim (contains_cases write (write_at first (place_of (may_activate domain first) wants at)) (located domain at (wants_left (may_activate domain first) wants) writes) has) [
+    | inl same ↦
+        let idle : may_activate domain first ≡ false = ap (acts domain) same ∙ out in (
+          sym (ap (λ (w : Write). w.at) same) ∙ ap (λ (b : Bool). place_of b wants at) idle,
+          (and_parts (is_own write.way) (walks domain write.layout) (not-false (is_own write.way && walks domain write.layout) out)).1,
+        )
+    | inr later ↦ left_at_loop (wants_left (may_activate domain first) wants) writes write later out
+  ]
+
+  abbrev head_or : Coord → List Coord → Coord
+  head_or d [] = d
+  head_or d (x ∷ xs) = x
+
+  abbrev tail_of : List Coord → List Coord
+  tail_of [] = []
+  tail_of (x ∷ xs) = xs
+
+  -- ---- for the crates above: code whose writes and wants are those of a list of writes has exactly these
+  pub located-whole : (code : Write → CodeWrite) → ((write : Write) (x : Coord) → x ≡ write.at → write_at (code write) x ≡ write) → (writes : List Write) (wants : List CodeWant)
+      → map (λ (want : CodeWant). want.at) wants ≡ map (λ (write : Write). write.at) (filter (acts domain) writes)
+      → ((write : Write) → acts domain write ≡ may_activate domain (code write))
+      → ((write : Write) → Contains writes write → acts domain write ≡ false → write.at ≡ at) → located domain at wants (map code writes) ≡ writes
+  located-whole code is [] wants same acting loop = refl
+  located-whole code is (write ∷ writes) wants same acting loop = elim (cases_Bool (acts domain write)) [
+    | inl may ↦ by_want wants (λ ws more. located-whole code is writes ws more acting (λ w has. loop w (contains_rest w write writes has))) (same ∙ ap (map (λ (w : Write). w.at)) (kept (acts domain) write writes may)) may
+    | inr not ↦
+        step (code write) (map code writes) wants false (sym (acting write) ∙ not)
+        ∙ ap (λ (w : Write). w ∷ located domain at wants (map code writes)) (is write at (sym (loop write (contains_head write write writes refl) not)))
+        ∙ ap (λ (ws : List Write). write ∷ ws) (located-whole code is writes wants (same ∙ ap (map (λ (w : Write). w.at)) (dropped (acts domain) write writes not)) acting (λ w has. loop w (contains_rest w write writes has)))
+  ]
+    where
+      by_want : (wants : List CodeWant) → ((ws : List CodeWant) → map (λ (want : CodeWant). want.at) ws ≡ map (λ (w : Write). w.at) (filter (acts domain) writes) → located domain at ws (map code writes) ≡ writes)
+          → map (λ (want : CodeWant). want.at) wants ≡ write.at ∷ map (λ (w : Write). w.at) (filter (acts domain) writes) → acts domain write ≡ true → located domain at wants (map code (write ∷ writes)) ≡ write ∷ writes
+      by_want [] rest same may = absurd (cc)
+      by_want (want ∷ wants) rest same may =
+          let head : want.at ≡ write.at = ap (head_or at) same in
+          let tail : map (λ (want : CodeWant). want.at) wants ≡ map (λ (w : Write). w.at) (filter (acts domain) writes) = ap tail_of same in
+          step (code write) (map code writes) (want ∷ wants) true (sym (acting write) ∙ may)
+          ∙ ap (λ (w : Write). w ∷ located domain at wants (map code writes)) (is write want.at head)
+          ∙ ap (λ (ws : List Write). write ∷ ws) (rest wants tail)

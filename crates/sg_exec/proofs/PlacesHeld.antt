@@ -1,0 +1,284 @@
+-- Place registers, and one step down from a place.
+use Rattle.std.proofs.Common.{◌≡◌, ℕ, zero, suc, ◌-◌, ◌<◌, ◌≤◌, Bool, true, false, inl, inr, List, [], ◌∷◌, ◌++◌, length, get_or, Option, Some, None, Result, Ok, Err, refl, sym, ap, ◌∙◌, subst, arith, append_assoc}
+use Rattle.std.specs.Prelude.{OnOk, OnErr, Contains, take, ◌⊎◌, IfSome, IfNone, slice_get, slice_index, option_and_then, option_map, nat_lt, if◌then◌else◌}
+use Rattle.std.proofs.Math.Seq.{take-length}
+use Rattle.std.proofs.lemmas.Bool.{both_ways, cases_eq, cond-true, cond-false, eq-eqb, ne_eqb}
+use Rattle.std.proofs.lemmas.Option.{same_Some}
+use Rattle.sg_coord.specs.declared.coord.Coord.{Coord}
+use Rattle.sg_coord.specs.Coord.{is_inside}
+use Rattle.sg_layout.specs.declared.shape.NodeShape.{NodeShape}
+use Rattle.sg_layout.specs.declared.shape.Shape.{Shape}
+use Rattle.sg_layout.specs.Accepted.{IsAccepted}
+use Rattle.sg_layout.specs.Axes.{size_of, sizes_of, bounds_of_shape}
+use Rattle.sg_layout.specs.Path.{offsets}
+use Rattle.sg_layout.specs.PathLaws.{WholePathIsOffsets, PathIsSlot}
+use Rattle.sg_flat.specs.declared.state.FlatLayout.{FlatLayout}
+use Rattle.sg_layout.specs.Slots.{IsSlot}
+use Rattle.sg_store.specs.declared.node.NodeWords.{NodeWords}
+use Rattle.sg_store.specs.declared.spot.Spot.{Spot}
+use Rattle.sg_store.specs.StoreWords.{StoreWords}
+use Rattle.sg_store.specs.Slots.{slot_under, active_below}
+use Rattle.sg_store.specs.Walks.{place_after, cell_along, cell_in}
+use Rattle.sg_store.specs.Spots.{LeadsAlong, IsSpot}
+use Rattle.sg_store.specs.StandsFor.{StandsFor}
+use Rattle.sg_store.specs.StoreLaws.{CellsAreActive}
+use Rattle.sg_store.specs.WellFormed.{IsWellFormed}
+use Rattle.sg_ir.specs.Runs.{Place, put, down, add_offset, node_in, node_of}
+use Rattle.sg_words.specs.declared.memory.Memory.{Memory}
+use Rattle.sg_exec.specs.declared.held.Held.{Held}
+use Rattle.sg_exec.specs.Standing.{shapes_of}
+use Rattle.sg_exec.specs.steps.Stepping.{is_below, can_step, StepLeads, StepIsDead}
+use Rattle.sg_exec.specs.steps.Machines.{PlaceRow, IsDead, Holds, IsHeld, AreHeld, ArePlaces}
+use Rattle.sg_exec.proofs.StoreLists.{shape_at, some_is_none}
+
+-- ---- a row of places
+
+holds_put : (stores : List StoreWords) (row : List (Option Held)) (to : ℕ) (held : Option Held) (places : ℕ → Option Place) (place : Option Place) → Holds stores held place
+    → ((p : ℕ) → Holds stores (get_or row p None) (places p)) → (p : ℕ) → Holds stores (put to held (λ q. get_or row q None) p) (put to place places p)
+holds_put stores row to held places place new old p = elim (cases_eq p to) [
+  | inl here ↦ both (sym (cond-true _ held (get_or row p None) (eq-eqb p to here))) (sym (cond-true _ place (places p) (eq-eqb p to here))) new
+  | inr there ↦ both (sym (cond-false _ held (get_or row p None) (ne_eqb p to there))) (sym (cond-false _ place (places p) (ne_eqb p to there))) (old p)
+]
+  where
+    both : {a b : Option Held} {x y : Option Place} → a ≡ b → x ≡ y → Holds stores a x → Holds stores b y
+    both {a} {b} {x} {y} same_held same_place h = subst (λ (z : Option Place). Holds stores b z) same_place (subst (λ (c : Option Held). Holds stores c x) same_held h)
+
+pub places_put : (stores : List StoreWords) (row row' : PlaceRow) (to : ℕ) (held : Option Held) (places : ℕ → Option Place) (place : Option Place) → row'.stores ≡ row.stores
+    → ((p : ℕ) → get_or row'.list p None ≡ put to held (λ q. get_or row.list q None) p) → ArePlaces stores row places → Holds stores held place → ArePlaces stores row' (put to place places)
+places_put stores row row' to held places place same is old new = record {
+  same_stores = same ∙ old.same_stores;
+  hold = λ p. subst (λ (h : Option Held). Holds stores h (put to place places p)) (sym (is p)) (holds_put stores row.list to held places place new old.hold p);
+}
+
+pub held_put : (stores : List StoreWords) (row row' : List (Option Held)) (to : ℕ) (held : Option Held) → ((p : ℕ) → get_or row' p None ≡ put to held (λ q. get_or row q None) p)
+    → AreHeld stores row → IfSome held (IsHeld stores) → AreHeld stores row'
+held_put stores row row' to held is old new p it has = elim (cases_eq p to) [
+  | inl here ↦ of_some held it (sym (cond-true _ held (get_or row p None) (eq-eqb p to here)) ∙ sym (is p) ∙ has) new
+  | inr there ↦ old p it (sym (cond-false _ held (get_or row p None) (ne_eqb p to there)) ∙ sym (is p) ∙ has)
+]
+  where
+    of_some : (h : Option Held) (it : Held) → h ≡ Some it → IfSome h (IsHeld stores) → IsHeld stores it
+    of_some None it same is = absurd (cc)
+    of_some (Some h) it same is = subst (IsHeld stores) (same_Some h it same) is
+
+pub held_same : (stores : List StoreWords) (row row' : List (Option Held)) → ((p : ℕ) → get_or row' p None ≡ get_or row p None) → AreHeld stores row → AreHeld stores row'
+held_same stores row row' same old p it has = old p it (sym (same p) ∙ has)
+
+pub held_none : (stores : List StoreWords) (row : List (Option Held)) → row ≡ [] → AreHeld stores row
+held_none stores row none p it has = absurd (let h : None ≡ Some it = sym (ap (λ (r : List (Option Held)). get_or r p None) none) ∙ has in cc)
+
+pub held_at : (stores : List StoreWords) (row : List (Option Held)) (p : ℕ) (found : Option Held) → AreHeld stores row → found ≡ get_or row p None → IfSome found (IsHeld stores)
+held_at stores row p None are is = tt
+held_at stores row p (Some it) are is = are p it (sym is)
+
+pub no_places : (stores : List StoreWords) (row : PlaceRow) → row.stores ≡ stores → row.list ≡ [] → ArePlaces stores row (λ place. None)
+no_places stores row same none = record {
+  same_stores = same;
+  hold = λ p. subst (λ (h : Option Held). Holds stores h None) (sym (ap (λ (r : List (Option Held)). get_or r p None) none)) tt;
+}
+
+-- ---- checks
+
+pub holds_check : (stores : List StoreWords) (held : Option Held) (place : Option Place) (extent word : ℕ) (on : Bool) → Holds stores held place → Holds stores (if on then held else None) (if on then place else None)
+holds_check stores held place extent word true h = h
+holds_check stores held place extent word false h = tt
+
+-- ---- steps
+
+-- where links and bits lead nowhere along a path, they lead nowhere further on
+pub along_none : (nodes : List NodeShape) (words : List NodeWords) (place : ℕ) (path more : List ℕ) → place_after active_below nodes words place path ≡ None → place_after active_below nodes words place (path ++ more) ≡ None
+along_none nodes words place [] more none = absurd (cc)
+along_none [] words place (offset ∷ path) more none = refl
+along_none (node ∷ later) [] place (offset ∷ path) more none = refl
+along_none (node ∷ later) (kept ∷ words) place (offset ∷ path) more none = by_step (active_below node.kind node kept (slot_under node place offset)) (λ next. along_none later words next path more) none
+  where
+    by_step : (found : Option ℕ) → ((next : ℕ) → place_after active_below later words next path ≡ None → place_after active_below later words next (path ++ more) ≡ None)
+        → option_and_then (λ next. place_after active_below later words next path) found ≡ None → option_and_then (λ next. place_after active_below later words next (path ++ more)) found ≡ None
+    by_step None rest none = refl
+    by_step (Some next) rest none = rest next none
+
+-- a slot has an offset at each node, below its size
+slot_has : (nodes : List NodeShape) (path : List ℕ) (offset : ℕ) (more : List ℕ) → IsSlot nodes ((path ++ offset ∷ []) ++ more) → (length path < length nodes) × (offset < slice_index (sizes_of nodes) (length path))
+slot_has [] [] offset more is = absurd is
+slot_has [] (first ∷ path) offset more is = absurd is
+slot_has (node ∷ nodes) [] offset more is = (omega arith, is.0)
+slot_has (node ∷ nodes) (first ∷ path) offset more is = let rest = slot_has nodes path offset more is.1 in (omega (arith, rest.0), rest.1)
+
+-- what is known of a store at a step
+pub record StepLaws (store : StoreWords) : Type 0 where
+  pub well : IsWellFormed store
+  pub accepted : IsAccepted store.shape
+  pub active : CellsAreActive store
+  pub whole : WholePathIsOffsets store.shape
+  pub is_slot : PathIsSlot store.shape
+
+is_slot_of : (store : StoreWords) → StepLaws store → (at : Coord) → IsSlot store.shape.nodes (offsets store.shape.nodes at)
+is_slot_of store laws at =
+    subst (λ (nodes : List NodeShape). IsSlot nodes (offsets store.shape.nodes at)) (take-length store.shape.nodes)
+    (subst (IsSlot (take (length store.shape.nodes) store.shape.nodes)) (laws.whole at) (laws.is_slot laws.accepted at (length store.shape.nodes)))
+
+-- an active coordinate has a cell along its path
+has_cell : (store : StoreWords) → StepLaws store → (flat : FlatLayout) → StandsFor store flat → (at : Coord) → Contains flat.active at → cell_along store (offsets store.shape.nodes at) ≡ None → ⊥
+has_cell store laws flat stands at has none = some_is_none (cell_in store at) (by_test (is_inside (bounds_of_shape store.shape) at)) ((laws.active laws.well flat stands at).1 has)
+  where
+    by_test : (b : Bool) → (if b then cell_along store (offsets store.shape.nodes at) else None) ≡ None
+    by_test true = none
+    by_test false = refl
+
+-- past the last node there is no slot, nor past the size of a node
+pub dead_past : (store : StoreWords) → StepLaws store → (spot : Spot) (node : ℕ) (path : List ℕ) (offset : ℕ) → length store.shape.nodes ≤ spot.node → LeadsAlong store spot path → StepIsDead store node path offset
+dead_past store laws spot node path offset past leads = λ can flat stands at more is active.
+    absurd (let has = slot_has store.shape.nodes path offset more (subst (IsSlot store.shape.nodes) is (is_slot_of store laws at)) in omega (arith, has.0, past, leads.node))
+
+pub dead_size : (store : StoreWords) → StepLaws store → (spot : Spot) (node : ℕ) (path : List ℕ) (offset : ℕ) → slice_index (sizes_of store.shape.nodes) spot.node ≤ offset → LeadsAlong store spot path → StepIsDead store node path offset
+dead_size store laws spot node path offset past leads = λ can flat stands at more is active.
+    let has = slot_has store.shape.nodes path offset more (subst (IsSlot store.shape.nodes) is (is_slot_of store laws at)) in
+    let same : slice_index (sizes_of store.shape.nodes) spot.node ≡ slice_index (sizes_of store.shape.nodes) (length path) = ap (slice_index (sizes_of store.shape.nodes)) leads.node in
+    absurd (omega (arith, has.1, past, same))
+
+pub dead_along : (store : StoreWords) → StepLaws store → (node : ℕ) (path : List ℕ) (offset : ℕ) → cell_along store (path ++ offset ∷ []) ≡ None → StepIsDead store node path offset
+dead_along store laws node path offset none = λ can flat stands at more is active.
+    has_cell store laws flat stands at active (ap (cell_along store) is ∙ along_none store.shape.nodes store.nodes 0 (path ++ offset ∷ []) more none)
+
+pub dead_under : (store : StoreWords) → StepLaws store → (spot : Spot) (node : ℕ) (path : List ℕ) (offset : ℕ) → LeadsAlong store spot path
+    → (slice_index (sizes_of store.shape.nodes) spot.node ≤ offset) ⊎ (cell_along store (path ++ offset ∷ []) ≡ None) → StepIsDead store node path offset
+dead_under store laws spot node path offset leads found = elim found [
+  | inl past ↦ dead_size store laws spot node path offset past leads
+  | inr none ↦ dead_along store laws node path offset none
+]
+
+pub dead_refused : (store : StoreWords) (node : ℕ) (path : List ℕ) (offset : ℕ) → can_step store.shape.nodes node offset ≡ false → StepIsDead store node path offset
+dead_refused store node path offset refused = λ can flat stands at more is active. both_ways (can_step store.shape.nodes node offset) refused can
+
+-- a step that can't be taken leads to no place
+step_place : (nodes : List NodeShape) (node : ℕ) (layout : ℕ) (path : List ℕ) (offset : ℕ) → can_step nodes node offset ≡ true → add_offset offset (record { layout = layout; path = path }) (node_in nodes node) ≡ Some (record { layout = layout; path = path ++ offset ∷ [] })
+step_place nodes node layout path offset can = by_node (node_in nodes node) can
+  where
+    by_node : (found : Option NodeShape) → is_below offset found ≡ true → add_offset offset (record { layout = layout; path = path }) found ≡ Some (record { layout = layout; path = path ++ offset ∷ [] })
+    by_node None can = absurd (cc)
+    by_node (Some n) can = cond-true _ (Some (record { layout = layout; path = path ++ offset ∷ [] })) None can
+
+no_step_place : (nodes : List NodeShape) (node : ℕ) (place : Place) (offset : ℕ) → can_step nodes node offset ≡ false → add_offset offset place (node_in nodes node) ≡ None
+no_step_place nodes node place offset can = by_node (node_in nodes node) can
+  where
+    by_node : (found : Option NodeShape) → is_below offset found ≡ false → add_offset offset place found ≡ None
+    by_node None can = refl
+    by_node (Some n) can = cond-false _ (Some (record { layout = place.layout; path = place.path ++ offset ∷ [] })) None can
+
+down_at : (stores : List StoreWords) (store : StoreWords) (layout : ℕ) (path : List ℕ) (place : Option Place) (node offset : ℕ) → place ≡ Some (record { layout = layout; path = path }) → slice_get stores layout ≡ Some store
+    → down (shapes_of stores) node offset place ≡ add_offset offset (record { layout = layout; path = path }) (node_in store.shape.nodes node)
+down_at stores store layout path place node offset is there =
+    ap (down (shapes_of stores) node offset) is
+    ∙ ap (λ (found : Option Shape). add_offset offset (record { layout = layout; path = path }) (option_and_then (λ (shape : Shape). node_in shape.nodes node) found)) (shape_at stores layout store there)
+
+-- the step of a register that holds a spot
+pub holds_step : (stores : List StoreWords) (held : Held) (store : StoreWords) (below : Option Spot) (place : Option Place) (node offset : ℕ) → slice_get stores held.layout ≡ Some store → Holds stores (Some held) place
+    → IfSome below (λ spot. (path : List ℕ) → LeadsAlong store held.spot path → StepLeads store spot node path offset)
+    → IfNone below ((path : List ℕ) → LeadsAlong store held.spot path → StepIsDead store node path offset)
+    → Holds stores (option_map (λ spot. record { layout = held.layout; spot = spot }) below) (down (shapes_of stores) node offset place)
+holds_step stores held store below place node offset there h some none = by_below below some none
+  where
+    same : h.store ≡ store
+    same = same_Some h.store store (sym h.there ∙ there)
+
+    leads : LeadsAlong store held.spot h.path
+    leads = subst (λ (s : StoreWords). LeadsAlong s held.spot h.path) same h.leads
+
+    is_down : down (shapes_of stores) node offset place ≡ add_offset offset (record { layout = held.layout; path = h.path }) (node_in store.shape.nodes node)
+    is_down = down_at stores store held.layout h.path place node offset h.is_place there
+
+    dead : StepIsDead store node h.path offset → (can : Bool) → can_step store.shape.nodes node offset ≡ can → IsDead stores (down (shapes_of stores) node offset place)
+    dead step true can =
+        subst (IsDead stores) (sym (is_down ∙ step_place store.shape.nodes node held.layout h.path offset can))
+        (λ other is flat stands at more along active.
+        let one : other ≡ store = same_Some other store (sym is ∙ there) in
+        step can flat (subst (λ (s : StoreWords). StandsFor s flat) one stands) at more (sym (ap (λ (s : StoreWords). offsets s.shape.nodes at) one) ∙ along) active)
+    dead step false can = subst (IsDead stores) (sym (is_down ∙ no_step_place store.shape.nodes node (record { layout = held.layout; path = h.path }) offset can)) tt
+
+    by_below : (below : Option Spot) → IfSome below (λ spot. (path : List ℕ) → LeadsAlong store held.spot path → StepLeads store spot node path offset)
+        → IfNone below ((path : List ℕ) → LeadsAlong store held.spot path → StepIsDead store node path offset)
+        → Holds stores (option_map (λ spot. record { layout = held.layout; spot = spot }) below) (down (shapes_of stores) node offset place)
+    by_below (Some spot) some none =
+        let step = some h.path leads in
+        record {
+          path = h.path ++ offset ∷ [];
+          store = store;
+          is_place = is_down ∙ step_place store.shape.nodes node held.layout h.path offset step.can;
+          there = there;
+          leads = step.leads;
+        }
+    by_below None some none = dead (none h.path leads) (can_step store.shape.nodes node offset) refl
+
+-- and of one that holds none
+dead_on : (stores : List StoreWords) (there : Place) (node offset : ℕ) → IsDead stores (Some there) → (found : Option NodeShape) → IsDead stores (add_offset offset there found)
+dead_on stores there node offset dead None = tt
+dead_on stores there node offset dead (Some n) = by_test (nat_lt offset (size_of n.sizes))
+  where
+    by_test : (b : Bool) → IsDead stores (if b then Some (record { layout = there.layout; path = there.path ++ offset ∷ [] }) else None)
+    by_test true = λ store is flat stands at more along. dead store is flat stands at (offset ∷ more) (along ∙ append_assoc there.path (offset ∷ []) more)
+    by_test false = tt
+
+pub holds_none : (stores : List StoreWords) (place : Option Place) (node offset : ℕ) → Holds stores None place → Holds stores None (down (shapes_of stores) node offset place)
+holds_none stores None node offset h = tt
+holds_none stores (Some there) node offset h = dead_on stores there node offset h (node_of (shapes_of stores) there.layout node)
+
+-- ---- as the code goes
+
+pub held_after : (stores : List StoreWords) (row row' : List (Option Held)) (to : ℕ) (held : Option Held) (result : Result Unit Memory)
+    → OnOk result ((p : ℕ) → get_or row' p None ≡ put to held (λ q. get_or row q None) p) → OnErr result ((p : ℕ) → get_or row' p None ≡ get_or row p None)
+    → AreHeld stores row → IfSome held (IsHeld stores) → AreHeld stores row'
+held_after stores row row' to held (Ok done) ok err old new = held_put stores row row' to held ok old new
+held_after stores row row' to held (Err memory) ok err old new = held_same stores row row' err old
+
+pub holds_at : (stores : List StoreWords) (row : PlaceRow) (place : ℕ) (found : Option Held) (places : ℕ → Option Place) → found ≡ get_or row.list place None → ArePlaces stores row places → Holds stores found (places place)
+holds_at stores row place found places is are = subst (λ (h : Option Held). Holds stores h (places place)) (sym is) (are.hold place)
+
+-- the store of a layout, as it was got, or none
+pub got : (inside : List StoreWords) (row : PlaceRow) (layout : ℕ) (store : StoreWords) → inside ≡ row.stores → Some store ≡ slice_get inside layout → slice_get row.stores layout ≡ Some store
+got inside row layout store same is = ap (λ (stores : List StoreWords). slice_get stores layout) (sym same) ∙ sym is
+
+pub not_got : (inside : List StoreWords) (row : PlaceRow) (layout : ℕ) (store : StoreWords) → inside ≡ row.stores → None ≡ slice_get inside layout → slice_get row.stores layout ≡ Some store → ⊥
+not_got inside row layout store same is there = let h : None ≡ Some store = is ∙ ap (λ (stores : List StoreWords). slice_get stores layout) same ∙ there in absurd (cc)
+
+pub spot_of : (stores : List StoreWords) (held : Held) (store : StoreWords) → IsHeld stores held → slice_get stores held.layout ≡ Some store → IsSpot store held.spot
+spot_of stores held store is there = (is.path, subst (λ (s : StoreWords). LeadsAlong s held.spot is.path) (same_Some is.store store (sym is.there ∙ there)) is.leads)
+
+pub held_below : (stores : List StoreWords) (held : Held) (store : StoreWords) (below : Option Spot) (node offset : ℕ) → slice_get stores held.layout ≡ Some store → IsHeld stores held
+    → IfSome below (λ spot. (path : List ℕ) → LeadsAlong store held.spot path → StepLeads store spot node path offset) → IfSome (option_map (λ spot. record { layout = held.layout; spot = spot }) below) (IsHeld stores)
+held_below stores held store None node offset there is some = tt
+held_below stores held store (Some spot) node offset there is some =
+    let of = spot_of stores held store is there in
+    record { path = of.0 ++ offset ∷ []; store = store; there = there; leads = (some of.0 of.1).leads }
+
+-- the test of an offset
+below_at : (nodes : List NodeShape) (i offset : ℕ) → i < length nodes → nat_lt offset (slice_index (sizes_of nodes) i) ≡ is_below offset (slice_get nodes i)
+below_at [] i offset below = absurd (omega (arith, below))
+below_at (node ∷ nodes) zero offset below = refl
+below_at (node ∷ nodes) (suc i) offset below = below_at nodes i offset (omega (arith, below))
+
+past_at : (nodes : List NodeShape) (i offset : ℕ) → length nodes ≤ i → false ≡ is_below offset (slice_get nodes i)
+past_at [] i offset past = refl
+past_at (node ∷ nodes) zero offset past = absurd (omega (arith, past))
+past_at (node ∷ nodes) (suc i) offset past = past_at nodes i offset (omega (arith, past))
+
+pub test_there : (nodes : List NodeShape) (node offset size : ℕ) → (node ≡ 0 → ⊥) → node - 1 < length nodes → size ≡ slice_index (sizes_of nodes) (node - 1) → nat_lt offset size ≡ can_step nodes node offset
+test_there nodes zero offset size some below is = absurd (some refl)
+test_there nodes (suc before) offset size some below is =
+    let one : suc before - 1 ≡ before = omega arith in
+    ap (nat_lt offset) (is ∙ ap (slice_index (sizes_of nodes)) one) ∙ below_at nodes before offset (omega (arith, below, one))
+
+pub test_past : (nodes : List NodeShape) (node offset : ℕ) → (node ≡ 0 → ⊥) → length nodes ≤ node - 1 → false ≡ can_step nodes node offset
+test_past nodes zero offset some past = absurd (some refl)
+test_past nodes (suc before) offset some past = past_at nodes before offset (let one : suc before - 1 ≡ before = omega arith in omega (arith, past, one))
+
+pub under_some : (store : StoreWords) (spot : Spot) (node offset : ℕ) (below : Option Spot) → can_step store.shape.nodes node offset ≡ true
+    → IfSome below (λ under. (path : List ℕ) → LeadsAlong store spot path → LeadsAlong store under (path ++ offset ∷ []))
+    → IfSome below (λ under. (path : List ℕ) → LeadsAlong store spot path → StepLeads store under node path offset)
+under_some store spot node offset None can some = tt
+under_some store spot node offset (Some under) can some = λ path leads. record { can = can; leads = some path leads }
+
+pub under_none : (store : StoreWords) → StepLaws store → (spot : Spot) (node offset : ℕ) (below : Option Spot)
+    → IfNone below ((path : List ℕ) → LeadsAlong store spot path → (slice_index (sizes_of store.shape.nodes) spot.node ≤ offset) ⊎ (cell_along store (path ++ offset ∷ []) ≡ None))
+    → IfNone below ((path : List ℕ) → LeadsAlong store spot path → StepIsDead store node path offset)
+under_none store laws spot node offset None none = λ path leads. dead_under store laws spot node path offset leads (none path leads)
+under_none store laws spot node offset (Some under) none = tt

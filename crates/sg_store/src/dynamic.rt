@@ -1,0 +1,133 @@
+ghost use Rattle.std.specs.Prelude.{◌≡◌, ℕ, suc, ◌<◌, ◌≤◌, ◌^◌, ◌/◌, length, All, OnOk, OnErr, IfErr, Some, slice_get};
+ghost use Rattle.sg_dynamic.specs.Chunks.{fit, IsExact, HaveRoom};
+ghost use Rattle.sg_pool.specs.Numbers.{place_count};
+ghost use Rattle.sg_store.specs.declared.node.NodeWords.{NodeWords};
+ghost use Rattle.sg_store.specs.Reaching.{KeepsCells};
+ghost use Rattle.sg_store.specs.steps.AtNode.{AtNodeOf, AreNumbers};
+ghost use Rattle.sg_store.specs.steps.Settling.{ChangesAt, ChangesNode};
+ghost use Rattle.sg_store.specs.steps.Raising.{IsRaised, AreRaised, CanFitLengths, IsFitted, CanSettleLengths, AnswersFit, IsDynamicOf};
+ghost use Rattle.sg_store.specs.steps.Levels.{OpensNext, IsFullNode, IfRefused};
+
+use crate::node::{NodeWords, overwrite, word};
+use crate::reach::Full;
+use crate::store::Store;
+use sg_coord::Coord;
+use sg_dynamic::{ChunkFull, fit_chunks};
+use sg_layout::{need_counts_live, paths_tell, rules_decide};
+use sg_words::{Items, Stop};
+use std::alloc::Global;
+
+/// Raises the length of a slot's parent until it is past the slot, where each parent has so many slots.
+fn raise(lengths: &mut Items<u64>, size: usize, slot: usize)
+    requires some { 0 < size }
+    requires there { slot / size < length lengths.old }
+    ensures { IsRaised lengths.old lengths.new size slot }
+{
+    let parent = slot / size;
+    let long = (slot % size) as u64 + 1;
+    if word(lengths, parent) >= long {
+        return;
+    }
+    lengths.set(parent, long);
+}
+
+/// Raises the lengths so that all these slots are below them.
+fn raise_all(lengths: &mut Items<u64>, size: usize, slots: &[usize])
+    requires some { 0 < size }
+    requires there { All (λ slot. slot / size < length lengths.old) slots.now }
+    ensures { AreRaised lengths.old lengths.new size slots.now }
+{
+    for slot in slots {
+        raise(lengths, size, *slot);
+    }
+}
+
+impl NodeWords {
+    /// Gives the node these lengths, and each chain the chunks that its length needs. Refused, with nothing changed,
+    /// where they are more than there are.
+    fn relength(&mut self, lengths: &[u64], chunk: u32) -> Result<(), ChunkFull>
+        requires { CanFitLengths lengths.now chunk self.old }
+        ensures answer { result ≡ fit chunk lengths.now (place_count self.old.pool) }
+        ensures fitted { OnOk result (IsFitted lengths.now chunk self.old self.new) }
+        ensures stays { OnErr result (self.new ≡ self.old) }
+    {
+        match fit_chunks(&mut self.chains, &mut self.pool, lengths, chunk) {
+            Ok(()) => {
+                overwrite(&mut self.lengths, lengths);
+                Ok(())
+            }
+            Err(full) => Err(full),
+        }
+    }
+}
+
+/// Gives one of these nodes, by its index from 0, these lengths.
+fn relength_at(
+    nodes: &mut Vec<NodeWords>,
+    index: usize,
+    lengths: &[u64],
+    chunk: u32,
+) -> Result<(), ChunkFull>
+    requires there { index < length nodes.old.items }
+    requires can { (kept : NodeWords) → slice_get nodes.old.items index ≡ Some kept → CanFitLengths lengths.now chunk kept }
+    ensures answer { AnswersFit lengths.now chunk nodes.old.items index result }
+    ensures fitted { OnOk result (ChangesAt (IsFitted lengths.now chunk) nodes.old.items nodes.new.items index) }
+    ensures stays { OnErr result (nodes.new.items ≡ nodes.old.items) }
+{
+    let kept = &mut nodes[index];
+    kept.relength(lengths, chunk)
+}
+
+impl Store {
+    /// Gives the dynamic node with this index, from 0, these lengths, and each chain the chunks that its length needs.
+    /// Refused, with nothing changed, where they are more than the node has.
+    pub(crate) fn settle_lengths(
+        &mut self,
+        index: usize,
+        lengths: &[u64],
+        chunk: u32,
+    ) -> Result<(), ChunkFull>
+        requires there { index < length self.old.nodes }
+        requires can { AtNodeOf (CanSettleLengths lengths.now chunk) self.old index }
+        ensures answer { AnswersFit lengths.now chunk self.old.nodes index result }
+        ensures fitted { OnOk result (ChangesNode (IsFitted lengths.now chunk) self.old self.new index) }
+        ensures stays { OnErr result (self.new ≡ self.old) }
+    {
+        relength_at(&mut self.nodes, index, lengths, chunk)
+    }
+
+    /// Opens the dynamic node with this index, from 0, for wanted coordinates, whose slots have these numbers.
+    pub(crate) fn open_dynamic(
+        &mut self,
+        alloc: Global,
+        index: usize,
+        cap: u32,
+        chunk: u32,
+        wanted: &[Coord],
+        slots: &[usize],
+    ) -> Result<(), Stop<Full>>
+        requires few { index < 6 }
+        requires dynamic { AtNodeOf (IsDynamicOf cap chunk) self.old index }
+        requires numbers { AreNumbers self.old index wanted.now slots.now }
+        ensures opened { OnOk result (OpensNext self.old self.new wanted.now index) }
+        ensures keeps { OnOk result (KeepsCells self.old self.new) }
+        ensures full { IfErr result (IfRefused (IsFullNode self.old wanted.now index)) }
+        ensures stays { OnErr result (self.new ≡ self.old) }
+    {
+        // for the laws that they ensure
+        paths_tell();
+        need_counts_live();
+        rules_decide();
+        let size = self.layout.size(index) as usize;
+        let kept = &self.nodes.as_slice()[index];
+        let mut lengths = Items::from_slice(alloc, kept.lengths.as_slice())?;
+        raise_all(&mut lengths, size, slots);
+        match self.settle_lengths(index, lengths.as_slice(), chunk) {
+            Ok(()) => Ok(()),
+            Err(_full) => Err(Stop::Refused(Full {
+                node: index as u32 + 1,
+                cap,
+            })),
+        }
+    }
+}

@@ -1,0 +1,109 @@
+use crate::Store;
+use crate::tests::{BLOCKS, POINTS, at, put, reached, store_of, value_at};
+use sg_layout::Kind::{Bitmasked, Pointer};
+use std::alloc::Global;
+use std::test::Fail;
+
+/// The slot words of a pointer node, each as whether it is a link, and how many numbers its stock has; the number of
+/// words of a bitmasked node.
+fn words(store: &Store, alloc: Global, node: u32) -> Result<String, Fail> {
+    let Some(index) = node.checked_sub(1) else {
+        return Err(Fail::from("no node"));
+    };
+    let Some(shape) = store.layout().shape().nodes.as_slice().get(index as usize) else {
+        return Err(Fail::from("no node"));
+    };
+    let mut told = String::new(alloc);
+    match shape.kind {
+        Pointer => {
+            let links = store.slot_words(alloc, node)?;
+            for link in links.as_slice() {
+                told.push(if *link == 0 { '0' } else { '1' })?;
+            }
+            let stock = store.stock(alloc, node)?;
+            Ok(format!(in alloc; "{} {}", told, stock.len())?)
+        }
+        Bitmasked => {
+            let masks = store.mask_words(alloc, node)?;
+            Ok(format!(in alloc; "{}", masks.len())?)
+        }
+        _ => Ok(told),
+    }
+}
+
+/// Links stand in the slots of what is active, and what they don't take is in the stock.
+#[test]
+fn slot_words_are_read(rt: HostRuntime) -> Result<(), Fail> {
+    let alloc = rt.alloc();
+    let mut store = store_of(&rt, alloc, 1, &BLOCKS)?;
+    assert_eq!(rt; words(&store, alloc, 1)?.as_str(), "0000 19");
+    assert_eq!(rt;
+        reached(&rt, alloc, &mut store, &[at(5), at(13)])?.as_str(),
+        "8 "
+    );
+    assert_eq!(rt; words(&store, alloc, 1)?.as_str(), "0101 17");
+    Ok(())
+}
+
+/// There are as many mask words as the slots of all containers need.
+#[test]
+fn mask_words_are_read(rt: HostRuntime) -> Result<(), Fail> {
+    let alloc = rt.alloc();
+    let mut store = store_of(&rt, alloc, 1, &POINTS)?;
+    assert_eq!(rt; words(&store, alloc, 2)?.as_str(), "2");
+    assert_eq!(rt; reached(&rt, alloc, &mut store, &[at(5)])?.as_str(), "1 ");
+    assert_eq!(rt; words(&store, alloc, 2)?.as_str(), "2");
+    Ok(())
+}
+
+/// Makes the values of the first field those of the second.
+fn copy_row(store: &mut Store, alloc: Global) -> Result<usize, Fail> {
+    if store.layout().shape().fields.len() < 2 {
+        return Err(Fail::from("no field"));
+    }
+    let row = store.field_row(alloc, 1)?;
+    store.set_field_row(0, row.as_slice());
+    Ok(row.len())
+}
+
+/// A field's values are read and written as one row, with a word for each cell of each container.
+#[test]
+fn rows_are_written_whole(rt: HostRuntime) -> Result<(), Fail> {
+    let alloc = rt.alloc();
+    let mut store = store_of(&rt, alloc, 1, &BLOCKS)?;
+    assert_eq!(rt; reached(&rt, alloc, &mut store, &[at(5)])?.as_str(), "4 ");
+    put(&mut store, 1, 5, 7);
+    put(&mut store, 0, 6, 9);
+    assert_eq!(rt; copy_row(&mut store, alloc)?, 76);
+    assert_eq!(rt;
+        (value_at(&store, 0, 5), value_at(&store, 0, 6)),
+        (Some(7), Some(0))
+    );
+    assert_eq!(rt; value_at(&store, 1, 5), Some(7));
+    Ok(())
+}
+
+/// The cell to which the root leads over an offset at each of two nodes.
+fn cell_below(store: &Store, first: u32, second: u32) -> Option<u32> {
+    if store.layout().nodes() != 2 {
+        return None;
+    }
+    let spot = store.under(store.root(), first)?;
+    let spot = store.under(spot, second)?;
+    Some(store.cell_at(spot))
+}
+
+/// The cell at the end of a path is that of its coordinate.
+#[test]
+fn spots_end_in_cells(rt: HostRuntime) -> Result<(), Fail> {
+    let alloc = rt.alloc();
+    let mut store = store_of(&rt, alloc, 1, &BLOCKS)?;
+    assert_eq!(rt;
+        reached(&rt, alloc, &mut store, &[at(13), at(5)])?.as_str(),
+        "8 "
+    );
+    assert_eq!(rt; cell_below(&store, 1, 2), store.cell_of(at(6)));
+    assert_eq!(rt; cell_below(&store, 3, 3), store.cell_of(at(15)));
+    assert_eq!(rt; cell_below(&store, 0, 3), None);
+    Ok(())
+}
