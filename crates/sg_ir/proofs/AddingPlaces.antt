@@ -21,7 +21,7 @@ use Rattle.sg_ir.specs.Apt.{Use, uses_step, uses_in}
 use Rattle.sg_ir.specs.steps.Emits.{Grows, PutsReg, PutsPlace}
 use Rattle.sg_ir.specs.steps.Steps.{step_of}
 use Rattle.sg_ir.specs.steps.Types.{IsPlain, AddsSteps, KeepsScope, CanRead, HasPassed, AddsWord, AddsChecks, AddsDescent}
-use Rattle.sg_ir.specs.steps.Walks.{extents_in}
+use Rattle.sg_ir.specs.Places.{extents_in}
 use Rattle.sg_ir.proofs.Folds.{fold-Root, fold-Check, fold-Extract, fold-Offset, fold-Child, fold-HashChild, fold-MaskBit, fold-DynCell}
 use Rattle.sg_ir.proofs.Judging.{judges-Root, judges-Check, judges-Extract, judges-Offset, judges-Child, judges-HashChild, judges-MaskBit, judges-DynCell, set_vars-append, uses-append}
 use Rattle.sg_ir.proofs.Emitting.{put-same, put-other}

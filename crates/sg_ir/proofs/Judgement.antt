@@ -1,6 +1,6 @@
 -- From the judgement of blocks, as the test has it, to well-typed code.
 use Rattle.std.specs.Prelude.{if◌then◌else◌}
-use Rattle.std.proofs.Common.{zero, suc, nat_lt, Bor, ◌≡◌, ℕ, Bool, true, false, ◌&&◌, ◌==◌, min, List, [], ◌∷◌, ◌++◌, None, slice_get, ℤ, refl, sym, ap, ◌∙◌, arith}
+use Rattle.std.proofs.Common.{zero, suc, nat_lt, Bor, ◌≡◌, ℕ, Bool, true, false, ◌&&◌, ◌==◌, min, List, [], ◌∷◌, ◌++◌, None, slice_get, ℤ, sym, ap, ◌∙◌, arith}
 use Rattle.std.proofs.lemmas.Bool.Decides.{nat_tests}
 use mathlib.Core.Path.{fun_ext}
 use Rattle.sg_layout.specs.declared.shape.Shape.{Shape}
@@ -10,7 +10,7 @@ use Rattle.sg_ir.specs.declared.code.Inst.TheVariants as v
 use Rattle.sg_ir.specs.declared.before.Before.{Before}
 use Rattle.sg_ir.specs.declared.before.Before.TheVariants as bv
 use Rattle.sg_ir.specs.declared.typing.Typing.{Typing}
-use Rattle.sg_ir.specs.WellTyped.{Frame, Scope, judges, judged, holds_of, is_i32, setters_in, has_no_twice, set_regs, set_places, frame_of, first_scope, is_well_typed}
+use Rattle.sg_ir.specs.WellTyped.{Frame, Scope, judged, holds_of, is_i32, setters_in, has_no_twice, set_regs, set_places, frame_of, first_scope, is_well_typed}
 use Rattle.sg_ir.specs.steps.Scopes.{scope_at}
 use Rattle.sg_ir.specs.steps.Frames.{free_in, frame_in, is_good, are_good}
 use Rattle.sg_ir.proofs.Scoping.{scope-Start, next-good, for-good}

@@ -23,8 +23,8 @@ use Rattle.sg_layout.specs.Rules.{has_good_extents}
 use Rattle.sg_layout.specs.Slots.{IsSlot}
 use Rattle.sg_layout.proofs.Uses.{in_some, over_some, size_some, slots_few, all_good}
 use Rattle.sg_ir.specs.Runs.{Place, coord_of, down, add_offset, node_in, node_of}
-use Rattle.sg_ir.specs.Places.{place_in, place_at}
-use Rattle.sg_ir.specs.steps.Walks.{extents_in, checks, digit, node_offset, led}
+use Rattle.sg_ir.specs.Places.{place_in, place_at, extents_in}
+use Rattle.sg_ir.specs.steps.Walks.{checks, digit, node_offset, led}
 
 -- ---- checks
 and4 : (p a b c : Bool) → p ≡ true → b ≡ true → c ≡ true → (((p && a) && b) && c) ≡ a

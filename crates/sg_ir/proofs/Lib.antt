@@ -17,6 +17,13 @@ pub mod Cases
 pub mod Scoping
 pub mod Once
 pub mod Judgement
+pub mod SameOps
+pub mod Products
+pub mod SpanWords
+pub mod SpanSound
+pub mod SpanStart
+pub mod Chained
+pub mod FormsAlike
 pub mod Uses
 pub mod WorkedRuns
 pub mod WorkedTypes

@@ -1,14 +1,12 @@
 -- Nothing is set twice: where numbers go up, and where each is counted once.
-use Rattle.std.proofs.Common.{◌≡◌, ℕ, zero, suc, ◌+◌, ◌<◌, ◌≤◌, ◌==◌, min, nat_lt, Bool, true, false, not, ◌&&◌, ◌||◌, cond, List, [], ◌∷◌, ◌++◌, Option, Some, None, refl, sym, ap, ◌∙◌, subst, zero-add, lit≤, arith}
+use Rattle.std.proofs.Common.{◌≡◌, ℕ, ◌+◌, ◌<◌, ◌≤◌, ◌==◌, min, nat_lt, Bool, true, false, not, ◌&&◌, ◌||◌, cond, List, [], ◌∷◌, Option, Some, None, refl, sym, ap, ◌∙◌, subst, zero-add, lit≤, arith}
 use Rattle.std.specs.Prelude.{option_and_then, count_by, if◌then◌else◌}
 use Rattle.std.specs.List.{flat_map, list_all, list_any}
 use Rattle.std.proofs.lemmas.Bool.Decides.{nat_tests}
-use Rattle.std.proofs.lemmas.List.Sums.{sum_by-cons}
-use Rattle.sg_ir.specs.declared.settings.Target.{Target}
 use Rattle.sg_ir.specs.declared.settings.Target.TheVariants as t
 use Rattle.sg_ir.specs.declared.settings.Next.{Next}
 use Rattle.sg_ir.specs.WellTyped.{Setting, SetsReg, SetsPlace, SetsVar, reg_number, place_number, has_no_twice}
-use Rattle.sg_ir.specs.steps.Targets.{is_setting, times_in, past, with_next_reg, with_next_place, passes, ascends, once_in}
+use Rattle.sg_ir.specs.steps.Targets.{is_setting, past, with_next_reg, with_next_place, passes, ascends, once_in}
 use Rattle.sg_ir.proofs.Counting.{count-regs, count-places, count-cons}
 
 -- numbers that go up from one

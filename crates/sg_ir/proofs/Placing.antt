@@ -17,9 +17,9 @@ use Rattle.sg_layout.proofs.Uses.{all_good}
 use Rattle.sg_ir.specs.declared.code.Inst.{Inst}
 use Rattle.sg_ir.specs.declared.names.Names.{Names}
 use Rattle.sg_ir.specs.Runs.{Place, Moved, named_by, runs}
-use Rattle.sg_ir.specs.Places.{place_at}
+use Rattle.sg_ir.specs.Places.{place_at, extents_in}
 use Rattle.sg_ir.specs.steps.Emits.{Extends, Reaches, LeadsTo}
-use Rattle.sg_ir.specs.steps.Walks.{AreWalkable, extents_in, checks, led}
+use Rattle.sg_ir.specs.steps.Walks.{AreWalkable, checks, led}
 use Rattle.sg_ir.proofs.Extending.{extends-trans, quiet-trans, words-kept}
 use Rattle.sg_ir.proofs.Leading.{walk-leads}
 
@@ -34,7 +34,7 @@ walkable_from shape accepted good = record { good = all_good shape accepted; sma
     small (suc (suc (suc zero))) first last = good.c_most
     small (suc (suc (suc (suc k)))) first last = absurd (omega arith)
 
-whole_slot : (shape : Shape) → IsAccepted shape → PathIsSlot shape → WholePathIsOffsets shape → (at : Coord) → IsSlot shape.nodes (offsets shape.nodes at)
+pub whole_slot : (shape : Shape) → IsAccepted shape → PathIsSlot shape → WholePathIsOffsets shape → (at : Coord) → IsSlot shape.nodes (offsets shape.nodes at)
 whole_slot shape accepted is_slot whole at =
     let nodes : List NodeShape = shape.nodes in
     subst (λ p. IsSlot nodes p) (whole at) (subst (λ ns. IsSlot ns (path shape at (length nodes))) (take_all (length nodes) nodes (omega arith)) (is_slot accepted at (length nodes)))

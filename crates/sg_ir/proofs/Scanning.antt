@@ -1,19 +1,14 @@
 -- The last instruction behind which something is set, and what is known of a place there.
-use Rattle.std.proofs.Common.{◌++◌, ◌≡◌, ℕ, zero, suc, ◌<◌, length, get_or, is_some, MatchOption, Bool, true, false, ◌||◌, ◌==◌, List, [], ◌∷◌, Option, Some, None, take, drop, slice_get, refl, sym, ap, ◌∙◌, subst, arith}
+use Rattle.std.proofs.Common.{◌++◌, ◌≡◌, ℕ, zero, suc, ◌<◌, length, get_or, is_some, MatchOption, Bool, true, false, ◌||◌, ◌==◌, List, [], ◌∷◌, Option, Some, None, take, drop, slice_get, refl, sym, ap, ◌∙◌, arith}
 use Rattle.std.specs.List.{list_any}
 use Rattle.std.proofs.lemmas.Bool.Decides.{nat_tests}
 use Rattle.sg_ir.specs.declared.code.Inst.{Inst}
 use Rattle.sg_ir.specs.declared.settings.Target.{Target}
 use Rattle.sg_ir.specs.declared.settings.Target.TheVariants as t
-use Rattle.sg_ir.specs.declared.before.Before.{Before, fold-Before, fold-roll-Before}
-use Rattle.sg_ir.specs.declared.before.Before.TheOpen as b
-use Rattle.sg_ir.specs.declared.before.Before.TheVariants as v
-use Rattle.sg_ir.specs.declared.before.Before.TheVariants.{rolls-Block}
 use Rattle.sg_ir.specs.declared.before.Passed.{Passed}
-use Rattle.sg_ir.specs.Runs.{put}
 use Rattle.sg_ir.specs.WellTyped.{holds_of}
 use Rattle.sg_ir.specs.steps.Targets.{is_setting, settings_of, left, leaves}
-use Rattle.sg_ir.specs.steps.Scopes.{IsLast, Places, origin, known_from, settled, placed, place_step, places_after, set_before}
+use Rattle.sg_ir.specs.steps.Scopes.{IsLast, Places, origin, known_from, placed, place_step, places_after}
 
 -- something is there, where one at an index is
 pub any-at : {X : Type 0} (p : X → Bool) (xs : List X) (at : ℕ) → holds_of p (slice_get xs at) ≡ true → list_any p xs ≡ true

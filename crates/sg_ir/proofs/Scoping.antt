@@ -10,10 +10,9 @@ use Rattle.sg_words.specs.declared.operators.UnOp.{UnOp}
 use Rattle.sg_words.specs.declared.operators.AccOp.{AccOp}
 use Rattle.sg_ir.specs.declared.code.Inst.{Inst}
 use Rattle.sg_ir.specs.declared.code.Inst.TheVariants as v
-use Rattle.sg_ir.specs.declared.code.Inst.TheOpen as i
 use Rattle.sg_ir.specs.declared.settings.Target.{Target}
 use Rattle.sg_ir.specs.declared.settings.Target.TheVariants as t
-use Rattle.sg_ir.specs.declared.before.Before.{Before, fold-Before, fold-roll-Before, roll-Before, out-Before}
+use Rattle.sg_ir.specs.declared.before.Before.{Before, fold-roll-Before}
 use Rattle.sg_ir.specs.declared.before.Before.TheOpen as b
 use Rattle.sg_ir.specs.declared.before.Before.TheOpen.{Before-F}
 use Rattle.sg_ir.specs.declared.before.Before.TheVariants as bv
@@ -22,7 +21,7 @@ use Rattle.sg_ir.specs.declared.before.Origin.{Origin}
 use Rattle.sg_ir.specs.declared.before.Origin.TheVariants as o
 use Rattle.sg_ir.specs.declared.before.Passed.{Passed}
 use Rattle.sg_ir.specs.Runs.{put}
-use Rattle.sg_ir.specs.WellTyped.{Frame, Scope, Known, Judge, judge_step, judge_all, judges, judged, inst_fits, with_reg, with_place, with_var, goes_on, holds_of, is_i32}
+use Rattle.sg_ir.specs.WellTyped.{Frame, Scope, Known, Judge, judge_step, judges, judged, with_reg, with_place, with_var, goes_on, holds_of, is_i32}
 use Rattle.sg_ir.specs.steps.Targets.{is_setting, setting_of, settings_of, left_step, left, leaves}
 use Rattle.sg_ir.specs.steps.Scopes.{Places, origin_step, origin, known_from, settled, passed_on, placed, place_step, places_after, known_of, scope_with, scope_at, set_step, set_before, before_step, places_before}
 use Rattle.sg_ir.proofs.Folds.{fold-Const, fold-Var, fold-Set, fold-Bin, fold-Un, fold-Mulq, fold-Root, fold-Check, fold-Extract, fold-Offset, fold-Child, fold-HashChild, fold-MaskBit, fold-DynCell, fold-ReadCell, fold-OwnRead, fold-OwnWrite, fold-Acc, fold-Want, fold-If, fold-For}

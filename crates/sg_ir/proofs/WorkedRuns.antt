@@ -3,14 +3,15 @@ use Rattle.std.specs.Prelude.{◌≡◌, ℕ, pos, negsuc, List, [], ◌∷◌, 
 use Rattle.std.proofs.Common.{refl}
 use Rattle.sg_words.specs.declared.operators.Ty.TheVariants as ty
 use Rattle.sg_words.specs.declared.operators.BinOp.TheVariants as b
+use Rattle.sg_words.specs.declared.operators.UnOp.TheVariants as u
 use Rattle.sg_words.specs.declared.operators.AccOp.TheVariants as acc
 use Rattle.sg_layout.specs.Examples.{at1, four}
 use Rattle.sg_flat.specs.Examples.{state1}
 use Rattle.sg_flat.specs.declared.effects.Way.TheVariants.{Own, Acc}
 use Rattle.sg_ir.specs.declared.code.Inst.{Inst}
 use Rattle.sg_ir.specs.declared.code.Inst.TheVariants as v
-use Rattle.sg_ir.specs.Runs.{Seen, Moved, CodeWrite, iteration}
-use Rattle.sg_ir.proofs.Equations.{does-Const, does-Var, does-Set, does-Bin, does-Root, does-Check, does-Extract, does-Child, does-ReadCell, does-OwnRead, does-OwnWrite, does-Acc, does-If, does-For}
+use Rattle.sg_ir.specs.Runs.{Seen, Moved, CodeWrite, CodeWant, iteration}
+use Rattle.sg_ir.proofs.Equations.{does-Const, does-Var, does-Set, does-Bin, does-Root, does-Check, does-Extract, does-Child, does-ReadCell, does-OwnRead, does-OwnWrite, does-Acc, does-If, does-For, does-Un, does-Mulq, does-Offset, does-HashChild, does-MaskBit, does-DynCell, does-Want}
 
 -- one layout of four points with one field, whose value is 7 at the point 1
 abbrev seen_at : ℕ → Seen
@@ -59,3 +60,35 @@ contributes = simp (does-Const (seen_at 0), does-Root (seen_at 0), does-Check (s
 
 contributes_at_none : told (iteration (seen_at 0) (v.Const 0 4 ∷ to_place 0 1 (v.Acc acc.Add 0 0 2 0 (0 ∷ []) 4 ∷ []))) ≡ record { layout = 0; field = 0; stmt = 4; at = None; way = Acc acc.Add; value = 4 } ∷ []
 contributes_at_none = simp (does-Const (seen_at 0), does-Root (seen_at 0), does-Check (seen_at 0), does-Extract (seen_at 0), does-Child (seen_at 0), does-Acc (seen_at 0)) (told-is _)
+
+-- an operator on one word, a product that is shifted down, and a word times a size and another
+negates : told (iteration (seen_at 0) (v.Const 0 1 ∷ v.Un 1 u.Neg ty.I32 0 ∷ v.OwnWrite 0 0 1 1 ∷ [])) ≡ own 1 0 4294967295 ∷ []
+negates = simp (does-Const (seen_at 0), does-Un (seen_at 0), does-OwnWrite (seen_at 0)) (told-is _)
+
+multiplies_and_shifts : told (iteration (seen_at 0) (v.Const 0 3 ∷ v.Const 1 4 ∷ v.Const 2 1 ∷ v.Mulq 3 0 1 2 ∷ v.OwnWrite 0 0 3 1 ∷ [])) ≡ own 1 0 6 ∷ []
+multiplies_and_shifts = simp (does-Const (seen_at 0), does-Mulq (seen_at 0), does-OwnWrite (seen_at 0)) (told-is _)
+
+joins_parts : told (iteration (seen_at 0) (v.Const 0 3 ∷ v.Const 1 2 ∷ v.Offset 2 0 4 1 ∷ v.OwnWrite 0 0 2 1 ∷ [])) ≡ own 1 0 14 ∷ []
+joins_parts = simp (does-Const (seen_at 0), does-Offset (seen_at 0), does-OwnWrite (seen_at 0)) (told-is _)
+
+-- each way down a node adds its offset, whatever the kind of the node
+key_is_added : told (iteration (seen_at 1) (v.Var 0 0 ∷ v.Root 0 0 ∷ v.HashChild 1 0 1 0 ∷ v.ReadCell 1 1 0 0 (0 ∷ []) ∷ v.OwnWrite 0 0 1 1 ∷ [])) ≡ own 1 1 7 ∷ []
+key_is_added = simp (does-Var (seen_at 1), does-Root (seen_at 1), does-HashChild (seen_at 1), does-ReadCell (seen_at 1), does-OwnWrite (seen_at 1)) (told-is _)
+
+bit_is_added : told (iteration (seen_at 1) (v.Var 0 0 ∷ v.Root 0 0 ∷ v.MaskBit 1 0 1 0 ∷ v.ReadCell 1 1 0 0 (0 ∷ []) ∷ v.OwnWrite 0 0 1 1 ∷ [])) ≡ own 1 1 7 ∷ []
+bit_is_added = simp (does-Var (seen_at 1), does-Root (seen_at 1), does-MaskBit (seen_at 1), does-ReadCell (seen_at 1), does-OwnWrite (seen_at 1)) (told-is _)
+
+element_is_added : told (iteration (seen_at 1) (v.Var 0 0 ∷ v.Root 0 0 ∷ v.DynCell 1 0 1 0 ∷ v.ReadCell 1 1 0 0 (0 ∷ []) ∷ v.OwnWrite 0 0 1 1 ∷ [])) ≡ own 1 1 7 ∷ []
+element_is_added = simp (does-Var (seen_at 1), does-Root (seen_at 1), does-DynCell (seen_at 1), does-ReadCell (seen_at 1), does-OwnWrite (seen_at 1)) (told-is _)
+
+-- the wants of a run, as a word that stays
+asked : Moved → List CodeWant
+asked now = now.wants
+
+asked-is : (now : Moved) → asked now ≡ now.wants
+unfolding asked
+asked-is now = refl
+
+-- a coordinate that is wanted
+wants : asked (iteration (seen_at 0) (v.Const 0 3 ∷ v.Want 0 (0 ∷ []) 5 ∷ [])) ≡ record { layout = 0; stmt = 5; at = at1 3 } ∷ []
+wants = simp (does-Const (seen_at 0), does-Want (seen_at 0)) (asked-is _)

@@ -6,3 +6,9 @@ pub mod WellTyped
 pub mod Texts
 pub mod Laws
 pub mod steps
+pub mod Blocks
+pub mod Span
+pub mod Shared
+pub mod Trimmed
+pub mod BlockExamples
+pub mod SpanLaws

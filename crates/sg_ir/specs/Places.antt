@@ -1,6 +1,7 @@
--- The place of an access: where a coordinate leads.
-use Rattle.std.specs.Prelude.{ℕ, List, if◌then◌else◌, slice_get, Option, Some, None}
+-- The place of an access: where a coordinate leads; and the extents by which a coordinate is checked.
+use Rattle.std.specs.Prelude.{ℕ, List, [], ◌∷◌, if◌then◌else◌, slice_get, Option, Some, None}
 use Rattle.sg_coord.specs.declared.coord.Coord.{Coord}
+use Rattle.sg_coord.specs.Bounds.{Bounds}
 use Rattle.sg_coord.specs.Coord.{is_inside}
 use Rattle.sg_layout.specs.declared.shape.Shape.{Shape}
 use Rattle.sg_layout.specs.Axes.{bounds_of_shape}
@@ -16,3 +17,7 @@ place_in layout at (Some shape) =
 -- the place of a coordinate in the layout with this number
 abbrev pub place_at : List Shape → ℕ → Coord → Option Place
 place_at shapes layout at = place_in layout at (slice_get shapes layout)
+
+-- the extents of the axes, in order
+abbrev pub extents_in : Bounds → List ℕ
+extents_in bounds = bounds.a ∷ bounds.b ∷ bounds.c ∷ []

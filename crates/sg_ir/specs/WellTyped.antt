@@ -1,7 +1,7 @@
 -- Well-typed code: what is used was set before in the same block or a block round it, numbers are in range, truth values join only
 -- with truth values, and places go down the nodes of their layouts one by one.
-use Rattle.std.specs.Prelude.{ℕ, suc, Bool, true, false, not, ◌&&◌, ◌||◌, ◌==◌, nat_lt, List, [], ◌∷◌, ◌++◌, map, length, count_by, slice_get, Option, Some, None, option_and_then}
-use Rattle.std.specs.List.{list_all, list_any, flat_map, fold, range_with_len}
+use Rattle.std.specs.Prelude.{ℕ, suc, Bool, true, false, not, ◌&&◌, ◌==◌, nat_lt, List, [], ◌∷◌, ◌++◌, map, length, count_by, slice_get, Option, Some, None, option_and_then}
+use Rattle.std.specs.List.{list_all, list_any, flat_map, fold}
 use Rattle.sg_words.specs.declared.operators.Ty.{Ty}
 use Rattle.sg_words.specs.declared.operators.Ty.TheVariants as ty
 use Rattle.sg_words.specs.declared.operators.BinOp.{BinOp}
@@ -18,7 +18,7 @@ use Rattle.sg_ir.specs.declared.code.Inst.{Inst, fold-Inst}
 use Rattle.sg_ir.specs.declared.code.Inst.TheOpen as i
 use Rattle.sg_ir.specs.declared.code.Inst.TheOpen.{Inst-F}
 use Rattle.sg_ir.specs.Runs.{put, node_in}
-use Rattle.sg_ir.specs.steps.Walks.{extents_in}
+use Rattle.sg_ir.specs.Places.{extents_in}
 
 -- what is known of a place: its layout, and how many nodes it has passed
 pub record Known : Type 0 where

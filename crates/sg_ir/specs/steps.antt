@@ -6,3 +6,6 @@ pub mod Types
 pub mod Targets
 pub mod Scopes
 pub mod Frames
+pub mod Scoped
+pub mod Flat
+pub mod InScope

@@ -4,7 +4,7 @@ ghost use Rattle.sg_layout.specs.declared.shape.NodeShape.{NodeShape};
 ghost use Rattle.sg_layout.specs.Axes.{bounds_of_shape};
 ghost use Rattle.sg_ir.specs.Runs.{node_in};
 ghost use Rattle.sg_ir.specs.WellTyped.{is_of, joins, is_truth, takes_truth, gives_truth, is_lnot, goes_down, holds_of, is_i32};
-ghost use Rattle.sg_ir.specs.steps.Walks.{extents_in};
+ghost use Rattle.sg_ir.specs.Places.{extents_in};
 ghost use Rattle.sg_ir.specs.steps.Frames.{way_of};
 
 use sg_layout::{Kind, Layout, NodeShape};

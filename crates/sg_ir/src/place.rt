@@ -6,11 +6,11 @@ ghost use Rattle.sg_layout.specs.declared.shape.Shape.{Shape};
 ghost use Rattle.sg_layout.specs.Axes.{extent_in, extent_over};
 ghost use Rattle.sg_layout.specs.Rules.{has_good_extents};
 ghost use Rattle.sg_ir.specs.Runs.{named_by};
-ghost use Rattle.sg_ir.specs.Places.{place_at};
+ghost use Rattle.sg_ir.specs.Places.{place_at, extents_in};
 ghost use Rattle.sg_ir.specs.WellTyped.{reads};
 ghost use Rattle.sg_ir.specs.steps.Emits.{Computes, Reaches, Grows, LeadsTo};
 ghost use Rattle.sg_ir.specs.steps.Types.{AddsSteps, AddsWord, AddsChecks, AddsDescent, CanRead, HasPassed};
-ghost use Rattle.sg_ir.specs.steps.Walks.{AreWalkable, extents_in, checks, digit, offset_from, node_offset, led};
+ghost use Rattle.sg_ir.specs.steps.Walks.{AreWalkable, checks, digit, offset_from, node_offset, led};
 
 use crate::code::Inst;
 use crate::emit::{checked, extract, offset, root, stepped};
@@ -189,7 +189,7 @@ fn node_extent(node: &NodeShape, later: &[NodeShape], axis: u32) -> u32
 }
 
 /// The extent that nodes give an axis, from 1.
-fn extent_over(nodes: &[NodeShape], axis: u32) -> u32
+pub fn extent_over(nodes: &[NodeShape], axis: u32) -> u32
     requires good { IsTrue (list_all has_good_extents nodes.now) }
     requires small { extent_over nodes.now axis ≤ 2 ^ 15 }
     ensures { result ≡ extent_over nodes.now axis }

@@ -32,7 +32,7 @@ use Rattle.sg_ir.specs.Runs.{Seen, Place, Moved, in_turn, at_of, named_by, does,
 use Rattle.sg_ir.specs.Places.{place_at}
 use Rattle.sg_ir.specs.Named.{IsNamedAccess}
 use Rattle.sg_ir.specs.steps.Emits.{LeadsTo}
-use Rattle.sg_ir.proofs.Equations.{runs-more, does-Set, does-OwnWrite, does-Acc, does-Want, does-If, does-For}
+use Rattle.sg_ir.proofs.Uses.{runs-more, does-Set, does-OwnWrite, does-Acc, does-Want, does-If, does-For}
 use Rattle.sg_admit.specs.Bounds.{is_constant, is_constant_range, constant_word}
 use Rattle.sg_lower.specs.Lowered.{code_write, want_of}
 use Rattle.sg_lower.specs.steps.Basis.{Basis, is_owned}

@@ -1,6 +1,5 @@
 -- What instructions are judged by, as the test has it.
-use Rattle.std.specs.Prelude.{ℕ, Bool, true, false, ◌==◌, ◌&&◌, nat_lt, length, if◌then◌else◌, List, Option, Some, None, slice_get}
-use Rattle.sg_words.specs.declared.operators.Ty.{Ty}
+use Rattle.std.specs.Prelude.{ℕ, Bool, true, false, ◌==◌, ◌&&◌, nat_lt, length, if◌then◌else◌, List, slice_get}
 use Rattle.sg_ir.specs.declared.code.Inst.{Inst, fold-Inst}
 use Rattle.sg_ir.specs.declared.code.Inst.TheOpen as i
 use Rattle.sg_ir.specs.declared.code.Inst.TheOpen.{Inst-F}
@@ -13,7 +12,7 @@ use Rattle.sg_layout.specs.declared.shape.NodeShape.{NodeShape}
 use Rattle.sg_layout.specs.declared.shape.Shape.{Shape}
 use Rattle.sg_layout.specs.Axes.{bounds_of_shape}
 use Rattle.sg_ir.specs.Runs.{node_in}
-use Rattle.sg_ir.specs.steps.Walks.{extents_in}
+use Rattle.sg_ir.specs.Places.{extents_in}
 use Rattle.sg_ir.specs.steps.Scopes.{scope_at}
 
 -- the variables of the kernel's loop

@@ -7,7 +7,7 @@ use Rattle.sg_ir.specs.declared.code.Inst.TheOpen.{Inst-F}
 use Rattle.sg_ir.specs.declared.settings.Target.{Target}
 use Rattle.sg_ir.specs.declared.settings.Target.TheVariants as t
 use Rattle.sg_ir.specs.declared.settings.Next.{Next}
-use Rattle.sg_ir.specs.WellTyped.{Setting, SetsReg, SetsPlace, SetsVar, sets_step, settings}
+use Rattle.sg_ir.specs.WellTyped.{Setting, SetsReg, SetsPlace, SetsVar, sets_step}
 
 -- whether a setting is of this register, place or variable
 abbrev pub is_setting : Target → Setting → Bool

@@ -2,15 +2,10 @@
 use Rattle.std.specs.Prelude.{ℕ, suc, ◌+◌, ◌*◌, ◌/◌, ◌%◌, ◌^◌, ◌≤◌, List, [], ◌∷◌, Option, IsTrue}
 use Rattle.std.specs.List.{list_all}
 use Rattle.sg_layout.specs.Rules.{has_good_extents}
-use Rattle.sg_coord.specs.Bounds.{Bounds}
 use Rattle.sg_layout.specs.declared.shape.NodeShape.{NodeShape}
 use Rattle.sg_layout.specs.declared.shape.Shape.{Shape}
 use Rattle.sg_layout.specs.Axes.{extent_in, extent_over}
 use Rattle.sg_ir.specs.Runs.{Place, check, down}
-
--- the extents of the axes, in order
-abbrev pub extents_in : Bounds → List ℕ
-extents_in bounds = bounds.a ∷ bounds.b ∷ bounds.c ∷ []
 
 -- the place behind the checks of words against extents
 abbrev pub checks : List ℕ → List ℕ → Option Place → Option Place

@@ -1,10 +1,8 @@
-use Rattle.std.proofs.Common.{◌≡◌, ℕ, ◌-◌, false, Option, Some, None, take, slice_get, sym, ap, ◌∙◌, arith}
+use Rattle.std.proofs.Common.{◌≡◌, false, Some, None, take, sym, ap, ◌∙◌}
 use Rattle.std.specs.List.{list_any}
 use Rattle.sg_ir.specs.declared.settings.Target.TheVariants as tg
-use Rattle.sg_ir.specs.declared.before.Passed.{Passed}
-use Rattle.sg_ir.specs.declared.before.Origin.{Origin}
 use Rattle.sg_ir.specs.steps.Targets.{leaves}
-use Rattle.sg_ir.specs.steps.Scopes.{IsLast, passed_on, known_from, origin, places_after, places_before}
+use Rattle.sg_ir.specs.steps.Scopes.{IsLast, passed_on, known_from, places_after, places_before}
 use Rattle.sg_ir.proofs.Scanning.{get-some, places-none, places-at}
 use Rattle.sg_ir.proofs.before.+passed.Goals as goal
 

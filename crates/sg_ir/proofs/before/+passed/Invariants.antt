@@ -1,4 +1,4 @@
-use Rattle.std.proofs.Common.{ℕ, ◌+◌, length}
+use Rattle.std.proofs.Common.{◌+◌, length}
 use Rattle.sg_ir.specs.steps.Scopes.{weight}
 use Rattle.sg_ir.proofs.before.+passed.Given as goal
 

@@ -1,4 +1,4 @@
-use Rattle.std.proofs.Common.{◌≡◌, true, false, is_some, sym, ◌∙◌}
+use Rattle.std.proofs.Common.{◌∙◌}
 use Rattle.sg_ir.proofs.Scanning.{found-any}
 use Rattle.sg_ir.proofs.before.sets.Goals as goal
 

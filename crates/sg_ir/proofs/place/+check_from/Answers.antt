@@ -1,7 +1,7 @@
 use Rattle.std.proofs.Common.{◌<◌, [], All, length, sym, ap, subst, arith}
 use Rattle.std.proofs.lemmas.Result.{IfOk-weaker}
 use Rattle.sg_coord.specs.Bounds.{bounds_of}
-use Rattle.sg_ir.specs.steps.Walks.{extents_in}
+use Rattle.sg_ir.specs.Places.{extents_in}
 use Rattle.sg_ir.proofs.Extending.{rest-whole, rest-shorter, all_rest, all_named}
 use Rattle.sg_ir.proofs.Walking.{checks-done, checks-next}
 use Rattle.sg_ir.proofs.AddingPlaces.{checks-added-done, checks-added}

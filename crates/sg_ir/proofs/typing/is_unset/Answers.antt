@@ -1,4 +1,4 @@
-use Rattle.std.proofs.Common.{◌≡◌, ℕ, ◌==◌, ap, ◌∙◌}
+use Rattle.std.proofs.Common.{ℕ, ◌==◌, ap, ◌∙◌}
 use Rattle.sg_ir.specs.WellTyped.{setters_in}
 use Rattle.sg_ir.proofs.Judgement.{min-zero}
 use Rattle.sg_ir.proofs.typing.is_unset.Goals as goal

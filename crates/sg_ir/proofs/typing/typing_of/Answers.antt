@@ -1,4 +1,4 @@
-use Rattle.std.proofs.Common.{◌≡◌, ℕ, Bool, ◌==◌, List, ap, ◌∙◌}
+use Rattle.std.proofs.Common.{ℕ, ◌==◌, List, ap, ◌∙◌}
 use Rattle.sg_ir.specs.declared.code.Inst.{Inst}
 use Rattle.sg_ir.specs.WellTyped.{setters_in}
 use Rattle.sg_ir.proofs.Judgement.{free-is}

@@ -1,4 +1,4 @@
-use Rattle.std.proofs.Common.{◌≡◌, ℕ, min, ap, ◌∙◌}
+use Rattle.std.proofs.Common.{ℕ, min, ap, ◌∙◌}
 use Rattle.sg_ir.specs.WellTyped.{settings}
 use Rattle.sg_ir.proofs.Counting.{count-vars}
 use Rattle.sg_ir.proofs.typing.var_setters.Goals as goal

@@ -1,4 +1,4 @@
-use Rattle.std.proofs.Common.{◌≡◌, Bool, List, true, false, ◌&&◌, refl, sym, ap, ◌∙◌}
+use Rattle.std.proofs.Common.{List, true, false, ◌&&◌, refl, sym, ap, ◌∙◌}
 use Rattle.sg_ir.specs.declared.code.Inst.{Inst}
 use Rattle.sg_ir.specs.declared.before.Before.TheVariants as bv
 use Rattle.sg_ir.specs.WellTyped.{has_no_twice, set_regs, set_places}

@@ -1,4 +1,4 @@
-use Rattle.std.proofs.Common.{◌≡◌, ℕ, suc, take, add-one, sym, ap, ◌∙◌, List}
+use Rattle.std.proofs.Common.{ℕ, suc, take, add-one, sym, ap, ◌∙◌, List}
 use Rattle.sg_ir.specs.declared.code.Inst.{Inst}
 use Rattle.sg_ir.specs.declared.before.Before.TheVariants as bv
 use Rattle.sg_ir.specs.steps.Frames.{are_good, frame_in, scope_in}

@@ -1,4 +1,4 @@
-use Rattle.std.proofs.Common.{◌≡◌, ℕ, List, Bool, sym, ap, ◌∙◌}
+use Rattle.std.proofs.Common.{ℕ, List, Bool, sym, ap, ◌∙◌}
 use Rattle.sg_ir.specs.WellTyped.{Scope, inst_fits}
 use Rattle.sg_ir.specs.declared.code.Inst.TheOpen as i
 use Rattle.sg_ir.specs.steps.Frames.{frame_in, scope_in, is_good}

@@ -1,0 +1,46 @@
+-- What the pass puts out for a whole block is trimmed.
+use Rattle.std.specs.Prelude.{◌≡◌, refl, ℕ, ◌==◌, Bool, true, false, ◌&&◌, if◌then◌else◌, List, [], ◌∷◌}
+use Rattle.std.specs.List.{list_all, list_any}
+use Rattle.std.proofs.Common.{ap}
+use Rattle.sg_words.specs.declared.operators.Ty.{Ty}
+use Rattle.sg_layout.specs.declared.shape.Shape.{Shape}
+use Rattle.sg_flat.specs.declared.effects.Domain.{Domain}
+use Rattle.sg_ir.specs.Blocks.{Block}
+use Rattle.sg_ir.specs.Span.{whole, domain_span, first_spans}
+use Rattle.sg_ir.specs.Trimmed.{Passed, checks_of, passed_in, accesses_are_trim, is_trimmed}
+use Rattle.sg_ir.specs.steps.InScope.{nothing}
+use Rattle.sg_simplify.specs.Pass.{given_of, first_pass, first_next, vars_of, simple}
+use Rattle.sg_simplify.specs.steps.Serves.{Each}
+use Rattle.sg_simplify.specs.steps.Ruled.{IsRuled}
+use Rattle.sg_simplify.specs.steps.Uses.{IsPassed}
+use Rattle.sg_simplify.proofs.SettingVars.{simplified_count}
+use Rattle.sg_simplify.proofs.Trimming.{simplified_trims}
+use Rattle.sg_simplify.proofs.Using.{simplified_uses}
+
+none_set : {A : Type 0} → false ≡ true → A
+none_set h = absurd (cc)
+
+both_true : (a b : Bool) → a ≡ true → b ≡ true → (a && b) ≡ true
+both_true true true e f = refl
+both_true true false e f = absurd (cc)
+both_true false b e f = absurd (cc)
+
+all_pass : (passed : List Passed) (places : List ℕ) → Each (IsPassed passed) places → list_all (λ place. list_any (λ (it : Passed). it.place == place) passed) places ≡ true
+all_pass passed [] each = refl
+all_pass passed (p ∷ places) each = both_true _ _ each.0 (all_pass passed places each.1)
+
+pub simple_is_trimmed : (shapes : List Shape) (domain : Domain) (types : List Ty) (block : Block)
+    → IsRuled shapes (given_of shapes domain types block).single (vars_of (given_of shapes domain types block) first_pass) nothing block → is_trimmed shapes domain (simple shapes domain types block) ≡ true
+simple_is_trimmed shapes domain types block ruled =
+    let given = given_of shapes domain types block in
+    let out = simple shapes domain types block in
+    both_true (accesses_are_trim shapes (first_spans shapes domain out) [] out) _
+    (simplified_trims given block nothing nothing first_pass first_next (first_spans shapes domain out) [] ruled.scoped ruled.fitted
+    (record {
+      sets = record { ops = tt; steps = tt; free_regs = λ r above. refl; free_places = λ p above. refl };
+      regs = λ r is. none_set is;
+      vars = λ v. ap (λ n. if n == 0 then domain_span shapes domain v else whole) (simplified_count given v block first_pass first_next);
+      steps = tt;
+    })
+    (λ r is. none_set is))
+    (all_pass (passed_in [] out) (checks_of out) (simplified_uses given block nothing first_pass first_next [] ruled.scoped ruled.fitted (record { ops = tt; steps = tt; given = tt })).own)

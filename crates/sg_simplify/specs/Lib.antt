@@ -1,0 +1,4 @@
+pub mod Simplified
+pub mod Pass
+pub mod PassExamples
+pub mod steps

@@ -1,0 +1,37 @@
+-- Each check that is put out is passed by an access.
+use Rattle.std.specs.Prelude.{◌≡◌, ℕ, ◌<◌, ◌==◌, true, List, [], ◌∷◌, None}
+use Rattle.std.specs.List.{list_any}
+use Rattle.std.specs.Map.{lookup}
+use Rattle.sg_ir.specs.declared.op.Op.TheVariants as op
+use Rattle.sg_ir.specs.declared.op.Step.{Step}
+use Rattle.sg_ir.specs.Blocks.{Block}
+use Rattle.sg_ir.specs.Shared.{same_op, same_step}
+use Rattle.sg_ir.specs.Trimmed.{Passed, Ways, way_to, checks_of, passed_in}
+use Rattle.sg_ir.specs.steps.InScope.{op_places, step_places}
+use Rattle.sg_simplify.specs.Pass.{Pass, Next}
+use Rattle.sg_simplify.specs.steps.Serves.{Each}
+
+-- a check's place is among those that were passed
+abbrev pub IsPassed : List Passed → ℕ → Type 0
+IsPassed passed p = list_any (λ (it : Passed). it.place == p) passed ≡ true
+
+-- in what is put out these checks, and its own, are passed
+pub record Used (ways : Ways) (pending : List ℕ) (block : Block) : Type 0 where
+  pub here : Each (IsPassed (passed_in ways block)) pending
+  pub own : Each (IsPassed (passed_in ways block)) (checks_of block)
+
+-- places that known operations and steps read were given before
+pub record AreOld (known : Pass) (next : Next) : Type 0 where
+  pub ops : Each (λ entry. Each (λ p. p < next.places) (op_places entry.0)) known.ops
+  pub steps : Each (λ entry. Each (λ p. p < next.places) (step_places entry.0)) known.steps
+  pub given : Each (λ entry. entry.1 < next.places) known.steps
+
+-- no known operation and no known step reads a place
+pub record IsUnread (known : Pass) (p : ℕ) : Type 0 where
+  pub reads : (layout field : ℕ) → lookup (same_op (op.Read p layout field)) known.ops ≡ None
+  pub steps : (how : Step) → step_places how ≡ p ∷ [] → lookup (same_step how) known.steps ≡ None
+
+-- a place has passed the checks that are pending; where there are some, nothing known reads it
+abbrev pub IsPending : Pass → Ways → List ℕ → ℕ → Type 0
+IsPending known ways [] p = Unit {0}
+IsPending known ways (check ∷ pending) p = Each (IsPassed (way_to ways p)) (check ∷ pending) × IsUnread known p
