@@ -5,7 +5,7 @@ ghost use Rattle.sg_coord.specs.Coord.{Inside};
 use crate::{GridRow, dump, grid_text, read_grid};
 use sg_coord::{Coord, Extents, inside};
 use sg_layout::{Kind, NodeShape, Shape, Size, check_layout};
-use sg_store::{Store, is_built};
+use sg_store::Store;
 use sg_words::{Items, Stop, Text, Ty};
 use std::alloc::{AllocError, Global};
 use std::process::Abort;
@@ -254,7 +254,6 @@ fn blocks(rt: &impl Abort, alloc: Global) -> Result<Store, Fail> {
     };
     assert!(rt; shape.is_declared());
     let layout = check_layout(alloc, &shape)?;
-    assert!(rt; is_built(&layout));
     assert!(rt; layout.words() <= 1 << 22);
     Ok(Store::make(alloc, &layout)?)
 }

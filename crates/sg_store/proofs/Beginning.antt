@@ -1,6 +1,6 @@
 -- A store of fresh words and rows of zeros is well-formed, and stands for the layout in which nothing is written.
 use Rattle.std.proofs.Common.{◌≡◌, ◌≢◌, ℕ, zero, suc, ◌+◌, ◌*◌, ◌<◌, ◌≤◌, ◌^◌, Bool, true, false, not, ◌&&◌, ◌==◌, List, [], ◌∷◌, length, drop, map, get_or, refl, sym, ap, ◌∙◌, subst, arith, cond}
-use Rattle.std.specs.Prelude.{IsTrue, nat_lt, nat_le, Option, Some, None, slice_get}
+use Rattle.std.specs.Prelude.{nat_lt, nat_le, Option, Some, None, slice_get}
 use Rattle.std.specs.Option.{option_map}
 use Rattle.std.specs.List.{All, list_all, filter, range_with_len}
 use Rattle.std.proofs.lemmas.Bool.{false≢true, and_parts, eqb-true}
@@ -184,6 +184,7 @@ fresh_well_formed store fresh = record {
   accepted = fresh.accepted;
   nodes_fit = fresh_fit store.shape.nodes store.nodes 1 is_root fresh.words;
   within_caps = fresh_within store.shape.nodes store.nodes 1 fresh.words;
+  few_words = fresh.few_words;
   few_cells = omega (arith, few_cells store.shape fresh.order (some_fields store.shape fresh.accepted), fresh.few_words);
   field_count = fresh.field_count;
   rows_fit = λ k d below.

@@ -28,7 +28,7 @@ can_settle store number i node kept masks is kind can =
     let same = masks_are store number i node kept is in
     let bit : (q : ℕ) → mask_bit (masks_of store number) q ≡ mask_bit kept.masks q = λ q. ap (λ m. mask_bit m q) same in
     says_with (EachInLive (GetsBit kept.masks masks)) (CanSettleMasks masks) store number i node kept is
-    (each_in_live (GetsBit kept.masks masks) store number i node kept is (λ q gets. can.in_live q (bit q ∙ gets.0) gets.1))
+    (each_in_live (GetsBit kept.masks masks) store number i node kept is (λ dynamic. cc) (λ q gets. can.in_live q (bit q ∙ gets.0) gets.1))
     (λ slots live own all.
     let mask : IsMaskNode kept slots live = subst (λ k. IsNode k node kept slots live) kind own in
     record {

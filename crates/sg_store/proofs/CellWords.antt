@@ -94,6 +94,7 @@ set_well_formed store place cell word well field reached =
       accepted = well.accepted;
       nodes_fit = well.nodes_fit;
       within_caps = well.within_caps;
+      few_words = well.few_words;
       few_cells = well.few_cells;
       field_count = length-set store.fields place (slice_set old cell word) ∙ well.field_count;
       rows_fit = λ k d below.
@@ -111,14 +112,14 @@ set_well_formed store place cell word well field reached =
     }
 
 -- the word that was set, and those that weren't
-word_set_same : (store : StoreWords) (place cell word : ℕ) → IsWellFormed store → place < length store.shape.fields → IsReached store cell → word_in (with_word store place cell word) place cell ≡ word
+pub word_set_same : (store : StoreWords) (place cell word : ℕ) → IsWellFormed store → place < length store.shape.fields → IsReached store cell → word_in (with_word store place cell word) place cell ≡ word
 word_set_same store place cell word well field reached =
     let old : List ℕ = slice_index_or store.fields place [] in
     let there : place < length store.fields = omega (arith, well.field_count) in
     ap (λ row. slice_index row cell) (get_or-set_same store.fields place (slice_set old cell word) [] there)
     ∙ get_or-set_same old cell word 0 (cell_in_row store well place cell [] field reached)
 
-word_set_other : (store : StoreWords) (place cell word p other : ℕ) → IsWellFormed store → place < length store.shape.fields → ¬ ((p ≡ place) × (other ≡ cell)) → word_in (with_word store place cell word) p other ≡ word_in store p other
+pub word_set_other : (store : StoreWords) (place cell word p other : ℕ) → IsWellFormed store → place < length store.shape.fields → ¬ ((p ≡ place) × (other ≡ cell)) → word_in (with_word store place cell word) p other ≡ word_in store p other
 word_set_other store place cell word p other well field apart =
     let old : List ℕ = slice_index_or store.fields place [] in
     let there : place < length store.fields = omega (arith, well.field_count) in

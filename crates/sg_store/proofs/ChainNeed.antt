@@ -1,6 +1,6 @@
 -- What lengths that tell the live slots of a dynamic node need together: what the node needs for the coordinates.
 use Rattle.std.proofs.Common.{◌≡◌, ◌≢◌, ℕ, zero, suc, ◌+◌, ◌-◌, ◌*◌, ◌/◌, ◌%◌, ◌<◌, ◌≤◌, Bool, true, false, List, [], ◌∷◌, ◌++◌, length, map, take, get_or, refl, sym, ap, ◌∙◌, subst, arith, inl, inr}
-use Rattle.std.specs.Prelude.{Option, Some, None, unwrap_or, nat_lt, sum_by, slice_get, slice_index}
+use Rattle.std.specs.Prelude.{Option, Some, None, unwrap_or, nat_lt, slice_get, slice_index}
 use Rattle.std.specs.Option.{option_map}
 use Rattle.std.specs.List.{Contains}
 use Rattle.std.proofs.lemmas.Bool.{false≢true, cases_lt, ltb-true, lt-ltb}
@@ -13,12 +13,11 @@ use Rattle.sg_words.proofs.Uses.{from_map}
 use Rattle.sg_coord.specs.declared.coord.Coord.{Coord}
 use Rattle.sg_layout.specs.declared.shape.Kind.TheVariants.{Dynamic}
 use Rattle.sg_layout.specs.declared.shape.NodeShape.{NodeShape}
-use Rattle.sg_layout.specs.declared.shape.Shape.{Shape}
 use Rattle.sg_layout.specs.Axes.{count_of, size_of}
 use Rattle.sg_layout.specs.Path.{path, offsets}
-use Rattle.sg_layout.specs.Live.{kind_at, is_live}
+use Rattle.sg_layout.specs.Live.{is_live}
 use Rattle.sg_layout.specs.Slots.{IsSlot}
-use Rattle.sg_layout.specs.Need.{distinct, reached_slots, chunks_under, need_by}
+use Rattle.sg_layout.specs.Need.{reached_slots, chunks_under, need_by}
 use Rattle.sg_layout.specs.NeedLaws as needs
 use Rattle.sg_layout.proofs.Uses.{from_distinct}
 use Rattle.sg_dynamic.specs.Chunks as chunks
@@ -37,7 +36,7 @@ use Rattle.sg_store.proofs.Opening.{no_chunks}
 use Rattle.sg_store.proofs.SlotPaths.{slot_offsets}
 use Rattle.sg_store.proofs.PathWalks.{path_long, path_more}
 use Rattle.sg_store.proofs.Wanted.{own_path_live, kind_there}
-use Rattle.sg_store.proofs.Under.{IsUnder, under_of, DynamicAt, number_under, HasPlace, place_of_number, IsBefore, before_from_live}
+use Rattle.sg_store.proofs.Under.{under_of, DynamicAt, number_under, place_of_number, before_from_live}
 
 -- lengths that tell which slots of a dynamic node are live for coordinates
 pub record TellLengths (store : StoreWords) (i : ℕ) (node : NodeShape) (kept : NodeWords) (lengths : List ℕ) (coords : List Coord) : Type 0 where

@@ -1,6 +1,6 @@
 -- A dynamic node's chains of chunks: each slot below a length has a cell, one of the node's, and different slots have
 -- different cells.
-use Rattle.std.proofs.Common.{◌≡◌, ◌≢◌, ℕ, zero, suc, ◌+◌, ◌-◌, ◌*◌, ◌/◌, ◌%◌, ◌<◌, ◌≤◌, Bool, true, false, List, [], ◌∷◌, length, get_or, refl, sym, ap, ◌∙◌, subst, arith, inl, inr}
+use Rattle.std.proofs.Common.{◌≡◌, ℕ, ◌+◌, ◌-◌, ◌*◌, ◌/◌, ◌%◌, ◌<◌, ◌≤◌, Bool, true, List, length, get_or, refl, sym, ap, ◌∙◌, arith, inl, inr}
 use Rattle.std.specs.Prelude.{Option, Some, None, slice_get, slice_index}
 use Rattle.std.specs.Option.{option_map}
 use Rattle.std.proofs.Math.Nat.{div-lt_iff_lt-mul}
@@ -13,7 +13,7 @@ use Rattle.sg_layout.specs.declared.shape.NodeShape.{NodeShape}
 use Rattle.sg_layout.specs.Axes.{count_of, size_of}
 use Rattle.sg_links.specs.Lists.{Lists, list_of, times_in, AreDisjoint}
 use Rattle.sg_links.proofs.Uses.{one_if, stands, times_at, there_is_list, stands_at_one_place}
-use Rattle.sg_pool.specs.Numbers.{PoolNumbers, place_count, is_live_number}
+use Rattle.sg_pool.specs.Numbers.{PoolNumbers, is_live_number}
 use Rattle.sg_pool.proofs.Uses.{live_is_number}
 use Rattle.sg_dynamic.specs.Chunks.{chunks_of, IsExact}
 use Rattle.sg_store.specs.declared.node.NodeWords.{NodeWords}

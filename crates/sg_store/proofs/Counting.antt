@@ -92,7 +92,7 @@ pub record Links (store : StoreWords) (i : ℕ) (links : List ℕ) (coords : Lis
 abbrev pub HasNumber : StoreWords → List ℕ → ℕ → List ℕ → Type 0
 HasNumber store links number slot = (q : ℕ) × (slot_number_in store.shape.nodes store.nodes 0 slot ≡ Some q) × (slice_index links q ≡ suc number)
 
-is_slot_from : (nodes : List NodeShape) (slot : List ℕ) → AreOffsets nodes slot → IsSlot (take (length slot) nodes) slot
+pub is_slot_from : (nodes : List NodeShape) (slot : List ℕ) → AreOffsets nodes slot → IsSlot (take (length slot) nodes) slot
 is_slot_from nodes [] are = tt
 is_slot_from [] (o ∷ slot) are = absurd are
 is_slot_from (node ∷ later) (o ∷ slot) are = (are.0, is_slot_from later slot are.1)
@@ -158,7 +158,7 @@ pointer_node store i node kept links is =
     let found = node_of Says store.shape.nodes store.nodes 1 is_root i (pointer_says Says store i node kept links is (λ slots live one. one)) in
     (found.slots, found.live, found.says)
 
-link_live : (store : StoreWords) (i : ℕ) (node : NodeShape) (kept : NodeWords) (links : List ℕ) → LinkedAt store i node kept links → (q : ℕ) → slice_index links q ≢ 0 → AtNodeOf (InLive q) store i
+pub link_live : (store : StoreWords) (i : ℕ) (node : NodeShape) (kept : NodeWords) (links : List ℕ) → LinkedAt store i node kept links → (q : ℕ) → slice_index links q ≢ 0 → AtNodeOf (InLive q) store i
 link_live store i node kept links is q some =
     pointer_says (InLive q) store i node kept links is
     (λ slots live one. record { within = omega (arith, index_within links q some, one.link_count); is_live = one.in_live q some })

@@ -1,25 +1,17 @@
 -- A field's row read and written whole.
-use Rattle.std.proofs.Common.{◌≡◌, ◌≢◌, ℕ, ◌<◌, List, [], length, get_or, sym, ap, ◌∙◌, subst, arith, inl, inr}
-use Rattle.std.specs.Prelude.{Some, slice_index, slice_index_or, slice_set}
+use Rattle.std.proofs.Common.{◌≡◌, ℕ, ◌<◌, List, [], length, get_or, sym, ap, ◌∙◌, arith, inl, inr}
+use Rattle.std.specs.Prelude.{slice_index, slice_index_or, slice_set}
 use Rattle.std.proofs.lemmas.Bool.{cases_eq}
-use Rattle.std.proofs.lemmas.List.{length-set, get_or-set_same, get_or-set_other, get_or_default}
-use Rattle.sg_coord.specs.declared.coord.Coord.{Coord}
-use Rattle.sg_coord.specs.Laws.{InsideTest}
+use Rattle.std.proofs.lemmas.List.{get_or-set_same, get_or-set_other, get_or_default}
 use Rattle.sg_layout.specs.declared.shape.Shape.{Shape}
-use Rattle.sg_layout.specs.Axes.{bounds_of_shape}
 use Rattle.sg_layout.specs.Live.{is_live}
-use Rattle.sg_layout.specs.PathLaws.{SlotIsPath}
-use Rattle.sg_layout.specs.Slots.{coordinate_of}
 use Rattle.sg_flat.specs.declared.state.FlatLayout.{FlatLayout}
 use Rattle.sg_flat.specs.State.{value_at}
 use Rattle.sg_store.specs.declared.node.NodeWords.{NodeWords}
 use Rattle.sg_store.specs.StoreWords.{StoreWords, word_in}
-use Rattle.sg_store.specs.Walks.{cell_along, cell_in}
-use Rattle.sg_store.specs.WellFormed.{IsFieldRow, IsReached, IsWellFormed}
+use Rattle.sg_store.specs.WellFormed.{IsWellFormed}
 use Rattle.sg_store.specs.StandsFor.{IsSlotOf, StandsFor}
 use Rattle.sg_store.specs.Rows.{SetsRow}
-use Rattle.sg_store.proofs.ActiveCells.{cell_from_parts}
-use Rattle.sg_store.proofs.CellWords.{row_of_field, same_rows}
 
 -- ── Writing ──
 

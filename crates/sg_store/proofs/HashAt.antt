@@ -1,6 +1,6 @@
 -- The hash node of a store, with the links of its slots.
-use Rattle.std.proofs.Common.{◌≡◌, ◌≢◌, ℕ, zero, suc, ◌+◌, ◌*◌, ◌/◌, ◌%◌, ◌^◌, ◌<◌, ◌≤◌, Bool, true, false, not, List, [], ◌∷◌, length, refl, sym, ap, ◌∙◌, subst, arith}
-use Rattle.std.specs.Prelude.{Some, slice_get, slice_index, nat_le, ◌==◌}
+use Rattle.std.proofs.Common.{◌≡◌, ℕ, zero, suc, ◌+◌, ◌*◌, ◌/◌, ◌^◌, ◌<◌, ◌≤◌, Bool, true, List, [], ◌∷◌, length, refl, sym, ap, ◌∙◌, subst, arith}
+use Rattle.std.specs.Prelude.{Some, slice_get, nat_le}
 use Rattle.std.specs.List.{position_or_len, range_with_len}
 use Rattle.std.proofs.Math.Nat.{pos_of_ne-zero}
 use Rattle.std.proofs.Math.Pow.{pow_mono}
@@ -91,7 +91,7 @@ linked_at store i node kept well at has linked = by_kind node.kind refl linked
 
 -- ── Where a slot can be looked for ──
 
-power_some : (n : ℕ) → 0 < power_for n
+pub power_some : (n : ℕ) → 0 < power_for n
 power_some n =
     let grown : 2 ^ 0 ≤ power_for n = pow_mono {i = 0} {j = position_or_len (λ k. nat_le n (2 ^ k)) (range_with_len 0 18)} (omega arith) in omega (arith, grown)
 

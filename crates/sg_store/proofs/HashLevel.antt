@@ -48,7 +48,7 @@ links_after : (keys links taken : List ℕ) (kept after : NodeWords) (slots : �
 links_after keys links taken kept after slots re =
     ap (λ ks. links_by_slot ks after.links slots) re.new_keys ∙ ap (λ ls. links_by_slot keys ls slots) re.new_links
 
-beside_after : (keys links taken : List ℕ) (kept after : NodeWords) → IsRekeyed keys links taken kept after → (k : ℕ) → beside after.keys after.links k ≡ beside keys links k
+pub beside_after : (keys links taken : List ℕ) (kept after : NodeWords) → IsRekeyed keys links taken kept after → (k : ℕ) → beside after.keys after.links k ≡ beside keys links k
 beside_after keys links taken kept after re k =
     ap (λ ks. beside ks after.links k) re.new_keys ∙ ap (λ ls. beside keys ls k) re.new_links
 
@@ -56,7 +56,7 @@ by_slots_grow : (keys links taken : List ℕ) (node : NodeShape) (kept after : N
 by_slots_grow keys links taken node kept after slots live is can re =
     links_grow (links_by_slot keys links slots) taken (as_linked node) (by_slots kept slots) (by_slots after slots) slots live
     (relabelled node (by_slots kept slots) slots live is.as_pointer) can.can.can
-    (record { new_links = links_after keys links taken kept after slots re; same_masks = re.same_masks; pool = re.pool })
+    (record { new_links = links_after keys links taken kept after slots re; pool = re.pool })
 
 rekeyed_node : (keys links taken : List ℕ) (node : NodeShape) (kept after : NodeWords) (slots : ℕ) (live : ℕ → Bool) → IsHashNode node kept slots live → CanSettleKeys keys links taken node kept slots live → IsRekeyed keys links taken kept after → IsHashNode node after slots live
 rekeyed_node keys links taken node kept after slots live is can re = record {

@@ -1,11 +1,11 @@
 -- As many chunks of a dynamic node are live as its lengths need.
-use Rattle.std.proofs.Common.{◌≡◌, ℕ, zero, suc, ◌+◌, ◌<◌, ◌≤◌, Bool, true, false, cond, List, [], ◌∷◌, length, get_or, refl, sym, ap, ◌∙◌, arith}
+use Rattle.std.proofs.Common.{◌≡◌, ℕ, zero, suc, ◌+◌, ◌<◌, Bool, false, cond, List, [], ◌∷◌, length, get_or, refl, sym, ◌∙◌, arith}
 use Rattle.std.specs.Prelude.{sum_by, count_by, slice_index, slice_index_or}
 use Rattle.std.proofs.lemmas.List.Sums.{sum_by-cons}
 use Rattle.sg_layout.specs.declared.shape.NodeShape.{NodeShape}
 use Rattle.sg_layout.specs.Axes.{count_of}
 use Rattle.sg_links.specs.Lists.{times_in}
-use Rattle.sg_links.proofs.Uses.{sums, sums_same, total_is_sum, one_if}
+use Rattle.sg_links.proofs.Uses.{sums, sums_same, total_is_sum}
 use Rattle.sg_pool.specs.Numbers.{place_count, is_live_number, live_count}
 use Rattle.sg_dynamic.specs.Chunks.{chunks_of, need_of}
 use Rattle.sg_store.specs.declared.node.NodeWords.{NodeWords}

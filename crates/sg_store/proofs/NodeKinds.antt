@@ -1,5 +1,5 @@
 -- The node with an index, by its kind.
-use Rattle.std.proofs.Common.{◌≡◌, ℕ, suc, ◌<◌, ◌≤◌, Bool, true, List, ◌++◌, length, get_or, refl, sym, ap, ◌∙◌, subst, arith, inl, inr, cond}
+use Rattle.std.proofs.Common.{◌≡◌, ℕ, suc, ◌<◌, ◌≤◌, true, List, ◌++◌, length, get_or, refl, sym, ap, ◌∙◌, arith, inl, inr, cond}
 use Rattle.std.specs.Prelude.{Some, Result, Ok, Err, IfErr, slice_get}
 use Rattle.sg_words.specs.declared.memory.Stop.{Stop}
 use Rattle.sg_words.specs.declared.memory.Stop.TheVariants as stop
@@ -13,16 +13,15 @@ use Rattle.sg_layout.specs.Axes.{count_of}
 use Rattle.sg_layout.specs.StorageWords.{ends_segment}
 use Rattle.sg_layout.specs.Live.{kind_at, is_live}
 use Rattle.sg_layout.specs.Need.{reached_slots, need_of}
-use Rattle.sg_store.specs.declared.node.NodeWords.{NodeWords}
 use Rattle.sg_store.specs.declared.reach.Full.{Full}
 use Rattle.sg_store.specs.StoreWords.{StoreWords}
-use Rattle.sg_store.specs.WellFormed.{IsNode, IsWellFormed, is_root}
+use Rattle.sg_store.specs.WellFormed.{IsWellFormed, is_root}
 use Rattle.sg_store.specs.steps.AtNode.{AtNodeOf}
 use Rattle.sg_store.specs.steps.Levels.{IsOfKind, IsPointerOf, IsHashOf, OpensNext, IsPastCap, IsFullNode, IfRefused}
 use Rattle.sg_store.specs.steps.Raising.{IsDynamicOf}
 use Rattle.sg_store.proofs.NodeNeed.{need_linked}
 use Rattle.sg_store.proofs.Opened.{same_bool}
-use Rattle.sg_store.proofs.Counting.{node_of, nodes_at, OfWellFormed, at_node_from}
+use Rattle.sg_store.proofs.Counting.{nodes_at, OfWellFormed, at_node_from}
 use Rattle.sg_store.proofs.Reached.{kind_there}
 
 -- what is read at an index of a list that is this one

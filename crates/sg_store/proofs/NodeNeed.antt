@@ -1,5 +1,5 @@
 -- As many containers or chunks of a node with a cap are live as it needs for the coordinates for which its slots are on.
-use Rattle.std.proofs.Common.{◌≡◌, ℕ, suc, ◌≤◌, Bool, true, List, length, take, refl, sym, ap, ◌∙◌, subst, arith}
+use Rattle.std.proofs.Common.{◌≡◌, ℕ, suc, true, List, length, refl, sym, ap, ◌∙◌, subst, arith}
 use Rattle.std.specs.Prelude.{Some, slice_get}
 use Rattle.std.proofs.lemmas.Bool.{false≢true}
 use Rattle.std.proofs.lemmas.Option.{slice_get_within}
@@ -11,7 +11,6 @@ use Rattle.sg_layout.specs.declared.shape.Shape.{Shape}
 use Rattle.sg_layout.specs.Axes.{count_of}
 use Rattle.sg_layout.specs.StorageWords.{ends_segment}
 use Rattle.sg_layout.specs.Live.{kind_at, is_live}
-use Rattle.sg_layout.specs.Slots.{IsSlot}
 use Rattle.sg_layout.specs.Need.{reached_slots, need_by, need_of}
 use Rattle.sg_layout.specs.NeedLaws.{ReachedAreLive, ReachedOnce, ParentsHaveLive, LiveUpToGreatest}
 use Rattle.sg_layout.specs.PathLaws.{PathIsSlot}
@@ -29,7 +28,7 @@ use Rattle.sg_store.proofs.HashAt.{linked_at}
 use Rattle.sg_store.proofs.LiveChunks.{live_chunks}
 use Rattle.sg_store.proofs.Under.{DynamicAt}
 use Rattle.sg_store.proofs.ChainNeed.{chain_need}
-use Rattle.sg_store.proofs.DynamicLevel.{ChainLaws, own_tell}
+use Rattle.sg_store.proofs.DynamicFull.{ChainLaws, own_tell}
 
 -- the laws of layouts that tell it
 pub record NeedLaws (shape : Shape) : Type 0 where

@@ -70,6 +70,7 @@ well_formed_grown store i after is grown capped = record {
   accepted = is.accepted;
   nodes_fit = nodes_grown store.shape.nodes store.nodes 1 is_root i after is.nodes_fit grown;
   within_caps = caps_kept store.shape.nodes store.nodes 1 is_root i after capped is.within_caps;
+  few_words = is.few_words;
   few_cells = is.few_cells;
   field_count = is.field_count;
   rows_fit = λ k d below. row_kept store (with_node store i after) (get_or store.fields k d) (keeps_cells store i after grown) (is.rows_fit k d below);

@@ -24,7 +24,7 @@ use Rattle.sg_store.specs.steps.Settling.{Grows}
 use Rattle.sg_store.proofs.Opened.{with_node, AddsSlots, opens_next, same_bool}
 use Rattle.sg_store.proofs.Wanted.{Wants, numbers_none}
 use Rattle.sg_store.proofs.Counting.{node_of}
-use Rattle.sg_store.proofs.AtNumber.{IsAt, back_to, within_nodes}
+use Rattle.sg_store.proofs.AtNumber.{IsAt, back_to, within_nodes, slot_word}
 
 -- ── The numbers of wanted slots, as a list ──
 
@@ -105,7 +105,7 @@ pub or_right : (a b : Bool) → b ≡ true → (a || b) ≡ true
 or_right true b e = refl
 or_right false b e = e
 
-or_rest : (a b : Bool) → a ≡ false → (a || b) ≡ true → b ≡ true
+pub or_rest : (a b : Bool) → a ≡ false → (a || b) ≡ true → b ≡ true
 or_rest true b off e = absurd (false≢true (sym off))
 or_rest false b off e = e
 
@@ -129,7 +129,8 @@ opened_by store number i node kept after wanted is paths other grown added fille
       | inr off ↦
           let place = added q off on in
           let here : slot_number_in store.shape.nodes store.nodes 0 (path store.shape place.at (suc i)) ≡ Some q =
-          ap (λ n. slot_number_in store.shape.nodes store.nodes 0 (path store.shape place.at n)) (sym is.next) ∙ place.has_place in
+          ap (λ n. slot_number_in store.shape.nodes store.nodes 0 (path store.shape place.at n)) (sym is.next)
+          ∙ sym (slot_word store number i node kept (path store.shape place.at number) is other) ∙ place.has_place in
           or_right (is_set node.kind node kept q) _ (number_found slots q (numbers.1.all place.at place.is_of q here))
     ])
     (λ either. elim (cases_Bool (is_set node.kind node kept q)) [
@@ -137,7 +138,8 @@ opened_by store number i node kept after wanted is paths other grown added fille
       | inr off ↦
           let found = numbers.1.of_wanted q (found_number slots q (or_rest _ _ off either)) in
           let here : place_in store number found.at ≡ Some q =
-          ap (λ n. slot_number_in store.shape.nodes store.nodes 0 (path store.shape found.at n)) is.next ∙ found.has_number in
+          slot_word store number i node kept (path store.shape found.at number) is other
+          ∙ ap (λ n. slot_number_in store.shape.nodes store.nodes 0 (path store.shape found.at n)) is.next ∙ found.has_number in
           filled found.at found.is_wanted q here
     ]) in
     let opened : IsOpenThrough (with_node store i after) old (old ++ wanted) (suc i) =

@@ -34,7 +34,7 @@ use Rattle.sg_store.proofs.Opened.{slot_long, not_true}
 use Rattle.sg_store.proofs.Wanted.{Wants, wanted_some}
 use Rattle.sg_store.proofs.PointerLevel.{apart_append}
 use Rattle.sg_store.proofs.Reached.{ReachLaws, full_some, open_fits, kind_there}
-use Rattle.sg_store.proofs.AtNumber.{IsAt, links_are, pool_is, within_nodes, says_at, in_live_at}
+use Rattle.sg_store.proofs.AtNumber.{IsAt, links_are, pool_is, within_nodes, says_at, in_live_at, slot_word}
 use Rattle.sg_store.proofs.SlotWords.{pointer_fact}
 use Rattle.sg_store.proofs.OpenedBy.{numbers_for, wants_at, number_found, or_left, or_right}
 
@@ -83,13 +83,14 @@ all_links store number i node kept old wanted links taken b =
       within = omega (arith, within_nodes store number i node kept b.is);
       are_nodes = b.is.well.nodes_fit;
       in_live = λ q some. elim (word_cases (slice_index kept.links q)) [
-        | inl none ↦ in_live_at store number i node kept q b.is (b.can.in_live q (same q ∙ none) some)
+        | inl none ↦ in_live_at store number i node kept q b.is other (b.can.in_live q (same q ∙ none) some)
         | inr was ↦ says_at (InLive q) store number i node kept b.is (λ count live own. old_live q count live was own)
       ];
       live = λ slot q is_slot at some. list_any-append _ old wanted ∙ elim (word_cases (slice_index kept.links q)) [
         | inl none ↦
             let place = b.new q (same q ∙ none) some in
-            let here = ap (λ n. slot_number_in store.shape.nodes store.nodes 0 (path store.shape place.at n)) (sym b.is.next) ∙ place.has_place in
+            let here = ap (λ n. slot_number_in store.shape.nodes store.nodes 0 (path store.shape place.at n)) (sym b.is.next)
+            ∙ sym (slot_word store number i node kept (path store.shape place.at number) b.is other) ∙ place.has_place in
             or_right (is_live store.shape old (suc i) slot) _
             (sym (wanted_some store i wanted slots wants slot is_slot q at) ∙ number_found slots q (wants.numbers.all place.at place.is_of q here))
         | inr was ↦

@@ -12,7 +12,7 @@ use Rattle.sg_layout.specs.PathLaws.{PathIsSlot}
 use Rattle.sg_store.specs.declared.node.NodeWords.{NodeWords}
 use Rattle.sg_store.specs.StoreWords.{StoreWords}
 use Rattle.sg_store.specs.Slots.{slot_under, place_below}
-use Rattle.sg_store.specs.Walks.{place_after, slot_number_in, place_in}
+use Rattle.sg_store.specs.Walks.{place_after, slot_number_in, slot_in}
 use Rattle.sg_store.specs.WellFormed.{IsWellFormed, is_root}
 use Rattle.sg_store.specs.steps.AtNode.{AtNodeOf}
 use Rattle.sg_store.specs.steps.Walking.{IsPlaceAt, step_of}
@@ -80,7 +80,7 @@ place_ends store bits at i n below none =
     ap (place_after (step_of bits) store.shape.nodes store.nodes 0) rest.1 ∙ step_none (step_of bits) store.shape.nodes store.nodes 0 (path store.shape at i) rest.0 none
 
 -- the number of a slot, from the place of its container
-pub number_next : (store : StoreWords) → IsWellFormed store → (at : Coord) (i : ℕ) (place : Option ℕ) (o size : ℕ) → i < length store.shape.nodes → o ≡ slice_index (offsets store.shape.nodes at) i → size ≡ slice_index (sizes_of store.shape.nodes) i → place_after place_below store.shape.nodes store.nodes 0 (path store.shape at i) ≡ place → place_in store (suc i) at ≡ option_map (λ x. x * size + o) place
+pub number_next : (store : StoreWords) → IsWellFormed store → (at : Coord) (i : ℕ) (place : Option ℕ) (o size : ℕ) → i < length store.shape.nodes → o ≡ slice_index (offsets store.shape.nodes at) i → size ≡ slice_index (sizes_of store.shape.nodes) i → place_after place_below store.shape.nodes store.nodes 0 (path store.shape at i) ≡ place → slot_in store (suc i) at ≡ option_map (λ x. x * size + o) place
 number_next store is at i place o size below same sized e =
     let nodes : List NodeShape = store.shape.nodes in
     let node = there nodes i below in

@@ -1,28 +1,28 @@
 -- Lengths of a dynamic node that are raised, one slot after the other, and chains that are made to fit them: the node's
 -- words have grown.
-use Rattle.std.proofs.Common.{◌≡◌, ◌≢◌, ℕ, zero, suc, ◌+◌, ◌-◌, ◌*◌, ◌/◌, ◌%◌, ◌<◌, ◌≤◌, ◌^◌, Bool, true, false, ◌&&◌, ◌||◌, List, [], ◌∷◌, ◌++◌, length, take, get_or, refl, sym, ap, ◌∙◌, subst, arith, inl, inr}
-use Rattle.std.specs.Prelude.{Option, Some, None, nat_lt, nat_le, ◌==◌, slice_get, slice_index, slice_set}
+use Rattle.std.proofs.Common.{◌≡◌, ◌≢◌, ℕ, zero, suc, ◌+◌, ◌*◌, ◌/◌, ◌%◌, ◌<◌, ◌≤◌, Bool, true, false, ◌&&◌, ◌||◌, List, [], ◌∷◌, ◌++◌, length, take, get_or, refl, sym, ap, ◌∙◌, subst, arith, inl, inr}
+use Rattle.std.specs.Prelude.{Some, None, nat_lt, nat_le, ◌==◌, slice_get, slice_index, slice_set}
 use Rattle.std.specs.Option.{option_map}
-use Rattle.std.specs.List.{All, list_any}
-use Rattle.std.proofs.lemmas.Bool.{false≢true, cases_eq, cases_Bool, and_parts, or_left, or_right, ltb-true, lt-ltb, leb-true, le-leb, eq-eqb, ne_eqb}
+use Rattle.std.specs.List.{list_any}
+use Rattle.std.proofs.lemmas.Bool.{cases_eq, cases_Bool, or_left, or_right, ltb-true, lt-ltb, leb-true, le-leb, eq-eqb, ne_eqb}
 use Rattle.std.proofs.lemmas.List.{length-set, get_or-set_same, get_or-set_other, get_or_default, take_more}
 use Rattle.std.proofs.lemmas.List.Folds.{list_any-append}
-use Rattle.std.proofs.lemmas.Option.{none-some, same_Some, option_and_then_some}
+use Rattle.std.proofs.lemmas.Option.{none-some}
 use Rattle.sg_layout.specs.declared.shape.Kind.TheVariants.{Dynamic}
 use Rattle.sg_layout.specs.declared.shape.NodeShape.{NodeShape}
 use Rattle.sg_layout.specs.Axes.{count_of, size_of}
-use Rattle.sg_links.specs.Lists.{Lists, list_of}
+use Rattle.sg_links.specs.Lists.{list_of}
 use Rattle.sg_links.proofs.Uses.{there_is_list}
-use Rattle.sg_pool.specs.Numbers.{place_count, live_count}
+use Rattle.sg_pool.specs.Numbers.{live_count}
 use Rattle.sg_pool.proofs.Uses.{live_count_within}
-use Rattle.sg_dynamic.specs.Chunks.{chunks_of, HaveRoom, AreFitted}
+use Rattle.sg_dynamic.specs.Chunks.{chunks_of}
 use Rattle.sg_dynamic.proofs.Uses.{chunks_rise}
 use Rattle.sg_store.specs.declared.node.NodeWords.{NodeWords}
-use Rattle.sg_store.specs.Slots.{below_length, chunk_cell, is_set, place_below}
+use Rattle.sg_store.specs.Slots.{below_length, is_set, place_below}
 use Rattle.sg_store.specs.WellFormed.{IsNode, IsDynamicNode, IsWithinCap, live_below}
 use Rattle.sg_store.specs.steps.Settling.{Grows}
-use Rattle.sg_store.specs.steps.Raising.{keeps_too, IsRaised, AreRaised, CanFitLengths, IsFitted, CanSettleLengths}
-use Rattle.sg_store.proofs.SlotPaths.{same_bool, not_true}
+use Rattle.sg_store.specs.steps.Raising.{keeps_too, IsRaised, AreRaised, CanFitLengths, IsFitted, CanLengthen}
+use Rattle.sg_store.proofs.SlotPaths.{same_bool}
 use Rattle.sg_store.proofs.Chains.{cell_in_chunk}
 
 -- ── One slot ──
@@ -125,7 +125,7 @@ raised_next before now after slots size i slot far within is one =
 
 -- ── Chains fit ──
 
-pub can_fit : (lengths : List ℕ) (chunk : ℕ) (node : NodeShape) (kept : NodeWords) (slots : ℕ) (live : ℕ → Bool) → IsDynamicNode node kept slots live → CanSettleLengths lengths chunk node kept slots live → CanFitLengths lengths chunk kept
+pub can_fit : (lengths : List ℕ) (chunk : ℕ) (node : NodeShape) (kept : NodeWords) (slots : ℕ) (live : ℕ → Bool) → IsDynamicNode node kept slots live → CanLengthen lengths chunk node kept slots live → CanFitLengths lengths chunk kept
 can_fit lengths chunk node kept slots live is can =
     let some : 1 ≤ chunk = omega (arith, is.some_chunk, can.chunk_is) in
     record {
@@ -149,7 +149,7 @@ in_front [] (suc n) k x at = at
 in_front (y ∷ ys) (suc n) zero x at = at
 in_front (y ∷ ys) (suc n) (suc k) x at = in_front ys n k x at
 
-pub fitted_node : (lengths : List ℕ) (chunk : ℕ) (node : NodeShape) (kept after : NodeWords) (slots : ℕ) (live : ℕ → Bool) → IsDynamicNode node kept slots live → CanSettleLengths lengths chunk node kept slots live → IsFitted lengths chunk kept after → IsDynamicNode node after slots live
+pub fitted_node : (lengths : List ℕ) (chunk : ℕ) (node : NodeShape) (kept after : NodeWords) (slots : ℕ) (live : ℕ → Bool) → IsDynamicNode node kept slots live → CanLengthen lengths chunk node kept slots live → IsFitted lengths chunk kept after → IsDynamicNode node after slots live
 fitted_node lengths chunk node kept after slots live is can fit =
     let many : length after.lengths ≡ length kept.lengths = ap length fit.new_lengths ∙ can.as_many in
     record {
@@ -166,7 +166,7 @@ fitted_node lengths chunk node kept after slots live is can fit =
       in_live = λ q on. can.in_live q (sym (ap (λ ls. below_length ls (size_of node.sizes) q) fit.new_lengths) ∙ on);
     }
 
-cell_stays : (lengths : List ℕ) (chunk : ℕ) (node : NodeShape) (kept after : NodeWords) (slots : ℕ) (live : ℕ → Bool) → IsDynamicNode node kept slots live → CanSettleLengths lengths chunk node kept slots live → IsFitted lengths chunk kept after → (q n : ℕ) → place_below Dynamic node kept q ≡ Some n → place_below Dynamic node after q ≡ Some n
+cell_stays : (lengths : List ℕ) (chunk : ℕ) (node : NodeShape) (kept after : NodeWords) (slots : ℕ) (live : ℕ → Bool) → IsDynamicNode node kept slots live → CanLengthen lengths chunk node kept slots live → IsFitted lengths chunk kept after → (q n : ℕ) → place_below Dynamic node kept q ≡ Some n → place_below Dynamic node after q ≡ Some n
 cell_stays lengths chunk node kept after slots live is can fit q n e =
     let size : ℕ = size_of node.sizes in
     let own : ℕ = count_of node.chunk in
@@ -178,7 +178,7 @@ cell_stays lengths chunk node kept after slots live is can fit q n e =
     in_front (list_of after.chains (q / size)) (length old) ((q % size) / own) a.0 (ap (λ l. slice_get l ((q % size) / own)) front ∙ a.1) in
     ap (option_map (λ m. m * own + (q % size) % own)) at ∙ ap Some a.2
 
-pub lengths_grow : (lengths : List ℕ) (chunk : ℕ) (node : NodeShape) (kept after : NodeWords) (slots : ℕ) (live : ℕ → Bool) → IsNode node.kind node kept slots live → CanSettleLengths lengths chunk node kept slots live → IsFitted lengths chunk kept after → Grows after node kept slots live
+pub lengths_grow : (lengths : List ℕ) (chunk : ℕ) (node : NodeShape) (kept after : NodeWords) (slots : ℕ) (live : ℕ → Bool) → IsNode node.kind node kept slots live → CanLengthen lengths chunk node kept slots live → IsFitted lengths chunk kept after → Grows after node kept slots live
 lengths_grow lengths chunk node kept after slots live own can fit =
     let dynamic : Dynamic ≡ node.kind = sym can.is_dynamic in
     let is : IsDynamicNode node kept slots live = subst (λ k. IsNode k node kept slots live) can.is_dynamic own in
@@ -196,7 +196,7 @@ lengths_grow lengths chunk node kept after slots live own can fit =
     }
 
 -- as many chunks are live as the cap at most
-pub lengths_capped : (lengths : List ℕ) (chunk : ℕ) (node : NodeShape) (kept after : NodeWords) (slots : ℕ) (live : ℕ → Bool) → IsNode node.kind node kept slots live → CanSettleLengths lengths chunk node kept slots live → IsFitted lengths chunk kept after → IsWithinCap node.kind node after
+pub lengths_capped : (lengths : List ℕ) (chunk : ℕ) (node : NodeShape) (kept after : NodeWords) (slots : ℕ) (live : ℕ → Bool) → IsNode node.kind node kept slots live → CanLengthen lengths chunk node kept slots live → IsFitted lengths chunk kept after → IsWithinCap node.kind node after
 lengths_capped lengths chunk node kept after slots live own can fit =
     let is : IsDynamicNode node kept slots live = subst (λ k. IsNode k node kept slots live) can.is_dynamic own in
     let low : live_count after.pool ≤ count_of node.cap = omega (arith, live_count_within after.pool, (fitted_node lengths chunk node kept after slots live is can fit).places) in

@@ -1,5 +1,5 @@
 -- What coordinates that were reached leave: the store stands for the closure, or its first full node is found.
-use Rattle.std.proofs.Common.{◌≡◌, ℕ, zero, suc, ◌+◌, ◌-◌, ◌<◌, ◌≤◌, Bool, true, false, List, [], ◌∷◌, ◌++◌, length, get_or, refl, sym, ap, ◌∙◌, subst, arith, inl, inr, cond}
+use Rattle.std.proofs.Common.{◌≡◌, ℕ, zero, suc, ◌+◌, ◌-◌, ◌<◌, ◌≤◌, true, false, List, [], ◌∷◌, ◌++◌, length, get_or, refl, sym, ap, ◌∙◌, subst, arith, inl, inr, cond}
 use Rattle.std.specs.Prelude.{is_some, Some, None, Result, Ok, Err, IsErrAnd, slice_get, nat_lt, All}
 use Rattle.std.specs.List.{Contains}
 use Rattle.std.proofs.lemmas.Bool.{false≢true, cases_Bool, cases_eq, leb-true, le-leb}
@@ -22,8 +22,7 @@ use Rattle.sg_layout.specs.Axes.{count_of, bounds_of_shape}
 use Rattle.sg_layout.specs.Path.{offsets}
 use Rattle.sg_layout.specs.Live.{kind_or, kind_at, is_live}
 use Rattle.sg_layout.specs.Closure.{closure}
-use Rattle.sg_layout.specs.StorageWords.{ends_segment}
-use Rattle.sg_layout.specs.Need.{FullNode, reached_slots, need_of, first_full_from, first_full, need_by}
+use Rattle.sg_layout.specs.Need.{FullNode, need_of, first_full_from, first_full, need_by}
 use Rattle.sg_layout.specs.NeedLaws.{ReachedAreLive, ReachedOnce, ParentsHaveLive, LiveUpToGreatest, AllInside}
 use Rattle.sg_layout.specs.ClosureLaws.{ClosureIsInside, ClosureGrows, ClosureIsClosed}
 use Rattle.sg_layout.specs.LiveLaws.{LiveAbsorbs}
@@ -36,10 +35,10 @@ use Rattle.sg_store.specs.declared.node.NodeWords.{NodeWords}
 use Rattle.sg_store.specs.declared.reach.Full.{Full}
 use Rattle.sg_store.specs.StoreWords.{StoreWords, word_in}
 use Rattle.sg_store.specs.Walks.{cell_along, cell_in}
-use Rattle.sg_store.specs.WellFormed.{has_cap, IsNode, IsWithinCap, IsWellFormed, is_root}
+use Rattle.sg_store.specs.WellFormed.{has_cap, IsWithinCap, IsWellFormed, is_root}
 use Rattle.sg_store.specs.StandsFor.{HasValues, StandsFor}
 use Rattle.sg_store.specs.Reaching.{KeepsCells, IsOpenThrough, unless_full}
-use Rattle.sg_store.specs.steps.Levels.{IsLinkedOf, OpensNext, IsFullNode, IfRefused}
+use Rattle.sg_store.specs.steps.Levels.{OpensNext, IsFullNode, IfRefused}
 use Rattle.sg_store.specs.Slots.{active_below}
 use Rattle.sg_store.proofs.Walking.{walks_apart, active_are_one}
 use Rattle.sg_store.proofs.ActiveCells.{CellLaws, slot_offsets, slot_length, offsets_are_slot, cell_parts, cell_from_parts, active_has_cell, from_some}

@@ -13,7 +13,7 @@ use Rattle.sg_layout.specs.declared.shape.Shape.{Shape}
 use Rattle.sg_layout.specs.Axes.{count_of, size_of, slots_of}
 use Rattle.sg_layout.specs.StorageWords.{ends_segment, put_before, segments, last_node, copies_after, mask_words, end_by, end_words, segment_words, chunks_by, words_of_shape}
 use Rattle.sg_store.specs.WellFormed.{places_below, cells_below, cell_count}
-use Rattle.sg_store.specs.steps.Fresh.{chains_by, chains_below, EndWithDynamic, IsRoomy, IsCapped}
+use Rattle.sg_store.specs.steps.Fresh.{chains_by, chains_below, IsRoomy, IsCapped}
 
 -- ── No place is too large ──
 

@@ -37,8 +37,8 @@ pub grows_at : (store : StoreWords) (i : ℕ) (links taken : List ℕ) (kept aft
 grows_at store i links taken kept after is can has re =
     at_node_from (Both OfWellFormed (CanSettleLinks links taken)) (Grows after) store.shape.nodes store.nodes 1 is_root i
     (λ node mine slots live at mine_at both.
-    links_grow links taken node mine after slots live both.0 both.1.can
-    (subst (λ k. IsRelinked links taken k after) (same_Some kept mine (sym has ∙ mine_at)) re))
+    let again : IsRelinked links taken mine after = subst (λ k. IsRelinked links taken k after) (same_Some kept mine (sym has ∙ mine_at)) re in
+    links_grow links taken node mine after slots live both.0 both.1.can (record { new_links = again.new_links; pool = again.pool }))
     (settling_at store i links taken is can)
 
 capped_at : (store : StoreWords) (i : ℕ) (links taken : List ℕ) (kept after : NodeWords) → IsWellFormed store → AtNodeOf (CanSettleLinks links taken) store i → slice_get store.nodes i ≡ Some kept → IsRelinked links taken kept after → AtNodeOf (OfWithinCap after) store i

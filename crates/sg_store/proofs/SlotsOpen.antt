@@ -1,6 +1,7 @@
 -- Where links lead to what a store is open for, as a call reads it.
-use Rattle.std.proofs.Common.{ℕ, suc, ◌-◌, List, ap, ◌∙◌, subst, arith, cond}
-use Rattle.std.specs.Prelude.{IsSome, is_some}
+use Rattle.std.proofs.Common.{◌≡◌, ℕ, suc, ◌-◌, List, refl, ap, ◌∙◌, subst, arith, cond}
+use Rattle.std.specs.Prelude.{Option, Some, None, IsSome, is_some}
+use Rattle.std.specs.Option.{option_map}
 use Rattle.std.specs.List.{Contains}
 use Rattle.std.proofs.lemmas.Bool.{le-leb}
 use Rattle.sg_coord.specs.declared.coord.Coord.{Coord}
@@ -10,10 +11,11 @@ use Rattle.sg_layout.specs.Live.{is_live}
 use Rattle.sg_layout.specs.PathLaws.{PathIsSlot}
 use Rattle.sg_store.specs.declared.node.NodeWords.{NodeWords}
 use Rattle.sg_store.specs.StoreWords.{StoreWords}
+use Rattle.sg_store.specs.Slots.{word_number}
 use Rattle.sg_store.specs.Walks.{slot_number_in, place_in}
 use Rattle.sg_store.specs.Reaching.{IsOpenThrough}
 use Rattle.sg_store.proofs.Wanted.{OpenFor, own_path_live, number_there}
-use Rattle.sg_store.proofs.AtNumber.{IsAt, back_to, within_nodes}
+use Rattle.sg_store.proofs.AtNumber.{IsAt, back_to, within_nodes, word_is}
 
 open_for_all : (store : StoreWords) (number i : ℕ) (node : NodeShape) (kept : NodeWords) (old all : List Coord) → IsAt store number i node kept → PathIsSlot store.shape → IsOpenThrough store old all i → OpenFor store i all
 open_for_all store number i node kept old all is paths is_open = record {
@@ -31,4 +33,10 @@ pub open_has_place : (store : StoreWords) (number i : ℕ) (node : NodeShape) (k
 open_has_place store number i node kept old all at is paths is_open has =
     let here : IsOpenThrough store old all i = subst (λ n. IsOpenThrough store old all n) (back_to number i is.next) is_open in
     let led = number_there store i all (open_for_all store number i node kept old all is paths here) (within_nodes store number i node kept is) at has in
-    ap (λ n. is_some (slot_number_in store.shape.nodes store.nodes 0 (path store.shape at n))) is.next ∙ ap is_some led.1
+    ap is_some (word_is store number i node kept (path store.shape at number) is)
+    ∙ some_map (slot_number_in store.shape.nodes store.nodes 0 (path store.shape at number))
+    ∙ ap (λ n. is_some (slot_number_in store.shape.nodes store.nodes 0 (path store.shape at n))) is.next ∙ ap is_some led.1
+  where
+    some_map : (o : Option ℕ) → is_some (option_map (word_number node.kind node) o) ≡ is_some o
+    some_map None = refl
+    some_map (Some q) = refl

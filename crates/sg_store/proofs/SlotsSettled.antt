@@ -37,7 +37,7 @@ can_settle store number i node kept links taken is kind can fits =
     subst (λ p. live_count p + length taken ≤ count_of node.cap) pool
     (fits node (record { first = omega (arith, is.next); there = ap (slice_get store.shape.nodes) back ∙ is.at })) in
     says_with (EachInLive (GetsLink kept.links links)) (CanSettleLinks links taken) store number i node kept is
-    (each_in_live (GetsLink kept.links links) store number i node kept is (λ q gets. can.in_live q (word q ∙ gets.0) gets.1))
+    (each_in_live (GetsLink kept.links links) store number i node kept is (λ dynamic. cc) (λ q gets. can.in_live q (word q ∙ gets.0) gets.1))
     (λ slots live own all.
     let pointer : IsPointerNode node kept slots live = subst (λ k. IsNode k node kept slots live) kind own in
     record {

@@ -1,12 +1,12 @@
 -- Spots: how wide the copies of segments are, and one step down from a spot.
-use Rattle.std.proofs.Common.{◌≡◌, ◌≢◌, ℕ, zero, suc, ◌+◌, ◌-◌, ◌*◌, ◌/◌, ◌%◌, ◌<◌, ◌≤◌, ◌^◌, Bool, true, false, ◌&&◌, List, [], ◌∷◌, ◌++◌, length, take, drop, refl, sym, ap, ◌∙◌, subst, arith, length-append}
+use Rattle.std.proofs.Common.{◌≡◌, ◌≢◌, ℕ, zero, suc, ◌+◌, ◌-◌, ◌*◌, ◌/◌, ◌<◌, ◌≤◌, ◌^◌, Bool, true, false, List, [], ◌∷◌, ◌++◌, length, take, drop, refl, sym, ap, ◌∙◌, subst, arith, length-append}
 use Rattle.std.specs.Prelude.{IsSome, ◌↔◌, Option, Some, None, is_some, option_and_then, unwrap_or, slice_get, slice_index}
 use Rattle.std.specs.Option.{option_map}
-use Rattle.std.specs.List.{All, list_all}
-use Rattle.std.proofs.Math.Nat.{mul-le-mul_left, mul-le-mul_right, div-add-mod, div-lt_iff_lt-mul}
+use Rattle.std.specs.List.{All}
+use Rattle.std.proofs.Math.Nat.{mul-le-mul_left, mul-le-mul_right, div-lt_iff_lt-mul}
 use Rattle.std.proofs.Math.Seq.{take-length}
-use Rattle.std.proofs.lemmas.Bool.{false≢true, and_parts}
-use Rattle.std.proofs.lemmas.Nat.{mul-add-lt, mod_below}
+use Rattle.std.proofs.lemmas.Bool.{false≢true}
+use Rattle.std.proofs.lemmas.Nat.{mul-add-lt}
 use Rattle.std.proofs.lemmas.List.{drop_more}
 use Rattle.std.proofs.lemmas.List.Elements.{All-head, All-tail}
 use Rattle.std.proofs.lemmas.Option.{none-some, same_Some, option_and_then_some, slice_get_within, get_or_from_slice_get}
@@ -25,7 +25,7 @@ use Rattle.sg_store.specs.declared.spot.Spot.{Spot}
 use Rattle.sg_store.specs.StoreWords.{StoreWords}
 use Rattle.sg_store.specs.Slots.{slot_under, is_set, place_below, active_below}
 use Rattle.sg_store.specs.Walks.{place_after, is_on, cell_along}
-use Rattle.sg_store.specs.WellFormed.{is_built, IsNode, places_below, AreNodes, is_root, IsWellFormed}
+use Rattle.sg_store.specs.WellFormed.{places_below, AreNodes, is_root, IsWellFormed}
 use Rattle.sg_store.specs.StandsFor.{StandsFor}
 use Rattle.sg_store.specs.Spots.{width_past, width_from, width_after, place_of, LeadsAlong, IsPassable}
 use Rattle.sg_store.specs.steps.AtNode.{AtNodeOf}
@@ -131,9 +131,6 @@ copies_few (node ∷ later) (kept ∷ words) places width live are caps few p wi
 
 -- ── Widths as the code computes them ──
 
-pub narrow_from : (nodes items : List NodeShape) → items ≡ nodes → IsNarrow nodes 1 → IsNarrow items 1
-narrow_from nodes items same narrow = subst (λ ns. IsNarrow ns 1) (sym same) narrow
-
 -- one node further
 pub record IsWidth (nodes : List NodeShape) (i width size : ℕ) (kind : Kind) : Type 0 where
   pub within : i < length nodes
@@ -199,20 +196,16 @@ next_slot [] (suc i) path offset node is at below = absurd (none-some node at)
 next_slot (n ∷ ns) (suc i) [] offset node is at below = absurd is
 next_slot (n ∷ ns) (suc i) (v ∷ path) offset node is at below = (is.0, next_slot ns i path offset node is.1 at below)
 
--- where it leads
-pub spot_below : (store : StoreWords) (spot : Spot) (path : List ℕ) (offset : ℕ) (node : NodeShape) (kept : NodeWords) (place wide : ℕ) (below : Spot) → IsGoing store spot path offset node kept → cell_along store (path ++ offset ∷ []) ≡ Some place → 1 ≤ wide → wide ≡ width_after store.shape.nodes (suc spot.node) → below.node ≡ suc spot.node → below.part ≡ place / wide → below.slot ≡ place % wide → LeadsAlong store below (path ++ offset ∷ [])
-spot_below store spot path offset node kept place wide below going leads some is next part slot =
+-- a spot with the place to which it leads on
+pub spot_below : (store : StoreWords) (spot : Spot) (path : List ℕ) (offset : ℕ) (node : NodeShape) (kept : NodeWords) (place wide : ℕ) (below : Spot) → IsGoing store spot path offset node kept → cell_along store (path ++ offset ∷ []) ≡ Some place → wide ≡ width_after store.shape.nodes (suc spot.node) → below.node ≡ suc spot.node → below.part * wide + below.slot ≡ place → below.slot < wide → LeadsAlong store below (path ++ offset ∷ [])
+spot_below store spot path offset node kept place wide below going leads is next here within =
     let nodes : List NodeShape = store.shape.nodes in
     let width : wide ≡ width_after nodes below.node = is ∙ ap (width_after nodes) (sym next) in
-    let rest : place % wide < wide = omega (arith, mod_below place wide some) in
-    let whole : place / wide * wide + place % wide ≡ place = omega (arith, div-add-mod place wide) in
-    let here : place_of nodes below ≡ place =
-    ap (λ w. below.part * w + below.slot) (sym width) ∙ ap (λ p. p * wide + below.slot) part ∙ ap (λ s. place / wide * wide + s) slot ∙ whole in
     record {
       node = omega (arith, next, going.leads.node, length-append path (offset ∷ []));
       is_slot = subst (λ n. IsSlot (take n nodes) (path ++ offset ∷ [])) (sym next) (next_slot nodes spot.node path offset node going.leads.is_slot going.at going.below);
-      within = subst (λ w. below.slot < w) width (omega (arith, slot));
-      leads = leads ∙ ap Some (sym here);
+      within = subst (λ w. below.slot < w) width within;
+      leads = leads ∙ ap Some (sym here) ∙ ap (λ w. Some (below.part * w + below.slot)) width;
     }
 
 -- ── Where the slot is live ──

@@ -10,7 +10,7 @@ use Rattle.sg_store.specs.declared.spot.Spot.{Spot}
 use Rattle.sg_store.specs.StoreWords.{StoreWords, word_in}
 use Rattle.sg_store.specs.Slots.{links_by_slot}
 use Rattle.sg_store.specs.Walks.{is_on, cell_in, place_in}
-use Rattle.sg_store.specs.WellFormed.{is_built_shape, cell_count}
+use Rattle.sg_store.specs.WellFormed.{cell_count}
 use Rattle.sg_store.specs.Spots.{width_after, place_of}
 
 -- a pool of 19 numbers, of which the first two are live
@@ -110,12 +110,6 @@ nine_spot = record { node = 2; part = 0; slot = 1 }
 spot_is_cell : place_of blocks.nodes nine_spot ≡ 1
 spot_is_cell = refl
 
-blocks_are_built : is_built_shape blocks ≡ true
-blocks_are_built = refl
-
-chains_are_built : is_built_shape growing ≡ true
-chains_are_built = refl
-
 -- dynamic(i: 8) chunk 4 cap 2; with length 6: the first chunk of its chain is 1, the second 0
 abbrev pub grown_words : NodeWords
 grown_words = record {
@@ -141,6 +135,10 @@ five_is_in_the_second_chunk = refl
 six_has_no_cell : cell_in grown_store (at1 6) ≡ None
 six_has_no_cell = refl
 
+-- at a dynamic node a coordinate's word is the length of its parent, which is the root here
+five_has_the_first_length : place_in grown_store 1 (at1 5) ≡ Some 0
+five_has_the_first_length = refl
+
 growing_cells : cell_count growing ≡ 8
 growing_cells = refl
 
@@ -163,12 +161,13 @@ block_three_leads_to_zero = refl
 five_has_no_key : cell_in hash_store (at1 5) ≡ None
 five_has_no_key = refl
 
+-- the key of coordinate 9 is the number of its block
+nine_is_in_block_two : place_in hash_store 1 (at1 9) ≡ Some 2
+nine_is_in_block_two = refl
+
 -- the link words of its slots
 by_its_slots : links_by_slot hash_words.keys hash_words.links 4 ≡ 0 ∷ (0 ∷ (2 ∷ (1 ∷ [])))
 by_its_slots = refl
 
 hashed_cells : cell_count hashed ≡ 76
 hashed_cells = refl
-
-tables_are_built : is_built_shape hashed ≡ true
-tables_are_built = refl

@@ -7,8 +7,10 @@ pub mod Spots
 pub mod Rows
 pub mod Reaching
 pub mod Changes
+pub mod Pruning
 pub mod Opening
 pub mod OpeningLaws
 pub mod StoreLaws
 pub mod Examples
+pub mod PruningExamples
 pub mod steps

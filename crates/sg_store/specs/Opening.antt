@@ -1,28 +1,37 @@
 -- A store whose nodes are opened one after the other for wanted coordinates: the words that a node may be given, and
 -- when the store is open through it afterwards. Nodes are numbered from 1.
-use Rattle.std.specs.Prelude.{◌≡◌, ◌≢◌, ℕ, suc, ◌+◌, ◌-◌, ◌≤◌, not, ◌==◌, IsTrue, false, List, [], ◌++◌, length, take, Contains, Option, Some, None, slice_index, slice_get}
+use Rattle.std.specs.Prelude.{◌≡◌, ◌≢◌, ℕ, suc, ◌+◌, ◌-◌, ◌<◌, ◌≤◌, not, ◌==◌, IsTrue, false, List, [], ◌++◌, length, take, Contains, Option, Some, None, slice_index, slice_get}
 use Rattle.sg_words.specs.Counts.{one, total}
 use Rattle.sg_coord.specs.declared.coord.Coord.{Coord}
 use Rattle.sg_layout.specs.declared.shape.NodeShape.{NodeShape}
-use Rattle.sg_layout.specs.Axes.{count_of}
+use Rattle.sg_layout.specs.Axes.{count_of, sizes_of}
+use Rattle.sg_layout.specs.Path.{offsets}
 use Rattle.sg_layout.specs.NeedLaws.{IsNode}
 use Rattle.sg_layout.specs.Slots.{IsSlot}
+use Rattle.sg_hash.specs.Tables.{IsTable, AreBeside}
 use Rattle.sg_pool.specs.Numbers.{PoolNumbers, live_count, CanSettle}
 use Rattle.sg_store.specs.declared.node.NodeWords.{NodeWords}
 use Rattle.sg_store.specs.StoreWords.{StoreWords}
 use Rattle.sg_store.specs.Slots.{mask_bit}
-use Rattle.sg_store.specs.Walks.{slot_number_in, place_in}
+use Rattle.sg_store.specs.Walks.{word_along, place_in}
 use Rattle.sg_store.specs.Reaching.{IsOpenThrough}
 
 -- ── The words of a node ──
 
--- the slot words of a node, and its mask words; none where there is no such node
+-- the slot words of a node, its key words, its mask words and its lengths; none where there is no such node
 abbrev pub links_or_none : Option NodeWords → List ℕ
 links_or_none None = []
 links_or_none (Some kept) = kept.links
 
 abbrev pub links_of : StoreWords → ℕ → List ℕ
 links_of store number = links_or_none (slice_get store.nodes (number - 1))
+
+abbrev pub keys_or_none : Option NodeWords → List ℕ
+keys_or_none None = []
+keys_or_none (Some kept) = kept.keys
+
+abbrev pub keys_of : StoreWords → ℕ → List ℕ
+keys_of store number = keys_or_none (slice_get store.nodes (number - 1))
 
 abbrev pub masks_or_none : Option NodeWords → List ℕ
 masks_or_none None = []
@@ -31,7 +40,14 @@ masks_or_none (Some kept) = kept.masks
 abbrev pub masks_of : StoreWords → ℕ → List ℕ
 masks_of store number = masks_or_none (slice_get store.nodes (number - 1))
 
--- the pool of the numbers of its child containers
+abbrev pub lengths_or_none : Option NodeWords → List ℕ
+lengths_or_none None = []
+lengths_or_none (Some kept) = kept.lengths
+
+abbrev pub lengths_of : StoreWords → ℕ → List ℕ
+lengths_of store number = lengths_or_none (slice_get store.nodes (number - 1))
+
+-- the pool of the numbers of its child containers or chunks
 abbrev pub pool_or_none : Option NodeWords → PoolNumbers
 pool_or_none None = record { live = [] }
 pool_or_none (Some kept) = kept.pool
@@ -43,19 +59,19 @@ pool_of store number = pool_or_none (slice_get store.nodes (number - 1))
 abbrev pub filled_count : List ℕ → ℕ
 filled_count words = total (λ word. one (not (word == 0))) words
 
--- ── Slots of a node, by their numbers ──
+-- ── The words of a node, by their numbers ──
 
--- the slot stands in a live container: links lead to it from the root
-pub record IsInLive (store : StoreWords) (number slot : ℕ) : Type 0 where
+-- the word stands in a live container: links lead from the root to a slot whose word it is
+pub record IsInLive (store : StoreWords) (number place : ℕ) : Type 0 where
   pub path : List ℕ
   pub is_slot : IsSlot (take number store.shape.nodes) path
-  pub has_number : slot_number_in store.shape.nodes store.nodes 0 path ≡ Some slot
+  pub has_number : word_along store number path ≡ Some place
 
 -- it is that of one of these coordinates
-pub record IsPlaceOf (store : StoreWords) (number : ℕ) (coords : List Coord) (slot : ℕ) : Type 0 where
+pub record IsPlaceOf (store : StoreWords) (number : ℕ) (coords : List Coord) (place : ℕ) : Type 0 where
   pub at : Coord
   pub is_of : Contains coords at
-  pub has_place : place_in store number at ≡ Some slot
+  pub has_place : place_in store number at ≡ Some place
 
 -- ── The words that it may be given ──
 
@@ -76,11 +92,34 @@ FitsCap store number taken =
     (node : NodeShape) → IsNode store.shape number node →
     live_count (pool_of store number) + length taken ≤ count_of node.cap
 
+-- keys and links of a hash node, which is the first: a table with a link beside each key; each old key and link stays, each
+-- new key stands in a live container, each new link is one more than a number of `taken`, and each of these numbers is of
+-- the stock and in one place
+pub record CanSettleHash (store : StoreWords) (keys links taken : List ℕ) : Type 0 where
+  pub key_count : length keys ≡ length (keys_of store 1)
+  pub table : IsTable keys
+  pub links_beside : AreBeside keys links
+  pub keys_stay : (place : ℕ) → slice_index (keys_of store 1) place ≢ 0 → slice_index keys place ≡ slice_index (keys_of store 1) place
+  pub links_stay : (place : ℕ) → slice_index (links_of store 1) place ≢ 0 → slice_index links place ≡ slice_index (links_of store 1) place
+  pub in_live : (place key : ℕ) → slice_index (keys_of store 1) place ≡ 0 → slice_index keys place ≡ suc key → IsInLive store 1 key
+  pub of_taken : (place taking : ℕ) → slice_index (links_of store 1) place ≡ 0 → slice_index links place ≡ suc taking → Contains taken taking
+  pub all_taken : (taking : ℕ) → Contains taken taking → Contains links (suc taking)
+  pub once : (x y taking : ℕ) → Contains taken taking → slice_index links x ≡ suc taking → slice_index links y ≡ suc taking → x ≡ y
+  pub free : CanSettle (pool_of store 1) taken
+
 -- masks of a bitmasked node: as many words, each set bit stays, and each new one stands in a live container
 pub record CanSettleBits (store : StoreWords) (number : ℕ) (masks : List ℕ) : Type 0 where
   pub as_many : length masks ≡ length (masks_of store number)
   pub stays : (slot : ℕ) → IsTrue (mask_bit (masks_of store number) slot) → IsTrue (mask_bit masks slot)
   pub in_live : (slot : ℕ) → mask_bit (masks_of store number) slot ≡ false → IsTrue (mask_bit masks slot) → IsInLive store number slot
+
+-- lengths of a dynamic node: as many, none falls, none is past the node's size, and each that rises stands in a live
+-- container
+pub record CanSettleLengths (store : StoreWords) (number : ℕ) (lengths : List ℕ) : Type 0 where
+  pub as_many : length lengths ≡ length (lengths_of store number)
+  pub rise : (parent : ℕ) → slice_index (lengths_of store number) parent ≤ slice_index lengths parent
+  pub short : (parent : ℕ) → slice_index lengths parent ≤ slice_index (sizes_of store.shape.nodes) (number - 1)
+  pub in_live : (parent : ℕ) → slice_index (lengths_of store number) parent < slice_index lengths parent → IsInLive store number parent
 
 -- ── Wanted coordinates ──
 
@@ -94,6 +133,16 @@ NewLinksAreWanted store number links wanted =
     (slot : ℕ) → slice_index (links_of store number) slot ≡ 0 → slice_index links slot ≢ 0 →
     IsPlaceOf store number wanted slot
 
+-- each wanted coordinate's key stands in the table, and a key that is new is one of these
+abbrev pub WantedHaveKeys : StoreWords → List ℕ → List Coord → Type 0
+WantedHaveKeys store keys wanted =
+    (at : Coord) → Contains wanted at → (key : ℕ) → place_in store 1 at ≡ Some key → Contains keys (suc key)
+
+abbrev pub NewKeysAreWanted : StoreWords → List ℕ → List Coord → Type 0
+NewKeysAreWanted store keys wanted =
+    (place key : ℕ) → slice_index (keys_of store 1) place ≡ 0 → slice_index keys place ≡ suc key →
+    IsPlaceOf store 1 wanted key
+
 -- each wanted coordinate's bit is set, and a bit that is new is one of these
 abbrev pub WantedHaveBits : StoreWords → ℕ → List ℕ → List Coord → Type 0
 WantedHaveBits store number masks wanted =
@@ -103,6 +152,27 @@ abbrev pub NewBitsAreWanted : StoreWords → ℕ → List ℕ → List Coord →
 NewBitsAreWanted store number masks wanted =
     (slot : ℕ) → mask_bit (masks_of store number) slot ≡ false → IsTrue (mask_bit masks slot) →
     IsPlaceOf store number wanted slot
+
+-- each wanted coordinate's offset at a dynamic node is below the length of its parent, and a length that is new is one more
+-- than such an offset
+abbrev pub offset_in : StoreWords → ℕ → Coord → ℕ
+offset_in store number at = slice_index (offsets store.shape.nodes at) (number - 1)
+
+abbrev pub WantedAreBelow : StoreWords → ℕ → List ℕ → List Coord → Type 0
+WantedAreBelow store number lengths wanted =
+    (at : Coord) → Contains wanted at → (parent : ℕ) → place_in store number at ≡ Some parent →
+    offset_in store number at < slice_index lengths parent
+
+pub record IsLengthOf (store : StoreWords) (number : ℕ) (coords : List Coord) (parent long : ℕ) : Type 0 where
+  pub at : Coord
+  pub is_of : Contains coords at
+  pub has_place : place_in store number at ≡ Some parent
+  pub reaches : long ≡ suc (offset_in store number at)
+
+abbrev pub NewLengthsAreWanted : StoreWords → ℕ → List ℕ → List Coord → Type 0
+NewLengthsAreWanted store number lengths wanted =
+    (parent : ℕ) → slice_index (lengths_of store number) parent < slice_index lengths parent →
+    IsLengthOf store number wanted parent (slice_index lengths parent)
 
 -- whatever was active before: where a store was open through the nodes before this one for it and the wanted
 -- coordinates, it has become one that is open through this one too

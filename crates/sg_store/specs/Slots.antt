@@ -47,6 +47,14 @@ below_length lengths size number = nat_lt (number % size) (slice_index lengths (
 abbrev pub chunk_cell : ℕ → List ℕ → ℕ → Option ℕ
 chunk_cell chunk chain index = option_map (λ number. number * chunk + index % chunk) (slice_get chain (index / chunk))
 
+-- the number of the word that a node has for a slot with this number: at a dynamic node that of its parent's length
+abbrev pub word_number : Kind → NodeShape → ℕ → ℕ
+word_number Dense node number = number
+word_number Bitmasked node number = number
+word_number Pointer node number = number
+word_number Hash node number = number
+word_number Dynamic node number = number / size_of node.sizes
+
 -- the node keeps the slot with this number as active: a link, a key, a set bit, or a length that is past it; a dense node
 -- keeps all
 abbrev pub is_set : Kind → NodeShape → NodeWords → ℕ → Bool

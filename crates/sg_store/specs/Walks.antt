@@ -1,5 +1,6 @@
 -- The walk down the tree, from a place over a list of offsets.
-use Rattle.std.specs.Prelude.{ℕ, Bool, false, List, [], ◌∷◌, Option, Some, None, unwrap_or, option_and_then, if◌then◌else◌}
+use Rattle.std.specs.Prelude.{ℕ, ◌-◌, slice_get, Bool, false, List, [], ◌∷◌, Option, Some, None, unwrap_or, option_and_then, if◌then◌else◌}
+use Rattle.std.specs.Option.{option_map}
 use Rattle.sg_coord.specs.declared.coord.Coord.{Coord}
 use Rattle.sg_coord.specs.Coord.{is_inside}
 use Rattle.sg_layout.specs.declared.shape.Kind.{Kind}
@@ -8,7 +9,7 @@ use Rattle.sg_layout.specs.Axes.{bounds_of_shape}
 use Rattle.sg_layout.specs.Path.{offsets, path}
 use Rattle.sg_store.specs.declared.node.NodeWords.{NodeWords}
 use Rattle.sg_store.specs.StoreWords.{StoreWords}
-use Rattle.sg_store.specs.Slots.{slot_under, is_set, place_below, active_below}
+use Rattle.sg_store.specs.Slots.{slot_under, word_number, is_set, place_below, active_below}
 
 -- how one node leads on from the slot with a number
 abbrev pub Step : Type 0
@@ -55,5 +56,21 @@ cell_in store at =
 
 -- the number of a coordinate's slot at a node, which is numbered from 1; none where links don't lead to the container
 -- that holds it
+abbrev pub slot_in : StoreWords → ℕ → Coord → Option ℕ
+slot_in store number at = slot_number_in store.shape.nodes store.nodes 0 (path store.shape at number)
+
+-- the number of the word that a node which may be there has for a slot with this number
+abbrev pub word_or : Option NodeShape → ℕ → ℕ
+word_or None number = number
+word_or (Some node) number = word_number node.kind node number
+
+-- the number of the word that a node, numbered from 1, has for a slot of it: of its link, its key, its bit, or its parent's
+-- length; none where links don't lead to the container that holds the slot
+abbrev pub word_along : StoreWords → ℕ → List ℕ → Option ℕ
+word_along store number slot =
+    option_map (word_or (slice_get store.shape.nodes (number - 1)))
+    (slot_number_in store.shape.nodes store.nodes 0 slot)
+
+-- and that of a coordinate's word
 abbrev pub place_in : StoreWords → ℕ → Coord → Option ℕ
-place_in store number at = slot_number_in store.shape.nodes store.nodes 0 (path store.shape at number)
+place_in store number at = word_along store number (path store.shape at number)

@@ -1,6 +1,6 @@
 -- What every store keeps, whatever flat layout it stands for.
 use Rattle.std.specs.Prelude.{◌≡◌, ◌≢◌, ◌↔◌, ℕ, suc, ◌+◌, ◌*◌, ◌/◌, ◌^◌, ◌<◌, ◌≤◌, nat_lt, Bool, true, false, IsTrue, List, [], ◌∷◌, length, Some, All, Contains, slice_index, is_some}
-use Rattle.std.specs.List.{AllZip, list_all}
+use Rattle.std.specs.List.{AllZip}
 use Rattle.std.specs.Int.{div_ceil}
 use Rattle.sg_layout.specs.declared.shape.Kind.{Kind}
 use Rattle.sg_layout.specs.declared.shape.Kind.TheVariants.{Dense, Bitmasked, Pointer, Hash, Dynamic}
@@ -8,7 +8,7 @@ use Rattle.sg_layout.specs.declared.shape.NodeShape.{NodeShape}
 use Rattle.sg_layout.specs.declared.shape.Shape.{Shape}
 use Rattle.sg_layout.specs.Axes.{count_of, size_of}
 use Rattle.sg_layout.specs.Accepted.{IsAccepted}
-use Rattle.sg_layout.specs.StorageWords.{power_for}
+use Rattle.sg_layout.specs.StorageWords.{power_for, words_of_shape, most_words}
 use Rattle.sg_layout.specs.Slots.{IsSlot}
 use Rattle.sg_hash.specs.Tables.{IsTable, AreBeside, beside}
 use Rattle.sg_links.specs.Lists.{list_of}
@@ -18,18 +18,6 @@ use Rattle.sg_store.specs.declared.node.NodeWords.{NodeWords}
 use Rattle.sg_store.specs.StoreWords.{StoreWords}
 use Rattle.sg_store.specs.Slots.{mask_bit, links_by_slot, below_length}
 use Rattle.sg_store.specs.Walks.{cell_along}
-
--- stores are built for nodes of these kinds, which are all
-abbrev pub is_built : Kind → Bool
-is_built Dense = true
-is_built Bitmasked = true
-is_built Pointer = true
-is_built Hash = true
-is_built Dynamic = true
-
--- all nodes are of such kinds
-abbrev pub is_built_shape : Shape → Bool
-is_built_shape shape = list_all (λ node. is_built node.kind) shape.nodes
 
 -- a pointer node with so many slots, of which those that `live` tells are in live containers: it has a link word for
 -- each slot; its pool has a number for each container of its cap, and one spare for each of 16 workers and one more; a
@@ -161,6 +149,7 @@ pub record IsWellFormed (store : StoreWords) : Type 0 where
   pub accepted : IsAccepted store.shape
   pub nodes_fit : AreNodes store.shape.nodes store.nodes 1 is_root
   pub within_caps : AllZip (λ node kept. IsWithinCap node.kind node kept) store.shape.nodes store.nodes
+  pub few_words : words_of_shape store.shape ≤ most_words
   pub few_cells : cell_count store.shape ≤ 2 ^ 22
   pub field_count : length store.fields ≡ length store.shape.fields
   pub rows_fit : All (IsFieldRow store) store.fields

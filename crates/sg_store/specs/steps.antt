@@ -6,4 +6,6 @@ pub mod Filling
 pub mod Keying
 pub mod Levels
 pub mod Walking
+pub mod Widths
 pub mod Raising
+pub mod Moving

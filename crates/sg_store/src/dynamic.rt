@@ -5,7 +5,7 @@ ghost use Rattle.sg_store.specs.declared.node.NodeWords.{NodeWords};
 ghost use Rattle.sg_store.specs.Reaching.{KeepsCells};
 ghost use Rattle.sg_store.specs.steps.AtNode.{AtNodeOf, AreNumbers};
 ghost use Rattle.sg_store.specs.steps.Settling.{ChangesAt, ChangesNode};
-ghost use Rattle.sg_store.specs.steps.Raising.{IsRaised, AreRaised, CanFitLengths, IsFitted, CanSettleLengths, AnswersFit, IsDynamicOf};
+ghost use Rattle.sg_store.specs.steps.Raising.{IsRaised, AreRaised, CanFitLengths, IsFitted, CanLengthen, AnswersFit, IsDynamicOf};
 ghost use Rattle.sg_store.specs.steps.Levels.{OpensNext, IsFullNode, IfRefused};
 
 use crate::node::{NodeWords, overwrite, word};
@@ -81,14 +81,14 @@ fn relength_at(
 impl Store {
     /// Gives the dynamic node with this index, from 0, these lengths, and each chain the chunks that its length needs.
     /// Refused, with nothing changed, where they are more than the node has.
-    pub(crate) fn settle_lengths(
+    pub(crate) fn relength_node(
         &mut self,
         index: usize,
         lengths: &[u64],
         chunk: u32,
     ) -> Result<(), ChunkFull>
         requires there { index < length self.old.nodes }
-        requires can { AtNodeOf (CanSettleLengths lengths.now chunk) self.old index }
+        requires can { AtNodeOf (CanLengthen lengths.now chunk) self.old index }
         ensures answer { AnswersFit lengths.now chunk self.old.nodes index result }
         ensures fitted { OnOk result (ChangesNode (IsFitted lengths.now chunk) self.old self.new index) }
         ensures stays { OnErr result (self.new ≡ self.old) }
@@ -122,7 +122,7 @@ impl Store {
         let kept = &self.nodes.as_slice()[index];
         let mut lengths = Items::from_slice(alloc, kept.lengths.as_slice())?;
         raise_all(&mut lengths, size, slots);
-        match self.settle_lengths(index, lengths.as_slice(), chunk) {
+        match self.relength_node(index, lengths.as_slice(), chunk) {
             Ok(()) => Ok(()),
             Err(_full) => Err(Stop::Refused(Full {
                 node: index as u32 + 1,

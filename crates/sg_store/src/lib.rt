@@ -4,13 +4,18 @@
 pub mod bits;
 pub mod cells;
 mod dynamic;
+mod frame;
 mod fresh;
 mod hash;
+pub mod keys;
 pub mod laws;
+pub mod length_words;
 pub mod levels;
 mod mask;
 pub mod node;
-pub mod pointer;
+mod owners;
+mod pointer;
+pub mod pruning;
 pub mod reach;
 pub mod rows;
 pub mod slots;
@@ -21,8 +26,10 @@ mod walk;
 
 pub use reach::Full;
 pub use spot::Spot;
-pub use store::{Store, Stores, is_built};
+pub use store::{Store, Stores};
 
+#[cfg(test)]
+mod pruning_tests;
 #[cfg(test)]
 mod slot_tests;
 #[cfg(test)]

@@ -1,6 +1,7 @@
 use crate::Store;
-use crate::tests::{BLOCKS, POINTS, at, put, reached, store_of, value_at};
-use sg_layout::Kind::{Bitmasked, Pointer};
+use crate::tests::{BLOCKS, HASHED, POINTS, ROWS, at, put, reached, store_of, value_at};
+use sg_coord::Coord;
+use sg_layout::Kind::{Bitmasked, Dynamic, Hash, Pointer};
 use std::alloc::Global;
 use std::test::Fail;
 
@@ -53,6 +54,88 @@ fn mask_words_are_read(rt: HostRuntime) -> Result<(), Fail> {
     assert_eq!(rt; words(&store, alloc, 2)?.as_str(), "2");
     assert_eq!(rt; reached(&rt, alloc, &mut store, &[at(5)])?.as_str(), "1 ");
     assert_eq!(rt; words(&store, alloc, 2)?.as_str(), "2");
+    Ok(())
+}
+
+/// Each word as whether it is 0.
+fn filled(words: &[u64], alloc: Global) -> Result<String, Fail> {
+    let mut told = String::new(alloc);
+    for word in words {
+        told.push(if *word == 0 { '0' } else { '1' })?;
+    }
+    Ok(told)
+}
+
+/// The key words of a hash node, the first one, and the links beside them.
+fn keyed(store: &Store, alloc: Global) -> Result<String, Fail> {
+    match store.layout().shape().nodes.as_slice().get(0) {
+        Some(node) => match node.kind {
+            Hash => {
+                let keys = store.key_words(alloc)?;
+                let links = store.slot_words(alloc, 1)?;
+                Ok(format!(in alloc;
+                    "{} {}",
+                    filled(keys.as_slice(), alloc)?,
+                    filled(links.as_slice(), alloc)?
+                )?)
+            }
+            _ => Err(Fail::from("no keys")),
+        },
+        None => Err(Fail::from("no node")),
+    }
+}
+
+/// Keys stand in a table of twice the cap with a link beside each.
+#[test]
+fn key_words_are_read(rt: HostRuntime) -> Result<(), Fail> {
+    let alloc = rt.alloc();
+    let mut store = store_of(&rt, alloc, 1, &HASHED)?;
+    assert_eq!(rt; keyed(&store, alloc)?.as_str(), "0000 0000");
+    assert_eq!(rt;
+        reached(&rt, alloc, &mut store, &[at(5), at(13)])?.as_str(),
+        "8 "
+    );
+    assert_eq!(rt; keyed(&store, alloc)?.as_str(), "0101 0101");
+    Ok(())
+}
+
+/// The greatest length of a dynamic node, the last one, and how many lengths it has.
+fn greatest_length(store: &Store, alloc: Global) -> Result<(u64, usize), Fail> {
+    let Some(last) = store.layout().shape().nodes.len().checked_sub(1) else {
+        return Err(Fail::from("no node"));
+    };
+    match store.layout().shape().nodes.as_slice().get(last) {
+        Some(node) => match node.kind {
+            Dynamic => {
+                let lengths = store.length_words(alloc)?;
+                let mut most = 0;
+                for length in lengths.as_slice() {
+                    if *length > most {
+                        most = *length;
+                    }
+                }
+                Ok((most, lengths.len()))
+            }
+            _ => Err(Fail::from("no lengths")),
+        },
+        None => Err(Fail::from("no node")),
+    }
+}
+
+/// Each container above a dynamic node has a length, and the greatest is past the greatest index.
+#[test]
+fn length_words_are_read(rt: HostRuntime) -> Result<(), Fail> {
+    let alloc = rt.alloc();
+    let mut store = store_of(&rt, alloc, 2, &ROWS)?;
+    assert_eq!(rt; greatest_length(&store, alloc)?, (0, 19));
+    let wanted = Coord {
+        n: 2,
+        a: 1,
+        b: 5,
+        c: 0,
+    };
+    assert_eq!(rt; reached(&rt, alloc, &mut store, &[wanted])?.as_str(), "6 ");
+    assert_eq!(rt; greatest_length(&store, alloc)?, (6, 19));
     Ok(())
 }
 

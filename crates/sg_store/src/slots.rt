@@ -1,17 +1,18 @@
-ghost use Rattle.std.specs.Prelude.{◌≡◌, ◌≢◌, ℕ, suc, ◌+◌, ◌*◌, ◌-◌, ◌^◌, ◌<◌, ◌≤◌, List, length, All, Contains, IfOk, IfSome, IsSome};
+ghost use Rattle.std.specs.Prelude.{◌≡◌, ◌≢◌, ℕ, suc, ◌+◌, ◌*◌, ◌-◌, ◌^◌, ◌<◌, ◌≤◌, List, length, All, Contains, IfOk, IfSome, IsSome, IsTrue};
 ghost use Rattle.sg_coord.specs.declared.coord.Coord.{Coord};
 ghost use Rattle.sg_coord.specs.Coord.{Inside};
-ghost use Rattle.sg_layout.specs.declared.shape.Kind.TheVariants.{Dense, Bitmasked, Pointer};
+ghost use Rattle.sg_layout.specs.declared.shape.Kind.TheVariants.{Dense, Bitmasked, Pointer, Hash, Dynamic};
 ghost use Rattle.sg_layout.specs.declared.shape.NodeShape.{NodeShape};
 ghost use Rattle.sg_layout.specs.Axes.{bounds_of_shape, count_of};
 ghost use Rattle.sg_layout.specs.Live.{kind_at};
+ghost use Rattle.sg_layout.specs.StorageWords.{ends_segment};
 ghost use Rattle.sg_layout.specs.NeedLaws.{IsNode};
 ghost use Rattle.sg_pool.specs.Numbers.{live_count, IsStock};
 ghost use Rattle.sg_store.specs.Walks.{place_in};
 ghost use Rattle.sg_store.specs.WellFormed.{IsWellFormed};
 ghost use Rattle.sg_store.specs.Reaching.{KeepsCells, IsOpenThrough};
 ghost use Rattle.sg_store.specs.Changes.{IsRelinked, ChangesNode};
-ghost use Rattle.sg_store.specs.Opening.{links_of, masks_of, pool_of, filled_count, IsInLive, CanSettleSlots, FitsCap, WantedHaveLinks, NewLinksAreWanted, OpensNode};
+ghost use Rattle.sg_store.specs.Opening.{links_of, masks_of, lengths_of, pool_of, filled_count, IsInLive, CanSettleSlots, FitsCap, WantedHaveLinks, NewLinksAreWanted, OpensNode};
 
 use crate::store::Store;
 use sg_coord::Coord;
@@ -20,10 +21,11 @@ use sg_words::{Items, Memory};
 use std::alloc::Global;
 
 impl Store {
-    /// All slot words of a pointer node, numbered from 1: each is 0 or one more than the number of a child container.
+    /// All link words of a pointer or hash node, numbered from 1: each is 0 or one more than the number of a child
+    /// container. A pointer node has one for each slot, a hash node one beside each key word.
     pub fn slot_words(&self, alloc: Global, node: u32) -> Result<Items<u64>, Memory>
         requires first { 1 ≤ node }
-        requires pointer { kind_at self.now.shape.nodes node ≡ Pointer }
+        requires linked { IsTrue (ends_segment (kind_at self.now.shape.nodes node)) }
         ensures words { IfOk result (λ links. links ≡ links_of self.now node) }
         ensures some { IfOk result (λ links. 0 < length links) }
         ensures small { IfOk result (λ links. All (λ link. link ≤ 2 ^ 32) links) }
@@ -37,10 +39,10 @@ impl Store {
         Ok(Items::from_slice(alloc, kept.links.as_slice())?)
     }
 
-    /// All numbers of a pointer node's pool that are not live, each once. The node is numbered from 1.
+    /// All numbers of a pointer or hash node's pool that are not live, each once. The node is numbered from 1.
     pub fn stock(&self, alloc: Global, node: u32) -> Result<Items<u32>, Memory>
         requires first { 1 ≤ node }
-        requires pointer { kind_at self.now.shape.nodes node ≡ Pointer }
+        requires linked { IsTrue (ends_segment (kind_at self.now.shape.nodes node)) }
         ensures stock { IfOk result (IsStock (pool_of self.now node)) }
         ensures unlinked { IfOk result (λ stock. (number : ℕ) → Contains stock number →
             Contains (links_of self.now node) (suc number) → ⊥) }
@@ -50,8 +52,8 @@ impl Store {
         self.nodes.as_slice()[node as usize - 1].pool.stock(alloc)
     }
 
-    /// The number of a coordinate's slot among the slot words of a node with activity, or among its bits. The node is
-    /// numbered from 1. None where the container that holds the slot isn't live.
+    /// The number of a coordinate's word at a node with activity, numbered from 1: that of its slot's link, its key, the
+    /// number of its bit, or that of its parent's length. None where the container that holds it isn't live.
     pub fn place_in(&self, node: u32, at: Coord) -> Option<usize>
         requires first { 1 ≤ node }
         requires sparse { kind_at self.now.shape.nodes node ≢ Dense }
@@ -60,15 +62,18 @@ impl Store {
         ensures in_live { IfSome result (IsInLive self.now node) }
         ensures slots { kind_at self.now.shape.nodes node ≡ Pointer →
             IfSome result (λ slot. slot < length (links_of self.now node)) }
+        ensures keys { kind_at self.now.shape.nodes node ≡ Hash → IfSome result (λ key. key < 2 ^ 32) }
         ensures bits { kind_at self.now.shape.nodes node ≡ Bitmasked →
             IfSome result (λ slot. slot < 64 * length (masks_of self.now node)) }
+        ensures parents { kind_at self.now.shape.nodes node ≡ Dynamic →
+            IfSome result (λ parent. parent < length (lengths_of self.now node)) }
         ensures open { (old all : List Coord) → IsOpenThrough self.now old all (node - 1) → Contains all at →
             IsSome result }
     {
         // for the laws that it ensures, and the invariant
         paths_tell();
         self.layout();
-        self.number_at(node as usize - 1, at)
+        self.word_at(node as usize - 1, at)
     }
 
     /// Gives a pointer node, numbered from 1, these links, and makes the numbers live that they take from the stock.

@@ -1,14 +1,13 @@
-ghost use Rattle.std.specs.Prelude.{◌≡◌, ℕ, ◌<◌, ◌≤◌, ◌^◌, length};
-ghost use Rattle.sg_layout.specs.declared.shape.Kind.{Kind};
-ghost use Rattle.sg_layout.specs.declared.shape.Kind.TheVariants.{Hash};
-ghost use Rattle.sg_store.specs.Spots.{width_past, width_after};
+ghost use Rattle.std.specs.Prelude.{◌≡◌, ℕ, ◌+◌, ◌*◌, ◌^◌, ◌<◌, ◌≤◌, length};
 
+use crate::frame::NodeWidths;
 use crate::store::Store;
-use sg_layout::{Kind, Layout, paths_tell, rules_decide};
+use sg_layout::{Kind, rules_decide};
 
 /// A place in the tree after `node` nodes: `part` is the number of the copy of its segment, and `slot` the row-major
-/// number of the place among the slots of that copy's nodes up to there. After a pointer node `part` is the number of
-/// the child container, and `slot` is 0.
+/// number of the place among the slots of that copy's nodes up to there. After a pointer or hash node `part` is the
+/// number of the child container, and `slot` is 0. After a dynamic node, which is the last, both together are the
+/// number of its cell.
 #[derive(Clone, Copy, Debug, PartialEq, Eq)]
 pub struct Spot {
     pub node: u32,
@@ -16,31 +15,60 @@ pub struct Spot {
     pub slot: u32,
 }
 
-/// The slots of one copy of its segment, after so many nodes of a layout.
-pub(crate) fn width_after(layout: &Layout, through: usize) -> usize
-    requires { through ≤ length layout.now.nodes }
-    ensures width { result ≡ width_after layout.now.nodes through }
-    ensures some { 1 ≤ result }
-    ensures most { result ≤ 2 ^ 30 }
-{
-    // for the laws that they ensure
-    paths_tell();
-    let _extents = layout.extents();
-    let nodes = layout.shape().nodes.as_slice();
-    let mut width = 1;
-    for index in 0..through {
-        let slots = width * layout.size(index) as usize;
-        width = width_past(nodes[index].kind, slots);
-    }
-    width
-}
+impl NodeWidths {
+    ghost use Rattle.std.specs.Prelude.{◌↔◌, true};
+    ghost use Rattle.sg_layout.specs.declared.shape.Kind.TheVariants.{Dense};
+    ghost use Rattle.sg_store.specs.steps.Widths.{IsFound};
 
-fn width_past(kind: Kind, slots: usize) -> usize
-    ensures { result ≡ width_past kind slots }
-{
-    match kind {
-        Kind::Pointer | Kind::Hash => 1,
-        Kind::Dense | Kind::Bitmasked | Kind::Dynamic => slots,
+    fn is_dense(&self) -> bool
+        ensures { (result ≡ true) ↔ (self.now.kind ≡ Dense) }
+    {
+        match self.kind {
+            Kind::Dense => true,
+            Kind::Bitmasked | Kind::Pointer | Kind::Hash | Kind::Dynamic => false,
+        }
+    }
+
+    /// The spot after the node, in the same copy of its segment, over this offset.
+    fn within(&self, spot: Spot, offset: u32) -> Spot
+        requires node { spot.node < 6 }
+        requires slot { spot.slot < self.now.before }
+        requires below { offset < self.now.size }
+        requires room { self.now.before * self.now.size ≤ 2 ^ 30 }
+        ensures { result ≡ record { node = spot.node + 1; part = spot.part; slot = spot.slot * self.now.size + offset } }
+    {
+        Spot {
+            node: spot.node + 1,
+            part: spot.part,
+            slot: spot.slot * self.size + offset,
+        }
+    }
+
+    /// The spot after the node, over this offset, whose place is that to which the slot leads. Only below a dynamic node,
+    /// which is the last, the place has to be divided.
+    fn past(&self, spot: Spot, offset: u32, place: usize) -> Spot
+        requires node { spot.node < 6 }
+        requires slot { spot.slot < self.now.before }
+        requires below { offset < self.now.size }
+        requires room { self.now.before * self.now.size ≤ 2 ^ 30 }
+        requires found { IsFound self.now spot offset place }
+        ensures node { result.node ≡ spot.node + 1 }
+        ensures place { result.part * self.now.after + result.slot ≡ place }
+        ensures within { result.slot < self.now.after }
+    {
+        match self.kind {
+            Kind::Dense | Kind::Bitmasked => self.within(spot, offset),
+            Kind::Pointer | Kind::Hash => Spot {
+                node: spot.node + 1,
+                part: place as u32,
+                slot: 0,
+            },
+            Kind::Dynamic => Spot {
+                node: spot.node + 1,
+                part: (place / self.after as usize) as u32,
+                slot: (place % self.after as usize) as u32,
+            },
+        }
     }
 }
 
@@ -81,18 +109,16 @@ impl Store {
         // for the law that it ensures
         rules_decide();
         let index = spot.node as usize;
-        if offset >= self.layout.size(index) {
+        let widths = self.layout.widths(index);
+        if offset >= widths.size {
             return None;
         }
-        let width = width_after(&self.layout, index);
-        let place = spot.part as usize * width + spot.slot as usize;
+        if widths.is_dense() {
+            return Some(widths.within(spot, offset));
+        }
+        let place = spot.part as usize * widths.before as usize + spot.slot as usize;
         let below = self.onward(index, place, offset, true)?;
-        let wide = width_after(&self.layout, index + 1);
-        Some(Spot {
-            node: spot.node + 1,
-            part: (below / wide) as u32,
-            slot: (below % wide) as u32,
-        })
+        Some(widths.past(spot, offset, below))
     }
 
     /// The same, for one path along which the spot leads.

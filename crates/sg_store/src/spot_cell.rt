@@ -1,4 +1,4 @@
-use crate::spot::{Spot, width_after};
+use crate::spot::Spot;
 use crate::store::Store;
 use sg_coord::numbering;
 use sg_layout::paths_tell;
@@ -22,8 +22,9 @@ impl Store {
         // for the laws that they ensure
         paths_tell();
         numbering(&self.layout.extents());
-        let width = width_after(&self.layout, spot.node as usize);
-        let place = spot.part as usize * width + spot.slot as usize;
+        let nodes = self.layout.nodes();
+        let width = self.layout.widths(nodes - 1).after;
+        let place = spot.part as usize * width as usize + spot.slot as usize;
         place as u32
     }
 }

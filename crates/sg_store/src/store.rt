@@ -1,12 +1,13 @@
-ghost use Rattle.std.specs.Prelude.{◌≡◌, ◌≤◌, IfOk, IsTrue};
+ghost use Rattle.std.specs.Prelude.{◌≡◌, ◌≤◌, IfOk};
 ghost use Rattle.sg_layout.specs.StorageWords.{words_of_shape, most_words};
 ghost use Rattle.sg_flat.specs.State.{opening_layout};
-ghost use Rattle.sg_store.specs.WellFormed.{is_built, is_built_shape, IsWellFormed};
+ghost use Rattle.sg_store.specs.WellFormed.{IsWellFormed};
 ghost use Rattle.sg_store.specs.StandsFor.{StandsFor};
 
+use crate::frame::Frame;
 use crate::fresh::{FreshNodes, fresh_nodes, zero_rows};
 use crate::node::NodeWords;
-use sg_layout::{Kind, Layout, laws as layouts};
+use sg_layout::{Layout, laws as layouts};
 use sg_words::{Items, Memory};
 use std::alloc::Global;
 use std::marker::Model;
@@ -14,7 +15,7 @@ use std::marker::Model;
 /// The tree of containers of one layout, and the values of its fields in the cells.
 #[derive(Debug, Drop)]
 pub struct Store {
-    pub(crate) layout: Layout,
+    pub(crate) layout: Frame,
     pub(crate) nodes: Vec<NodeWords>,
     pub(crate) fields: Vec<Items<u32>>,
 }
@@ -36,34 +37,9 @@ pub struct Stores {
     pub list: Items<Store>,
 }
 
-/// Whether stores are built for all nodes of a layout, as they are for nodes of every kind.
-pub fn is_built(layout: &Layout) -> bool
-    ensures { result ≡ is_built_shape layout.now }
-{
-    layout
-        .shape()
-        .nodes
-        .as_slice()
-        .iter()
-        .all(|node| is_built_kind(node.kind))
-}
-
-fn is_built_kind(kind: Kind) -> bool
-    ensures { result ≡ is_built kind }
-{
-    match kind {
-        Kind::Dense => true,
-        Kind::Bitmasked => true,
-        Kind::Pointer => true,
-        Kind::Hash => true,
-        Kind::Dynamic => true,
-    }
-}
-
 impl Store {
     /// A store in which nothing is active but what is so without any write, and all values are 0.
     pub fn make(alloc: Global, layout: &Layout) -> Result<Store, Memory>
-        requires built { IsTrue (is_built_shape layout.now) }
         requires few_words { words_of_shape layout.now ≤ most_words }
         ensures shape { IfOk result (λ store. store.shape ≡ layout.now) }
         ensures opening { IfOk result (λ store. StandsFor store (opening_layout layout.now)) }
@@ -78,7 +54,7 @@ impl Store {
         let shape = layout.shape();
         let FreshNodes { words, cells } = fresh_nodes(alloc, layout)?;
         Ok(Store {
-            layout: layout.copy(alloc)?,
+            layout: Frame::make(alloc, layout)?,
             nodes: words,
             fields: zero_rows(alloc, shape.fields.len(), cells)?,
         })
@@ -108,6 +84,6 @@ impl Store {
         ensures layout { result.now ≡ self.now.shape }
         ensures well_formed { IsWellFormed self.now }
     {
-        &self.layout
+        self.layout.layout()
     }
 }

@@ -2,7 +2,7 @@ ghost use Rattle.std.specs.Prelude.{◌↔◌, IsTrue, All};
 ghost use Rattle.sg_coord.specs.Bounds.{bounds_of};
 ghost use Rattle.sg_coord.specs.Coord.{Inside};
 
-use crate::{Spot, Store, is_built};
+use crate::{Spot, Store};
 use sg_coord::{Coord, Extents, inside};
 use sg_layout::Kind::{Bitmasked, Dense, Dynamic, Hash, Pointer};
 use sg_layout::{Kind, Layout, NodeShape, Shape, Size, check_layout};
@@ -67,7 +67,6 @@ pub(crate) fn store_of(
     let shape = shape_of(alloc, axes, nodes)?;
     assert!(rt; shape.is_declared());
     let layout = check_layout(alloc, &shape)?;
-    assert!(rt; is_built(&layout));
     assert!(rt; layout.words() <= 1 << 22);
     Ok(Store::make(alloc, &layout)?)
 }
@@ -239,7 +238,7 @@ fn pools_are_full_past_the_cap(rt: HostRuntime) -> Result<(), Fail> {
     Ok(())
 }
 
-static HASHED: [Node; 2] = [(Hash, [4, 0, 0], 2), (Dense, [4, 0, 0], 0)];
+pub(crate) static HASHED: [Node; 2] = [(Hash, [4, 0, 0], 2), (Dense, [4, 0, 0], 0)];
 
 static HASHED_GRID: [Node; 3] = [
     (Hash, [8, 8, 0], 5),
@@ -281,7 +280,7 @@ fn keys_lead_to_containers(rt: HostRuntime) -> Result<(), Fail> {
 
 static GROWING: [Node; 1] = [(Dynamic, [8, 0, 0], 2)];
 
-static ROWS: [Node; 2] = [(Pointer, [4, 0, 0], 2), (Dynamic, [0, 8, 0], 3)];
+pub(crate) static ROWS: [Node; 2] = [(Pointer, [4, 0, 0], 2), (Dynamic, [0, 8, 0], 3)];
 
 /// Each parent has its indices up to the greatest that was wanted, in chunks of four, as long as there are chunks.
 #[test]

@@ -5,7 +5,7 @@ ghost use Rattle.sg_layout.specs.Axes.{sizes_of, bounds_of_shape};
 ghost use Rattle.sg_layout.specs.Path.{path};
 ghost use Rattle.sg_store.specs.declared.node.NodeWords.{NodeWords};
 ghost use Rattle.sg_store.specs.Slots.{slot_under};
-ghost use Rattle.sg_store.specs.Walks.{place_after, place_in};
+ghost use Rattle.sg_store.specs.Walks.{place_after, slot_in, place_in};
 ghost use Rattle.sg_store.specs.steps.AtNode.{AtNodeOf};
 ghost use Rattle.sg_store.specs.steps.Walking.{IsPlaceAt, step_of};
 
@@ -56,7 +56,7 @@ impl Store {
     pub(crate) fn number_at(&self, index: usize, at: Coord) -> Option<usize>
         requires node { index < length self.now.shape.nodes }
         requires inside { Inside (bounds_of_shape self.now.shape) at }
-        ensures { result ≡ place_in self.now (suc index) at }
+        ensures { result ≡ slot_in self.now (suc index) at }
     {
         // for the laws that it ensures
         paths_tell();
@@ -64,5 +64,16 @@ impl Store {
         let offset = self.layout.offset(index, at) as usize;
         let place = self.place_of(at, index, false)?;
         Some(place * size + offset)
+    }
+
+    /// The number of the word of a coordinate's slot at the node with this index, from 0. None where links do not lead to
+    /// its container.
+    pub(crate) fn word_at(&self, index: usize, at: Coord) -> Option<usize>
+        requires node { index < length self.now.shape.nodes }
+        requires inside { Inside (bounds_of_shape self.now.shape) at }
+        ensures { result ≡ place_in self.now (suc index) at }
+    {
+        let slot = self.number_at(index, at)?;
+        Some(self.layout.widths(index).word_number(slot))
     }
 }

@@ -1,7 +1,7 @@
 -- The words of nodes before anything is written.
-use Rattle.std.specs.Prelude.{◌≡◌, ℕ, ◌+◌, ◌*◌, ◌^◌, ◌<◌, ◌≤◌, true, false, List, [], ◌∷◌, ◌++◌, length, replicate, slice_index}
+use Rattle.std.specs.Prelude.{◌≡◌, ℕ, ◌+◌, ◌*◌, ◌^◌, ◌<◌, ◌≤◌, false, List, [], ◌∷◌, ◌++◌, length, replicate, slice_index}
 use Rattle.std.specs.Int.{div_ceil}
-use Rattle.std.specs.List.{All, list_all}
+use Rattle.std.specs.List.{All}
 use Rattle.sg_layout.specs.declared.shape.Kind.{Kind}
 use Rattle.sg_layout.specs.declared.shape.Kind.TheVariants.{Dense, Bitmasked, Pointer, Hash, Dynamic}
 use Rattle.sg_layout.specs.declared.shape.NodeShape.{NodeShape}
@@ -12,7 +12,7 @@ use Rattle.sg_links.specs.Lists.{empty_lists}
 use Rattle.sg_store.specs.declared.node.NodeWords.{NodeWords}
 use Rattle.sg_store.specs.declared.fresh.Room.{Room}
 use Rattle.sg_store.specs.Slots.{mask_bit}
-use Rattle.sg_store.specs.WellFormed.{is_built, places_below, cells_below}
+use Rattle.sg_store.specs.WellFormed.{places_below, cells_below}
 
 -- as many words as a node of this kind with so many slots has
 abbrev pub IsSized : Kind → NodeShape → NodeWords → ℕ → Type 0

@@ -3,12 +3,13 @@ use Rattle.std.specs.Prelude.{◌≡◌, ◌≢◌, ℕ, suc, ◌+◌, ◌<◌, 
 use Rattle.sg_layout.specs.declared.shape.Kind.TheVariants.{Pointer, Hash}
 use Rattle.sg_layout.specs.declared.shape.NodeShape.{NodeShape}
 use Rattle.sg_hash.specs.Tables.{IsTable, AreBeside, beside}
-use Rattle.sg_pool.specs.Numbers.{place_count, live_count, is_live_number, CanSettle, IsSettled}
+use Rattle.sg_pool.specs.Numbers.{place_count, live_count, is_live_number, CanSettle}
 use Rattle.sg_store.specs.declared.node.NodeWords.{NodeWords}
 use Rattle.sg_store.specs.declared.hash.KeyPlan.{KeyPlan}
 use Rattle.sg_store.specs.declared.pointer.Plan.{Plan}
 use Rattle.sg_store.specs.Slots.{links_by_slot}
 use Rattle.sg_store.specs.WellFormed.{by_slots}
+pub use Rattle.sg_store.specs.Changes.{IsRekeyed}
 use Rattle.sg_store.specs.steps.Settling.{CanSettleLinks}
 use Rattle.sg_store.specs.steps.Filling.{IsFresh, FilledTo, IsPlan}
 
@@ -80,13 +81,6 @@ pub record CanRekey (keys links taken : List ℕ) (kept : NodeWords) : Type 0 wh
   pub key_count : length keys ≡ length kept.keys
   pub link_count : length links ≡ length kept.links
   pub free : CanSettle kept.pool taken
-
--- a node's words with another table, whose numbers of `taken` have become live
-pub record IsRekeyed (keys links taken : List ℕ) (kept after : NodeWords) : Type 0 where
-  pub new_keys : after.keys ≡ keys
-  pub new_links : after.links ≡ links
-  pub same_masks : after.masks ≡ kept.masks
-  pub pool : IsSettled kept.pool after.pool taken
 
 -- the node with links
 abbrev pub as_linked : NodeShape → NodeShape

@@ -13,7 +13,6 @@ use Rattle.sg_store.specs.declared.node.NodeWords.{NodeWords}
 use Rattle.sg_store.specs.declared.reach.Full.{Full}
 use Rattle.sg_store.specs.StoreWords.{StoreWords}
 use Rattle.sg_store.specs.Reaching.{IsOpenThrough}
-use Rattle.sg_store.specs.steps.AtNode.{AtNodeOf}
 
 -- a node of a kind
 abbrev pub IsOfKind : Kind → NodeShape → NodeWords → ℕ → (ℕ → Bool) → Type 0

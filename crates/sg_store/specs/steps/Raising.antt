@@ -1,13 +1,14 @@
 -- Lengths of a dynamic node that are raised, and chains that are made to fit them.
-use Rattle.std.specs.Prelude.{◌≡◌, ℕ, ◌+◌, ◌/◌, ◌%◌, ◌<◌, ◌≤◌, ◌^◌, Bool, ◌&&◌, ◌||◌, ◌==◌, IsTrue, nat_le, List, length, Some, Result, slice_get, slice_index}
+use Rattle.std.specs.Prelude.{◌≡◌, ℕ, ◌/◌, ◌%◌, ◌≤◌, ◌^◌, Bool, ◌&&◌, ◌||◌, ◌==◌, IsTrue, nat_le, List, length, Some, Result, slice_get, slice_index}
 use Rattle.std.specs.List.{list_any, All}
 use Rattle.sg_layout.specs.declared.shape.Kind.TheVariants.{Dynamic}
 use Rattle.sg_layout.specs.declared.shape.NodeShape.{NodeShape}
 use Rattle.sg_layout.specs.Axes.{count_of, size_of}
 use Rattle.sg_pool.specs.Numbers.{place_count}
 use Rattle.sg_dynamic.specs.declared.chunks.ChunkFull.{ChunkFull}
-use Rattle.sg_dynamic.specs.Chunks.{fit, IsExact, HaveRoom, AreFitted}
+use Rattle.sg_dynamic.specs.Chunks.{fit, IsExact, HaveRoom}
 use Rattle.sg_store.specs.declared.node.NodeWords.{NodeWords}
+pub use Rattle.sg_store.specs.Changes.{IsFitted}
 use Rattle.sg_store.specs.Slots.{below_length}
 
 -- with parents of so many slots, a slot that is kept keeps this one too: it is that one, or stands before it under the same
@@ -37,15 +38,9 @@ pub record CanFitLengths (lengths : List ℕ) (chunk : ℕ) (kept : NodeWords) :
   pub exact : IsExact kept.chains kept.pool
   pub as_many : length lengths ≡ length kept.lengths
 
--- a node's words with other lengths, and chains that fit them
-pub record IsFitted (lengths : List ℕ) (chunk : ℕ) (kept after : NodeWords) : Type 0 where
-  pub new_lengths : after.lengths ≡ lengths
-  pub fitted : AreFitted kept.chains after.chains lengths chunk
-  pub exact : IsExact after.chains after.pool
-
 -- lengths that a dynamic node may get: none falls, none is past the node's extent, and each slot below one stands in a live
 -- container
-pub record CanSettleLengths (lengths : List ℕ) (chunk : ℕ) (node : NodeShape) (kept : NodeWords) (slots : ℕ) (live : ℕ → Bool) : Type 0 where
+pub record CanLengthen (lengths : List ℕ) (chunk : ℕ) (node : NodeShape) (kept : NodeWords) (slots : ℕ) (live : ℕ → Bool) : Type 0 where
   pub is_dynamic : node.kind ≡ Dynamic
   pub chunk_is : count_of node.chunk ≡ chunk
   pub few : size_of node.sizes ≤ 2 ^ 15

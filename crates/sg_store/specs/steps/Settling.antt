@@ -4,7 +4,7 @@ use Rattle.sg_layout.specs.declared.shape.Kind.TheVariants.{Pointer, Bitmasked}
 use Rattle.sg_layout.specs.declared.shape.NodeShape.{NodeShape}
 use Rattle.sg_layout.specs.Axes.{count_of}
 use Rattle.sg_pool.specs.Numbers.{live_count}
-use Rattle.sg_pool.specs.Numbers.{CanSettle}
+use Rattle.sg_pool.specs.Numbers.{CanSettle, IsSettled}
 use Rattle.sg_store.specs.declared.node.NodeWords.{NodeWords}
 use Rattle.sg_store.specs.Slots.{mask_bit, is_set, place_below}
 use Rattle.sg_store.specs.WellFormed.{IsNode, live_below}
@@ -26,6 +26,11 @@ pub record CanLink (links taken : List ℕ) (node : NodeShape) (kept : NodeWords
 pub record CanSettleLinks (links taken : List ℕ) (node : NodeShape) (kept : NodeWords) (slots : ℕ) (live : ℕ → Bool) : Type 0 where
   pub can : CanLink links taken node kept slots live
   pub within_cap : live_count kept.pool + length taken ≤ count_of node.cap
+
+-- a node has other links, whose numbers of `taken` have become live
+pub record HasLinks (links taken : List ℕ) (kept after : NodeWords) : Type 0 where
+  pub new_links : after.links ≡ links
+  pub pool : IsSettled kept.pool after.pool taken
 
 -- links that a node's words have room for, and numbers that its pool can make live
 pub record CanRelink (links taken : List ℕ) (kept : NodeWords) : Type 0 where

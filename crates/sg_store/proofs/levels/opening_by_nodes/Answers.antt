@@ -34,6 +34,18 @@ returns-clause-dense c = λ store. lemmas.dense_opens store
 pub returns-clause-full : goal.returns-clause-full
 returns-clause-full c = λ store. lemmas.full_is_first store (laws c store.shape)
 
+pub returns-clause-keys : goal.returns-clause-keys
+returns-clause-keys c = λ store. lemmas.keys_fill_first store (laws c store.shape)
+
+pub returns-clause-lengths : goal.returns-clause-lengths
+returns-clause-lengths c = λ store. lemmas.lengths_fill_first store (laws c store.shape) (c.rules_decide.ensures.accepted store.shape)
+
+pub returns-clause-hash_first : goal.returns-clause-hash_first
+returns-clause-hash_first c = λ store. lemmas.hash_is_first store (c.rules_decide.ensures.accepted store.shape)
+
+pub returns-clause-dynamic_last : goal.returns-clause-dynamic_last
+returns-clause-dynamic_last c = λ store. lemmas.dynamic_is_last store (c.rules_decide.ensures.accepted store.shape)
+
 pub returns-clause-room : goal.returns-clause-room
 returns-clause-room c = λ store. lemmas.open_has_room store (laws c store.shape)
 

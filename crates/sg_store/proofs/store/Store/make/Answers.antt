@@ -13,9 +13,9 @@ fresh_nodes-requires c = lemmas.roomy_start c.args.layout.now (record {
   bounds = c.extents-extents.ensures.bounds;
 }) c.shape-shape.ensures.accepted c.requires.few_words
 
-made : (c : goal.In_ok-zero_rows) → lemmas.IsFreshStore (record { shape = c.in_ok-copy.field-0; nodes = c.in_ok-words.field-0.words.items; fields = c.in_ok-zero_rows.field-0.items })
-made c = lemmas.fresh_made c.args.layout.now c.in_ok-copy.field-0 c.in_ok-words.field-0.words.items c.in_ok-zero_rows.field-0.items c.len.result c.in_ok-words.field-0.cells
-    c.in_ok-copy.ensures (c.rules_decide.ensures.accepted c.args.layout.now) c.shape-shape.ensures.accepted c.requires.few_words c.in_ok-words.ensures.words
+made : (c : goal.In_ok-zero_rows) → lemmas.IsFreshStore (record { shape = c.in_ok-make.field-0; nodes = c.in_ok-words.field-0.words.items; fields = c.in_ok-zero_rows.field-0.items })
+made c = lemmas.fresh_made c.args.layout.now c.in_ok-make.field-0 c.in_ok-words.field-0.words.items c.in_ok-zero_rows.field-0.items c.len.result c.in_ok-words.field-0.cells
+    c.in_ok-make.ensures (c.rules_decide.ensures.accepted c.args.layout.now) c.shape-shape.ensures.accepted c.requires.few_words c.in_ok-words.ensures.words
     c.in_ok-zero_rows.ensures.many (c.len.ensures ∙ ap (λ (s : Shape). length s.fields) c.shape-shape.ensures.value) c.in_ok-words.ensures.cells c.in_ok-zero_rows.ensures.zeros
 
 pub invariant_of-result : goal.invariant_of-result
@@ -23,12 +23,12 @@ invariant_of-result c = lemmas.fresh_well_formed _ (made c)
 
 pub returns-clause-opening : goal.returns-clause-opening
 returns-clause-opening c =
-    let store : StoreWords = record { shape = c.in_ok-copy.field-0; nodes = c.in_ok-words.field-0.words.items; fields = c.in_ok-zero_rows.field-0.items } in
-    let stands : StandsFor store (opening_layout c.in_ok-copy.field-0) = lemmas.fresh_stands store (made c) (record {
-      closed = c.closure_closes.ensures.closed c.in_ok-copy.field-0;
-      absorbs = c.live_absorbs.ensures.absorbs c.in_ok-copy.field-0;
+    let store : StoreWords = record { shape = c.in_ok-make.field-0; nodes = c.in_ok-words.field-0.words.items; fields = c.in_ok-zero_rows.field-0.items } in
+    let stands : StandsFor store (opening_layout c.in_ok-make.field-0) = lemmas.fresh_stands store (made c) (record {
+      closed = c.closure_closes.ensures.closed c.in_ok-make.field-0;
+      absorbs = c.live_absorbs.ensures.absorbs c.in_ok-make.field-0;
     }) in
-    subst (λ shape. StandsFor store (opening_layout shape)) c.in_ok-copy.ensures stands
+    subst (λ shape. StandsFor store (opening_layout shape)) c.in_ok-make.ensures stands
 
 pub returns-clause-well_formed : goal.returns-clause-well_formed
 returns-clause-well_formed c = lemmas.fresh_well_formed _ (made c)

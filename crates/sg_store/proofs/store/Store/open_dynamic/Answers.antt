@@ -1,4 +1,4 @@
-use Rattle.std.proofs.Common.{◌≡◌, ℕ, suc, ◌+◌, ◌<◌, List, length, sym, ap, ◌∙◌, subst, arith}
+use Rattle.std.proofs.Common.{◌≡◌, ℕ, suc, ◌+◌, List, length, sym, ap, ◌∙◌, subst, arith}
 use Rattle.std.specs.Prelude.{slice_index}
 use Rattle.std.proofs.lemmas.Option.{slice_get_within}
 use Rattle.sg_layout.specs.Axes.{size_of, sizes_of}
@@ -7,7 +7,8 @@ use Rattle.sg_store.specs.StoreWords.{StoreWords}
 use Rattle.sg_store.specs.WellFormed.{IsWellFormed}
 use Rattle.sg_store.specs.steps.Raising.{AreRaised}
 use Rattle.sg_store.proofs.Stepping.{size_at, read_as}
-use Rattle.sg_store.proofs.DynamicLevel.{dynamic_opening, parents_there, can_settle_lengths, dynamic_opened, dynamic_full}
+use Rattle.sg_store.proofs.DynamicLevel.{dynamic_opening, parents_there, can_settle_lengths, dynamic_opened}
+use Rattle.sg_store.proofs.DynamicFull.{dynamic_full}
 use Rattle.sg_store.proofs.store.Store.open_dynamic.Goals as goal
 
 pub size-size-requires : goal.size-size-requires
@@ -36,15 +37,15 @@ raise_all-requires-clause-there c =
     let same : c.in_ok-lengths.lengths ≡ o.kept.lengths = c.in_ok-lengths.ensures ∙ c.as_slice-2.ensures ∙ ap (λ (k : NodeWords). k.lengths) kept in
     parents_there store c.args.index c.args.cap c.args.chunk c.args.wanted.now c.args.slots.now c.in_ok-lengths.lengths c.size-size.result o sized c.size-size.ensures.some same
 
-pub settle_lengths-requires-clause-there : goal.settle_lengths-requires-clause-there
-settle_lengths-requires-clause-there c =
+pub relength_node-requires-clause-there : goal.relength_node-requires-clause-there
+relength_node-requires-clause-there c =
     let store : StoreWords = c.args.self.now in
     let o = dynamic_opening store c.args.index c.args.cap c.args.chunk c.args.wanted.now c.args.slots.now (subst IsWellFormed c.self.view_is c.self.invariant)
     (c.paths_tell.ensures.is_slot store.shape) (c.rules_decide.ensures.accepted store.shape) c.requires.dynamic c.requires.numbers in
     slice_get_within store.nodes c.args.index o.kept o.is.has
 
-pub settle_lengths-requires-clause-can : goal.settle_lengths-requires-clause-can
-settle_lengths-requires-clause-can c =
+pub relength_node-requires-clause-can : goal.relength_node-requires-clause-can
+relength_node-requires-clause-can c =
     let store : StoreWords = c.args.self.now in
     let o = dynamic_opening store c.args.index c.args.cap c.args.chunk c.args.wanted.now c.args.slots.now (subst IsWellFormed c.self.view_is c.self.invariant)
     (c.paths_tell.ensures.is_slot store.shape) (c.rules_decide.ensures.accepted store.shape) c.requires.dynamic c.requires.numbers in
@@ -71,7 +72,7 @@ returns-in-Ok-clause-opened c =
     let raised : AreRaised o.kept.lengths c.as_slice-3.result.now c.size-size.result c.args.slots.now =
     subst (λ (l : List ℕ). AreRaised l c.as_slice-3.result.now c.size-size.result c.args.slots.now) same
     (subst (λ (m : List ℕ). AreRaised c.in_ok-lengths.lengths m c.size-size.result c.args.slots.now) (sym c.as_slice-3.ensures) c.raise_all.ensures) in
-    (dynamic_opened store c.settle_lengths.new.self c.args.index c.args.cap c.args.chunk c.args.wanted.now c.args.slots.now c.as_slice-3.result.now c.size-size.result o sized raised c.in-Ok.ensures.fitted).0
+    (dynamic_opened store c.relength_node.new.self c.args.index c.args.cap c.args.chunk c.args.wanted.now c.args.slots.now c.as_slice-3.result.now c.size-size.result o sized raised c.in-Ok.ensures.fitted).0
 
 pub returns-in-Ok-clause-keeps : goal.returns-in-Ok-clause-keeps
 returns-in-Ok-clause-keeps c =
@@ -86,7 +87,7 @@ returns-in-Ok-clause-keeps c =
     let raised : AreRaised o.kept.lengths c.as_slice-3.result.now c.size-size.result c.args.slots.now =
     subst (λ (l : List ℕ). AreRaised l c.as_slice-3.result.now c.size-size.result c.args.slots.now) same
     (subst (λ (m : List ℕ). AreRaised c.in_ok-lengths.lengths m c.size-size.result c.args.slots.now) (sym c.as_slice-3.ensures) c.raise_all.ensures) in
-    (dynamic_opened store c.settle_lengths.new.self c.args.index c.args.cap c.args.chunk c.args.wanted.now c.args.slots.now c.as_slice-3.result.now c.size-size.result o sized raised c.in-Ok.ensures.fitted).1
+    (dynamic_opened store c.relength_node.new.self c.args.index c.args.cap c.args.chunk c.args.wanted.now c.args.slots.now c.as_slice-3.result.now c.size-size.result o sized raised c.in-Ok.ensures.fitted).1
 
 pub returns-clause-full : goal.returns-clause-full
 returns-clause-full c =

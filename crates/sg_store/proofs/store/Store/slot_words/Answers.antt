@@ -3,6 +3,7 @@ use Rattle.std.specs.List.{All}
 use Rattle.std.proofs.lemmas.Option.{slice_get_within}
 use Rattle.sg_coord.specs.Bounds.{IsBounds}
 use Rattle.sg_layout.specs.Axes.{bounds_of_shape}
+use Rattle.sg_layout.specs.StorageWords.{ends_segment}
 use Rattle.sg_store.specs.declared.node.NodeWords.{NodeWords}
 use Rattle.sg_store.specs.StoreWords.{StoreWords}
 use Rattle.sg_store.specs.WellFormed.{IsWellFormed}
@@ -18,7 +19,7 @@ pub bounds-as_slice-node : goal.bounds-as_slice-node
 bounds-as_slice-node c =
     let store : StoreWords = c.args.self.now in
     let well : IsWellFormed store = subst IsWellFormed c.self.view_is c.self.invariant in
-    let at = at_number store well c.args.node c.requires.first (λ dense. cc (sym c.requires.pointer ∙ dense)) in
+    let at = at_number store well c.args.node c.requires.first (lemmas.not_dense _ c.requires.linked) in
     let nodes = c.as_slice.ensures.value ∙ ap (λ (s : StoreWords). s.nodes) c.self.view_is in
     subst (λ (words : List NodeWords). c.args.node - 1 < length words) (sym nodes) (slice_get_within store.nodes (c.args.node - 1) at.1 at.2.has)
 
@@ -26,7 +27,7 @@ read : (c : goal.In_ok-from_slice) → c.in_ok-from_slice.field-0 ≡ links_of c
 read c =
     let store : StoreWords = c.args.self.now in
     let well : IsWellFormed store = subst IsWellFormed c.self.view_is c.self.invariant in
-    let at = at_number store well c.args.node c.requires.first (λ dense. cc (sym c.requires.pointer ∙ dense)) in
+    let at = at_number store well c.args.node c.requires.first (lemmas.not_dense _ c.requires.linked) in
     let same : c.index-as_slice-node.result ≡ at.1 =
     read_as c.as_slice.result.now store.nodes (c.args.node - 1) c.index-as_slice-node.result at.1 (c.as_slice.ensures.value ∙ ap (λ (s : StoreWords). s.nodes) c.self.view_is)
     c.index-as_slice-node.is at.2.has in
@@ -40,22 +41,22 @@ pub returns-clause-some : goal.returns-clause-some
 returns-clause-some c =
     let store : StoreWords = c.args.self.now in
     let well : IsWellFormed store = subst IsWellFormed c.self.view_is c.self.invariant in
-    let at = at_number store well c.args.node c.requires.first (λ dense. cc (sym c.requires.pointer ∙ dense)) in
+    let at = at_number store well c.args.node c.requires.first (lemmas.not_dense _ c.requires.linked) in
     let bounds : IsBounds (bounds_of_shape store.shape) = subst (λ (s : StoreWords). IsBounds (bounds_of_shape s.shape)) c.self.view_is c.extents-extents.ensures.bounds in
     let narrow = narrow_start store.shape bounds (c.paths_tell.ensures.fill store.shape well.accepted) in
-    subst (λ words. 0 < length words) (sym (read c)) (lemmas.links_some store c.args.node (c.args.node - 1) at.0 at.1 at.2 (sym at.3 ∙ c.requires.pointer) narrow.some)
+    subst (λ words. 0 < length words) (sym (read c)) (lemmas.links_some store c.args.node (c.args.node - 1) at.0 at.1 at.2 (ap ends_segment (sym at.3) ∙ c.requires.linked) narrow.some)
 
 pub returns-clause-small : goal.returns-clause-small
 returns-clause-small c =
     let store : StoreWords = c.args.self.now in
     let well : IsWellFormed store = subst IsWellFormed c.self.view_is c.self.invariant in
-    let at = at_number store well c.args.node c.requires.first (λ dense. cc (sym c.requires.pointer ∙ dense)) in
+    let at = at_number store well c.args.node c.requires.first (lemmas.not_dense _ c.requires.linked) in
     subst (λ words. All (λ link. link ≤ 2 ^ 32) words) (sym (read c))
-    (lemmas.links_small store c.args.node (c.args.node - 1) at.0 at.1 at.2 (sym at.3 ∙ c.requires.pointer) (caps_of store.shape (c.rules_decide.ensures.accepted store.shape) well.accepted))
+    (lemmas.links_small store c.args.node (c.args.node - 1) at.0 at.1 at.2 (ap ends_segment (sym at.3) ∙ c.requires.linked) (caps_of store.shape (c.rules_decide.ensures.accepted store.shape) well.accepted))
 
 pub returns-clause-filled : goal.returns-clause-filled
 returns-clause-filled c =
     let store : StoreWords = c.args.self.now in
     let well : IsWellFormed store = subst IsWellFormed c.self.view_is c.self.invariant in
-    let at = at_number store well c.args.node c.requires.first (λ dense. cc (sym c.requires.pointer ∙ dense)) in
-    ap filled_count (read c) ∙ lemmas.filled_at store c.args.node (c.args.node - 1) at.0 at.1 at.2 (sym at.3 ∙ c.requires.pointer)
+    let at = at_number store well c.args.node c.requires.first (lemmas.not_dense _ c.requires.linked) in
+    ap filled_count (read c) ∙ lemmas.filled_at store c.args.node (c.args.node - 1) at.0 at.1 at.2 (ap ends_segment (sym at.3) ∙ c.requires.linked)

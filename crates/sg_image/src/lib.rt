@@ -1,0 +1,12 @@
+//! Images of fields as plain PGM, and counts of what is active and live.
+#![tactic(auto)]
+
+pub mod counts;
+pub mod grey;
+pub mod pgm;
+
+pub use counts::stats;
+pub use pgm::image;
+
+#[cfg(test)]
+mod tests;
