@@ -54,7 +54,7 @@ default_any [] k e e' low = absurd (omega arith)
 default_any (w ∷ ws) zero e e' low = refl
 default_any (w ∷ ws) (suc k) e e' low = default_any ws k e e' (omega arith)
 
-inside_head : (shapes : List Shape) (at : Coord) (write : Write) (writes : List Write) → outside_among shapes at (write ∷ writes) ≡ None
+pub inside_head : (shapes : List Shape) (at : Coord) (write : Write) (writes : List Write) → outside_among shapes at (write ∷ writes) ≡ None
     → (is_inside_of (slice_get shapes write.layout) write.at ≡ true) × (outside_among shapes at writes ≡ None)
 inside_head shapes at write writes none = by_test (is_inside_of (slice_get shapes write.layout) write.at) refl none
   where

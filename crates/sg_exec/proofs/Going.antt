@@ -12,9 +12,12 @@ use Rattle.sg_ir.specs.declared.code.Inst.TheVariants as v
 use Rattle.sg_ir.specs.Runs.{Seen, Moved, Action, in_turn, does, runs, set_var}
 use Rattle.sg_ir.proofs.Uses.{does-If, does-For}
 use Rattle.sg_coord.specs.declared.coord.Coord.{Coord}
-use Rattle.sg_flat.specs.declared.effects.Write.{Write}
+use Rattle.sg_flat.specs.declared.state.FlatState.{FlatState}
 use Rattle.sg_store.specs.StoreWords.{StoreWords}
-use Rattle.sg_exec.specs.steps.Machines.{PlaceRow, Follows, run_turns}
+use Rattle.sg_exec.specs.declared.moment.Moment.{Moment}
+use Rattle.sg_exec.specs.steps.Machines.{seen_in}
+use Rattle.sg_exec.specs.steps.Moments.{IsMoved, Follows, Moves, run_turns}
+use Rattle.sg_exec.proofs.EarlierAccesses.{named_earlier}
 
 -- something holds of how far a run has come from where the rest leads to the whole
 pub record Going (Holds : Moved → Type 0) (rest : Action) (whole : Moved) : Type 0 where
@@ -68,16 +71,31 @@ on_ok P Q (Ok a) f h = f h
 on_ok P Q (Err e) f h = tt
 
 -- what follows how far a run has come follows the same run by an equation
-pub as_moved : {stores : List StoreWords} {at : Coord} {regs vars : List ℕ} {places : PlaceRow} {writes wants : List Write} {now next : Moved} → now ≡ next
-    → Follows stores at regs vars places writes wants now → Follows stores at regs vars places writes wants next
-as_moved {stores} {at} {regs} {vars} {places} {writes} {wants} is follows =
-    subst (λ (moved : Moved). Follows stores at regs vars places writes wants moved) is follows
+pub as_moved : {stores : List StoreWords} {at : Coord} {moment : Moment} {now next : Moved} → now ≡ next → Follows stores at moment now → Follows stores at moment next
+as_moved {stores} {at} {moment} is follows = subst (λ (moved : Moved). Follows stores at moment moved) is follows
 
--- and an instruction that is another
-pub as_inst : {stores : List StoreWords} {at : Coord} {regs vars : List ℕ} {places : PlaceRow} {writes wants : List Write} (seen : Seen) (now : Moved) (inst given : Inst) → inst ≡ given
-    → Follows stores at regs vars places writes wants (does seen given now) → Follows stores at regs vars places writes wants (does seen inst now)
-as_inst {stores} {at} {regs} {vars} {places} {writes} {wants} seen now inst given is follows =
-    subst (λ (it : Inst). Follows stores at regs vars places writes wants (does seen it now)) (sym is) follows
+-- and a moment that moved by an action moved by any that is the same
+pub moves_by : {old new : Moment} (act other : Seen → Moved → Moved) → ((seen : Seen) (now : Moved) → act seen now ≡ other seen now) → Moves act old new → Moves other old new
+moves_by act other same step = record {
+  stores = step.stores;
+  kept = step.kept;
+  follows = λ stores state at sees now follows. as_moved (same (seen_in stores state at) now) (step.follows stores state at sees now follows);
+}
+
+pub moves_inst : {old new : Moment} (inst given : Inst) → inst ≡ given → Moves (λ seen. does seen given) old new → Moves (λ seen. does seen inst) old new
+moves_inst inst given is step = moves_by (λ seen. does seen given) (λ seen. does seen inst) (λ seen now. ap (λ (it : Inst). does seen it now) (sym is)) step
+
+-- and by an instruction that does the same from where the moment was
+pub moves_there : (old new : Moment) (inst : Inst) (act : Seen → Moved → Moved)
+    → ((stores : List StoreWords) (state : FlatState) (at : Coord) (now : Moved) → IsMoved stores at old now → act (seen_in stores state at) now ≡ does (seen_in stores state at) inst now)
+    → Moves act old new → Moves (λ seen. does seen inst) old new
+moves_there old new inst act same step = record {
+  stores = step.stores;
+  kept = step.kept;
+  follows = λ stores state at sees now follows lacks named.
+      let moved = follows (step.kept lacks) (named_earlier stores (seen_in stores state at) inst now named) in
+      as_moved (same stores state at now moved) (step.follows stores state at sees now follows) lacks named;
+}
 
 -- ---- branches and inner loops
 

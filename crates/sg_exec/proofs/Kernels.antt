@@ -1,6 +1,6 @@
 -- The meaning of a kernel run, from what its steps found.
 use Rattle.std.proofs.Common.{◌≡◌, false, inl, inr, List, [], ◌∷◌, map, Option, Some, None, Result, Err, refl, sym, ap, ◌∙◌, subst}
-use Rattle.std.specs.Prelude.{filter, slice_get, Contains}
+use Rattle.std.specs.Prelude.{slice_get, Contains}
 use Rattle.std.specs.Option.{option_or}
 use Rattle.std.specs.Result.{IsOkAnd}
 use Rattle.std.specs.List.{AllZip}
@@ -20,17 +20,17 @@ use Rattle.sg_flat.specs.State.{IsFlat}
 use Rattle.sg_store.specs.StoreWords.{StoreWords}
 use Rattle.sg_store.specs.StandsFor.{StandsFor}
 use Rattle.sg_ir.specs.declared.code.KernelCode.{KernelCode}
-use Rattle.sg_ir.specs.Runs.{CodeWrite, iteration}
-use Rattle.sg_ir.specs.Apt.{may_activate, IsWantOf}
+use Rattle.sg_ir.specs.Runs.{iteration}
 use Rattle.sg_words.proofs.Uses.{contains_none, contains_cases}
 use Rattle.sg_exec.specs.Standing.{shapes_of, StandForState}
-use Rattle.sg_exec.specs.Running.{IsRunnable, located, code_turn, run_meaning, load_meaning, turn_of}
-use Rattle.sg_exec.specs.steps.Machines.{seen_in, slice_turn, AreNamedAt, AreTurnsOf}
-use Rattle.sg_exec.specs.steps.Landing.{Lands}
+use Rattle.sg_exec.specs.Running.{IsRunnable, code_turn, run_meaning, load_meaning, turn_of}
+use Rattle.sg_exec.specs.steps.Machines.{seen_in}
+use Rattle.sg_exec.specs.steps.Moments.{slice_turn, AreNamedAt}
+use Rattle.sg_exec.specs.steps.Landing.{AreTurnsOf, Lands}
 use Rattle.sg_exec.specs.steps.Wants.{acts, AreWants, reached_layouts}
 use Rattle.sg_exec.proofs.Ending.{ended, meaning_outside, meaning_full}
 use Rattle.sg_exec.proofs.Sliced.{wants_of, wants_of_turns, first_same, wants_same, of_writes}
-use Rattle.sg_exec.proofs.Located.{wanted_are, located_back, left_at_loop}
+use Rattle.sg_exec.proofs.Located.{wanted_are, located_made, left_at_loop}
 use Rattle.sg_exec.proofs.Walked.{all_flat, StandsActive, left_out, stands_inside, stands_active}
 
 -- the laws by which a kernel's slice stands for its code
@@ -98,14 +98,10 @@ module _ (laws : KernelLaws) (stores : List StoreWords) (state : FlatState) (ker
 
   -- where the slice wants nothing outside, the code's writes are at the coordinates that it has
   pub turns_are : first_outside (shapes_of stores) (map slice points) ≡ None → AreTurnsOf stores state kernel.code.body points code
-  turns_are none = λ at has writes written.
+  turns_are none = λ at has loop.
       let seen = seen_in stores state at in
-      let wants = (iteration seen kernel.slice.body).wants in
-      let inside : outside_among (shapes_of stores) at (located kernel.domain at wants (iteration seen kernel.code.body).writes) ≡ None = inside_each code (shapes_of stores) points at (sym same_first ∙ none) has in
-      sym (ap (located kernel.domain at wants) written.made_are
-      ∙ located_back kernel.domain at (shapes_of stores) wants writes
-      (subst (λ (ws : List CodeWrite). AllZip (IsWantOf (shapes_of stores)) wants (filter (may_activate kernel.domain) ws)) written.made_are (runnable.apt.wants state flat at (visited at has))) written.at_loop
-      (subst (λ (ws : List CodeWrite). outside_among (shapes_of stores) at (located kernel.domain at wants ws) ≡ None) written.made_are inside))
+      located_made kernel.domain at (shapes_of stores) (iteration seen kernel.slice.body).wants (iteration seen kernel.code.body).writes
+      (runnable.apt.wants state flat at (visited at has)) loop (inside_each code (shapes_of stores) points at (sym same_first ∙ none) has)
 
   pub kernel_outside : (fault : RunFault) → first_outside (shapes_of stores) (map slice points) ≡ Some fault → run_meaning (shapes_of stores) state kernel ≡ Err fault
   kernel_outside fault outside = sym meaning_is ∙ meaning_outside (shapes_of stores) state (map code points) fault (sym same_first ∙ outside)

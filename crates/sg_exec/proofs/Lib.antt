@@ -1,6 +1,8 @@
 pub mod Going
-pub mod Iterated
 pub mod Rows
+pub mod Digits
+pub mod Seeing
+pub mod CellsLanded
 pub mod RowsMoved
 pub mod EarlierAccesses
 pub mod PlacesHeld
@@ -12,10 +14,13 @@ pub mod OneWrite
 pub mod StoresLanded
 pub mod StoreLists
 pub mod Wanting
-pub mod Thinned
 pub mod Reaching
 pub mod Ending
 pub mod Following
+pub mod Turning
+pub mod Unwanted
+pub mod Over
+pub mod Activating
 pub mod Located
 pub mod Sliced
 pub mod Walked

@@ -1,10 +1,9 @@
 -- The writes of code, where its slice wants them.
-use Rattle.std.proofs.Common.{◌≡◌, ℕ, Bool, true, false, ◌&&◌, not, cond, inl, inr, List, [], ◌∷◌, map, Some, None, All, refl, sym, ap, ◌∙◌, subst}
+use Rattle.std.proofs.Common.{◌≡◌, ℕ, Bool, true, false, ◌&&◌, not, cond, inl, inr, List, [], ◌∷◌, map, Option, Some, None, All, refl, sym, ap, ◌∙◌, subst}
 use Rattle.std.specs.Prelude.{filter, slice_get, Contains}
 use Rattle.std.specs.List.{AllZip}
 use Rattle.std.proofs.lemmas.Bool.{cases_Bool, cond-true, cond-false, and_parts, not-false, both_ways}
 use Rattle.std.proofs.lemmas.List.Elements.{All-head, All-tail}
-use Rattle.std.proofs.lemmas.Option.{same_Some}
 use Rattle.sg_words.proofs.Uses.{contains_none, contains_cases, contains_head, contains_rest}
 use Rattle.sg_coord.specs.declared.coord.Coord.{Coord}
 use Rattle.sg_layout.specs.declared.shape.Shape.{Shape}
@@ -16,7 +15,8 @@ use Rattle.sg_flat.specs.Kernel.{is_inside_of, outside_among}
 use Rattle.sg_ir.specs.Runs.{CodeWrite, CodeWant, is_own}
 use Rattle.sg_ir.specs.Apt.{walks, may_activate, IsWantOf}
 use Rattle.sg_exec.specs.Running.{place_of, wants_left, write_at, located}
-use Rattle.sg_exec.specs.steps.Machines.{code_write, IsAtLoop, want_write}
+use Rattle.sg_exec.specs.steps.Machines.{IsAtLoop, want_write}
+use Rattle.sg_exec.specs.steps.Landing.{code_write}
 use Rattle.sg_exec.specs.steps.Wants.{bare, acts}
 
 module _ (domain : Domain) (at : Coord) where
@@ -62,16 +62,19 @@ module _ (domain : Domain) (at : Coord) where
 
     -- ---- the writes at their coordinates
 
-    at_want : (write : Write) (want : CodeWant) → IsWantOf shapes want (code_write shapes write) → is_inside_of (slice_get shapes write.layout) want.at ≡ true → want.at ≡ write.at
-    at_want write want is inside = elim is.at [
-      | inl there ↦ by_own (is_own write.way) (is_inside_of (slice_get shapes write.layout) write.at) there
+    made_at : (write : CodeWrite) (x : Coord) → write.at ≡ cond (is_own write.way) (Some x) (cond (is_inside_of (slice_get shapes write.layout) x) (Some x) None) → write ≡ code_write shapes (write_at write x)
+    made_at write x is = ap (λ (a : Option Coord). record write { at = a }) is
+
+    at_of_want : (write : CodeWrite) (want : CodeWant) → IsWantOf shapes want write → is_inside_of (slice_get shapes write.layout) want.at ≡ true
+        → write.at ≡ cond (is_own write.way) (Some want.at) (cond (is_inside_of (slice_get shapes write.layout) want.at) (Some want.at) None)
+    at_of_want write want is inside = elim is.at [
+      | inl there ↦ there ∙ sym (by_own (is_own write.way))
       | inr out ↦ absurd (both_ways (is_inside_of (slice_get shapes write.layout) want.at) (sym (ap (λ (l : ℕ). is_inside_of (slice_get shapes l) want.at) is.layout) ∙ out.0) inside)
     ]
       where
-        by_own : (own within : Bool) → cond own (Some write.at) (cond within (Some write.at) None) ≡ Some want.at → want.at ≡ write.at
-        by_own true within there = sym (same_Some write.at want.at there)
-        by_own false true there = sym (same_Some write.at want.at there)
-        by_own false false there = absurd (cc)
+        by_own : (own : Bool) → cond own (Some want.at) (cond (is_inside_of (slice_get shapes write.layout) want.at) (Some want.at) None) ≡ Some want.at
+        by_own true = refl
+        by_own false = cond-true (is_inside_of (slice_get shapes write.layout) want.at) (Some want.at) None inside
 
     first_inside : (write : Write) (writes : List Write) → outside_among shapes at (write ∷ writes) ≡ None → (is_inside_of (slice_get shapes write.layout) write.at ≡ true) × (outside_among shapes at writes ≡ None)
     first_inside write writes none = by_test (is_inside_of (slice_get shapes write.layout) write.at) refl none
@@ -81,33 +84,34 @@ module _ (domain : Domain) (at : Coord) where
         by_test true is rest = (is, rest)
         by_test false is rest = absurd (cc)
 
-    -- where none is outside, the writes are those whose code this is
-    pub located_back : (wants : List CodeWant) (writes : List Write) → Wanted wants (map (code_write shapes) writes) → All (IsAtLoop at) writes
-        → outside_among shapes at (located domain at wants (map (code_write shapes) writes)) ≡ None → located domain at wants (map (code_write shapes) writes) ≡ writes
-    located_back wants [] zip loop none = refl
-    located_back wants (write ∷ writes) zip loop none = elim (cases_Bool (acts domain write)) [
-      | inl may ↦ by_want (code_write shapes write) (map (code_write shapes) writes) refl wants (λ ws more inside. located_back ws writes more (All-tail (IsAtLoop at) write writes loop) inside)
-          (subst (λ (ws : List CodeWrite). AllZip (IsWantOf shapes) wants ws) (kept (may_activate domain) (code_write shapes write) (map (code_write shapes) writes) may) zip) may none
+    -- where none is outside, what was made is the code of the writes
+    pub located_made : (wants : List CodeWant) (made : List CodeWrite) → Wanted wants made → All (IsAtLoop at) made → outside_among shapes at (located domain at wants made) ≡ None
+        → made ≡ map (code_write shapes) (located domain at wants made)
+    located_made wants [] zip loop none = refl
+    located_made wants (write ∷ writes) zip loop none = elim (cases_Bool (may_activate domain write)) [
+      | inl may ↦ by_want wants (λ ws more inside. located_made ws writes more (All-tail (IsAtLoop at) write writes loop) inside)
+          (subst (λ (ws : List CodeWrite). AllZip (IsWantOf shapes) wants ws) (kept (may_activate domain) write writes may) zip) may none
       | inr not ↦
-          let split = step (code_write shapes write) (map (code_write shapes) writes) wants false not in
-          let rest = first_inside (write_at (code_write shapes write) at) (located domain at wants (map (code_write shapes) writes)) (sym (ap (outside_among shapes at) split) ∙ none) in
-          let here : write.at ≡ at = All-head (IsAtLoop at) write writes loop (and_parts (is_own write.way) (walks domain write.layout) (not-false (is_own write.way && walks domain write.layout) not)).0 in
-          split ∙ ap (λ (x : Coord). write_at (code_write shapes write) x ∷ located domain at wants (map (code_write shapes) writes)) (sym here)
-          ∙ ap (λ (ws : List Write). write ∷ ws) (located_back wants writes (subst (λ (ws : List CodeWrite). AllZip (IsWantOf shapes) wants ws) (dropped (may_activate domain) (code_write shapes write) (map (code_write shapes) writes) not) zip) (All-tail (IsAtLoop at) write writes loop) rest.1)
+          let split = step write writes wants false not in
+          let rest = first_inside (write_at write at) (located domain at wants writes) (sym (ap (outside_among shapes at) split) ∙ none) in
+          let own = (and_parts (is_own write.way) (walks domain write.layout) (not-false (is_own write.way && walks domain write.layout) not)).0 in
+          let here = made_at write at (All-head (IsAtLoop at) write writes loop own ∙ sym (cond-true (is_own write.way) (Some at) (cond (is_inside_of (slice_get shapes write.layout) at) (Some at) None) own)) in
+          ap (λ (w : CodeWrite). w ∷ writes) here
+          ∙ ap (λ (ws : List CodeWrite). code_write shapes (write_at write at) ∷ ws)
+          (located_made wants writes (subst (λ (ws : List CodeWrite). AllZip (IsWantOf shapes) wants ws) (dropped (may_activate domain) write writes not) zip) (All-tail (IsAtLoop at) write writes loop) rest.1)
+          ∙ sym (ap (map (code_write shapes)) split)
     ]
       where
-        by_want : (made : CodeWrite) (mades : List CodeWrite) → made ≡ code_write shapes write → (wants : List CodeWant)
-            → ((ws : List CodeWant) → AllZip (IsWantOf shapes) ws (filter (may_activate domain) mades) → outside_among shapes at (located domain at ws mades) ≡ None → located domain at ws mades ≡ writes)
-            → AllZip (IsWantOf shapes) wants (made ∷ filter (may_activate domain) mades) → may_activate domain made ≡ true → outside_among shapes at (located domain at wants (made ∷ mades)) ≡ None
-            → located domain at wants (made ∷ mades) ≡ write ∷ writes
-        by_want made mades is [] back zip may none = absurd zip
-        by_want made mades is (want ∷ wants) back zip may none =
-            let split = step made mades (want ∷ wants) true may in
-            let both = first_inside (write_at made want.at) (located domain at wants mades) (sym (ap (outside_among shapes at) split) ∙ none) in
-            let same : want.at ≡ write.at = at_want write want (subst (λ (w : CodeWrite). IsWantOf shapes want w) is zip.0) (subst (λ (w : CodeWrite). is_inside_of (slice_get shapes w.layout) want.at ≡ true) is both.0) in
-            split ∙ ap (λ (x : Coord). write_at made x ∷ located domain at wants mades) same
-            ∙ ap (λ (w : CodeWrite). write_at w write.at ∷ located domain at wants mades) is
-            ∙ ap (λ (ws : List Write). write ∷ ws) (back wants zip.1 both.1)
+        by_want : (wants : List CodeWant) → ((ws : List CodeWant) → Wanted ws writes → outside_among shapes at (located domain at ws writes) ≡ None → writes ≡ map (code_write shapes) (located domain at ws writes))
+            → AllZip (IsWantOf shapes) wants (write ∷ filter (may_activate domain) writes) → may_activate domain write ≡ true → outside_among shapes at (located domain at wants (write ∷ writes)) ≡ None
+            → write ∷ writes ≡ map (code_write shapes) (located domain at wants (write ∷ writes))
+        by_want [] back zip may none = absurd zip
+        by_want (want ∷ wants) back zip may none =
+            let split = step write writes (want ∷ wants) true may in
+            let both = first_inside (write_at write want.at) (located domain at wants writes) (sym (ap (outside_among shapes at) split) ∙ none) in
+            ap (λ (w : CodeWrite). w ∷ writes) (made_at write want.at (at_of_want write want zip.0 both.0))
+            ∙ ap (λ (ws : List CodeWrite). code_write shapes (write_at write want.at) ∷ ws) (back wants zip.1 both.1)
+            ∙ sym (ap (map (code_write shapes)) split)
 
   -- a write that may not activate is at the loop's coordinate, in the layout that it walks
   pub left_at_loop : (wants : List CodeWant) (writes : List CodeWrite) (write : Write) → Contains (located domain at wants writes) write → acts domain write ≡ false → (write.at ≡ at) × (walks domain write.layout ≡ true)

@@ -1,8 +1,8 @@
 -- Place registers, and one step down from a place.
-use Rattle.std.proofs.Common.{◌≡◌, ℕ, zero, suc, ◌-◌, ◌<◌, ◌≤◌, Bool, true, false, inl, inr, List, [], ◌∷◌, ◌++◌, length, get_or, Option, Some, None, Result, Ok, Err, refl, sym, ap, ◌∙◌, subst, arith, append_assoc}
+use Rattle.std.proofs.Common.{◌≡◌, ℕ, zero, suc, ◌+◌, ◌-◌, ◌<◌, ◌≤◌, Bool, true, false, inl, inr, List, [], ◌∷◌, ◌++◌, length, get_or, Option, Some, None, Result, Ok, Err, refl, sym, ap, ◌∙◌, subst, arith, append_assoc}
 use Rattle.std.specs.Prelude.{OnOk, OnErr, Contains, take, ◌⊎◌, IfSome, IfNone, slice_get, slice_index, option_and_then, option_map, nat_lt, if◌then◌else◌}
 use Rattle.std.proofs.Math.Seq.{take-length}
-use Rattle.std.proofs.lemmas.Bool.{both_ways, cases_eq, cond-true, cond-false, eq-eqb, ne_eqb}
+use Rattle.std.proofs.lemmas.Bool.{both_ways, cases_eq, cond-true, cond-false, eq-eqb, ne_eqb, lt-ltb}
 use Rattle.std.proofs.lemmas.Option.{same_Some}
 use Rattle.sg_coord.specs.declared.coord.Coord.{Coord}
 use Rattle.sg_coord.specs.Coord.{is_inside}
@@ -27,7 +27,7 @@ use Rattle.sg_ir.specs.Runs.{Place, put, down, add_offset, node_in, node_of}
 use Rattle.sg_words.specs.declared.memory.Memory.{Memory}
 use Rattle.sg_exec.specs.declared.held.Held.{Held}
 use Rattle.sg_exec.specs.Standing.{shapes_of}
-use Rattle.sg_exec.specs.steps.Stepping.{is_below, can_step, StepLeads, StepIsDead}
+use Rattle.sg_exec.specs.steps.Stepping.{is_below, can_step, IsIdle, StepLeads, StepIsDead}
 use Rattle.sg_exec.specs.steps.Machines.{PlaceRow, IsDead, Holds, IsHeld, AreHeld, ArePlaces}
 use Rattle.sg_exec.proofs.StoreLists.{shape_at, some_is_none}
 
@@ -64,17 +64,17 @@ held_put stores row row' to held is old new p it has = elim (cases_eq p to) [
 pub held_same : (stores : List StoreWords) (row row' : List (Option Held)) → ((p : ℕ) → get_or row' p None ≡ get_or row p None) → AreHeld stores row → AreHeld stores row'
 held_same stores row row' same old p it has = old p it (sym (same p) ∙ has)
 
-pub held_none : (stores : List StoreWords) (row : List (Option Held)) → row ≡ [] → AreHeld stores row
-held_none stores row none p it has = absurd (let h : None ≡ Some it = sym (ap (λ (r : List (Option Held)). get_or r p None) none) ∙ has in cc)
+pub held_none : (stores : List StoreWords) (row : List (Option Held)) → ((p : ℕ) → get_or row p None ≡ None) → AreHeld stores row
+held_none stores row none p it has = absurd (let h : None ≡ Some it = sym (none p) ∙ has in cc)
 
 pub held_at : (stores : List StoreWords) (row : List (Option Held)) (p : ℕ) (found : Option Held) → AreHeld stores row → found ≡ get_or row p None → IfSome found (IsHeld stores)
 held_at stores row p None are is = tt
 held_at stores row p (Some it) are is = are p it (sym is)
 
-pub no_places : (stores : List StoreWords) (row : PlaceRow) → row.stores ≡ stores → row.list ≡ [] → ArePlaces stores row (λ place. None)
+pub no_places : (stores : List StoreWords) (row : PlaceRow) → row.stores ≡ stores → ((p : ℕ) → get_or row.list p None ≡ None) → ArePlaces stores row (λ place. None)
 no_places stores row same none = record {
   same_stores = same;
-  hold = λ p. subst (λ (h : Option Held). Holds stores h None) (sym (ap (λ (r : List (Option Held)). get_or r p None) none)) tt;
+  hold = λ p. subst (λ (h : Option Held). Holds stores h None) (sym (none p)) tt;
 }
 
 -- ---- checks
@@ -127,18 +127,23 @@ has_cell store laws flat stands at has none = some_is_none (cell_in store at) (b
 
 -- past the last node there is no slot, nor past the size of a node
 pub dead_past : (store : StoreWords) → StepLaws store → (spot : Spot) (node : ℕ) (path : List ℕ) (offset : ℕ) → length store.shape.nodes ≤ spot.node → LeadsAlong store spot path → StepIsDead store node path offset
-dead_past store laws spot node path offset past leads = λ can flat stands at more is active.
+dead_past store laws spot node path offset past leads = λ can at more is.
     absurd (let has = slot_has store.shape.nodes path offset more (subst (IsSlot store.shape.nodes) is (is_slot_of store laws at)) in omega (arith, has.0, past, leads.node))
 
 pub dead_size : (store : StoreWords) → StepLaws store → (spot : Spot) (node : ℕ) (path : List ℕ) (offset : ℕ) → slice_index (sizes_of store.shape.nodes) spot.node ≤ offset → LeadsAlong store spot path → StepIsDead store node path offset
-dead_size store laws spot node path offset past leads = λ can flat stands at more is active.
+dead_size store laws spot node path offset past leads = λ can at more is.
     let has = slot_has store.shape.nodes path offset more (subst (IsSlot store.shape.nodes) is (is_slot_of store laws at)) in
     let same : slice_index (sizes_of store.shape.nodes) spot.node ≡ slice_index (sizes_of store.shape.nodes) (length path) = ap (slice_index (sizes_of store.shape.nodes)) leads.node in
     absurd (omega (arith, has.1, past, same))
 
 pub dead_along : (store : StoreWords) → StepLaws store → (node : ℕ) (path : List ℕ) (offset : ℕ) → cell_along store (path ++ offset ∷ []) ≡ None → StepIsDead store node path offset
-dead_along store laws node path offset none = λ can flat stands at more is active.
-    has_cell store laws flat stands at active (ap (cell_along store) is ∙ along_none store.shape.nodes store.nodes 0 (path ++ offset ∷ []) more none)
+dead_along store laws node path offset none = λ can at more is.
+    let nowhere : cell_along store (offsets store.shape.nodes at) ≡ None = ap (cell_along store) is ∙ along_none store.shape.nodes store.nodes 0 (path ++ offset ∷ []) more none in
+    record { cell = by_test at nowhere (is_inside (bounds_of_shape store.shape) at); idle = λ flat stands active. has_cell store laws flat stands at active nowhere }
+  where
+    by_test : (at : Coord) → cell_along store (offsets store.shape.nodes at) ≡ None → (b : Bool) → (if b then cell_along store (offsets store.shape.nodes at) else None) ≡ None
+    by_test at nowhere true = nowhere
+    by_test at nowhere false = refl
 
 pub dead_under : (store : StoreWords) → StepLaws store → (spot : Spot) (node : ℕ) (path : List ℕ) (offset : ℕ) → LeadsAlong store spot path
     → (slice_index (sizes_of store.shape.nodes) spot.node ≤ offset) ⊎ (cell_along store (path ++ offset ∷ []) ≡ None) → StepIsDead store node path offset
@@ -148,7 +153,7 @@ dead_under store laws spot node path offset leads found = elim found [
 ]
 
 pub dead_refused : (store : StoreWords) (node : ℕ) (path : List ℕ) (offset : ℕ) → can_step store.shape.nodes node offset ≡ false → StepIsDead store node path offset
-dead_refused store node path offset refused = λ can flat stands at more is active. both_ways (can_step store.shape.nodes node offset) refused can
+dead_refused store node path offset refused = λ can at more is. absurd (both_ways (can_step store.shape.nodes node offset) refused can)
 
 -- a step that can't be taken leads to no place
 step_place : (nodes : List NodeShape) (node : ℕ) (layout : ℕ) (path : List ℕ) (offset : ℕ) → can_step nodes node offset ≡ true → add_offset offset (record { layout = layout; path = path }) (node_in nodes node) ≡ Some (record { layout = layout; path = path ++ offset ∷ [] })
@@ -190,9 +195,9 @@ holds_step stores held store below place node offset there h some none = by_belo
     dead : StepIsDead store node h.path offset → (can : Bool) → can_step store.shape.nodes node offset ≡ can → IsDead stores (down (shapes_of stores) node offset place)
     dead step true can =
         subst (IsDead stores) (sym (is_down ∙ step_place store.shape.nodes node held.layout h.path offset can))
-        (λ other is flat stands at more along active.
+        (λ other is at more along.
         let one : other ≡ store = same_Some other store (sym is ∙ there) in
-        step can flat (subst (λ (s : StoreWords). StandsFor s flat) one stands) at more (sym (ap (λ (s : StoreWords). offsets s.shape.nodes at) one) ∙ along) active)
+        subst (λ (s : StoreWords). IsIdle s at) (sym one) (step can at more (sym (ap (λ (s : StoreWords). offsets s.shape.nodes at) one) ∙ along)))
     dead step false can = subst (IsDead stores) (sym (is_down ∙ no_step_place store.shape.nodes node (record { layout = held.layout; path = h.path }) offset can)) tt
 
     by_below : (below : Option Spot) → IfSome below (λ spot. (path : List ℕ) → LeadsAlong store held.spot path → StepLeads store spot node path offset)
@@ -215,7 +220,7 @@ dead_on stores there node offset dead None = tt
 dead_on stores there node offset dead (Some n) = by_test (nat_lt offset (size_of n.sizes))
   where
     by_test : (b : Bool) → IsDead stores (if b then Some (record { layout = there.layout; path = there.path ++ offset ∷ [] }) else None)
-    by_test true = λ store is flat stands at more along. dead store is flat stands at (offset ∷ more) (along ∙ append_assoc there.path (offset ∷ []) more)
+    by_test true = λ store is at more along. dead store is at (offset ∷ more) (along ∙ append_assoc there.path (offset ∷ []) more)
     by_test false = tt
 
 pub holds_none : (stores : List StoreWords) (place : Option Place) (node offset : ℕ) → Holds stores None place → Holds stores None (down (shapes_of stores) node offset place)
@@ -282,3 +287,31 @@ pub under_none : (store : StoreWords) → StepLaws store → (spot : Spot) (node
     → IfNone below ((path : List ℕ) → LeadsAlong store spot path → StepIsDead store node path offset)
 under_none store laws spot node offset None none = λ path leads. dead_under store laws spot node path offset leads (none path leads)
 under_none store laws spot node offset (Some under) none = tt
+
+-- a spot one node below shows that its offset is below the node's size
+pub step_of_next : (store : StoreWords) (spot under : Spot) (node : ℕ) (path : List ℕ) (offset : ℕ) → spot.node + 1 ≡ node → spot.node < length store.shape.nodes → LeadsAlong store spot path → LeadsAlong store under (path ++ offset ∷ [])
+    → can_step store.shape.nodes node offset ≡ true
+step_of_next store spot under node path offset next below leads there =
+    subst (λ (n : ℕ). can_step store.shape.nodes n offset ≡ true) (sym add_one_is ∙ next)
+    (sym (below_at store.shape.nodes spot.node offset below) ∙ lt-ltb offset (slice_index (sizes_of store.shape.nodes) spot.node) small)
+  where
+    add_one_is : spot.node + 1 ≡ suc spot.node
+    add_one_is = omega arith
+
+    few : (nodes : List NodeShape) (k : ℕ) (front : List ℕ) → length front ≡ length front → IsSlot (take k nodes) (front ++ offset ∷ []) → offset < slice_index (sizes_of nodes) (length front)
+    few nodes zero [] same is = absurd is
+    few nodes zero (first ∷ front) same is = absurd is
+    few [] (suc k) [] same is = absurd is
+    few [] (suc k) (first ∷ front) same is = absurd is
+    few (node ∷ nodes) (suc k) [] same is = is.0
+    few (node ∷ nodes) (suc k) (first ∷ front) same is = few nodes k front refl is.1
+
+    small : offset < slice_index (sizes_of store.shape.nodes) spot.node
+    small = subst (λ (k : ℕ). offset < slice_index (sizes_of store.shape.nodes) k) (sym leads.node) (few store.shape.nodes under.node path refl there.is_slot)
+
+pub under_next : (store : StoreWords) (spot : Spot) (node offset : ℕ) (below : Option Spot) → spot.node + 1 ≡ node → spot.node < length store.shape.nodes
+    → IfSome below (λ under. (path : List ℕ) → LeadsAlong store spot path → LeadsAlong store under (path ++ offset ∷ []))
+    → IfSome below (λ under. (path : List ℕ) → LeadsAlong store spot path → StepLeads store under node path offset)
+under_next store spot node offset None next low some = tt
+under_next store spot node offset (Some under) next low some = λ path leads.
+    record { can = step_of_next store spot under node path offset next low leads (some path leads); leads = some path leads }

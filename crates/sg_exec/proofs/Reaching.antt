@@ -26,7 +26,7 @@ use Rattle.sg_exec.proofs.StoreLists.{flat_at}
 abbrev made_reached : List Coord → List (List (ℕ × ℕ)) → FlatLayout
 made_reached active fields = record { active = active; fields = fields }
 
-there : {A : Type 0} (xs : List A) (i : ℕ) → i < length xs → (x : A) × (slice_get xs i ≡ Some x)
+pub there : {A : Type 0} (xs : List A) (i : ℕ) → i < length xs → (x : A) × (slice_get xs i ≡ Some x)
 there [] i below = absurd (omega arith)
 there (x ∷ xs) zero below = (x, refl)
 there (x ∷ xs) (suc i) below = there xs i (omega arith)

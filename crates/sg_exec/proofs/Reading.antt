@@ -1,6 +1,6 @@
 -- Reads, writes and wants of the executor.
 use Rattle.std.proofs.Common.{◌≡◌, ℕ, zero, suc, ◌<◌, ◌≤◌, arith, Bool, true, false, ◌&&◌, ◌==◌, if◌then◌else◌, find, List, [], ◌∷◌, ◌++◌, map, length, reverse, get_or, Option, Some, None, refl, sym, ap, ◌∙◌, subst}
-use Rattle.std.specs.Prelude.{option_map, slice_get, Contains}
+use Rattle.std.specs.Prelude.{option_map, option_and_then, slice_get, IfSome}
 use Rattle.std.specs.List.{AllZip}
 use Rattle.std.proofs.lemmas.Bool.{cond-true}
 use Rattle.std.proofs.lemmas.List.{map-append, reverse-append, append-nil}
@@ -13,9 +13,6 @@ use Rattle.sg_layout.specs.declared.shape.Shape.{Shape}
 use Rattle.sg_layout.specs.Axes.{bounds_of_shape}
 use Rattle.sg_layout.specs.Path.{offsets}
 use Rattle.sg_layout.specs.Slots.{coordinate_of}
-use Rattle.sg_words.specs.declared.operators.AccOp.{AccOp}
-use Rattle.sg_flat.specs.declared.effects.Way.TheVariants.{Acc}
-use Rattle.sg_flat.specs.declared.effects.Write.{Write}
 use Rattle.sg_flat.specs.declared.state.FlatLayout.{FlatLayout}
 use Rattle.sg_flat.specs.declared.state.FlatState.{FlatState}
 use Rattle.sg_flat.specs.State.{value_at, value_of}
@@ -23,18 +20,18 @@ use Rattle.sg_flat.specs.Kernel.{is_inside_of}
 use Rattle.sg_store.specs.StoreWords.{StoreWords}
 use Rattle.sg_store.specs.StandsFor.{StandsFor}
 use Rattle.sg_store.specs.Spots.{LeadsAlong}
+use Rattle.sg_store.specs.Walks.{cell_in}
+use Rattle.sg_store.specs.WellFormed.{IsReached}
 use Rattle.sg_ir.specs.Runs as ir
-use Rattle.sg_ir.specs.Runs.{Place, Moved, CodeWrite, Access, is_own, set_reg, add_write, add_access, at_of, cell_value, coord_of, named_by}
+use Rattle.sg_ir.specs.Runs.{Place, CodeWrite, is_own, at_of, cell_value, coord_of}
 use Rattle.sg_ir.specs.Places.{place_in, place_at}
-use Rattle.sg_ir.specs.Named.{AreNamed, IsNamedAccess}
 use Rattle.sg_ir.specs.Laws.{PlaceHasCoordinate}
 use Rattle.sg_exec.specs.declared.held.Held.{Held}
-use Rattle.sg_exec.specs.declared.moment.Moment.{Moment}
+use Rattle.sg_exec.specs.declared.cell_write.CellWrite.{CellWrite}
 use Rattle.sg_exec.specs.Standing.{shapes_of}
-use Rattle.sg_exec.specs.steps.Written.{own_write}
-use Rattle.sg_exec.specs.steps.Machines.{PlaceRow, seen_in, coord_from, IsDead, LeadsTo, IsAtLoop, IsMoved, code_write}
+use Rattle.sg_exec.specs.steps.Written.{own_write, last_or}
+use Rattle.sg_exec.specs.steps.Machines.{seen_in, Sees, coord_from, IsDead, LeadsTo, cell_there, IsCellOf, cell_write}
 use Rattle.sg_exec.proofs.StoreLists.{flat_at, shape_at, no_shape_at, value_there, idle_zero}
-use Rattle.sg_exec.proofs.RowsMoved.{Is, Fs, named_before, written_more}
 
 -- ---- the last own write
 
@@ -54,24 +51,50 @@ module _ {X Y : Type 0} (f : X → Y) where
       at_head false rest = rest
 
 -- what the last own write gives, or else another value
-own_told : (shapes : List Shape) (layout field : ℕ) (writes : List Write) → ir.own_write layout field (map (code_write shapes) writes) ≡ option_map (code_write shapes) (own_write layout field writes)
-own_told shapes layout field writes =
-    ap (find (λ (write : CodeWrite). is_own write.way && ((write.layout == layout) && (write.field == field)))) (sym (reversed_map (code_write shapes) writes))
-    ∙ find_map (code_write shapes) (λ (write : CodeWrite). is_own write.way && ((write.layout == layout) && (write.field == field))) (reverse writes)
+own_told : (stores : List StoreWords) (layout field : ℕ) (made : List CodeWrite) → own_write layout field (map (cell_write stores) made) ≡ option_map (cell_write stores) (ir.own_write layout field made)
+own_told stores layout field made =
+    ap (find (λ (write : CellWrite). is_own write.way && ((write.layout == layout) && (write.place == field)))) (sym (reversed_map (cell_write stores) made))
+    ∙ find_map (cell_write stores) (λ (write : CellWrite). is_own write.way && ((write.layout == layout) && (write.place == field))) (reverse made)
 
-pub own_some : (shapes : List Shape) (layout field value : ℕ) (writes : List Write) (made : List CodeWrite) (write : Write) → made ≡ map (code_write shapes) writes → own_write layout field writes ≡ Some write
-    → write.value ≡ ir.value_or_own (ir.own_write layout field made) value
-own_some shapes layout field value writes made write is found =
-    sym (ap (λ (ws : List CodeWrite). ir.value_or_own (ir.own_write layout field ws) value) is
-    ∙ ap (λ (o : Option CodeWrite). ir.value_or_own o value) (own_told shapes layout field writes)
-    ∙ ap (λ (o : Option Write). ir.value_or_own (option_map (code_write shapes) o) value) found)
+told : (stores : List StoreWords) (found : Option CodeWrite) (value : ℕ) → last_or (option_map (cell_write stores) found) value ≡ ir.value_or_own found value
+told stores None value = refl
+told stores (Some write) value = refl
 
-pub own_none : (shapes : List Shape) (layout field value : ℕ) (writes : List Write) (made : List CodeWrite) → made ≡ map (code_write shapes) writes → own_write layout field writes ≡ None
-    → value ≡ ir.value_or_own (ir.own_write layout field made) value
-own_none shapes layout field value writes made is found =
-    sym (ap (λ (ws : List CodeWrite). ir.value_or_own (ir.own_write layout field ws) value) is
-    ∙ ap (λ (o : Option CodeWrite). ir.value_or_own o value) (own_told shapes layout field writes)
-    ∙ ap (λ (o : Option Write). ir.value_or_own (option_map (code_write shapes) o) value) found)
+-- the value of an own read
+pub own_value_is : (stores : List StoreWords) (state : FlatState) (at here : Coord) (sees : Sees stores state) (layout field word : ℕ) (writes : List CellWrite) (made : List CodeWrite) → here ≡ at → writes ≡ map (cell_write stores) made
+    → word ≡ last_or (own_write layout field writes) (value_of (shapes_of stores) sees.standing layout field here)
+    → word ≡ ir.value_or_own (ir.own_write layout field made) (value_of (shapes_of stores) state layout field at)
+own_value_is stores state at here sees layout field word writes made same is value =
+    value ∙ ap (λ (x : Coord). last_or (own_write layout field writes) (value_of (shapes_of stores) sees.standing layout field x)) same
+    ∙ ap (last_or (own_write layout field writes)) (sees.same_values layout field at)
+    ∙ ap (λ (ws : List CellWrite). last_or (own_write layout field ws) (value_of (shapes_of stores) state layout field at)) is
+    ∙ ap (λ (o : Option CellWrite). last_or o (value_of (shapes_of stores) state layout field at)) (own_told stores layout field made)
+    ∙ told stores (ir.own_write layout field made) (value_of (shapes_of stores) state layout field at)
+
+-- ---- cells
+
+pub cell_at_store : (stores : List StoreWords) (layout : ℕ) (store : StoreWords) (at : Coord) → slice_get stores layout ≡ Some store → cell_there stores layout (Some at) ≡ cell_in store at
+cell_at_store stores layout store at is = ap (λ (found : Option StoreWords). option_and_then (λ (s : StoreWords). cell_in s at) found) is
+
+pub cell_nowhere : (stores : List StoreWords) (layout : ℕ) (at : Coord) → slice_get stores layout ≡ None → cell_there stores layout (Some at) ≡ None
+cell_nowhere stores layout at is = ap (λ (found : Option StoreWords). option_and_then (λ (s : StoreWords). cell_in s at) found) is
+
+-- the cell of a layout's store, as it was got
+pub reached_of : (stores : List StoreWords) (layout : ℕ) (store : StoreWords) (cell : Option ℕ) → slice_get stores layout ≡ Some store → IfSome cell (IsReached store) → IfSome cell (IsCellOf stores layout)
+reached_of stores layout store None is reached = tt
+reached_of stores layout store (Some cell) is reached = record { store = store; there = is; reached = reached }
+
+pub reached_in : (stores : List StoreWords) (layout : ℕ) (store : StoreWords) (cell : Option ℕ) → slice_get stores layout ≡ Some store → IfSome cell (IsCellOf stores layout) → IfSome cell (IsReached store)
+reached_in stores layout store None is of = tt
+reached_in stores layout store (Some cell) is of = subst (λ (s : StoreWords). IsReached s cell) (same_Some of.store store (sym of.there ∙ is)) of.reached
+
+-- the value in the cell of a coordinate
+pub value_of_cell : (stores : List StoreWords) (state : FlatState) (layout place : ℕ) (at : Coord) (store : StoreWords) (cell : Option ℕ) (word : ℕ) → AllZip StandsFor stores state.layouts → slice_get stores layout ≡ Some store
+    → cell_there stores layout (Some at) ≡ cell → ((flat : FlatLayout) → StandsFor store flat → (x : Coord) → cell_in store x ≡ cell → word ≡ value_at store.shape flat place x)
+    → word ≡ value_of (shapes_of stores) state layout place at
+value_of_cell stores state layout place at store cell word all is has value =
+    let stood = flat_at stores state.layouts layout store all is in
+    value stood.0 stood.2 at (sym (cell_at_store stores layout store at is) ∙ has) ∙ sym (value_there stores state layout place at store stood.0 is stood.1)
 
 -- ---- values at places
 
@@ -101,6 +124,12 @@ place_found stores layout at place is = by_store (slice_get stores layout) refl
     by_store None none = absurd (let h : Some place ≡ None = is ∙ ap (place_in layout at) (no_shape_at stores layout none) in cc)
     by_store (Some store) there = by_test store there (is_inside (bounds_of_shape store.shape) at) refl (is ∙ ap (place_in layout at) (shape_at stores layout store there))
 
+told_at : (stores : List StoreWords) (layout : ℕ) (at : Coord) (place : Place) (found : IsPlaceIn stores layout at place) → PlaceHasCoordinate (shapes_of stores) layout at → Some place ≡ place_at (shapes_of stores) layout at
+    → at_of (shapes_of stores) (Some place) ≡ Some at
+told_at stores layout at place found has is =
+    ap (at_of (shapes_of stores)) is ∙ has ∙ ap (λ (s : Option Shape). if is_inside_of s at then Some at else None) (shape_at stores layout found.store found.there)
+    ∙ cond-true (is_inside (bounds_of_shape found.store.shape) at) (Some at) None found.inside
+
 -- a register that holds none: nothing is active there, so the value is 0
 pub value_dead : (stores : List StoreWords) (state : FlatState) (loop : Coord) (layout field : ℕ) (at : Coord) (place : Option Place) → AllZip StandsFor stores state.layouts → InsideTest → PointOfRow
     → PlaceHasCoordinate (shapes_of stores) layout at → IsDead stores place → place ≡ place_at (shapes_of stores) layout at
@@ -112,11 +141,8 @@ value_dead stores state loop layout field at (Some place) all test point_of_row 
     let stood = flat_at stores state.layouts layout store all found.there in
     let flat = stood.0 in
     let here : slice_get stores place.layout ≡ Some store = ap (slice_get stores) found.same_layout ∙ found.there in
-    let idle : Contains flat.active at → ⊥ = dead store here flat stood.2 at [] (sym found.path ∙ sym (append-nil place.path)) in
-    let told : at_of (shapes_of stores) (Some place) ≡ Some at =
-    ap (at_of (shapes_of stores)) is ∙ has ∙ ap (λ (s : Option Shape). if is_inside_of s at then Some at else None) (shape_at stores layout store found.there)
-    ∙ cond-true (is_inside (bounds_of_shape store.shape) at) (Some at) None found.inside in
-    sym (ap (cell_value (seen_in stores state loop) layout field) told ∙ value_there stores state layout field at store flat found.there stood.1
+    let idle = (dead store here at [] (sym found.path ∙ sym (append-nil place.path))).idle flat stood.2 in
+    sym (ap (cell_value (seen_in stores state loop) layout field) (told_at stores layout at place found has is) ∙ value_there stores state layout field at store flat found.there stood.1
     ∙ idle_zero store.shape flat field at test point_of_row stood.2.is_flat idle)
 
 -- a register that holds a spot: the value in its store
@@ -139,28 +165,6 @@ value_live stores state loop layout field at place held store word all leads the
     ∙ sym (ap (cell_value (seen_in stores state loop) layout field) told
     ∙ ap (λ (l : ℕ). value_of (shapes_of stores) state l field (coordinate_of store.shape leads.path)) (sym found.same_layout)
     ∙ value_there stores state held.layout field (coordinate_of store.shape leads.path) store stood.0 there stood.1)
-
--- ---- a read, as a run goes on
-
--- one access more changes no row
-seen_access : (stores : List StoreWords) (at : Coord) (moment : Moment) (access : Access) (now : Moved) → Is stores at moment now → Is stores at moment (add_access access now)
-seen_access stores at moment access now old = record {
-  regs_are = old.regs_are;
-  vars_are = old.vars_are;
-  places_are = old.places_are;
-  writes_are = old.writes_are;
-  wants_are = old.wants_are;
-}
-
-pub read_done : (stores : List StoreWords) (at : Coord) (old new : Moment) (to word value : ℕ) (access : Access) (now after : Moved) → after ≡ set_reg to value (add_access access now)
-    → (Is stores at old now → IsNamedAccess (shapes_of stores) access → word ≡ value)
-    → (Fs stores at old (add_access access now) → Fs stores at new (set_reg to word (add_access access now))) → Fs stores at old now → Fs stores at new after
-read_done stores at old new to word value access now after is same step follows =
-    subst (λ (m : Moved). Fs stores at new m) (sym is)
-    (λ named.
-    let both = named_before stores now.accesses access named in
-    subst (λ (w : ℕ). Is stores at new (set_reg to w (add_access access now))) (same (follows both.0) both.1)
-    (step (λ all. seen_access stores at old access now (follows both.0)) named))
 
 -- ---- coordinates of index registers
 
@@ -187,33 +191,38 @@ part_none f [] axis past = refl
 part_none f (first ∷ index) zero past = absurd (omega (arith, past))
 part_none f (first ∷ index) (suc axis) past = part_none f index axis (omega (arith, past))
 
--- ---- a contribution
+-- ---- the cell of a contribution
 
-abbrev acc_write : AccOp → ℕ → ℕ → ℕ → Coord → ℕ → Write
-acc_write op layout field stmt at value = record { layout = layout; place = field; stmt = stmt; at = at; way = Acc op; value = value }
+-- a register that holds none: the coordinate has no cell
+pub cell_dead : (stores : List StoreWords) (layout : ℕ) (at : Coord) (place : Option Place) → PlaceHasCoordinate (shapes_of stores) layout at → IsDead stores place
+    → place ≡ place_at (shapes_of stores) layout at → None ≡ cell_there stores layout (at_of (shapes_of stores) place)
+cell_dead stores layout at None has dead is = refl
+cell_dead stores layout at (Some place) has dead is =
+    let found = place_found stores layout at place is in
+    let here : slice_get stores place.layout ≡ Some found.store = ap (slice_get stores) found.same_layout ∙ found.there in
+    sym (ap (cell_there stores layout) (told_at stores layout at place found has is) ∙ cell_at_store stores layout found.store at found.there
+    ∙ (dead found.store here at [] (sym found.path ∙ sym (append-nil place.path))).cell)
 
-abbrev acc_made : AccOp → ℕ → ℕ → ℕ → Option Coord → ℕ → CodeWrite
-acc_made op layout field stmt at value = record { layout = layout; field = field; stmt = stmt; at = at; way = Acc op; value = value }
+-- a register that holds a spot: the spot's cell
+pub cell_live : (stores : List StoreWords) (layout : ℕ) (at : Coord) (place : Option Place) (held : Held) (store : StoreWords) (cell : Option ℕ)
+    → LeadsTo stores held place → slice_get stores held.layout ≡ Some store → place ≡ place_at (shapes_of stores) layout at
+    → (held.layout ≡ layout → (s : StoreWords) → slice_get stores layout ≡ Some s → (path : List ℕ) → LeadsAlong s held.spot path → length path ≡ length s.shape.nodes → cell_in s (coordinate_of s.shape path) ≡ cell)
+    → cell ≡ cell_there stores layout (at_of (shapes_of stores) place)
+cell_live stores layout at place held store cell leads there is value =
+    let mine : Place = record { layout = held.layout; path = leads.path } in
+    let found = place_found stores layout at mine (sym leads.is_place ∙ is) in
+    let one : leads.store ≡ store = same_Some leads.store store (sym leads.there ∙ there) in
+    let two : found.store ≡ store = same_Some found.store store (sym found.there ∙ ap (slice_get stores) (sym found.same_layout) ∙ there) in
+    let whole : length leads.path ≡ length store.shape.nodes =
+    ap length found.path ∙ offsets_length found.store.shape.nodes at ∙ ap (λ (s : StoreWords). length s.shape.nodes) two in
+    let along : LeadsAlong store held.spot leads.path = subst (λ (s : StoreWords). LeadsAlong s held.spot leads.path) one leads.leads in
+    let here : slice_get stores layout ≡ Some store = ap (slice_get stores) (sym found.same_layout) ∙ there in
+    let told_it : at_of (shapes_of stores) place ≡ Some (coordinate_of store.shape leads.path) =
+    ap (at_of (shapes_of stores)) leads.is_place ∙ ap (option_map (λ (shape : Shape). coordinate_of shape leads.path)) (shape_at stores held.layout store there) in
+    sym (ap (cell_there stores layout) told_it ∙ cell_at_store stores layout store (coordinate_of store.shape leads.path) here ∙ value found.same_layout store here leads.path along whole)
 
--- a named contribution is the code of the write at its coordinate
-pub acc_is : (shapes : List Shape) (op : AccOp) (layout field stmt : ℕ) (place : Option Place) (x at : Coord) (value word : ℕ) → place ≡ place_at shapes layout x → PlaceHasCoordinate shapes layout x → at ≡ x → value ≡ word
-    → acc_made op layout field stmt (at_of shapes place) word ≡ code_write shapes (acc_write op layout field stmt at value)
-acc_is shapes op layout field stmt place x at value word named has same is =
-    ap (λ (a : Option Coord). acc_made op layout field stmt a word) (ap (at_of shapes) named ∙ has)
-    ∙ ap (λ (y : Coord). code_write shapes (acc_write op layout field stmt y word)) (sym same)
-    ∙ ap (λ (v : ℕ). code_write shapes (acc_write op layout field stmt at v)) (sym is)
-
-pub contribute_done : (stores : List StoreWords) (at : Coord) (regs vars : List ℕ) (places : PlaceRow) (writes writes' wants : List Write) (write : Write) (made : CodeWrite) (access : Access) (now after : Moved)
-    → writes' ≡ writes ++ write ∷ [] → after ≡ add_write made (add_access access now) → (IsMoved stores at regs vars places writes wants now → IsNamedAccess (shapes_of stores) access → made ≡ code_write (shapes_of stores) write) → IsAtLoop at write
-    → (AreNamed (shapes_of stores) now.accesses → IsMoved stores at regs vars places writes wants now) → AreNamed (shapes_of stores) after.accesses → IsMoved stores at regs vars places writes' wants after
-contribute_done stores at regs vars places writes writes' wants write made access now after grew is same loop follows =
-    subst (λ (m : Moved). AreNamed (shapes_of stores) m.accesses → IsMoved stores at regs vars places writes' wants m) (sym is)
-    (λ named.
-    let both = named_before stores now.accesses access named in
-    let old = follows both.0 in record {
-      regs_are = old.regs_are;
-      vars_are = old.vars_are;
-      places_are = old.places_are;
-      writes_are = written_more (shapes_of stores) at writes writes' now.writes write made grew (same old both.1) loop old.writes_are;
-      wants_are = old.wants_are;
-    })
+-- the value of a place, where the stores have the state's values
+pub cell_value_seen : (stores : List StoreWords) (state : FlatState) (loop : Coord) (sees : Sees stores state) (layout field : ℕ) (at : Option Coord)
+    → cell_value (seen_in stores sees.standing loop) layout field at ≡ cell_value (seen_in stores state loop) layout field at
+cell_value_seen stores state loop sees layout field None = refl
+cell_value_seen stores state loop sees layout field (Some at) = sees.same_values layout field at

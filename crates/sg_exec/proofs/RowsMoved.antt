@@ -3,110 +3,45 @@ use Rattle.std.proofs.Common.{◌≡◌, ℕ, List, [], ◌++◌, ◌∷◌, map
 use Rattle.std.proofs.lemmas.List.{map-append}
 use Rattle.std.proofs.lemmas.List.Elements.{All-append, All-cons, All-nil, All-head, All-tail}
 use Rattle.sg_coord.specs.declared.coord.Coord.{Coord}
-use Rattle.sg_layout.specs.declared.shape.Shape.{Shape}
+use Rattle.sg_flat.specs.declared.state.FlatState.{FlatState}
 use Rattle.sg_flat.specs.declared.effects.Write.{Write}
 use Rattle.sg_store.specs.StoreWords.{StoreWords}
-use Rattle.sg_ir.specs.Runs.{Seen, Place, Moved, CodeWrite, CodeWant, Access, put, set_reg, set_place, set_var, add_write, add_want, part_words, iteration_start}
+use Rattle.sg_ir.specs.Runs.{Seen, Moved, CodeWrite, CodeWant, Access, Place, put, set_reg, set_var, add_access, add_write}
 use Rattle.sg_ir.specs.Named.{IsNamedAccess, AreNamed}
+use Rattle.sg_exec.specs.declared.cell_write.CellWrite.{CellWrite}
+use Rattle.sg_exec.specs.declared.held.Held.{Held}
 use Rattle.sg_exec.specs.declared.moment.Moment.{Moment}
 use Rattle.sg_exec.specs.Standing.{shapes_of}
-use Rattle.sg_exec.specs.steps.Machines.{PlaceRow, ArePlaces, AreWords, AreWritten, IsAtLoop, IsMoved, code_write, want_write}
+use Rattle.sg_exec.specs.steps.Machines.{seen_in, Sees, PlaceRow, ArePlaces, Holds, AreWords, cell_write, IsAtLoop, want_write}
+use Rattle.sg_exec.specs.steps.Moments.{IsMoved, Follows, Moves}
 use Rattle.sg_exec.proofs.Rows.{put_as}
-
--- the moment's rows are those of how far a run has come
-abbrev pub Is : List StoreWords → Coord → Moment → Moved → Type 0
-Is stores at moment now = IsMoved stores at moment.regs.items moment.vars.items moment.places moment.writes moment.wants.items now
-
--- the same where all was named so far
-abbrev pub Fs : List StoreWords → Coord → Moment → Moved → Type 0
-Fs stores at moment now = AreNamed (shapes_of stores) now.accesses → Is stores at moment now
 
 -- ---- words
 
-words_put : (row row' : List ℕ) (words : ℕ → ℕ) (to word : ℕ) → ((number : ℕ) → get_or row' number 0 ≡ put to word (λ other. get_or row other 0) number) → AreWords row words → AreWords row' (put to word words)
+pub words_put : (row row' : List ℕ) (words : ℕ → ℕ) (to word : ℕ) → ((number : ℕ) → get_or row' number 0 ≡ put to word (λ other. get_or row other 0) number) → AreWords row words → AreWords row' (put to word words)
 words_put row row' words to word is are number = is number ∙ put_as to word (λ other. get_or row other 0) words are number
 
-pub reg_put : (stores : List StoreWords) (at : Coord) (regs regs' vars : List ℕ) (places : PlaceRow) (writes wants : List Write) (to word : ℕ) (now : Moved)
-    → ((number : ℕ) → get_or regs' number 0 ≡ put to word (λ other. get_or regs other 0) number) → IsMoved stores at regs vars places writes wants now → IsMoved stores at regs' vars places writes wants (set_reg to word now)
-reg_put stores at regs regs' vars places writes wants to word now is old = record {
-  regs_are = words_put regs regs' now.regs to word is old.regs_are;
-  vars_are = old.vars_are;
-  places_are = old.places_are;
-  writes_are = old.writes_are;
-  wants_are = old.wants_are;
+pub reg_done : (old new : Moment) (to word : ℕ) (value : Seen → Moved → ℕ) (act : Seen → Moved → Moved) → ((seen : Seen) (now : Moved) → act seen now ≡ set_reg to (value seen now) now)
+    → ((stores : List StoreWords) (state : FlatState) (at : Coord) (now : Moved) → Sees stores state → IsMoved stores at old now → word ≡ value (seen_in stores state at) now)
+    → Moves (λ seen. set_reg to word) old new → Moves act old new
+reg_done old new to word value act is same step = record {
+  stores = step.stores;
+  kept = step.kept;
+  follows = λ stores state at sees now follows.
+      subst (λ (m : Moved). Follows stores at new m) (sym (is (seen_in stores state at) now))
+      (λ lacks named. subst (λ (w : ℕ). IsMoved stores at new (set_reg to w now)) (same stores state at now sees (follows (step.kept lacks) named)) (step.follows stores state at sees now follows lacks named));
 }
 
-pub var_put : (stores : List StoreWords) (at : Coord) (regs vars vars' : List ℕ) (places : PlaceRow) (writes wants : List Write) (to word : ℕ) (now : Moved)
-    → ((number : ℕ) → get_or vars' number 0 ≡ put to word (λ other. get_or vars other 0) number) → IsMoved stores at regs vars places writes wants now → IsMoved stores at regs vars' places writes wants (set_var to word now)
-var_put stores at regs vars vars' places writes wants to word now is old = record {
-  regs_are = old.regs_are;
-  vars_are = words_put vars vars' now.vars to word is old.vars_are;
-  places_are = old.places_are;
-  writes_are = old.writes_are;
-  wants_are = old.wants_are;
+pub var_done : (old new : Moment) (to word : ℕ) (value : Seen → Moved → ℕ) (act : Seen → Moved → Moved) → ((seen : Seen) (now : Moved) → act seen now ≡ set_var to (value seen now) now)
+    → ((stores : List StoreWords) (state : FlatState) (at : Coord) (now : Moved) → Sees stores state → IsMoved stores at old now → word ≡ value (seen_in stores state at) now)
+    → Moves (λ seen. set_var to word) old new → Moves act old new
+var_done old new to word value act is same step = record {
+  stores = step.stores;
+  kept = step.kept;
+  follows = λ stores state at sees now follows.
+      subst (λ (m : Moved). Follows stores at new m) (sym (is (seen_in stores state at) now))
+      (λ lacks named. subst (λ (w : ℕ). IsMoved stores at new (set_var to w now)) (same stores state at now sees (follows (step.kept lacks) named)) (step.follows stores state at sees now follows lacks named));
 }
-
-pub reg_done : (stores : List StoreWords) (at : Coord) (old new : Moment) (to word value : ℕ) (now after : Moved) → after ≡ set_reg to value now → (Is stores at old now → word ≡ value)
-    → (Fs stores at old now → Fs stores at new (set_reg to word now)) → Fs stores at old now → Fs stores at new after
-reg_done stores at old new to word value now after is same step follows =
-    subst (λ (m : Moved). Fs stores at new m) (sym is) (λ named. subst (λ (w : ℕ). Is stores at new (set_reg to w now)) (same (follows named)) (step follows named))
-
-pub var_done : (stores : List StoreWords) (at : Coord) (old new : Moment) (to word value : ℕ) (now after : Moved) → after ≡ set_var to value now → (Is stores at old now → word ≡ value)
-    → (Fs stores at old now → Fs stores at new (set_var to word now)) → Fs stores at old now → Fs stores at new after
-var_done stores at old new to word value now after is same step follows =
-    subst (λ (m : Moved). Fs stores at new m) (sym is) (λ named. subst (λ (w : ℕ). Is stores at new (set_var to w now)) (same (follows named)) (step follows named))
-
--- ---- places
-
-pub place_done : (stores : List StoreWords) (at : Coord) (regs vars : List ℕ) (places places' : PlaceRow) (writes wants : List Write) (to : ℕ) (place : Option Place) (now after : Moved)
-    → after ≡ set_place to place now → (IsMoved stores at regs vars places writes wants now → ArePlaces stores places' (put to place now.places))
-    → (AreNamed (shapes_of stores) now.accesses → IsMoved stores at regs vars places writes wants now) → AreNamed (shapes_of stores) after.accesses → IsMoved stores at regs vars places' writes wants after
-place_done stores at regs vars places places' writes wants to place now after is step follows =
-    subst (λ (m : Moved). AreNamed (shapes_of stores) m.accesses → IsMoved stores at regs vars places' writes wants m) (sym is)
-    (λ named. let old = follows named in record {
-      regs_are = old.regs_are;
-      vars_are = old.vars_are;
-      places_are = step old;
-      writes_are = old.writes_are;
-      wants_are = old.wants_are;
-    })
-
--- ---- writes and wants
-
-pub written_more : (shapes : List Shape) (at : Coord) (writes writes' : List Write) (made : List CodeWrite) (write : Write) (more : CodeWrite) → writes' ≡ writes ++ write ∷ [] → more ≡ code_write shapes write → IsAtLoop at write
-    → AreWritten shapes at writes made → AreWritten shapes at writes' (made ++ more ∷ [])
-written_more shapes at writes writes' made write more grew is loop old = record {
-  made_are = ap (λ (m : CodeWrite). made ++ m ∷ []) is ∙ ap (λ (ms : List CodeWrite). ms ++ code_write shapes write ∷ []) old.made_are
-      ∙ sym (map-append (code_write shapes) writes (write ∷ [])) ∙ ap (map (code_write shapes)) (sym grew);
-  at_loop = subst (All (IsAtLoop at)) (sym grew) (All-append (IsAtLoop at) writes (write ∷ []) old.at_loop (All-cons (IsAtLoop at) write [] loop (All-nil (IsAtLoop at))));
-}
-
-pub write_done : (stores : List StoreWords) (at : Coord) (regs vars : List ℕ) (places : PlaceRow) (writes writes' wants : List Write) (write : Write) (made : CodeWrite) (now after : Moved)
-    → writes' ≡ writes ++ write ∷ [] → after ≡ add_write made now → (IsMoved stores at regs vars places writes wants now → made ≡ code_write (shapes_of stores) write) → IsAtLoop at write
-    → (AreNamed (shapes_of stores) now.accesses → IsMoved stores at regs vars places writes wants now) → AreNamed (shapes_of stores) after.accesses → IsMoved stores at regs vars places writes' wants after
-write_done stores at regs vars places writes writes' wants write made now after grew is same loop follows =
-    subst (λ (m : Moved). AreNamed (shapes_of stores) m.accesses → IsMoved stores at regs vars places writes' wants m) (sym is)
-    (λ named. let old = follows named in record {
-      regs_are = old.regs_are;
-      vars_are = old.vars_are;
-      places_are = old.places_are;
-      writes_are = written_more (shapes_of stores) at writes writes' now.writes write made grew (same old) loop old.writes_are;
-      wants_are = old.wants_are;
-    })
-
-pub want_done : (stores : List StoreWords) (at : Coord) (regs vars : List ℕ) (places : PlaceRow) (writes wants wants' : List Write) (write : Write) (want : CodeWant) (now after : Moved)
-    → wants' ≡ wants ++ write ∷ [] → after ≡ add_want want now → (IsMoved stores at regs vars places writes wants now → write ≡ want_write want)
-    → (AreNamed (shapes_of stores) now.accesses → IsMoved stores at regs vars places writes wants now) → AreNamed (shapes_of stores) after.accesses → IsMoved stores at regs vars places writes wants' after
-want_done stores at regs vars places writes wants wants' write want now after grew is same follows =
-    subst (λ (m : Moved). AreNamed (shapes_of stores) m.accesses → IsMoved stores at regs vars places writes wants' m) (sym is)
-    (λ named. let old = follows named in record {
-      regs_are = old.regs_are;
-      vars_are = old.vars_are;
-      places_are = old.places_are;
-      writes_are = old.writes_are;
-      wants_are = grew ∙ ap (λ (w : Write). wants ++ w ∷ []) (same old) ∙ ap (λ (ws : List Write). ws ++ want_write want ∷ []) old.wants_are
-          ∙ sym (map-append want_write now.wants (want ∷ []));
-    })
 
 -- ---- accesses
 
@@ -117,21 +52,63 @@ named_before stores (first ∷ accesses) access named =
     let later = named_before stores accesses access (All-tail (IsNamedAccess (shapes_of stores)) first (accesses ++ access ∷ []) named) in
     (All-cons (IsNamedAccess (shapes_of stores)) first accesses (All-head (IsNamedAccess (shapes_of stores)) first (accesses ++ access ∷ []) named) later.0, later.1)
 
--- what follows of a state with one access more
-pub access_first : (stores : List StoreWords) (access : Access) (now after : Moved) (M M' : Moved → Type 0) → after.accesses ≡ now.accesses ++ access ∷ []
-    → (M now → IsNamedAccess (shapes_of stores) access → M' after) → (AreNamed (shapes_of stores) now.accesses → M now) → AreNamed (shapes_of stores) after.accesses → M' after
-access_first stores access now after M M' grew step follows named =
-    let both = named_before stores now.accesses access (subst (AreNamed (shapes_of stores)) grew named) in
-    step (follows both.0) both.1
+-- one access more changes no row
+pub seen_access : (stores : List StoreWords) (at : Coord) (moment : Moment) (access : Access) (now : Moved) → IsMoved stores at moment now → IsMoved stores at moment (add_access access now)
+seen_access stores at moment access now old = record {
+  regs_are = old.regs_are;
+  vars_are = old.vars_are;
+  places_are = old.places_are;
+  at_is = old.at_is;
+  writes_are = old.writes_are;
+  own_at = old.own_at;
+  wants_are = old.wants_are;
+}
 
--- ---- the start
+-- a register becomes a value that an access told
+pub read_done : (old new : Moment) (to word : ℕ) (value : Seen → Moved → ℕ) (access : Moved → Access) (act : Seen → Moved → Moved) → ((seen : Seen) (now : Moved) → act seen now ≡ set_reg to (value seen now) (add_access (access now) now))
+    → ((stores : List StoreWords) (state : FlatState) (at : Coord) (now : Moved) → Sees stores state → IsMoved stores at old now → IsNamedAccess (shapes_of stores) (access now) → word ≡ value (seen_in stores state at) now)
+    → Moves (λ seen. set_reg to word) old new → Moves act old new
+read_done old new to word value access act is same step = record {
+  stores = step.stores;
+  kept = step.kept;
+  follows = λ stores state at sees now follows.
+      subst (λ (m : Moved). Follows stores at new m) (sym (is (seen_in stores state at) now))
+      (λ lacks named.
+      let both = named_before stores now.accesses (access now) named in
+      let moved = follows (step.kept lacks) both.0 in
+      subst (λ (w : ℕ). IsMoved stores at new (set_reg to w (add_access (access now) now))) (same stores state at now sees moved both.1)
+      (step.follows stores state at sees (add_access (access now) now) (λ all every. seen_access stores at old (access now) now moved) lacks named));
+}
 
-pub moved_start : (stores : List StoreWords) (seen : Seen) (regs vars : List ℕ) (places : PlaceRow) (writes wants : List Write) → regs ≡ [] → vars ≡ part_words seen.at → ArePlaces stores places (λ place. None) → writes ≡ [] → wants ≡ []
-    → IsMoved stores seen.at regs vars places writes wants (iteration_start seen)
-moved_start stores seen regs vars places writes wants no_regs parts no_places no_writes no_wants = record {
-  regs_are = λ reg. ap (λ (row : List ℕ). get_or row reg 0) no_regs;
-  vars_are = λ var. ap (λ (row : List ℕ). get_or row var 0) parts;
-  places_are = no_places;
-  writes_are = record { made_are = ap (map (code_write (shapes_of stores))) (sym no_writes); at_loop = subst (All (IsAtLoop seen.at)) (sym no_writes) (All-nil (IsAtLoop seen.at)) };
-  wants_are = no_wants;
+-- ---- writes and wants
+
+pub writes_more : (stores : List StoreWords) (old new : List CellWrite) (made : List CodeWrite) (write : CellWrite) (more : CodeWrite) → new ≡ old ++ write ∷ [] → write ≡ cell_write stores more
+    → old ≡ map (cell_write stores) made → new ≡ map (cell_write stores) (made ++ more ∷ [])
+writes_more stores old new made write more grew is was =
+    grew ∙ ap (λ (ws : List CellWrite). ws ++ write ∷ []) was ∙ ap (λ (w : CellWrite). map (cell_write stores) made ++ w ∷ []) is ∙ sym (map-append (cell_write stores) made (more ∷ []))
+
+pub own_more : (at : Coord) (made : List CodeWrite) (more : CodeWrite) → IsAtLoop at more → All (IsAtLoop at) made → All (IsAtLoop at) (made ++ more ∷ [])
+own_more at made more loop old = All-append (IsAtLoop at) made (more ∷ []) old (All-cons (IsAtLoop at) more [] loop (All-nil (IsAtLoop at)))
+
+pub wants_more : (wants wants' : List Write) (made : List CodeWant) (write : Write) (more : CodeWant) → wants' ≡ wants ++ write ∷ [] → write ≡ want_write more → wants ≡ map want_write made → wants' ≡ map want_write (made ++ more ∷ [])
+wants_more wants wants' made write more grew is was =
+    grew ∙ ap (λ (w : Write). wants ++ w ∷ []) is ∙ ap (λ (ws : List Write). ws ++ want_write more ∷ []) was ∙ sym (map-append want_write made (more ∷ []))
+
+places_grown : (stores : List StoreWords) (row row' : PlaceRow) (write : CellWrite) (places : ℕ → Option Place) → row' ≡ record row { writes = row.writes ++ write ∷ [] } → ArePlaces stores row places → ArePlaces stores row' places
+places_grown stores row row' write places grown are = record {
+  same_stores = ap (λ (r : PlaceRow). r.stores) grown ∙ are.same_stores;
+  hold = subst (λ (held : List (Option Held)). (p : ℕ) → Holds stores (get_or held p None) (places p)) (sym (ap (λ (r : PlaceRow). r.list) grown)) are.hold;
+}
+
+-- a write more
+pub write_done : (stores : List StoreWords) (at : Coord) (old : Moment) (row : PlaceRow) (write : CellWrite) (made : CodeWrite) (now : Moved) → row ≡ record old.places { writes = old.places.writes ++ write ∷ [] }
+    → write ≡ cell_write stores made → IsAtLoop at made → IsMoved stores at old now → IsMoved stores at (record old { places = row }) (add_write made now)
+write_done stores at old row write made now grown is loop moved = record {
+  regs_are = moved.regs_are;
+  vars_are = moved.vars_are;
+  places_are = places_grown stores old.places row write now.places grown moved.places_are;
+  at_is = ap (λ (r : PlaceRow). r.at) grown ∙ moved.at_is;
+  writes_are = writes_more stores old.places.writes row.writes now.writes write made (ap (λ (r : PlaceRow). r.writes) grown) is moved.writes_are;
+  own_at = own_more at now.writes made loop moved.own_at;
+  wants_are = moved.wants_are;
 }

@@ -1,5 +1,5 @@
 -- Writes that land in a list of stores.
-use Rattle.std.proofs.Common.{◌≡◌, ℕ, zero, suc, ◌+◌, ◌≤◌, ◌<◌, List, [], ◌∷◌, ◌++◌, length, Option, Some, None, refl, sym, ap, ◌∙◌, subst, arith}
+use Rattle.std.proofs.Common.{◌≡◌, ℕ, zero, suc, ◌+◌, ◌≤◌, ◌<◌, List, [], ◌∷◌, ◌++◌, length, get_or, Option, Some, None, refl, sym, ap, ◌∙◌, subst, arith}
 use Rattle.std.specs.Prelude.{filter, slice_get, slice_set, Contains, unwrap_or}
 use Rattle.std.specs.List.{AllZip}
 use Rattle.std.proofs.lemmas.Option.{same_Some}
@@ -38,6 +38,14 @@ current_at (first ∷ copies) (head ∷ stores) zero copy store c s = both first
     both : (a b : Option StoreWords) (x y : StoreWords) → a ≡ b → x ≡ y → Some (unwrap_or a x) ≡ Some (unwrap_or b y)
     both a b x y p q = ap (λ (o : Option StoreWords). Some (unwrap_or o x)) p ∙ ap (λ (z : StoreWords). Some (unwrap_or b z)) q
 current_at (first ∷ copies) (head ∷ stores) (suc i) copy store c s = current_at copies stores i copy store c s
+
+pub current_got : (copies : List (Option StoreWords)) (stores : List StoreWords) (i : ℕ) (store : StoreWords)
+    → slice_get stores i ≡ Some store → slice_get (current copies stores) i ≡ Some (unwrap_or (get_or copies i None) store)
+current_got [] stores zero store s = s
+current_got [] stores (suc i) store s = s
+current_got (first ∷ copies) [] i store s = absurd (cc)
+current_got (first ∷ copies) (head ∷ stores) zero store s = ap (λ (x : StoreWords). Some (unwrap_or first x)) (same_Some _ _ s)
+current_got (first ∷ copies) (head ∷ stores) (suc i) store s = current_got copies stores i store s
 
 pub current_set : (copies : List (Option StoreWords)) (stores : List StoreWords) (i : ℕ) (copy : Option StoreWords) (store : StoreWords)
     → length copies ≡ length stores → slice_get stores i ≡ Some store → current (slice_set copies i copy) stores ≡ slice_set (current copies stores) i (unwrap_or copy store)

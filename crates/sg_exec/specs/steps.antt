@@ -1,7 +1,9 @@
 -- What serves proofs alone: the executor's rows, boxes, the wanted coordinates, the copies of stores and what lands in them.
 pub mod Stepping
 pub mod Machines
+pub mod Moments
 pub mod Boxes
 pub mod Written
 pub mod Wants
+pub mod Turning
 pub mod Landing

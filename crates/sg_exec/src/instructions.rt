@@ -1,158 +1,138 @@
 ghost use Rattle.std.specs.Prelude.{◌≡◌, ◌+◌, ◌*◌, ◌/◌, ◌%◌, ◌^◌};
 
 use crate::moment::Moment;
-use sg_words::{BinOp, Memory, Ty, UnOp, apply, apply_un, mulq};
+use sg_words::{BinOp, Ty, UnOp, apply, apply_un, mulq};
 
 impl<'a> Moment<'a> {
-    ghost use Rattle.std.specs.Prelude.{◌≡◌, List, OnOk};
-    ghost use Rattle.sg_coord.specs.declared.coord.Coord.{Coord};
-    ghost use Rattle.sg_flat.specs.declared.state.FlatState.{FlatState};
-    ghost use Rattle.sg_store.specs.StoreWords.{StoreWords};
     ghost use Rattle.sg_ir.specs.declared.code.Inst.TheVariants as v;
-    ghost use Rattle.sg_ir.specs.Runs.{Moved, does, set_place, down};
-    ghost use Rattle.sg_exec.specs.Standing.{shapes_of};
-    ghost use Rattle.sg_exec.specs.steps.Machines.{seen_in, Follows};
+    ghost use Rattle.sg_ir.specs.Runs.{does, set_place, down};
+    ghost use Rattle.sg_exec.specs.steps.Moments.{Moves};
 
     /// A register becomes a word.
-    pub fn constant(&mut self, to: u32, word: u32) -> Result<(), Memory>
-        ensures { OnOk result ((stores : List StoreWords) (state : FlatState) (at : Coord) (now : Moved) →
-            Follows stores at self.old.regs.items self.old.vars.items self.old.places self.old.writes self.old.wants.items now →
-            Follows stores at self.new.regs.items self.new.vars.items self.new.places self.new.writes self.new.wants.items
-            (does (seen_in stores state at) (v.Const to word) now)) }
+    pub fn constant(&mut self, to: u32, word: u32)
+        ensures { Moves (λ seen. does seen (v.Const to word)) self.old self.new }
     {
-        self.set_reg(to, word)
+        self.set_reg(to, word);
     }
 
     /// A register becomes a variable's word.
-    pub fn variable(&mut self, to: u32, var: u32) -> Result<(), Memory>
-        ensures { OnOk result ((stores : List StoreWords) (state : FlatState) (at : Coord) (now : Moved) →
-            Follows stores at self.old.regs.items self.old.vars.items self.old.places self.old.writes self.old.wants.items now →
-            Follows stores at self.new.regs.items self.new.vars.items self.new.places self.new.writes self.new.wants.items
-            (does (seen_in stores state at) (v.Var to var) now)) }
+    pub fn variable(&mut self, to: u32, var: u32)
+        ensures { Moves (λ seen. does seen (v.Var to var)) self.old self.new }
     {
         let word = self.var(var);
-        self.set_reg(to, word)
+        self.set_reg(to, word);
     }
 
     /// A variable becomes a register's word.
-    pub fn assign(&mut self, var: u32, from: u32) -> Result<(), Memory>
-        ensures { OnOk result ((stores : List StoreWords) (state : FlatState) (at : Coord) (now : Moved) →
-            Follows stores at self.old.regs.items self.old.vars.items self.old.places self.old.writes self.old.wants.items now →
-            Follows stores at self.new.regs.items self.new.vars.items self.new.places self.new.writes self.new.wants.items
-            (does (seen_in stores state at) (v.Set var from) now)) }
+    pub fn assign(&mut self, var: u32, from: u32)
+        ensures { Moves (λ seen. does seen (v.Set var from)) self.old self.new }
     {
         let word = self.reg(from);
-        self.set_var(var, word)
+        self.set_var(var, word);
     }
 
     /// An operator on two words.
-    pub fn binary(&mut self, to: u32, op: BinOp, ty: Ty, a: u32, b: u32) -> Result<(), Memory>
-        ensures { OnOk result ((stores : List StoreWords) (state : FlatState) (at : Coord) (now : Moved) →
-            Follows stores at self.old.regs.items self.old.vars.items self.old.places self.old.writes self.old.wants.items now →
-            Follows stores at self.new.regs.items self.new.vars.items self.new.places self.new.writes self.new.wants.items
-            (does (seen_in stores state at) (v.Bin to op ty a b) now)) }
+    pub fn binary(&mut self, to: u32, op: BinOp, ty: Ty, a: u32, b: u32)
+        ensures { Moves (λ seen. does seen (v.Bin to op ty a b)) self.old self.new }
     {
         let word = apply(op, ty, self.reg(a), self.reg(b));
-        self.set_reg(to, word)
+        self.set_reg(to, word);
     }
 
     /// An operator on one word.
-    pub fn unary(&mut self, to: u32, op: UnOp, ty: Ty, a: u32) -> Result<(), Memory>
-        ensures { OnOk result ((stores : List StoreWords) (state : FlatState) (at : Coord) (now : Moved) →
-            Follows stores at self.old.regs.items self.old.vars.items self.old.places self.old.writes self.old.wants.items now →
-            Follows stores at self.new.regs.items self.new.vars.items self.new.places self.new.writes self.new.wants.items
-            (does (seen_in stores state at) (v.Un to op ty a) now)) }
+    pub fn unary(&mut self, to: u32, op: UnOp, ty: Ty, a: u32)
+        ensures { Moves (λ seen. does seen (v.Un to op ty a)) self.old self.new }
     {
         let _ty = ty;
         let word = apply_un(op, self.reg(a));
-        self.set_reg(to, word)
+        self.set_reg(to, word);
     }
 
     /// A product, shifted down.
-    pub fn product(&mut self, to: u32, a: u32, b: u32, s: u32) -> Result<(), Memory>
-        ensures { OnOk result ((stores : List StoreWords) (state : FlatState) (at : Coord) (now : Moved) →
-            Follows stores at self.old.regs.items self.old.vars.items self.old.places self.old.writes self.old.wants.items now →
-            Follows stores at self.new.regs.items self.new.vars.items self.new.places self.new.writes self.new.wants.items
-            (does (seen_in stores state at) (v.Mulq to a b s) now)) }
+    pub fn product(&mut self, to: u32, a: u32, b: u32, s: u32)
+        ensures { Moves (λ seen. does seen (v.Mulq to a b s)) self.old self.new }
     {
         let word = mulq(self.reg(a), self.reg(b), self.reg(s));
-        self.set_reg(to, word)
+        self.set_reg(to, word);
     }
 
     /// A word's digit.
-    pub fn extract(&mut self, to: u32, div: u32, size: u32, from: u32) -> Result<(), Memory>
-        ensures { OnOk result ((stores : List StoreWords) (state : FlatState) (at : Coord) (now : Moved) →
-            Follows stores at self.old.regs.items self.old.vars.items self.old.places self.old.writes self.old.wants.items now →
-            Follows stores at self.new.regs.items self.new.vars.items self.new.places self.new.writes self.new.wants.items
-            (does (seen_in stores state at) (v.Extract to div size from) now)) }
+    pub fn extract(&mut self, to: u32, div: u32, size: u32, from: u32)
+        ensures { Moves (λ seen. does seen (v.Extract to div size from)) self.old self.new }
     {
         let word = digit(self.reg(from), div, size);
-        self.set_reg(to, word)
+        self.set_reg(to, word);
     }
 
     /// A word times a size, and another.
-    pub fn offset(&mut self, to: u32, high: u32, size: u32, low: u32) -> Result<(), Memory>
-        ensures { OnOk result ((stores : List StoreWords) (state : FlatState) (at : Coord) (now : Moved) →
-            Follows stores at self.old.regs.items self.old.vars.items self.old.places self.old.writes self.old.wants.items now →
-            Follows stores at self.new.regs.items self.new.vars.items self.new.places self.new.writes self.new.wants.items
-            (does (seen_in stores state at) (v.Offset to high size low) now)) }
+    pub fn offset(&mut self, to: u32, high: u32, size: u32, low: u32)
+        ensures { Moves (λ seen. does seen (v.Offset to high size low)) self.old self.new }
     {
         let word = joined(self.reg(high), size, self.reg(low));
-        self.set_reg(to, word)
+        self.set_reg(to, word);
     }
 
     /// A layout's root.
-    pub fn root(&mut self, to: u32, layout: u32) -> Result<(), Memory>
-        ensures { OnOk result ((stores : List StoreWords) (state : FlatState) (at : Coord) (now : Moved) →
-            Follows stores at self.old.regs.items self.old.vars.items self.old.places self.old.writes self.old.wants.items now →
-            Follows stores at self.new.regs.items self.new.vars.items self.new.places self.new.writes self.new.wants.items
-            (does (seen_in stores state at) (v.Root to layout) now)) }
+    pub fn root(&mut self, to: u32, layout: u32)
+        ensures { Moves (λ seen. does seen (v.Root to layout)) self.old self.new }
     {
-        self.places.root(to, layout)
+        match self.places.root(to, layout) {
+            Ok(()) => {}
+            Err(_) => self.lacks = true,
+        }
     }
 
     /// A place, or none where a register's word isn't on an axis.
-    pub fn check(
-        &mut self,
-        to: u32,
-        place: u32,
-        axis: u32,
-        extent: u32,
-        index: u32,
-    ) -> Result<(), Memory>
-        ensures { OnOk result ((stores : List StoreWords) (state : FlatState) (at : Coord) (now : Moved) →
-            Follows stores at self.old.regs.items self.old.vars.items self.old.places self.old.writes self.old.wants.items now →
-            Follows stores at self.new.regs.items self.new.vars.items self.new.places self.new.writes self.new.wants.items
-            (does (seen_in stores state at) (v.Check to place axis extent index) now)) }
+    pub fn check(&mut self, to: u32, place: u32, axis: u32, extent: u32, index: u32)
+        ensures { Moves (λ seen. does seen (v.Check to place axis extent index)) self.old self.new }
     {
         let _axis = axis;
         let word = self.reg(index);
-        self.places.check(to, place, extent, word)
+        match self.places.check(to, place, extent, word) {
+            Ok(()) => {}
+            Err(_) => self.lacks = true,
+        }
     }
 
     /// One step down.
-    pub fn step(&mut self, to: u32, place: u32, node: u32, offset: u32) -> Result<(), Memory>
-        ensures { OnOk result ((stores : List StoreWords) (state : FlatState) (at : Coord) (now : Moved) →
-            Follows stores at self.old.regs.items self.old.vars.items self.old.places self.old.writes self.old.wants.items now →
-            Follows stores at self.new.regs.items self.new.vars.items self.new.places self.new.writes self.new.wants.items
-            (set_place to (down (shapes_of stores) node (now.regs offset) (now.places place)) now)) }
+    pub fn step(&mut self, to: u32, place: u32, node: u32, offset: u32)
+        ensures { Moves (λ seen now. set_place to (down seen.shapes node (now.regs offset) (now.places place)) now) self.old self.new }
     {
         let word = self.reg(offset);
-        self.places.step(to, place, node, word)
+        match self.places.step(to, place, node, word) {
+            Ok(()) => {}
+            Err(_) => self.lacks = true,
+        }
     }
 }
 
-/// A word divided by `div`, modulo `size`.
+/// A word divided by `div`, modulo `size`. Extents are powers of two, by which no division is needed.
 fn digit(word: u32, div: u32, size: u32) -> u32
     ensures { result ≡ word / div % size }
 {
-    if div == 0 {
-        return 0;
+    remainder(quotient(word, div), size)
+}
+
+/// A word divided by a number, and 0 where that is 0.
+fn quotient(word: u32, div: u32) -> u32
+    ensures { result ≡ word / div }
+{
+    let shift = div.trailing_zeros();
+    if shift < 32 && 1_u32 << shift == div {
+        return word >> shift;
     }
-    if size == 0 {
-        return word / div;
+    if div == 0 { 0 } else { word / div }
+}
+
+/// A word modulo a number, and the word itself where that is 0.
+fn remainder(word: u32, size: u32) -> u32
+    ensures { result ≡ word % size }
+{
+    let shift = size.trailing_zeros();
+    if shift < 32 && 1_u32 << shift == size {
+        return word & (size - 1);
     }
-    word / div % size
+    if size == 0 { word } else { word % size }
 }
 
 /// `high` times `size` plus `low`, modulo 2^32.

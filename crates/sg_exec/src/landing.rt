@@ -1,48 +1,164 @@
-ghost use Rattle.std.specs.Prelude.{◌≡◌, ◌∷◌, [], List, map, length, Contains, OnOk, unwrap_or};
+ghost use Rattle.std.specs.Prelude.{◌≡◌, ◌∷◌, [], List, map, length, Contains, IfOk, IfSome, OnOk, unwrap_or};
 ghost use Rattle.std.specs.List.{AllZip};
 ghost use Rattle.sg_coord.specs.declared.coord.Coord.{Coord};
 ghost use Rattle.sg_flat.specs.declared.effects.Turn.{Turn};
+ghost use Rattle.sg_flat.specs.declared.effects.Write.{Write};
 ghost use Rattle.sg_flat.specs.declared.state.FlatLayout.{FlatLayout};
 ghost use Rattle.sg_flat.specs.declared.state.FlatState.{FlatState};
 ghost use Rattle.sg_flat.specs.Effects.{land, writes_of};
 ghost use Rattle.sg_store.specs.StandsFor.{StandsFor};
-ghost use Rattle.sg_exec.specs.steps.Machines.{AreNamedAt, AreTurnsOf};
-ghost use Rattle.sg_exec.specs.steps.Landing.{current, landed_layout, Lands};
+ghost use Rattle.sg_store.specs.WellFormed.{IsReached};
+ghost use Rattle.sg_exec.specs.steps.Machines.{Sees, IsCellOf, AreCells};
+ghost use Rattle.sg_exec.specs.steps.Moments.{AreNamedAt};
+ghost use Rattle.sg_exec.specs.steps.Landing.{current, landing, landed_layout, AreTurnsOf, HasTree, IsLanding, AreCopies, Lands};
 
-use crate::iteration::World;
+use crate::cell_write::CellWrite;
 use crate::moment::Moment;
 use crate::values::ONE_POINT;
+use crate::view::View;
 use sg_coord::{Coord, numbering};
 use sg_flat::{Way, Write};
 use sg_ir::Inst;
 use sg_layout::{closure_closes, closure_members};
+use sg_store::laws::cells_are_active;
 use sg_store::{Store, Stores};
 use sg_words::{Memory, Ty, fold};
 use std::alloc::Global;
 
-/// Lands in the copies what code writes at these points. It reads the stores.
+/// Copies of the stores, with what was reached in their places, in which what code writes at these points has landed.
 pub(crate) fn land_points(
     alloc: Global,
     stores: &Stores,
-    copies: &mut Vec<Option<Store>>,
+    reached: &[Option<Store>],
     points: &[Coord],
     code: &[Inst],
-) -> Result<(), Memory>
-    requires room { length copies.old.items ≡ length stores.now.list }
-    ensures lands { OnOk result ((state : FlatState) → AllZip StandsFor stores.now.list state.layouts →
-        AreNamedAt stores.now.list state code.now points.now →
-        (turn : Coord → Turn) → AreTurnsOf stores.now.list state code.now points.now turn →
-        Lands (current copies.old.items stores.now.list) (current copies.new.items stores.now.list) (writes_of (map turn points.now))) }
-    ensures room { length copies.new.items ≡ length stores.now.list }
+) -> Result<Vec<Option<Store>>, Memory>
+    ensures lands { IfOk result (λ copies. (state : FlatState) → Sees (current reached.now stores.now.list) state →
+        AreNamedAt (current reached.now stores.now.list) state code.now points.now →
+        (turn : Coord → Turn) → AreTurnsOf (current reached.now stores.now.list) state code.now points.now turn →
+        Lands (current reached.now stores.now.list) (current copies.items (current reached.now stores.now.list)) (writes_of (map turn points.now))) }
+    ensures room { IfOk result (λ copies. length copies.items ≡ length stores.now.list) }
 {
-    let mut moment = Moment::new(alloc, stores);
+    let mut copies = no_copies(alloc, stores, reached)?;
+    let mut moment = Moment::new(alloc, stores, reached);
     for at in points {
-        moment.start(*at)?;
-        let world = World { stores, at: *at };
-        world.run_all(code, &mut moment)?;
-        land_all(alloc, stores, copies, moment.writes.as_slice())?;
+        moment.iterate(*at, code)?;
+        land_cells(alloc, stores, reached, &mut copies, moment.places.writes())?;
+    }
+    Ok(copies)
+}
+
+/// No copy of any store.
+fn no_copies(
+    alloc: Global,
+    stores: &Stores,
+    reached: &[Option<Store>],
+) -> Result<Vec<Option<Store>>, Memory>
+    ensures copies { IfOk result (λ copies. AreCopies (current reached.now stores.now.list) copies.items) }
+    ensures none { IfOk result (λ copies. current copies.items (current reached.now stores.now.list) ≡ (current reached.now stores.now.list)) }
+{
+    let _reached = reached;
+    let mut copies = Vec::new(alloc);
+    for _number in 0..stores.list.len() {
+        copies.push(None)?;
+    }
+    Ok(copies)
+}
+
+/// Lands what an iteration wrote in the copies, in order.
+fn land_cells(
+    alloc: Global,
+    stores: &Stores,
+    reached: &[Option<Store>],
+    copies: &mut Vec<Option<Store>>,
+    writes: &[CellWrite],
+) -> Result<(), Memory>
+    requires copies { AreCopies (current reached.now stores.now.list) copies.old.items }
+    requires cells { AreCells (current reached.now stores.now.list) writes.now }
+    ensures lands { OnOk result ((made : List Write) → writes.now ≡ map (landing (current reached.now stores.now.list)) made →
+        Lands (current copies.old.items (current reached.now stores.now.list)) (current copies.new.items (current reached.now stores.now.list)) made) }
+    ensures copies { AreCopies (current reached.now stores.now.list) copies.new.items }
+{
+    for write in writes {
+        land_cell(alloc, stores, reached, copies, write)?;
     }
     Ok(())
+}
+
+/// Lands a write in the copy of its layout's store, which is made where there is none.
+fn land_cell(
+    alloc: Global,
+    stores: &Stores,
+    reached: &[Option<Store>],
+    copies: &mut Vec<Option<Store>>,
+    write: &CellWrite,
+) -> Result<(), Memory>
+    requires copies { AreCopies (current reached.now stores.now.list) copies.old.items }
+    requires cell { IfSome write.now.cell (IsCellOf (current reached.now stores.now.list) write.now.layout) }
+    ensures lands { OnOk result ((made : Write) → write.now ≡ landing (current reached.now stores.now.list) made →
+        Lands (current copies.old.items (current reached.now stores.now.list)) (current copies.new.items (current reached.now stores.now.list)) (made ∷ [])) }
+    ensures copies { AreCopies (current reached.now stores.now.list) copies.new.items }
+{
+    let view = View::of(stores, reached);
+    let Some(store) = view.get(write.layout) else {
+        return Ok(());
+    };
+    let slot = &mut copies[write.layout as usize];
+    land_in_copy(alloc, store, slot, write)
+}
+
+/// Lands a write in the copy of a store, which is made where there is none.
+fn land_in_copy(
+    alloc: Global,
+    store: &Store,
+    slot: &mut Option<Store>,
+    write: &CellWrite,
+) -> Result<(), Memory>
+    requires same { IfSome slot.old (HasTree store.now) }
+    requires cell { IfSome write.now.cell (IsReached store.now) }
+    ensures same { IfSome slot.new (HasTree store.now) }
+    ensures lands { OnOk result ((flat : FlatLayout) → StandsFor (unwrap_or slot.old store.now) flat →
+        (made : Write) → IsLanding store.now write.now made → Contains flat.active made.at →
+        StandsFor (unwrap_or slot.new store.now) (landed_layout made.layout store.now.shape flat (made ∷ []))) }
+{
+    match slot {
+        Some(copy) => put_cell(copy, write),
+        None => {
+            let mut copy = store.copy(alloc)?;
+            put_cell(&mut copy, write);
+            *slot = Some(copy);
+        }
+    }
+    Ok(())
+}
+
+/// Lands a write in a store.
+fn put_cell(store: &mut Store, write: &CellWrite)
+    requires cell { IfSome write.now.cell (IsReached store.old) }
+    ensures same { HasTree store.old store.new }
+    ensures lands { (flat : FlatLayout) → StandsFor store.old flat → (made : Write) → IsLanding store.old write.now made →
+        Contains flat.active made.at →
+        StandsFor store.new (landed_layout made.layout store.old.shape flat (made ∷ [])) }
+{
+    // for the laws that they ensure
+    numbering(&ONE_POINT);
+    closure_closes();
+    closure_members();
+    cells_are_active();
+    let Some(ty) = store
+        .layout()
+        .shape()
+        .fields
+        .get(write.place as usize)
+        .copied()
+    else {
+        return;
+    };
+    let Some(cell) = write.cell else {
+        return;
+    };
+    let word = word_after(ty, store.value(write.place, cell), write.way, write.value);
+    store.set(write.place, cell, word);
 }
 
 /// Lands writes in the copies, each in its turn.
@@ -127,16 +243,16 @@ fn put(store: &mut Store, write: &Write)
     let Some(cell) = store.cell_of(write.at) else {
         return;
     };
-    let word = word_after(ty, store.value(write.place, cell), write);
+    let word = word_after(ty, store.value(write.place, cell), write.way, write.value);
     store.set(write.place, cell, word);
 }
 
 /// What a write makes of its cell's word.
-fn word_after(ty: Ty, old: u32, write: &Write) -> u32
-    ensures { result ≡ land ty old write.now.way write.now.value }
+fn word_after(ty: Ty, old: u32, way: Way, value: u32) -> u32
+    ensures { result ≡ land ty old way value }
 {
-    match write.way {
-        Way::Own => write.value,
-        Way::Acc(op) => fold(op, ty, old, write.value),
+    match way {
+        Way::Own => value,
+        Way::Acc(op) => fold(op, ty, old, value),
     }
 }

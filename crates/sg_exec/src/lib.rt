@@ -1,22 +1,27 @@
-//! Runs of kernels over stores, and loads, on one thread.
+//! Runs of kernels over stores, and loads.
 #![tactic(auto)]
 
 mod accesses;
+mod activated;
+mod cell_write;
 mod held;
 mod instructions;
 mod iteration;
 mod landing;
+mod layout_wants;
 mod moment;
+mod outside;
+mod own;
+mod own_cell;
 mod places;
 mod points;
-mod reached;
 mod row;
 pub mod run;
 #[cfg(test)]
 mod tests;
-mod thinning;
+mod turns;
 mod values;
-mod wants;
+mod view;
 mod written;
 
 pub use run::{load_rows, run_kernel};

@@ -1,58 +1,78 @@
-ghost use Rattle.std.specs.Prelude.{◌≡◌, ◌++◌, OnOk};
+ghost use Rattle.std.specs.Prelude.{◌≡◌, ℕ, get_or, OnOk};
 ghost use Rattle.sg_ir.specs.Runs.{part_words};
 
 use crate::places::Places;
-use crate::row::put;
-use crate::written::Written;
+use crate::row::{put, reset};
 use sg_coord::Coord;
-use sg_flat::{Way, Write};
-use sg_store::Stores;
+use sg_flat::Write;
+use sg_ir::Inst;
+use sg_store::{Store, Stores};
 use sg_words::{Memory, word_of};
 use std::alloc::Global;
 
-/// How far an iteration has come: the words of its registers and variables by their numbers (0 for those past the end), its places, its
-/// writes and its wants. The rows are made once for a run, and cleared before each iteration.
+/// How far an iteration has come over the stores of a view: the words of its registers and variables by their numbers (0 for those past the
+/// end), its places and writes, and its wants. The rows are made once for a run; each worker has its own.
+/// Where memory was wanting, `lacks` is true, and what the iteration made says nothing.
 #[derive(Drop)]
 pub struct Moment<'a> {
     pub regs: Vec<u32>,
     pub vars: Vec<u32>,
     pub places: Places<'a>,
-    pub writes: Written,
     pub wants: Vec<Write>,
+    pub lacks: bool,
 }
 
 impl<'a> Moment<'a> {
-    ghost use Rattle.std.specs.Prelude.{◌≡◌, ℕ, List, get_or, OnOk};
-    ghost use Rattle.sg_coord.specs.declared.coord.Coord.{Coord};
-    ghost use Rattle.sg_flat.specs.declared.state.FlatState.{FlatState};
+    ghost use Rattle.std.specs.Prelude.{◌≡◌, List, get_or, OnOk};
     ghost use Rattle.sg_store.specs.StoreWords.{StoreWords};
-    ghost use Rattle.sg_ir.specs.Runs.{Moved, iteration_start, set_reg, set_var};
-    ghost use Rattle.sg_exec.specs.steps.Machines.{seen_in, IsMoved, Follows};
+    ghost use Rattle.sg_flat.specs.declared.state.FlatState.{FlatState};
+    ghost use Rattle.sg_ir.specs.Runs.{iteration_start, set_reg, set_var};
+    ghost use Rattle.sg_exec.specs.steps.Machines.{seen_in, Sees};
+    ghost use Rattle.sg_exec.specs.steps.Landing.{current};
+    ghost use Rattle.sg_exec.specs.steps.Moments.{Follows, Iterated, Moves};
 
-    /// The rows of a run over the stores.
-    pub fn new(alloc: Global, stores: &'a Stores) -> Moment<'a>
-        ensures { result.places.stores ≡ stores.now.list }
+    /// The rows of a run over the stores, with each copy in the place of the store that it was made of.
+    pub fn new(alloc: Global, stores: &'a Stores, copies: &'a [Option<Store>]) -> Moment<'a>
+        ensures { result.places.stores ≡ current copies.now stores.now.list }
     {
         Moment {
             regs: Vec::new(alloc),
             vars: Vec::new(alloc),
-            places: Places::new(alloc, stores),
-            writes: Written::new(alloc),
+            places: Places::new(alloc, stores, copies),
             wants: Vec::new(alloc),
+            lacks: false,
         }
     }
 
-    /// The start of the iteration at a coordinate.
-    pub fn start(&mut self, at: Coord) -> Result<(), Memory>
-        ensures { OnOk result ((state : FlatState) → IsMoved self.old.places.stores at self.new.regs.items self.new.vars.items self.new.places
-            self.new.writes self.new.wants.items (iteration_start (seen_in self.old.places.stores state at))) }
+    /// Runs a block from the start of the iteration at a coordinate.
+    pub fn iterate(&mut self, at: Coord, block: &[Inst]) -> Result<(), Memory>
+        ensures stores { self.new.places.stores ≡ self.old.places.stores }
+        ensures ran { OnOk result ((stores : List StoreWords) (state : FlatState) → Sees stores state → self.old.places.stores ≡ stores →
+            Iterated stores state at block.now self.new) }
     {
-        self.regs.clear();
-        self.vars.clear();
-        self.places.clear();
-        self.writes.clear();
+        self.start(at);
+        self.run_all(block);
+        if self.lacks {
+            return Err(Memory);
+        }
+        Ok(())
+    }
+
+    /// The start of the iteration at a coordinate.
+    fn start(&mut self, at: Coord)
+        ensures stores { self.new.places.stores ≡ self.old.places.stores }
+        ensures start { (stores : List StoreWords) (state : FlatState) → self.old.places.stores ≡ stores →
+            Follows stores at self.new (iteration_start (seen_in stores state at)) }
+    {
+        reset(&mut self.regs, 0);
+        reset(&mut self.vars, 0);
+        self.places.start(at);
         self.wants.clear();
-        push_parts(&mut self.vars, at)
+        self.lacks = false;
+        match put_parts(&mut self.vars, at) {
+            Ok(()) => {}
+            Err(_) => self.lacks = true,
+        }
     }
 
     /// The word of a register.
@@ -70,27 +90,30 @@ impl<'a> Moment<'a> {
     }
 
     /// Gives a register a word.
-    pub fn set_reg(&mut self, to: u32, word: u32) -> Result<(), Memory>
-        ensures { OnOk result ((stores : List StoreWords) (at : Coord) (now : Moved) →
-            Follows stores at self.old.regs.items self.old.vars.items self.old.places self.old.writes self.old.wants.items now →
-            Follows stores at self.new.regs.items self.new.vars.items self.new.places self.new.writes self.new.wants.items (set_reg to word now)) }
+    pub fn set_reg(&mut self, to: u32, word: u32)
+        ensures { Moves (λ seen. set_reg to word) self.old self.new }
     {
-        put(&mut self.regs, to, word, 0)
+        match put(&mut self.regs, to, word, 0) {
+            Ok(()) => {}
+            Err(_) => self.lacks = true,
+        }
     }
 
     /// Gives a variable a word.
-    pub fn set_var(&mut self, var: u32, word: u32) -> Result<(), Memory>
-        ensures { OnOk result ((stores : List StoreWords) (at : Coord) (now : Moved) →
-            Follows stores at self.old.regs.items self.old.vars.items self.old.places self.old.writes self.old.wants.items now →
-            Follows stores at self.new.regs.items self.new.vars.items self.new.places self.new.writes self.new.wants.items (set_var var word now)) }
+    pub fn set_var(&mut self, var: u32, word: u32)
+        ensures { Moves (λ seen. set_var var word) self.old self.new }
     {
-        put(&mut self.vars, var, word, 0)
+        match put(&mut self.vars, var, word, 0) {
+            Ok(()) => {}
+            Err(_) => self.lacks = true,
+        }
     }
 }
 
-/// Adds the words of a coordinate's parts.
-fn push_parts(words: &mut Vec<u32>, at: Coord) -> Result<(), Memory>
-    ensures { OnOk result (words.new.items ≡ words.old.items ++ part_words at) }
+/// Gives the first variables the words of a coordinate's parts, where all are 0.
+fn put_parts(vars: &mut Vec<u32>, at: Coord) -> Result<(), Memory>
+    requires none { (number : ℕ) → get_or vars.old.items number 0 ≡ 0 }
+    ensures { OnOk result ((number : ℕ) → get_or vars.new.items number 0 ≡ get_or (part_words at) number 0) }
 {
     let (a, b, c) = (
         word_of(i64::from(at.a)),
@@ -98,10 +121,16 @@ fn push_parts(words: &mut Vec<u32>, at: Coord) -> Result<(), Memory>
         word_of(i64::from(at.c)),
     );
     match at.n {
-        0 => {}
-        1 => words.extend_from_slice(&[a])?,
-        2 => words.extend_from_slice(&[a, b])?,
-        _ => words.extend_from_slice(&[a, b, c])?,
+        0 => Ok(()),
+        1 => put(vars, 0, a, 0),
+        2 => {
+            put(vars, 0, a, 0)?;
+            put(vars, 1, b, 0)
+        }
+        _ => {
+            put(vars, 0, a, 0)?;
+            put(vars, 1, b, 0)?;
+            put(vars, 2, c, 0)
+        }
     }
-    Ok(())
 }

@@ -1,4 +1,4 @@
-ghost use Rattle.std.specs.Prelude.{◌≡◌, ◌⊎◌, ◌<◌, ◌++◌, ◌∷◌, [], ℕ, List, length, get_or, nat_lt, IfOk, IfSome, IfNone, OnOk, Option, Some, None, option_map};
+ghost use Rattle.std.specs.Prelude.{◌≡◌, ◌⊎◌, ◌<◌, ◌++◌, ◌∷◌, [], ℕ, List, length, get_or, nat_lt, IfOk, IfSome, IfNone, OnOk, Option, Some, None};
 ghost use Rattle.sg_words.specs.declared.operators.Ty.TheVariants as ty;
 ghost use Rattle.sg_words.specs.Words.{number};
 ghost use Rattle.sg_coord.specs.Coord.{is_on_axis};
@@ -7,12 +7,19 @@ ghost use Rattle.sg_flat.specs.declared.state.FlatLayout.{FlatLayout};
 ghost use Rattle.sg_flat.specs.State.{value_at};
 ghost use Rattle.sg_store.specs.Spots.{LeadsAlong, IsSpot};
 ghost use Rattle.sg_store.specs.StandsFor.{StandsFor};
+ghost use Rattle.sg_store.specs.Walks.{cell_in};
+ghost use Rattle.sg_store.specs.WellFormed.{IsReached};
 ghost use Rattle.sg_exec.specs.steps.Stepping.{can_step, StepLeads, StepIsDead};
 
-use crate::held::Held;
-use crate::row::put;
+use crate::cell_write::CellWrite;
+use crate::held::{Held, held_in};
+use crate::own::{cell_of, found_in, remember, value_of};
+use crate::own_cell::OwnCell;
+use crate::row::{put, reset};
 use crate::values::ONE_POINT;
-use sg_coord::numbering;
+use crate::view::View;
+use crate::written::Written;
+use sg_coord::{Coord, numbering};
 use sg_ir::places_tell;
 use sg_layout::{Layout, paths_tell};
 use sg_store::laws::cells_are_active;
@@ -21,60 +28,145 @@ use sg_words::{Memory, Ty, number};
 use std::alloc::Global;
 use std::marker::Model;
 
-/// The places of a run: for each place register the layout and the spot, or none where nothing is active. Contracts see the stores
-/// and the row.
+/// The places of an iteration: for each place register the layout and the spot, or none where nothing is active; the cells of its own
+/// coordinate, each of which is looked for once; and what it wrote. Contracts see the stores, the coordinate, the row and the writes.
 #[derive(Drop)]
 pub struct Places<'a> {
-    stores: &'a Stores,
+    view: View<'a>,
+    at: Coord,
     list: Vec<Option<Held>>,
+    found: Vec<OwnCell>,
+    written: Written,
 }
 
 impl<'a> Model for Places<'a> {
-    ghost use Rattle.sg_exec.specs.steps.Machines.{PlaceRow, AreHeld};
+    ghost use Rattle.sg_exec.specs.steps.Machines.{PlaceRow, IsPlaceRow};
 
     ghost Value = { PlaceRow };
 
-    ghost view = { λ places. record { stores = places.stores.now.list; list = places.list.items } };
+    ghost view = { λ places. record {
+      stores = places.view;
+      at = places.at;
+      list = places.list.items;
+      writes = places.written;
+    } };
 
-    ghost invariant = { λ places. AreHeld places.stores.now.list places.list.items };
+    ghost invariant = { λ places. IsPlaceRow (record {
+      stores = places.view;
+      at = places.at;
+      list = places.list.items;
+      writes = places.written;
+    }) places.found.items };
 }
 
 impl<'a> Places<'a> {
-    ghost use Rattle.std.specs.Prelude.{◌≡◌, ℕ, List, [], length, get_or, slice_get, if◌then◌else◌, IfSome, OnOk, Option, Some, None};
+    ghost use Rattle.std.specs.Prelude.{◌≡◌, ◌++◌, ◌∷◌, ℕ, List, [], length, get_or, slice_get, if◌then◌else◌, IfSome, OnOk, Option, Some, None};
     ghost use Rattle.std.specs.List.{AllZip};
     ghost use Rattle.sg_coord.specs.declared.coord.Coord.{Coord};
     ghost use Rattle.sg_flat.specs.declared.state.FlatState.{FlatState};
     ghost use Rattle.sg_layout.specs.Slots.{coordinate_of};
     ghost use Rattle.sg_flat.specs.declared.state.FlatLayout.{FlatLayout};
-    ghost use Rattle.sg_flat.specs.State.{value_at};
+    ghost use Rattle.sg_flat.specs.State.{value_at, value_of};
     ghost use Rattle.sg_store.specs.StoreWords.{StoreWords};
     ghost use Rattle.sg_store.specs.Spots.{LeadsAlong};
     ghost use Rattle.sg_store.specs.StandsFor.{StandsFor};
+    ghost use Rattle.sg_store.specs.Walks.{cell_in};
     ghost use Rattle.sg_ir.specs.Runs.{Place, put, check, down, at_of, cell_value};
     ghost use Rattle.sg_ir.specs.Places.{place_at};
     ghost use Rattle.sg_exec.specs.Standing.{shapes_of};
-    ghost use Rattle.sg_exec.specs.steps.Machines.{seen_in, IsHeld, Holds, ArePlaces};
+    ghost use Rattle.sg_exec.specs.steps.Landing.{current};
+    ghost use Rattle.sg_exec.specs.steps.Written.{own_write, last_or};
+    ghost use Rattle.sg_exec.specs.steps.Machines.{seen_in, cell_there, IsCellOf, AreCells, IsHeld, Holds, ArePlaces};
 
-    /// No places over the stores.
-    pub fn new(alloc: Global, stores: &'a Stores) -> Places<'a>
-        ensures { result ≡ record { stores = stores.now.list; list = [] } }
+    /// No places over the stores, with each copy in the place of the store that it was made of.
+    pub fn new(alloc: Global, stores: &'a Stores, copies: &'a [Option<Store>]) -> Places<'a>
+        ensures { result.stores ≡ current copies.now stores.now.list }
     {
         Places {
-            stores,
+            view: View::of(stores, copies),
+            at: Coord {
+                n: 0,
+                a: 0,
+                b: 0,
+                c: 0,
+            },
             list: Vec::new(alloc),
+            found: Vec::new(alloc),
+            written: Written::new(alloc),
         }
     }
 
-    /// Forgets all places.
-    pub fn clear(&mut self)
-        ensures { self.new ≡ record { stores = self.old.stores; list = [] } }
+    /// No places, at the coordinate of another iteration.
+    pub fn start(&mut self, at: Coord)
+        ensures stores { self.new.stores ≡ self.old.stores }
+        ensures at { self.new.at ≡ at }
+        ensures none { (p : ℕ) → get_or self.new.list p None ≡ None }
+        ensures writes { self.new.writes ≡ [] }
     {
-        self.list.clear();
+        self.at = at;
+        reset(&mut self.list, None);
+        self.found.clear();
+        self.written.clear();
+    }
+
+    /// The cell of the iteration's coordinate in a layout's store. None where the coordinate isn't active there.
+    pub fn own_cell(&mut self, layout: u32) -> Option<u32>
+        ensures cell { result ≡ cell_there self.old.stores layout (Some self.old.at) }
+        ensures reached { IfSome result (IsCellOf self.old.stores layout) }
+        ensures stays { self.new ≡ self.old }
+    {
+        if let Some(own) = found_in(self.found.as_slice(), layout) {
+            return own.cell;
+        }
+        let cell = cell_of(&self.view, layout, self.at);
+        remember(&mut self.found, OwnCell { layout, cell });
+        cell
+    }
+
+    /// The value of a field in the iteration's own cell, both from 0: the last own value, or else the store's, which is 0 where the
+    /// coordinate isn't active, and where there is no such layout or field.
+    pub fn own_value(&mut self, layout: u32, place: u32) -> u32
+        ensures value { (state : FlatState) → AllZip StandsFor self.old.stores state.layouts →
+            result ≡ last_or (own_write layout place self.old.writes) (value_of (shapes_of self.old.stores) state layout place self.old.at) }
+        ensures stays { self.new ≡ self.old }
+    {
+        if let Some(write) = self.written.own_write(layout, place) {
+            return write.value;
+        }
+        let cell = self.own_cell(layout);
+        value_of(&self.view, layout, place, cell)
+    }
+
+    /// Adds a write.
+    pub fn write(&mut self, write: CellWrite) -> Result<(), Memory>
+        requires cell { IfSome write.cell (IsCellOf self.old.stores write.layout) }
+        ensures ok { OnOk result (self.new ≡ record self.old { writes = self.old.writes ++ write ∷ [] }) }
+        ensures stores { self.new.stores ≡ self.old.stores }
+    {
+        self.written.push(write)
+    }
+
+    /// The writes so far, in order.
+    pub fn writes(&self) -> &[CellWrite]
+        ensures value { result.now ≡ self.now.writes }
+        ensures cells { AreCells self.now.stores result.now }
+    {
+        self.written.as_slice()
+    }
+
+    /// The last own write to a field so far, both from 0.
+    pub fn own_write(&self, layout: u32, place: u32) -> Option<CellWrite>
+        ensures { result ≡ own_write layout place self.now.writes }
+    {
+        self.written.own_write(layout, place)
     }
 
     /// A place register becomes the root of a layout.
     pub fn root(&mut self, to: u32, layout: u32) -> Result<(), Memory>
-        ensures { OnOk result ((stores : List StoreWords) (places : ℕ → Option Place) → ArePlaces stores self.old places →
+        ensures stores { self.new.stores ≡ self.old.stores }
+        ensures at { self.new.at ≡ self.old.at }
+        ensures writes { self.new.writes ≡ self.old.writes }
+        ensures ok { OnOk result ((stores : List StoreWords) (places : ℕ → Option Place) → ArePlaces stores self.old places →
             ArePlaces stores self.new (put to (Some (record { layout = layout; path = [] })) places)) }
     {
         let held = self.root_of(layout);
@@ -83,7 +175,10 @@ impl<'a> Places<'a> {
 
     /// A place register becomes another where the word, as an i32, is from 0 to below the extent, and none where it isn't.
     pub fn check(&mut self, to: u32, place: u32, extent: u32, word: u32) -> Result<(), Memory>
-        ensures { OnOk result ((stores : List StoreWords) (places : ℕ → Option Place) → ArePlaces stores self.old places →
+        ensures stores { self.new.stores ≡ self.old.stores }
+        ensures at { self.new.at ≡ self.old.at }
+        ensures writes { self.new.writes ≡ self.old.writes }
+        ensures ok { OnOk result ((stores : List StoreWords) (places : ℕ → Option Place) → ArePlaces stores self.old places →
             ArePlaces stores self.new (put to (check extent word (places place)) places)) }
     {
         let held = self.checked(place, on_axis(extent, word));
@@ -92,7 +187,10 @@ impl<'a> Places<'a> {
 
     /// A place register becomes the place one node below another.
     pub fn step(&mut self, to: u32, place: u32, node: u32, offset: u32) -> Result<(), Memory>
-        ensures { OnOk result ((stores : List StoreWords) (places : ℕ → Option Place) → ArePlaces stores self.old places →
+        ensures stores { self.new.stores ≡ self.old.stores }
+        ensures at { self.new.at ≡ self.old.at }
+        ensures writes { self.new.writes ≡ self.old.writes }
+        ensures ok { OnOk result ((stores : List StoreWords) (places : ℕ → Option Place) → ArePlaces stores self.old places →
             ArePlaces stores self.new (put to (down (shapes_of stores) node offset (places place)) places)) }
     {
         let held = self.below(place, node, offset);
@@ -122,9 +220,41 @@ impl<'a> Places<'a> {
             (path : List ℕ) → LeadsAlong store held.spot path → length path ≡ length store.shape.nodes →
             result ≡ value_at store.shape flat field (coordinate_of store.shape path) }
     {
-        match self.stores.list.get(held.layout as usize) {
+        match self.view.get(held.layout) {
             Some(store) => value_in(store, held.spot, field),
             None => 0,
+        }
+    }
+
+    /// The cell of a place in a layout's store. None where nothing is active, and where the place is another layout's.
+    pub fn cell(&self, place: u32, layout: u32) -> Option<u32>
+        ensures reached { IfSome result (IsCellOf self.now.stores layout) }
+        ensures cell { (places : ℕ → Option Place) → ArePlaces self.now.stores self.now places → (at : Coord) →
+            places place ≡ place_at (shapes_of self.now.stores) layout at →
+            result ≡ cell_there self.now.stores layout (at_of (shapes_of self.now.stores) (places place)) }
+    {
+        // for the law that it ensures
+        places_tell();
+        match self.get(place) {
+            Some(held) => self.cell_held(held, layout),
+            None => None,
+        }
+    }
+
+    /// The cell of a spot in a layout's store.
+    fn cell_held(&self, held: Held, layout: u32) -> Option<u32>
+        requires held { IsHeld self.now.stores held }
+        ensures reached { IfSome result (IsCellOf self.now.stores layout) }
+        ensures cell { held.layout ≡ layout → (store : StoreWords) → slice_get self.now.stores layout ≡ Some store →
+            (path : List ℕ) → LeadsAlong store held.spot path → length path ≡ length store.shape.nodes →
+            cell_in store (coordinate_of store.shape path) ≡ result }
+    {
+        if held.layout != layout {
+            return None;
+        }
+        match self.view.get(held.layout) {
+            Some(store) => cell_under(store, held.spot),
+            None => None,
         }
     }
 
@@ -139,7 +269,10 @@ impl<'a> Places<'a> {
     /// A place register holds something else.
     fn put(&mut self, to: u32, held: Option<Held>) -> Result<(), Memory>
         requires held { IfSome held (IsHeld self.old.stores) }
-        ensures { OnOk result ((stores : List StoreWords) (places : ℕ → Option Place) (place : Option Place) →
+        ensures stores { self.new.stores ≡ self.old.stores }
+        ensures at { self.new.at ≡ self.old.at }
+        ensures writes { self.new.writes ≡ self.old.writes }
+        ensures ok { OnOk result ((stores : List StoreWords) (places : ℕ → Option Place) (place : Option Place) →
             ArePlaces stores self.old places → Holds stores held place → ArePlaces stores self.new (put to place places)) }
     {
         put(&mut self.list, to, held, None)
@@ -150,7 +283,7 @@ impl<'a> Places<'a> {
         ensures held { IfSome result (IsHeld self.now.stores) }
         ensures holds { Holds self.now.stores result (Some (record { layout = layout; path = [] })) }
     {
-        match self.stores.list.get(layout as usize) {
+        match self.view.get(layout) {
             Some(store) => held_in(layout, Some(store.root())),
             None => None,
         }
@@ -184,7 +317,7 @@ impl<'a> Places<'a> {
         ensures holds { (place : Option Place) → Holds self.now.stores (Some held) place →
             Holds self.now.stores result (down (shapes_of self.now.stores) node offset place) }
     {
-        match self.stores.list.get(held.layout as usize) {
+        match self.view.get(held.layout) {
             Some(store) => held_in(held.layout, spot_below(store, held.spot, node, offset)),
             None => None,
         }
@@ -197,16 +330,6 @@ fn on_axis(extent: u32, word: u32) -> bool
 {
     let part = number(Ty::I32, word);
     0 <= part && part < extent as i64
-}
-
-/// A spot of a layout, where there is one.
-fn held_in(layout: u32, spot: Option<Spot>) -> Option<Held>
-    ensures { result ≡ option_map (λ spot. record { layout = layout; spot = spot }) spot }
-{
-    match spot {
-        Some(spot) => Some(Held { layout, spot }),
-        None => None,
-    }
 }
 
 /// The spot one node below, over an offset. None where there is no such node, where the offset isn't below its size, and where the slot
@@ -223,6 +346,9 @@ fn spot_below(store: &Store, spot: Spot, node: u32, offset: u32) -> Option<Spot>
     let _shape = layout.shape();
     if spot.node as usize >= layout.nodes() {
         return None;
+    }
+    if spot.node + 1 == node {
+        return store.under(spot, offset);
     }
     if !can_step(layout, node, offset) {
         return None;
@@ -242,6 +368,19 @@ fn can_step(layout: &Layout, node: u32, offset: u32) -> bool
         return false;
     }
     offset < layout.size(index)
+}
+
+/// The cell of a spot: none where the spot isn't after the last node.
+fn cell_under(store: &Store, spot: Spot) -> Option<u32>
+    requires leads { IsSpot store.now spot }
+    ensures reached { IfSome result (IsReached store.now) }
+    ensures cell { (path : List ℕ) → LeadsAlong store.now spot path → length path ≡ length store.now.shape.nodes →
+        cell_in store.now (coordinate_of store.now.shape path) ≡ result }
+{
+    if spot.node as usize != store.layout().nodes() {
+        return None;
+    }
+    Some(store.cell_at(spot))
 }
 
 /// The value of a field, from 0, at a spot: 0 where the spot isn't after the last node, and where there is no such field.

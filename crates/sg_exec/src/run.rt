@@ -1,39 +1,46 @@
-ghost use Rattle.std.specs.Prelude.{◌≡◌, ◌<◌, length, IfOk, OnErr};
+ghost use Rattle.std.specs.Prelude.{◌≡◌, ◌<◌, ◌≤◌, List, length, IfOk, OnErr};
 ghost use Rattle.std.specs.List.{AllZip};
 ghost use Rattle.sg_flat.specs.declared.state.FlatState.{FlatState};
+ghost use Rattle.sg_store.specs.StoreWords.{StoreWords};
 ghost use Rattle.sg_store.specs.StandsFor.{StandsFor};
 ghost use Rattle.sg_exec.specs.Standing.{shapes_of, StandForState};
 ghost use Rattle.sg_exec.specs.Running.{IsRunnable, Ran, run_meaning, load_meaning};
-ghost use Rattle.sg_exec.specs.steps.Landing.{current, placed, CopiesRan};
+ghost use Rattle.sg_exec.specs.steps.Landing.{current, placed, with_copy, CopiesRan};
 
+use crate::activated::{activated_for_rows, activated_for_slice};
 use crate::landing::{land_all, land_points};
 use crate::points::domain_points;
-use crate::reached::reached;
 use crate::values::ONE_POINT;
-use crate::wants::{points_wants, rows_wants};
 use sg_coord::numbering;
 use sg_flat::{RunFault, Write};
 use sg_ir::KernelCode;
 use sg_layout::{Layouts, closure_closes, closure_members};
+use sg_outside::Gate;
 use sg_store::{Store, Stores};
 use sg_words::Stop;
 use std::alloc::Global;
+use std::thread::Threads;
 
-/// Runs a kernel over the stores of these layouts, or refuses it. After a refusal, or where memory runs out, the stores are as
-/// before.
-pub fn run_kernel(
+/// Runs a kernel over the stores of these layouts on so many workers, from 1 to 16, or refuses it. Each worker passes the gate
+/// before each iteration of its slice. After a refusal, or where memory runs out, the stores are as before.
+pub fn run_kernel<R: Threads + Sync, G: Gate + Sync>(
+    rt: &R,
     alloc: Global,
     stores: &mut Stores,
     layouts: &Layouts,
     kernel: &KernelCode,
+    workers: u32,
+    gate: &G,
 ) -> Result<(), Stop<RunFault>>
     requires runnable { IsRunnable layouts.now.list kernel.now }
+    requires some { 1 ≤ workers }
+    requires few { workers ≤ 16 }
     ensures answer { (state : FlatState) → StandForState layouts.now.list stores.old.list state →
         Ran layouts.now.list stores.new.list result (run_meaning layouts.now.list state kernel.now) }
     ensures stays { OnErr result (stores.new ≡ stores.old) }
 {
     let _layouts = layouts;
-    let copies = kernel_copies(alloc, stores, kernel)?;
+    let copies = kernel_copies(rt, alloc, stores, kernel, workers, gate)?;
     settle(stores, copies);
     Ok(())
 }
@@ -41,7 +48,8 @@ pub fn run_kernel(
 /// Loads rows into the stores of these layouts: what is listed is written, each row by a write of its own, and nothing else
 /// changes. Refused where a node has no room, or a row is outside. After a refusal, or where memory runs out, the stores are as
 /// before.
-pub fn load_rows(
+pub fn load_rows<R: Threads + Sync>(
+    rt: &R,
     alloc: Global,
     stores: &mut Stores,
     layouts: &Layouts,
@@ -52,17 +60,22 @@ pub fn load_rows(
     ensures stays { OnErr result (stores.new ≡ stores.old) }
 {
     let _layouts = layouts;
-    let copies = loaded_copies(alloc, stores, rows)?;
+    let copies = loaded_copies(rt, alloc, stores, rows)?;
     settle(stores, copies);
     Ok(())
 }
 
 /// Copies of the stores that a kernel writes, as they are after it.
-pub(crate) fn kernel_copies(
+pub(crate) fn kernel_copies<R: Threads + Sync, G: Gate + Sync>(
+    rt: &R,
     alloc: Global,
     stores: &Stores,
     kernel: &KernelCode,
+    workers: u32,
+    gate: &G,
 ) -> Result<Vec<Option<Store>>, Stop<RunFault>>
+    requires some { 1 ≤ workers }
+    requires few { workers ≤ 16 }
     ensures ran { IsRunnable (shapes_of stores.now.list) kernel.now → (state : FlatState) → AllZip StandsFor stores.now.list state.layouts →
         CopiesRan (λ copies. current copies.items stores.now.list) (shapes_of stores.now.list) result
         (run_meaning (shapes_of stores.now.list) state kernel.now) }
@@ -74,20 +87,40 @@ pub(crate) fn kernel_copies(
     closure_closes();
     let points = domain_points(alloc, stores, kernel.domain)?;
     let points = points.as_slice();
-    let wants = points_wants(alloc, stores, points, kernel.slice.body.as_slice())?;
-    let mut copies = reached(alloc, stores, &wants)?;
-    land_points(
-        alloc,
-        stores,
-        &mut copies,
-        points,
-        kernel.code.body.as_slice(),
-    )?;
+    let slice = kernel.slice.body.as_slice();
+    let mut copies = activated_for_slice(rt, alloc, stores, points, slice, workers, gate)?;
+    let landed = land_points(alloc, stores, &copies, points, kernel.code.body.as_slice())?;
+    take_copies(&mut copies, landed);
     Ok(copies)
 }
 
+/// Puts copies in the places of others, where there are some.
+fn take_copies(copies: &mut Vec<Option<Store>>, landed: Vec<Option<Store>>)
+    requires room { length landed.items ≡ length copies.old.items }
+    ensures copies { (stores : List StoreWords) → length stores ≡ length copies.old.items →
+        current copies.new.items stores ≡ current landed.items (current copies.old.items stores) }
+    ensures room { length copies.new.items ≡ length copies.old.items }
+{
+    let mut landed = landed;
+    for number in 0..landed.len() {
+        let slot = &mut landed[number];
+        let copy = slot.take();
+        put_copy(copies, number, copy);
+    }
+}
+
+fn put_copy(copies: &mut Vec<Option<Store>>, number: usize, copy: Option<Store>)
+    requires { number < length copies.old.items }
+    ensures { copies.new.items ≡ with_copy copies.old.items number copy }
+{
+    if let Some(store) = copy {
+        copies[number] = Some(store);
+    }
+}
+
 /// Copies of the stores that have a row, as they are after the load.
-fn loaded_copies(
+fn loaded_copies<R: Threads + Sync>(
+    rt: &R,
     alloc: Global,
     stores: &Stores,
     rows: &[Write],
@@ -100,8 +133,7 @@ fn loaded_copies(
     // for the laws that they ensure
     numbering(&ONE_POINT);
     closure_closes();
-    let wants = rows_wants(alloc, stores, rows)?;
-    let mut copies = reached(alloc, stores, &wants)?;
+    let mut copies = activated_for_rows(rt, alloc, stores, rows)?;
     land_all(alloc, stores, &mut copies, rows)?;
     Ok(copies)
 }

@@ -6,11 +6,13 @@ use sg_coord::Coord;
 use sg_flat::{Domain, RunFault, Way, Write};
 use sg_ir::{Code, Inst, KernelCode};
 use sg_layout::{Kind, Layouts, NodeShape, Shape, Size, check_layout};
-use sg_store::{Store, Stores, is_built};
+use sg_outside::FreeGate;
+use sg_store::{Store, Stores};
 use sg_words::{AccOp, BinOp, Items, Memory, Stop, Ty};
 use std::alloc::{AllocError, Global};
 use std::process::Abort;
 use std::test::Fail;
+use std::thread::Threads;
 
 fn node(alloc: Global, kind: Kind, cap: i32) -> Result<NodeShape, AllocError> {
     let size = Size { axis: 1, extent: 4 };
@@ -47,7 +49,6 @@ fn store(rt: &impl Abort, alloc: Global) -> Result<Store, Fail> {
     let shape = shape(alloc)?;
     assert!(rt; shape.is_declared());
     let layout = check_layout(alloc, &shape)?;
-    assert!(rt; is_built(&layout));
     assert!(rt; layout.words() <= 1 << 22);
     Ok(Store::make(alloc, &layout)?)
 }
@@ -104,11 +105,16 @@ fn field_value(stores: &Stores, place: u32, a: i32) -> Option<u32> {
 }
 
 /// The fault of a load, where it is refused.
-fn loaded(alloc: Global, stores: &mut Stores, rows: &[Write]) -> Result<Option<RunFault>, Memory> {
+fn loaded<R: Threads + Sync>(
+    rt: &R,
+    alloc: Global,
+    stores: &mut Stores,
+    rows: &[Write],
+) -> Result<Option<RunFault>, Memory> {
     let layouts = Layouts {
         list: Items::new(alloc),
     };
-    match load_rows(alloc, stores, &layouts, rows) {
+    match load_rows(rt, alloc, stores, &layouts, rows) {
         Ok(()) => Ok(None),
         Err(Stop::Refused(fault)) => Ok(Some(fault)),
         Err(Stop::Memory) => Err(Memory),
@@ -127,7 +133,7 @@ fn rows_activate_their_blocks(rt: HostRuntime) -> Result<(), Fail> {
     let store = store(&rt, alloc)?;
     let mut stores = alone(alloc, store)?;
     let rows = to_and_fro(alloc)?;
-    assert_eq!(rt; loaded(alloc, &mut stores, &rows)?, None);
+    assert_eq!(rt; loaded(&rt, alloc, &mut stores, &rows)?, None);
     assert_eq!(rt;
         (value(&stores, 3), value(&stores, 10)),
         (Some(2499), Some(2499))
@@ -135,7 +141,7 @@ fn rows_activate_their_blocks(rt: HostRuntime) -> Result<(), Fail> {
     assert_eq!(rt; (value(&stores, 8), value(&stores, 4)), (Some(0), None));
     // two blocks are all that there is room for, and a row outside comes before a full pool
     assert_eq!(rt;
-        loaded(alloc, &mut stores, &[row(3, 6), row(5, 1)])?,
+        loaded(&rt, alloc, &mut stores, &[row(3, 6), row(5, 1)])?,
         Some(FULL)
     );
     let outside = RunFault::WriteOutside {
@@ -143,7 +149,7 @@ fn rows_activate_their_blocks(rt: HostRuntime) -> Result<(), Fail> {
         at: at(16),
     };
     assert_eq!(rt;
-        loaded(alloc, &mut stores, &[row(5, 1), row(16, 1)])?,
+        loaded(&rt, alloc, &mut stores, &[row(5, 1), row(16, 1)])?,
         Some(outside)
     );
     assert_eq!(rt; value(&stores, 3), Some(2499));
@@ -321,12 +327,13 @@ fn push_own_write(block: &mut Items<Inst>, from: u32) -> Result<(), AllocError> 
 }
 
 /// The fault of a run, where it is refused.
-fn ran(
+fn ran<R: Threads + Sync>(
+    rt: &R,
     alloc: Global,
     stores: &mut Stores,
     kernel: &KernelCode,
 ) -> Result<Option<RunFault>, Memory> {
-    match kernel_copies(alloc, stores, kernel) {
+    match kernel_copies(rt, alloc, stores, kernel, 2, &FreeGate) {
         Ok(copies) => {
             settle(stores, copies);
             Ok(None)
@@ -337,7 +344,13 @@ fn ran(
 }
 
 /// The fault of the run that adds at these points.
-fn adds(alloc: Global, stores: &mut Stores, lo: i32, hi: i32) -> Result<Option<RunFault>, Memory> {
+fn adds<R: Threads + Sync>(
+    rt: &R,
+    alloc: Global,
+    stores: &mut Stores,
+    lo: i32,
+    hi: i32,
+) -> Result<Option<RunFault>, Memory> {
     let kernel = KernelCode {
         slice: adding(alloc, false)?,
         code: adding(alloc, true)?,
@@ -346,17 +359,21 @@ fn adds(alloc: Global, stores: &mut Stores, lo: i32, hi: i32) -> Result<Option<R
             hi: at(hi),
         },
     };
-    ran(alloc, stores, &kernel)
+    ran(rt, alloc, stores, &kernel)
 }
 
 /// The fault of the run that reads the cell before.
-fn moves(alloc: Global, stores: &mut Stores) -> Result<Option<RunFault>, Memory> {
+fn moves<R: Threads + Sync>(
+    rt: &R,
+    alloc: Global,
+    stores: &mut Stores,
+) -> Result<Option<RunFault>, Memory> {
     let kernel = KernelCode {
         slice: code(alloc, Items::new(alloc))?,
         code: moving(alloc)?,
         domain: Domain::Walk { layout: 0 },
     };
-    ran(alloc, stores, &kernel)
+    ran(rt, alloc, stores, &kernel)
 }
 
 #[test]
@@ -364,7 +381,7 @@ fn code_is_run(rt: HostRuntime) -> Result<(), Fail> {
     let alloc = rt.alloc();
     let store = store(&rt, alloc)?;
     let mut stores = alone(alloc, store)?;
-    assert_eq!(rt; adds(alloc, &mut stores, 2, 7)?, None);
+    assert_eq!(rt; adds(&rt, alloc, &mut stores, 2, 7)?, None);
     assert_eq!(rt;
         (
             value(&stores, 1),
@@ -378,9 +395,9 @@ fn code_is_run(rt: HostRuntime) -> Result<(), Fail> {
         stmt: 7,
         at: at(15),
     };
-    assert_eq!(rt; adds(alloc, &mut stores, 14, 16)?, Some(outside));
-    assert_eq!(rt; adds(alloc, &mut stores, 9, 10)?, Some(FULL));
-    assert_eq!(rt; moves(alloc, &mut stores)?, None);
+    assert_eq!(rt; adds(&rt, alloc, &mut stores, 14, 16)?, Some(outside));
+    assert_eq!(rt; adds(&rt, alloc, &mut stores, 9, 10)?, Some(FULL));
+    assert_eq!(rt; moves(&rt, alloc, &mut stores)?, None);
     assert_eq!(rt;
         (
             field_value(&stores, 1, 0),

@@ -2,7 +2,8 @@ ghost use Rattle.std.specs.Prelude.{◌≡◌, ◌&&◌, ◌==◌, OnErr, OnOk};
 ghost use Rattle.sg_ir.specs.Runs.{is_own};
 ghost use Rattle.sg_exec.specs.steps.Written.{is_own_to, is_same_field, replaced};
 
-use sg_flat::{Way, Write};
+use crate::cell_write::CellWrite;
+use sg_flat::Way;
 use sg_words::Memory;
 use std::alloc::Global;
 use std::marker::Model;
@@ -10,16 +11,16 @@ use std::marker::Model;
 /// The writes of an iteration so far, with the last own write to each field at hand. Contracts see the list of the writes.
 #[derive(Drop)]
 pub struct Written {
-    list: Vec<Write>,
-    own: Vec<Write>,
+    list: Vec<CellWrite>,
+    own: Vec<CellWrite>,
 }
 
 impl Model for Written {
     ghost use Rattle.std.specs.Prelude.{List};
-    ghost use Rattle.sg_flat.specs.declared.effects.Write.{Write};
+    ghost use Rattle.sg_exec.specs.declared.cell_write.CellWrite.{CellWrite};
     ghost use Rattle.sg_exec.specs.steps.Written.{IsLatest};
 
-    ghost Value = { List Write };
+    ghost Value = { List CellWrite };
 
     ghost view = { λ written. written.list.items };
 
@@ -27,7 +28,7 @@ impl Model for Written {
 }
 
 impl Written {
-    ghost use Rattle.std.specs.Prelude.{◌≡◌, ◌++◌, ◌∷◌, [], OnOk};
+    ghost use Rattle.std.specs.Prelude.{◌≡◌, ◌++◌, ◌∷◌, [], OnErr, OnOk};
     ghost use Rattle.sg_exec.specs.steps.Written.{own_write};
 
     /// No writes.
@@ -41,8 +42,9 @@ impl Written {
     }
 
     /// Adds a write.
-    pub fn push(&mut self, write: Write) -> Result<(), Memory>
+    pub fn push(&mut self, write: CellWrite) -> Result<(), Memory>
         ensures ok { OnOk result (self.new ≡ self.old ++ write ∷ []) }
+        ensures err { OnErr result (self.new ≡ self.old) }
     {
         self.list.push(write)?;
         if is_own(write.way) {
@@ -58,7 +60,7 @@ impl Written {
     }
 
     /// The last own write to a field.
-    pub fn own_write(&self, layout: u32, place: u32) -> Option<Write>
+    pub fn own_write(&self, layout: u32, place: u32) -> Option<CellWrite>
         ensures { result ≡ own_write layout place self.now }
     {
         for write in self.own.as_slice() {
@@ -70,7 +72,7 @@ impl Written {
     }
 
     /// The writes, in order.
-    pub fn as_slice(&self) -> &[Write]
+    pub fn as_slice(&self) -> &[CellWrite]
         ensures { result.now ≡ self.now }
     {
         self.list.as_slice()
@@ -86,7 +88,7 @@ impl Written {
 }
 
 /// Puts an own write in the place of the one to the same field, or behind all where there is none.
-fn remember(own: &mut Vec<Write>, write: Write) -> Result<(), Memory>
+fn remember(own: &mut Vec<CellWrite>, write: CellWrite) -> Result<(), Memory>
     ensures ok { OnOk result (own.new.items ≡ replaced write own.old.items) }
     ensures err { OnErr result (own.new.items ≡ own.old.items) }
 {
@@ -101,14 +103,14 @@ fn remember(own: &mut Vec<Write>, write: Write) -> Result<(), Memory>
 }
 
 /// Whether a write is an own write to this field.
-fn is_own_to(write: &Write, layout: u32, place: u32) -> bool
+fn is_own_to(write: &CellWrite, layout: u32, place: u32) -> bool
     ensures { result ≡ is_own_to layout place write.now }
 {
     is_own(write.way) && write.layout == layout && write.place == place
 }
 
 /// Whether two writes are to one field.
-fn is_same_field(write: &Write, other: &Write) -> bool
+fn is_same_field(write: &CellWrite, other: &CellWrite) -> bool
     ensures { result ≡ is_same_field write.now other.now }
 {
     write.layout == other.layout && write.place == other.place

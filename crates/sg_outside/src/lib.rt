@@ -8,6 +8,7 @@ pub mod mem_sink;
 pub mod real_files;
 pub mod real_out;
 pub mod sink;
+pub mod test_gates;
 
 pub use files::{Files, Got};
 pub use gate::{FreeGate, Gate, Phase};
@@ -16,6 +17,9 @@ pub use mem_sink::MemSink;
 pub use real_files::RealFiles;
 pub use real_out::RealOut;
 pub use sink::{Put, Sink};
+pub use test_gates::{HoldGate, OrderGate};
 
+#[cfg(test)]
+mod gate_tests;
 #[cfg(test)]
 mod tests;

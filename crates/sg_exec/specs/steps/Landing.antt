@@ -1,21 +1,29 @@
 -- Copies in the places of stores, and the writes that land in them.
-use Rattle.std.specs.Prelude.{◌≡◌, ℕ, suc, List, [], ◌∷◌, Contains, Option, Some, None, Result, Ok, Err, unwrap_or, slice_get, slice_set}
+use Rattle.std.specs.Prelude.{◌≡◌, ℕ, suc, true, List, [], ◌∷◌, map, All, Contains, IfSome, Option, Some, None, Result, Ok, Err, unwrap_or, slice_get, slice_set, if◌then◌else◌}
 use Rattle.std.specs.List.{AllZip}
 use Rattle.std.specs.Result.{IsOkAnd}
 use Rattle.sg_words.specs.declared.memory.Stop.{Stop}
 use Rattle.sg_words.specs.declared.memory.Stop.TheVariants as stop
 use Rattle.sg_words.specs.declared.operators.Ty.{Ty}
 use Rattle.sg_coord.specs.Bounds.{Bounds}
+use Rattle.sg_coord.specs.Coord.{is_inside}
 use Rattle.sg_layout.specs.declared.shape.Shape.{Shape}
 use Rattle.sg_layout.specs.Axes.{bounds_of_shape}
+use Rattle.sg_coord.specs.declared.coord.Coord.{Coord}
+use Rattle.sg_flat.specs.declared.effects.Turn.{Turn}
 use Rattle.sg_flat.specs.declared.effects.Write.{Write}
 use Rattle.sg_flat.specs.declared.effects.RunFault.{RunFault}
 use Rattle.sg_flat.specs.declared.state.FlatLayout.{FlatLayout}
 use Rattle.sg_flat.specs.declared.state.FlatState.{FlatState}
-use Rattle.sg_flat.specs.Kernel.{field_after}
+use Rattle.sg_flat.specs.Kernel.{field_after, is_inside_of}
 use Rattle.sg_store.specs.StoreWords.{StoreWords}
 use Rattle.sg_store.specs.StandsFor.{StandsFor}
+use Rattle.sg_store.specs.Walks.{cell_in}
+use Rattle.sg_ir.specs.declared.code.Inst.{Inst}
+use Rattle.sg_ir.specs.Runs.{CodeWrite, is_own, iteration}
+use Rattle.sg_exec.specs.declared.cell_write.CellWrite.{CellWrite}
 use Rattle.sg_exec.specs.Standing.{shapes_of, StandForState}
+use Rattle.sg_exec.specs.steps.Machines.{seen_in, cell_write, IsAtLoop}
 
 -- the stores, with each copy in the place of the store that it was made of
 abbrev pub current : List (Option StoreWords) → List StoreWords → List StoreWords
@@ -27,6 +35,11 @@ current (copy ∷ copies) (store ∷ stores) = unwrap_or copy store ∷ current 
 abbrev pub placed : List StoreWords → ℕ → Option StoreWords → List StoreWords
 placed stores number None = stores
 placed stores number (Some store) = slice_set stores number store
+
+-- the copies with another one, where there is one
+abbrev pub with_copy : List (Option StoreWords) → ℕ → Option StoreWords → List (Option StoreWords)
+with_copy copies number None = copies
+with_copy copies number (Some store) = slice_set copies number (Some store)
 
 -- the fields of a layout, from the given place on, after writes
 abbrev pub fields_landed : Bounds → ℕ → ℕ → List Ty → List (List (ℕ × ℕ)) → List Write → List (List (ℕ × ℕ))
@@ -63,3 +76,41 @@ abbrev pub CopiesRan : {A : Type 0} → (A → List StoreWords) → List Shape �
 CopiesRan view shapes (Ok copies) meaning = IsOkAnd meaning (StandForState shapes (view copies))
 CopiesRan view shapes (Err stop.Memory) meaning = Unit {0}
 CopiesRan view shapes (Err (stop.Refused fault)) meaning = meaning ≡ Err fault
+
+-- ---- landing by cells
+
+-- a write as the executor keeps it, at the coordinate where code writes it
+abbrev pub code_write : List Shape → Write → CodeWrite
+code_write shapes write = record {
+  layout = write.layout;
+  field = write.place;
+  stmt = write.stmt;
+  at = if is_own write.way then Some write.at else if is_inside_of (slice_get shapes write.layout) write.at then Some write.at else None;
+  way = write.way;
+  value = write.value;
+}
+
+-- a write with the cell of its coordinate
+abbrev pub landing : List StoreWords → Write → CellWrite
+landing stores write = cell_write stores (code_write (shapes_of stores) write)
+
+-- these are the turns in which a block writes
+abbrev pub AreTurnsOf : List StoreWords → FlatState → List Inst → List Coord → (Coord → Turn) → Type 0
+AreTurnsOf stores state block points turn = (at : Coord) → Contains points at →
+    All (IsAtLoop at) (iteration (seen_in stores state at) block).writes →
+    (iteration (seen_in stores state at) block).writes ≡ map (code_write (shapes_of stores)) (turn at).writes
+
+-- a store is another but for its fields
+abbrev pub HasTree : StoreWords → StoreWords → Type 0
+HasTree store copy = copy ≡ record store { fields = copy.fields }
+
+-- what the executor keeps is a write, with the cell that its coordinate has where it is inside
+pub record IsLanding (store : StoreWords) (write : CellWrite) (made : Write) : Type 0 where
+  pub place : write.place ≡ made.place
+  pub way : write.way ≡ made.way
+  pub value : write.value ≡ made.value
+  pub cell : is_inside (bounds_of_shape store.shape) made.at ≡ true → write.cell ≡ cell_in store made.at
+
+-- there is room for a copy of each store, and each copy has the tree of its store
+abbrev pub AreCopies : List StoreWords → List (Option StoreWords) → Type 0
+AreCopies stores copies = AllZip (λ store copy. IfSome copy (HasTree store)) stores copies

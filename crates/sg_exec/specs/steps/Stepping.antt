@@ -9,6 +9,7 @@ use Rattle.sg_store.specs.declared.spot.Spot.{Spot}
 use Rattle.sg_store.specs.StoreWords.{StoreWords}
 use Rattle.sg_store.specs.StandsFor.{StandsFor}
 use Rattle.sg_store.specs.Spots.{LeadsAlong}
+use Rattle.sg_store.specs.Walks.{cell_in}
 use Rattle.sg_ir.specs.Runs.{node_in}
 
 -- an offset is below the size of a node that may be there
@@ -25,7 +26,12 @@ pub record StepLeads (store : StoreWords) (below : Spot) (node : ℕ) (path : Li
   pub can : can_step store.shape.nodes node offset ≡ true
   pub leads : LeadsAlong store below (path ++ offset ∷ [])
 
--- where the step can be taken, no coordinate whose path goes on from there is active
+-- the coordinate has no cell, and isn't active
+pub record IsIdle (store : StoreWords) (at : Coord) : Type 0 where
+  pub cell : cell_in store at ≡ None
+  pub idle : (flat : FlatLayout) → StandsFor store flat → Contains flat.active at → ⊥
+
+-- where the step can be taken, each coordinate whose path goes on from there is idle
 abbrev pub StepIsDead : StoreWords → ℕ → List ℕ → ℕ → Type 0
-StepIsDead store node path offset = can_step store.shape.nodes node offset ≡ true → (flat : FlatLayout) → StandsFor store flat →
-    (at : Coord) (more : List ℕ) → offsets store.shape.nodes at ≡ (path ++ offset ∷ []) ++ more → Contains flat.active at → ⊥
+StepIsDead store node path offset = can_step store.shape.nodes node offset ≡ true →
+    (at : Coord) (more : List ℕ) → offsets store.shape.nodes at ≡ (path ++ offset ∷ []) ++ more → IsIdle store at

@@ -5,11 +5,11 @@ use Rattle.sg_exec.proofs.Answering.{ran_ok, ran_err, runnable_here}
 use Rattle.sg_exec.proofs.run.run_kernel.Goals as goal
 
 pub returns-in_err-copies-clause-answer : goal.returns-in_err-copies-clause-answer
-returns-in_err-copies-clause-answer c = λ state stand.
+returns-in_err-copies-clause-answer g c = λ state stand.
     ran_err {A = Unit {0}} (λ _. []) (λ (shapes : List Shape). run_meaning shapes state c.args.kernel.now) c.args.layouts.now.list c.args.stores.now.list _ c.from_residual.result c.in_err-copies.field-0.0 stand.shapes_are c.from_residual.ensures.1
     (c.in_err-copies.ensures.ran (runnable_here c.args.layouts.now.list c.args.stores.now.list c.args.kernel.now stand.shapes_are c.requires.runnable) state stand.stand)
 
 pub returns-clause-answer : goal.returns-clause-answer
-returns-clause-answer c = λ state stand.
+returns-clause-answer g c = λ state stand.
     ran_ok (λ (shapes : List Shape). run_meaning shapes state c.args.kernel.now) c.args.layouts.now.list c.args.stores.now.list _ _ stand.shapes_are c.settle.ensures
     (c.in_ok-copies.ensures.ran (runnable_here c.args.layouts.now.list c.args.stores.now.list c.args.kernel.now stand.shapes_are c.requires.runnable) state stand.stand)

@@ -1,13 +1,26 @@
-use Rattle.std.proofs.Common.{ℕ, ◌∙◌, subst}
+use Rattle.std.proofs.Common.{ℕ, sym, ◌∙◌, subst}
+use Rattle.sg_ir.specs.Runs.{put, check}
 use Rattle.sg_ir.proofs.Uses.{does-Check}
 use Rattle.sg_exec.specs.steps.Machines.{ArePlaces}
-use Rattle.sg_ir.specs.Runs.{put, check}
+use Rattle.sg_exec.proofs.Going.{as_moved}
 use Rattle.sg_exec.specs.steps.Machines.{seen_in}
-use Rattle.sg_exec.proofs.Going.{on_ok}
-use Rattle.sg_exec.proofs.RowsMoved.{place_done}
 use Rattle.sg_exec.proofs.moment.Moment.check.Goals as goal
 
-pub returns : goal.returns
-returns c = on_ok _ _ c.check.result (λ step. λ stores state at now follows.
-    place_done stores at c.args.self.now.regs.items c.args.self.now.vars.items c.args.self.now.places c.check.new.self c.args.self.now.writes c.args.self.now.wants.items c.args.to (check c.args.extent (now.regs c.args.index) (now.places c.args.place)) now _ (does-Check (seen_in stores state at) c.args.to c.args.place c.args.axis c.args.extent c.args.index now)
-    (λ is. subst (λ (w : ℕ). ArePlaces stores c.check.new.self (put c.args.to (check c.args.extent w (now.places c.args.place)) now.places)) (c.reg-word.ensures ∙ is.regs_are c.args.index) (step stores now.places is.places_are)) follows) c.check.ensures
+pub returns-in-Ok : goal.returns-in-Ok
+returns-in-Ok c = record {
+  stores = c.check.ensures.stores;
+  kept = λ lacks. lacks;
+  follows = λ stores state at sees now follows.
+      as_moved (sym (does-Check (seen_in stores state at) c.args.to c.args.place c.args.axis c.args.extent c.args.index now))
+      (λ lacks named.
+      let old = follows lacks named in
+      record {
+        regs_are = old.regs_are;
+        vars_are = old.vars_are;
+        places_are = subst (λ (w : ℕ). ArePlaces stores c.check.new.self (put c.args.to (check c.args.extent w (now.places c.args.place)) now.places)) (c.reg-word.ensures ∙ old.regs_are c.args.index) (c.in-Ok.ensures.ok stores now.places old.places_are);
+        at_is = c.check.ensures.at ∙ old.at_is;
+        writes_are = c.check.ensures.writes ∙ old.writes_are;
+        own_at = old.own_at;
+        wants_are = old.wants_are;
+      });
+}

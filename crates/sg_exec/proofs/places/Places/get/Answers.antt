@@ -8,4 +8,4 @@ pub returns-clause-held : goal.returns-clause-held
 returns-clause-held c =
     let value : c.unwrap_or.result ≡ get_or c.self.inside.list.items c.args.place None = search rules in
     subst (λ (row : PlaceRow). IfSome c.unwrap_or.result (IsHeld row.stores)) c.self.view_is
-    (held.held_at c.self.inside.stores.now.list c.self.inside.list.items c.args.place c.unwrap_or.result c.self.invariant value)
+    (held.held_at c.self.inside.view c.self.inside.list.items c.args.place c.unwrap_or.result c.self.invariant.held value)

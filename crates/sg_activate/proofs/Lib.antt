@@ -1,0 +1,9 @@
+pub mod Active
+pub mod KeyLevel
+pub mod KeySteps
+pub mod LengthLevel
+pub mod LinkLevel
+pub mod LinkSteps
+pub mod MaskLevel
+pub mod Raced
+pub mod TakenNumbers

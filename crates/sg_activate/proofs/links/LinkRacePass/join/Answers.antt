@@ -1,0 +1,25 @@
+use Rattle.std.proofs.Common.{sym, subst}
+use Rattle.sg_pointer.specs.Seats.{worker_of}
+use Rattle.sg_store.specs.Opening.{IsPlaceOf, IsInLive}
+use Rattle.sg_activate.specs.steps.Links.{HasMet, HasMadeFor, AreInLive}
+use Rattle.sg_activate.proofs.LinkSteps.{seen_left, seen_right, made_joined}
+use Rattle.sg_activate.proofs.links.LinkRacePass.join.Goals as goal
+
+pub returns-clause-stays : goal.returns-clause-stays
+returns-clause-stays c = λ at met. subst (HasMet c.args.self.now.store.now c.args.self.now.node at) (sym c.join.ensures.worker)
+    (λ slot is. seen_left (worker_of c.args.seat.now) (worker_of c.args.other) slot (met slot is))
+
+pub returns-clause-others : goal.returns-clause-others
+returns-clause-others c = λ at met. subst (HasMet c.args.self.now.store.now c.args.self.now.node at) (sym c.join.ensures.worker)
+    (λ slot is. seen_right (worker_of c.args.seat.now) (worker_of c.args.other) slot (met slot is))
+
+pub returns-clause-made : goal.returns-clause-made
+returns-clause-made c = λ wanted mine theirs. subst (HasMadeFor c.args.self.now.store.now c.args.self.now.node wanted) (sym c.join.ensures.worker)
+    (made_joined (IsPlaceOf c.args.self.now.store.now c.args.self.now.node wanted) (worker_of c.args.seat.now) (worker_of c.args.other) mine theirs)
+
+pub returns-clause-own : goal.returns-clause-own
+returns-clause-own c = (
+  c.join.ensures.own,
+  subst (AreInLive c.args.self.now.store.now c.args.self.now.node) (sym c.join.ensures.worker)
+      (made_joined (IsInLive c.args.self.now.store.now c.args.self.now.node) (worker_of c.args.seat.now) (worker_of c.args.other) c.requires.own.1 c.requires.other.1),
+)

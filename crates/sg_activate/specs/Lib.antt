@@ -1,0 +1,2 @@
+pub mod Activating
+pub mod steps

@@ -1,0 +1,18 @@
+//! Activation: workers race for what pieces of work want, and the store becomes active there.
+#![tactic(auto)]
+
+pub mod activation;
+pub mod fault;
+mod gates;
+mod keys;
+mod lengths;
+mod links;
+mod look;
+mod masks;
+mod pass;
+mod race;
+pub mod wanted;
+
+pub use activation::{activate, activated};
+pub use fault::ActFault;
+pub use wanted::Wanted;

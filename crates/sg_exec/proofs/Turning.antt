@@ -1,0 +1,333 @@
+-- What turns want in each layout, and the first write outside of turns.
+use Rattle.std.proofs.Common.{◌≡◌, ◌⊎◌, ℕ, zero, suc, ◌+◌, ◌<◌, ◌≤◌, Bool, true, false, ◌&&◌, ◌==◌, List, [], ◌∷◌, ◌++◌, map, length, take, drop, get_or, cond, Option, Some, None, Result, Ok, Err, refl, inl, inr, sym, ap, ◌∙◌, subst, arith, append_assoc, append-nil, Bor}
+use Rattle.std.specs.Prelude.{filter, slice_get, All, Contains, OnOk}
+use Rattle.std.specs.Option.{option_or}
+use Rattle.std.specs.List.{AllZip}
+use Rattle.std.specs.Result.{IsErrAnd}
+use Rattle.std.proofs.lemmas.Bool.{cond-true, cond-false, eqb-true}
+use Rattle.std.proofs.lemmas.Option.{same_Some, slice_get_within}
+use Rattle.std.proofs.lemmas.List.{map-append, length-map, take-append-drop, take_all, take_more}
+use Rattle.std.proofs.lemmas.List.Elements.{filter-append, All-nil, All-cons, All-append, Contains-append_left, Contains-append_right}
+use Rattle.sg_words.specs.declared.memory.Stop.{Stop}
+use Rattle.sg_words.specs.declared.memory.Stop.TheVariants as stop
+use Rattle.sg_coord.specs.declared.coord.Coord.{Coord}
+use Rattle.sg_coord.specs.Bounds.{Bounds}
+use Rattle.sg_coord.specs.Coord.{Inside, is_inside}
+use Rattle.sg_coord.specs.Laws.{InsideTest}
+use Rattle.sg_layout.specs.declared.shape.Shape.{Shape}
+use Rattle.sg_layout.specs.Axes.{bounds_of_shape}
+use Rattle.sg_flat.specs.declared.effects.Write.{Write}
+use Rattle.sg_flat.specs.declared.effects.Turn.{Turn}
+use Rattle.sg_flat.specs.declared.effects.RunFault.{RunFault}
+use Rattle.sg_flat.specs.declared.state.FlatLayout.{FlatLayout}
+use Rattle.sg_flat.specs.declared.state.FlatState.{FlatState}
+use Rattle.sg_flat.specs.Effects.{writes_of}
+use Rattle.sg_flat.specs.Kernel.{is_inside_of, outside_among, first_outside, first_full_layout}
+use Rattle.sg_store.specs.StoreWords.{StoreWords}
+use Rattle.sg_store.specs.StandsFor.{StandsFor}
+use Rattle.sg_activate.specs.Activating.{wanted_below}
+use Rattle.sg_ir.specs.declared.code.Inst.{Inst}
+use Rattle.sg_exec.specs.declared.turns.Turns.{Turns}
+use Rattle.sg_exec.specs.declared.turns.Turns.TheVariants.{Slice, Rows}
+use Rattle.sg_exec.specs.Running.{turn_of}
+use Rattle.sg_exec.specs.Standing.{shapes_of}
+use Rattle.sg_exec.specs.steps.Machines.{Sees}
+use Rattle.sg_exec.specs.steps.Moments.{AreNamedAt, slice_turn}
+use Rattle.sg_exec.specs.steps.Turning.{count_of, turns_in, AreNamedIn, wanted_of, writes_at, Means, IsMeant, AreMeant, TellsOutside, wants_from, ReachesAll, TurnsActivated}
+use Rattle.sg_exec.specs.steps.Wants.{coords_in, AreWants}
+use Rattle.sg_exec.proofs.Wanting.{equal_members, coords_more}
+use Rattle.sg_exec.proofs.Following.{inside_head}
+
+-- ---- the first write outside
+
+or_assoc : (a b c : Option RunFault) → option_or a (option_or b c) ≡ option_or (option_or a b) c
+or_assoc None b c = refl
+or_assoc (Some x) b c = refl
+
+outside_append : (shapes : List Shape) (xs ys : List Turn) → first_outside shapes (xs ++ ys) ≡ option_or (first_outside shapes xs) (first_outside shapes ys)
+outside_append shapes [] ys = refl
+outside_append shapes (x ∷ xs) ys =
+    ap (λ (o : Option RunFault). option_or (outside_among shapes x.at x.writes) o) (outside_append shapes xs ys)
+    ∙ or_assoc (outside_among shapes x.at x.writes) (first_outside shapes xs) (first_outside shapes ys)
+
+right_told : (shapes : List Shape) (xs ys : List Turn) (r : Result Unit (Stop RunFault)) → first_outside shapes xs ≡ None → TellsOutside shapes ys r → TellsOutside shapes (xs ++ ys) r
+right_told shapes xs ys (Ok done) none told = outside_append shapes xs ys ∙ ap (λ (o : Option RunFault). option_or o (first_outside shapes ys)) none ∙ told
+right_told shapes xs ys (Err stop.Memory) none told = tt
+right_told shapes xs ys (Err (stop.Refused fault)) none told = outside_append shapes xs ys ∙ ap (λ (o : Option RunFault). option_or o (first_outside shapes ys)) none ∙ told
+
+left_told : (shapes : List Shape) (xs ys : List Turn) (why : Stop RunFault) → TellsOutside shapes xs (Err why) → TellsOutside shapes (xs ++ ys) (Err why)
+left_told shapes xs ys stop.Memory told = tt
+left_told shapes xs ys (stop.Refused fault) told = outside_append shapes xs ys ∙ ap (λ (o : Option RunFault). option_or o (first_outside shapes ys)) told
+
+in_halves : (f : Coord → Turn) (points : List Coord) (n : ℕ) → map f (take n points) ++ map f (drop n points) ≡ map f points
+in_halves f points n = sym (map-append f (take n points) (drop n points)) ∙ ap (map f) (take-append-drop n points)
+
+-- the left half has none outside: the right half tells
+pub told_right : (shapes : List Shape) (f : Coord → Turn) (points left right : List Coord) (n : ℕ) (r : Result Unit (Stop RunFault)) → left ≡ take n points → right ≡ drop n points
+    → first_outside shapes (map f left) ≡ None → TellsOutside shapes (map f right) r → TellsOutside shapes (map f points) r
+told_right shapes f points left right n r is_left is_right none told =
+    subst (λ (ts : List Turn). TellsOutside shapes ts r) (ap (λ (l : List Coord). map f l ++ map f right) is_left ∙ ap (λ (l : List Coord). map f (take n points) ++ map f l) is_right ∙ in_halves f points n)
+    (right_told shapes (map f left) (map f right) r none told)
+
+-- the left half tells of a fault, or wants memory
+pub told_left : (shapes : List Shape) (f : Coord → Turn) (points left right : List Coord) (n : ℕ) (why : Stop RunFault) → left ≡ take n points → right ≡ drop n points
+    → TellsOutside shapes (map f left) (Err why) → TellsOutside shapes (map f points) (Err why)
+told_left shapes f points left right n why is_left is_right told =
+    subst (λ (ts : List Turn). TellsOutside shapes ts (Err why)) (ap (λ (l : List Coord). map f l ++ map f right) is_left ∙ ap (λ (l : List Coord). map f (take n points) ++ map f l) is_right ∙ in_halves f points n)
+    (left_told shapes (map f left) (map f right) why told)
+
+pub named_left : (stores : List StoreWords) (state : FlatState) (block : List Inst) (points left : List Coord) (n : ℕ) → left ≡ take n points → AreNamedAt stores state block points → AreNamedAt stores state block left
+named_left stores state block points left n is named = λ at has.
+    named at (subst (λ (l : List Coord). Contains l at) (take-append-drop n points) (Contains-append_left (take n points) (drop n points) at (subst (λ (l : List Coord). Contains l at) is has)))
+
+pub named_right : (stores : List StoreWords) (state : FlatState) (block : List Inst) (points right : List Coord) (n : ℕ) → right ≡ drop n points → AreNamedAt stores state block points → AreNamedAt stores state block right
+named_right stores state block points right n is named = λ at has.
+    named at (subst (λ (l : List Coord). Contains l at) (take-append-drop n points) (Contains-append_right (take n points) (drop n points) at (subst (λ (l : List Coord). Contains l at) is has)))
+
+-- ---- the wanted coordinates of a list of writes
+
+pub wanted_more : (bounds : Bounds) (layout : ℕ) (xs ys : List Write) → wanted_of bounds layout (xs ++ ys) ≡ wanted_of bounds layout xs ++ wanted_of bounds layout ys
+wanted_more bounds layout xs ys =
+    ap (map (λ (write : Write). write.at)) (filter-append (λ (write : Write). (write.layout == layout) && is_inside bounds write.at) xs ys)
+    ∙ map-append (λ (write : Write). write.at) (filter (λ (write : Write). (write.layout == layout) && is_inside bounds write.at) xs) (filter (λ (write : Write). (write.layout == layout) && is_inside bounds write.at) ys)
+
+pub wanted_one : (bounds : Bounds) (layout : ℕ) (write : Write) → ((write.layout == layout) && is_inside bounds write.at) ≡ true → wanted_of bounds layout (write ∷ []) ≡ write.at ∷ []
+wanted_one bounds layout write test = ap (map (λ (w : Write). w.at)) (cond-true ((write.layout == layout) && is_inside bounds write.at) (write ∷ []) [] test)
+
+pub wanted_none : (bounds : Bounds) (layout : ℕ) (write : Write) → ((write.layout == layout) && is_inside bounds write.at) ≡ false → wanted_of bounds layout (write ∷ []) ≡ []
+wanted_none bounds layout write test = ap (map (λ (w : Write). w.at)) (cond-false ((write.layout == layout) && is_inside bounds write.at) (write ∷ []) [] test)
+
+-- one write more, which is wanted or isn't
+pub wanted_push : (bounds : Bounds) (layout : ℕ) (writes : List Write) (i : ℕ) (d : Write) (old items now : List Coord) → i < length writes → items ≡ old ++ wanted_of bounds layout (take i writes)
+    → (((get_or writes i d).layout == layout) && is_inside bounds (get_or writes i d).at) ≡ true → now ≡ items ++ (get_or writes i d).at ∷ [] → now ≡ old ++ wanted_of bounds layout (take (i + 1) writes)
+wanted_push bounds layout writes i d old items now below so_far test pushed =
+    pushed ∙ ap (λ (l : List Coord). l ++ (get_or writes i d).at ∷ []) so_far ∙ append_assoc old (wanted_of bounds layout (take i writes)) ((get_or writes i d).at ∷ [])
+    ∙ ap (λ (l : List Coord). old ++ (wanted_of bounds layout (take i writes) ++ l)) (sym (wanted_one bounds layout (get_or writes i d) test))
+    ∙ ap (λ (l : List Coord). old ++ l) (sym (wanted_more bounds layout (take i writes) (get_or writes i d ∷ [])) ∙ ap (wanted_of bounds layout) (sym (take_more writes i d below)))
+
+pub wanted_skip : (bounds : Bounds) (layout : ℕ) (writes : List Write) (i : ℕ) (d : Write) (old items : List Coord) → i < length writes → items ≡ old ++ wanted_of bounds layout (take i writes)
+    → (((get_or writes i d).layout == layout) && is_inside bounds (get_or writes i d).at) ≡ false → items ≡ old ++ wanted_of bounds layout (take (i + 1) writes)
+wanted_skip bounds layout writes i d old items below so_far test =
+    so_far ∙ ap (λ (l : List Coord). old ++ l) (sym (append-nil (wanted_of bounds layout (take i writes)))
+    ∙ ap (λ (l : List Coord). wanted_of bounds layout (take i writes) ++ l) (sym (wanted_none bounds layout (get_or writes i d) test))
+    ∙ sym (wanted_more bounds layout (take i writes) (get_or writes i d ∷ [])) ∙ ap (wanted_of bounds layout) (sym (take_more writes i d below)))
+
+both_tests : (a b : Bool) → a ≡ true → b ≡ true → (a && b) ≡ true
+both_tests a b is_a is_b = rw (is_a, is_b) refl
+
+-- what is wanted is inside
+wanted_inside : (bounds : Bounds) (layout : ℕ) (writes : List Write) → InsideTest → All (Inside bounds) (wanted_of bounds layout writes)
+wanted_inside bounds layout [] law = All-nil (Inside bounds)
+wanted_inside bounds layout (write ∷ writes) law = by_test (write.layout == layout) (is_inside bounds write.at) refl (wanted_inside bounds layout writes law)
+  where
+    by_test : (a b : Bool) → is_inside bounds write.at ≡ b → All (Inside bounds) (wanted_of bounds layout writes)
+        → All (Inside bounds) (map (λ (w : Write). w.at) (cond (a && b) (write ∷ filter (λ (w : Write). (w.layout == layout) && is_inside bounds w.at) writes) (filter (λ (w : Write). (w.layout == layout) && is_inside bounds w.at) writes)))
+    by_test true true is rest = All-cons (Inside bounds) write.at (wanted_of bounds layout writes) ((law bounds write.at).0 is) rest
+    by_test true false is rest = rest
+    by_test false b is rest = rest
+
+-- so is all that the turns are meant to want
+pub means_inside : (stores : List StoreWords) (turns : Turns) (bounds : Bounds) (layout count : ℕ) (list : ℕ → List Coord) → InsideTest → count ≡ count_of turns
+    → Means stores turns bounds layout list → (piece : ℕ) → piece < count → All (Inside bounds) (list piece)
+means_inside stores turns bounds layout count list law same means piece below =
+    subst (λ (l : List Coord). All (Inside bounds) l) (sym (means.lists piece (subst (λ (n : ℕ). piece < n) same below)))
+    (wanted_inside bounds layout (writes_at (turns_in stores means.state turns) piece) law)
+
+pub inside_more : (bounds : Bounds) (layout : ℕ) (writes : List Write) (old now : List Coord) → InsideTest → now ≡ old ++ wanted_of bounds layout writes → All (Inside bounds) old → All (Inside bounds) now
+inside_more bounds layout writes old now law is all =
+    subst (λ (l : List Coord). All (Inside bounds) l) (sym is) (All-append (Inside bounds) old (wanted_of bounds layout writes) all (wanted_inside bounds layout writes law))
+
+-- the turn with a number
+writes_at_map : {X : Type 0} (f : X → Turn) (xs : List X) (i : ℕ) (d : X) → i < length xs → writes_at (map f xs) i ≡ (f (get_or xs i d)).writes
+writes_at_map f [] i d below = absurd (omega arith)
+writes_at_map f (y ∷ ys) zero d below = refl
+writes_at_map f (y ∷ ys) (suc i) d below = writes_at_map f ys i d (omega arith)
+
+-- what an iteration of a slice wants, as its lists say
+pub slice_piece : (stores : List StoreWords) (turns : Turns) (points : Bor (List Coord)) (block : Bor (List Inst)) (bounds : Bounds) (layout count piece : ℕ) (list : ℕ → List Coord) (d : Coord) (writes : List Write)
+    → turns ≡ Slice points block → count ≡ count_of turns → piece < count → (means : Means stores turns bounds layout list)
+    → writes ≡ (slice_turn stores means.state block.now (get_or points.now piece d)).writes → wanted_of bounds layout writes ≡ list piece
+slice_piece stores turns points block bounds layout count piece list d writes is same below means wrote =
+    let long : count ≡ length points.now = same ∙ ap count_of is in
+    let low : piece < length points.now = omega arith in
+    ap (wanted_of bounds layout) (wrote ∙ sym (writes_at_map (slice_turn stores means.state block.now) points.now piece d low)
+    ∙ ap (λ (t : Turns). writes_at (turns_in stores means.state t) piece) (sym is))
+    ∙ sym (means.lists piece (omega arith))
+
+-- and of a listed write
+pub row_piece : (stores : List StoreWords) (turns : Turns) (rows : Bor (List Write)) (bounds : Bounds) (layout count piece : ℕ) (list : ℕ → List Coord) (d : Write)
+    → turns ≡ Rows rows → count ≡ count_of turns → piece < count → (means : Means stores turns bounds layout list)
+    → wanted_of bounds layout (get_or rows.now piece d ∷ []) ≡ list piece
+row_piece stores turns rows bounds layout count piece list d is same below means =
+    let long : count ≡ length rows.now = same ∙ ap count_of is in
+    let low : piece < length rows.now = omega arith in
+    ap (wanted_of bounds layout) (sym (writes_at_map turn_of rows.now piece d low) ∙ ap (λ (t : Turns). writes_at (turns_in stores means.state t) piece) (sym is))
+    ∙ sym (means.lists piece (omega arith))
+
+-- the iterations of a slice are named
+pub slice_named : (stores : List StoreWords) (state : FlatState) (turns : Turns) (points : Bor (List Coord)) (block : Bor (List Inst)) → turns ≡ Slice points block → AreNamedIn stores state turns → AreNamedAt stores state block.now points.now
+slice_named stores state turns points block is named = subst (λ (t : Turns). AreNamedIn stores state t) is named
+
+pub low_point : (turns : Turns) (points : Bor (List Coord)) (block : Bor (List Inst)) (count piece : ℕ) → turns ≡ Slice points block → count ≡ count_of turns → piece < count → piece < length points.now
+low_point turns points block count piece is same below = let long : count ≡ length points.now = same ∙ ap count_of is in omega arith
+
+-- ---- piece after piece
+
+writes_take : (turns : List Turn) (n : ℕ) → writes_of (take (suc n) turns) ≡ writes_of (take n turns) ++ writes_at turns n
+writes_take [] zero = refl
+writes_take [] (suc n) = refl
+writes_take (turn ∷ turns) zero = append-nil turn.writes
+writes_take (turn ∷ turns) (suc n) =
+    ap (λ (ws : List Write). turn.writes ++ ws) (writes_take turns n) ∙ sym (append_assoc turn.writes (writes_of (take n turns)) (writes_at turns n))
+
+below_take : (bounds : Bounds) (layout : ℕ) (turns : List Turn) (list : ℕ → List Coord) (n : ℕ) → ((k : ℕ) → k < n → list k ≡ wanted_of bounds layout (writes_at turns k))
+    → wanted_below list n ≡ wanted_of bounds layout (writes_of (take n turns))
+below_take bounds layout turns list zero lists = refl
+below_take bounds layout turns list (suc n) lists =
+    ap (λ (l : List Coord). l ++ list n) (below_take bounds layout turns list n (λ k low. lists k (omega arith)))
+    ∙ ap (λ (l : List Coord). wanted_of bounds layout (writes_of (take n turns)) ++ l) (lists n (omega arith))
+    ∙ sym (wanted_more bounds layout (writes_of (take n turns)) (writes_at turns n))
+    ∙ ap (wanted_of bounds layout) (sym (writes_take turns n))
+
+count_is : (stores : List StoreWords) (state : FlatState) (turns : Turns) → length (turns_in stores state turns) ≡ count_of turns
+count_is stores state (Slice points block) = length-map points.now (slice_turn stores state block.now)
+count_is stores state (Rows rows) = length-map rows.now turn_of
+
+-- the lists of what each turn wants
+abbrev pub lists_of : List StoreWords → FlatState → Turns → Bounds → ℕ → ℕ → List Coord
+lists_of stores state turns bounds layout k = wanted_of bounds layout (writes_at (turns_in stores state turns) k)
+
+pub means_lists : (stores : List StoreWords) (turns : Turns) (number layout : ℕ) (store : StoreWords) (wanted : List Coord) (bounds : Bounds) → layout ≡ number → bounds ≡ bounds_of_shape store.shape → (meant : IsMeant stores turns number store wanted)
+    → Means stores turns bounds layout (lists_of stores meant.state turns (bounds_of_shape store.shape) number)
+means_lists stores turns number layout store wanted bounds same_number same meant = record {
+  state = meant.state;
+  sees = meant.sees;
+  named = meant.named;
+  lists = λ k low.
+      ap (λ (b : Bounds). wanted_of b number (writes_at (turns_in stores meant.state turns) k)) (sym same)
+      ∙ ap (λ (n : ℕ). wanted_of bounds n (writes_at (turns_in stores meant.state turns) k)) (sym same_number);
+}
+
+pub below_all : (stores : List StoreWords) (turns : Turns) (number : ℕ) (store : StoreWords) (wanted : List Coord) (count : ℕ) → count ≡ count_of turns → (meant : IsMeant stores turns number store wanted)
+    → wanted_below (lists_of stores meant.state turns (bounds_of_shape store.shape) number) count ≡ wanted
+below_all stores turns number store wanted count same meant =
+    let made = turns_in stores meant.state turns in
+    let long : length made ≤ count = omega (arith, count_is stores meant.state turns, same) in
+    below_take (bounds_of_shape store.shape) number made (lists_of stores meant.state turns (bounds_of_shape store.shape) number) count (λ k low. refl)
+    ∙ ap (λ (ts : List Turn). wanted_of (bounds_of_shape store.shape) number (writes_of ts)) (take_all count made long)
+    ∙ sym meant.list
+
+-- ---- layout by layout
+
+wants_count : (k : ℕ) (stores : List StoreWords) (turns : List Turn) → length (wants_from k stores turns) ≡ length stores
+wants_count k [] turns = refl
+wants_count k (store ∷ stores) turns = ap suc (wants_count (suc k) stores turns)
+
+wants_at : (k : ℕ) (stores : List StoreWords) (turns : List Turn) (j : ℕ) (store : StoreWords) (wanted : List Coord) → slice_get stores j ≡ Some store → slice_get (wants_from k stores turns) j ≡ Some wanted
+    → wanted ≡ wanted_of (bounds_of_shape store.shape) (k + j) (writes_of turns)
+wants_at k [] turns j store wanted is is_wanted = absurd (cc)
+wants_at k (first ∷ stores) turns zero store wanted is is_wanted =
+    let here : k ≡ k + 0 = omega arith in
+    sym (same_Some _ _ is_wanted) ∙ ap (λ (s : StoreWords). wanted_of (bounds_of_shape s.shape) k (writes_of turns)) (same_Some _ _ is) ∙ ap (λ (n : ℕ). wanted_of (bounds_of_shape store.shape) n (writes_of turns)) here
+wants_at k (first ∷ stores) turns (suc j) store wanted is is_wanted =
+    let next : suc k + j ≡ k + suc j = omega arith in
+    wants_at (suc k) stores turns j store wanted is is_wanted ∙ ap (λ (n : ℕ). wanted_of (bounds_of_shape store.shape) n (writes_of turns)) next
+
+pub are_meant : (stores : List StoreWords) (state : FlatState) (turns : Turns) → Sees stores state → AreNamedIn stores state turns → AreMeant stores turns (wants_from 0 stores (turns_in stores state turns))
+are_meant stores state turns sees named = record {
+  count = wants_count 0 stores (turns_in stores state turns);
+  each = λ number store wanted is is_wanted. record {
+    state = state;
+    sees = sees;
+    named = named;
+    list = (let here : 0 + number ≡ number = omega arith in
+        wants_at 0 stores (turns_in stores state turns) number store wanted is is_wanted
+        ∙ ap (λ (n : ℕ). wanted_of (bounds_of_shape store.shape) n (writes_of (turns_in stores state turns))) here);
+  };
+}
+
+-- ---- where no write is outside
+
+store_at : (stores : List StoreWords) (j : ℕ) → j < length stores → (store : StoreWords) × (slice_get stores j ≡ Some store)
+store_at [] j below = absurd (omega arith)
+store_at (store ∷ stores) zero below = (store, refl)
+store_at (store ∷ stores) (suc j) below = store_at stores j (omega arith)
+
+shape_at : (stores : List StoreWords) (j : ℕ) (store : StoreWords) → slice_get stores j ≡ Some store → slice_get (shapes_of stores) j ≡ Some store.shape
+shape_at [] j store is = absurd (cc)
+shape_at (first ∷ stores) zero store is = ap (λ (s : StoreWords). Some s.shape) (same_Some _ _ is)
+shape_at (first ∷ stores) (suc j) store is = shape_at stores j store is
+
+same_kept : (write : Write) (xs ys : List Write) (here inside : Bool) → (here ≡ true → inside ≡ true) → map (λ (w : Write). w.at) xs ≡ map (λ (w : Write). w.at) ys
+    → map (λ (w : Write). w.at) (cond (here && inside) (write ∷ xs) xs) ≡ map (λ (w : Write). w.at) (cond here (write ∷ ys) ys)
+same_kept write xs ys true inside all same = rw (all refl) (ap (λ (l : List Coord). write.at ∷ l) same)
+same_kept write xs ys false inside all same = same
+
+turn_inside : (shapes : List Shape) (number : ℕ) (shape : Shape) (at : Coord) (writes : List Write) → slice_get shapes number ≡ Some shape → outside_among shapes at writes ≡ None
+    → wanted_of (bounds_of_shape shape) number writes ≡ coords_in number writes
+turn_inside shapes number shape at [] is none = refl
+turn_inside shapes number shape at (write ∷ writes) is none =
+    let head = inside_head shapes at write writes none in
+    same_kept write (filter (λ (w : Write). (w.layout == number) && is_inside (bounds_of_shape shape) w.at) writes) (filter (λ (w : Write). w.layout == number) writes)
+    (write.layout == number) (is_inside (bounds_of_shape shape) write.at)
+    (λ same. sym (ap (λ (o : Option Shape). is_inside_of o write.at) (ap (slice_get shapes) (eqb-true write.layout number same) ∙ is)) ∙ head.0)
+    (turn_inside shapes number shape at writes is head.1)
+
+none_both : (a b : Option RunFault) → option_or a b ≡ None → (a ≡ None) × (b ≡ None)
+none_both None b is = (refl, is)
+none_both (Some fault) b is = absurd (cc)
+
+turns_inside : (shapes : List Shape) (number : ℕ) (shape : Shape) (turns : List Turn) → slice_get shapes number ≡ Some shape → first_outside shapes turns ≡ None
+    → wanted_of (bounds_of_shape shape) number (writes_of turns) ≡ coords_in number (writes_of turns)
+turns_inside shapes number shape [] is none = refl
+turns_inside shapes number shape (turn ∷ turns) is none =
+    let both = none_both (outside_among shapes turn.at turn.writes) (first_outside shapes turns) none in
+    wanted_more (bounds_of_shape shape) number turn.writes (writes_of turns)
+    ∙ ap (λ (l : List Coord). l ++ wanted_of (bounds_of_shape shape) number (writes_of turns)) (turn_inside shapes number shape turn.at turn.writes is both.0)
+    ∙ ap (λ (l : List Coord). coords_in number turn.writes ++ l) (turns_inside shapes number shape turns is both.1)
+    ∙ sym (coords_more number turn.writes (writes_of turns))
+
+-- so the wanted coordinates are those of the writes
+pub are_wants : (stores : List StoreWords) (flats : List FlatLayout) (turns : List Turn) → first_outside (shapes_of stores) turns ≡ None → AreWants flats (wants_from 0 stores turns) (writes_of turns)
+are_wants stores flats turns none = λ number flat list is_flat is_list.
+    let low : number < length (wants_from 0 stores turns) = slice_get_within (wants_from 0 stores turns) number list is_list in
+    let found = store_at stores number (omega (arith, low, wants_count 0 stores turns)) in
+    let here : 0 + number ≡ number = omega arith in
+    equal_members (flat.active ++ list) (flat.active ++ coords_in number (writes_of turns))
+    (ap (λ (l : List Coord). flat.active ++ l)
+    (wants_at 0 stores turns number found.0 list found.1 is_list
+    ∙ ap (λ (n : ℕ). wanted_of (bounds_of_shape found.0.shape) n (writes_of turns)) here
+    ∙ turns_inside (shapes_of stores) number found.0.shape turns (shape_at stores number found.0 found.1) none))
+
+-- ---- answers that may be Ok
+
+pub ok_anyhow : {A E P : Type 0} (r : Result A E) → P → OnOk r P
+ok_anyhow (Ok a) holds = holds
+ok_anyhow (Err e) holds = tt
+
+pub if_ok : {A E P Q : Type 0} (r : Result A E) → (P → Q) → OnOk r P → OnOk r Q
+if_ok (Ok a) f holds = f holds
+if_ok (Err e) f holds = tt
+
+-- ---- from what was found to what is told
+
+pub outside_stops : {A : Type 0} (view : A → List StoreWords) (stores : List StoreWords) (turns : List Turn) (r : Result A (Stop RunFault)) (e : Stop RunFault) → IsErrAnd r (λ x. x ≡ e) → TellsOutside (shapes_of stores) turns (Err e)
+    → TurnsActivated view stores turns r
+outside_stops view stores turns (Ok x) e is told = absurd is
+outside_stops view stores turns (Err stop.Memory) e is told = tt
+outside_stops view stores turns (Err (stop.Refused fault)) e is told = inl (subst (λ (x : Stop RunFault). TellsOutside (shapes_of stores) turns (Err x)) (sym is) told)
+
+pub all_told : {A : Type 0} (view : A → List StoreWords) (stores : List StoreWords) (turns : List Turn) (r : Result A (Stop RunFault)) → first_outside (shapes_of stores) turns ≡ None
+    → ReachesAll view stores (wants_from 0 stores turns) r → TurnsActivated view stores turns r
+all_told view stores turns (Ok copies) none reached = (none, reached)
+all_told view stores turns (Err stop.Memory) none reached = tt
+all_told view stores turns (Err (stop.Refused fault)) none reached = inr (none, reached)
+
+pub stands_seen : (stores : List StoreWords) (state : FlatState) → AllZip StandsFor stores state.layouts → Sees stores state
+stands_seen stores state all = record { standing = state; stand = all; same_values = λ layout place at. refl }
+
+-- which fault was told
+pub activated_fault : {A : Type 0} (view : A → List StoreWords) (stores : List StoreWords) (turns : List Turn) (e : Stop RunFault) (fault : RunFault) → TurnsActivated view stores turns (Err e) → e ≡ stop.Refused fault
+    → (first_outside (shapes_of stores) turns ≡ Some fault)
+    ⊎ ((first_outside (shapes_of stores) turns ≡ None) × ((flats : List FlatLayout) (made : List Turn) → AllZip StandsFor stores flats → AreWants flats (wants_from 0 stores turns) (writes_of made) → first_full_layout 0 (shapes_of stores) flats made ≡ Some fault))
+activated_fault view stores turns e fault ran is = subst (λ (x : Stop RunFault). TurnsActivated view stores turns (Err x)) is ran

@@ -1,0 +1,12 @@
+use Rattle.std.proofs.Common.{ap, ◌∙◌, ◌++◌, List, arith}
+use Rattle.std.proofs.lemmas.List.{take_all}
+use Rattle.sg_coord.specs.Bounds.{bounds_of}
+use Rattle.sg_flat.specs.declared.effects.Write.{Write}
+use Rattle.sg_exec.specs.steps.Turning.{wanted_of}
+use Rattle.sg_exec.proofs.Turning.{inside_more}
+use Rattle.sg_exec.proofs.layout_wants.add_wants.Goals as goal
+
+pub returns-clause-inside : goal.returns-clause-inside
+returns-clause-inside c = λ all.
+    inside_more (bounds_of c.args.extents.now) c.args.layout c.args.writes.now c.args.into.now.items c.loop-write.into.items c.numbering.ensures.inside_test
+    (c.loop-write.invariant ∙ ap (λ (ws : List Write). c.args.into.now.items ++ wanted_of (bounds_of c.args.extents.now) c.args.layout ws) (take_all c.loop-write.write-index c.args.writes.now (omega arith))) all

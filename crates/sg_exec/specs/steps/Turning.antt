@@ -1,0 +1,135 @@
+-- The turns of a run, and what they want in each layout.
+use Rattle.std.specs.Prelude.{◌≡◌, ◌⊎◌, ℕ, suc, ◌<◌, ◌&&◌, List, [], ◌∷◌, map, filter, ◌==◌, length, Some, Option, None, Result, Ok, Err, slice_get}
+use Rattle.std.specs.List.{AllZip}
+use Rattle.sg_words.specs.declared.memory.Stop.{Stop}
+use Rattle.sg_words.specs.declared.memory.Stop.TheVariants as stop
+use Rattle.sg_coord.specs.declared.coord.Coord.{Coord}
+use Rattle.sg_coord.specs.Bounds.{Bounds}
+use Rattle.sg_coord.specs.Coord.{is_inside}
+use Rattle.sg_layout.specs.declared.shape.Shape.{Shape}
+use Rattle.sg_layout.specs.Axes.{bounds_of_shape}
+use Rattle.sg_flat.specs.declared.effects.Write.{Write}
+use Rattle.sg_flat.specs.declared.effects.Turn.{Turn}
+use Rattle.sg_flat.specs.declared.effects.RunFault.{RunFault}
+use Rattle.sg_flat.specs.declared.effects.RunFault.TheVariants as fault
+use Rattle.sg_flat.specs.declared.state.FlatLayout.{FlatLayout}
+use Rattle.sg_flat.specs.declared.state.FlatState.{FlatState}
+use Rattle.sg_flat.specs.Effects.{writes_of}
+use Rattle.sg_flat.specs.Kernel.{first_outside}
+use Rattle.sg_store.specs.StoreWords.{StoreWords}
+use Rattle.sg_store.specs.StandsFor.{StandsFor}
+use Rattle.sg_activate.specs.declared.fault.ActFault.{ActFault}
+use Rattle.sg_activate.specs.declared.fault.ActFault.TheVariants as full
+use Rattle.sg_ir.specs.declared.code.Inst.{Inst}
+use Rattle.sg_ir.specs.Runs.{Seen, Moved, CodeWant, does, runs}
+use Rattle.sg_exec.specs.declared.moment.Moment.{Moment}
+use Rattle.sg_exec.specs.declared.turns.Turns.{Turns}
+use Rattle.sg_exec.specs.declared.turns.Turns.TheVariants.{Slice, Rows}
+use Rattle.sg_exec.specs.Running.{turn_of}
+use Rattle.sg_exec.specs.Standing.{shapes_of}
+use Rattle.sg_exec.specs.steps.Machines.{Sees}
+use Rattle.sg_exec.specs.steps.Moments.{AreNamedAt, slice_turn}
+use Rattle.sg_exec.specs.steps.Wants.{AreWants, AllReached}
+
+-- how many turns there are
+abbrev pub count_of : Turns → ℕ
+count_of (Slice points block) = length points.now
+count_of (Rows rows) = length rows.now
+
+-- the turns, where a slice sees this state
+abbrev pub turns_in : List StoreWords → FlatState → Turns → List Turn
+turns_in stores state (Slice points block) = map (slice_turn stores state block.now) points.now
+turns_in stores state (Rows rows) = map turn_of rows.now
+
+-- what a slice reads goes where its index registers say
+abbrev pub AreNamedIn : List StoreWords → FlatState → Turns → Type 0
+AreNamedIn stores state (Slice points block) = AreNamedAt stores state block.now points.now
+AreNamedIn stores state (Rows rows) = Unit {0}
+
+-- the wants so far in a layout
+abbrev pub wants_for : ℕ → Moved → List CodeWant
+wants_for layout now = filter (λ want. want.layout == layout) now.wants
+
+-- an instruction wants nothing in a layout
+abbrev pub InstWantsNone : ℕ → Inst → Type 0
+InstWantsNone layout inst = (seen : Seen) (now : Moved) → wants_for layout (does seen inst now) ≡ wants_for layout now
+
+-- a block wants nothing in a layout
+abbrev pub BlockWantsNone : ℕ → List Inst → Type 0
+BlockWantsNone layout block = (seen : Seen) (now : Moved) → wants_for layout (runs seen block now) ≡ wants_for layout now
+
+-- turns want nothing in a layout
+abbrev pub WantsNone : Turns → ℕ → Type 0
+WantsNone (Slice points block) layout = BlockWantsNone layout block.now
+WantsNone (Rows rows) layout = filter (λ row. row.layout == layout) rows.now ≡ []
+
+-- the coordinates of the writes into a layout that are inside its bounds
+abbrev pub wanted_of : Bounds → ℕ → List Write → List Coord
+wanted_of bounds layout writes =
+    map (λ write. write.at) (filter (λ write. (write.layout == layout) && is_inside bounds write.at) writes)
+
+-- the writes of a turn that may be there
+abbrev pub writes_of_one : Option Turn → List Write
+writes_of_one None = []
+writes_of_one (Some turn) = turn.writes
+
+-- the writes of the turn with this number
+abbrev pub writes_at : List Turn → ℕ → List Write
+writes_at turns number = writes_of_one (slice_get turns number)
+
+-- the lists are what the turns want, one by one, where the stores see some state
+pub record Means (stores : List StoreWords) (turns : Turns) (bounds : Bounds) (layout : ℕ) (list : ℕ → List Coord) : Type 0 where
+  pub state : FlatState
+  pub sees : Sees stores state
+  pub named : AreNamedIn stores state turns
+  pub lists : (number : ℕ) → number < count_of turns → list number ≡ wanted_of bounds layout (writes_at (turns_in stores state turns) number)
+
+-- a moment on which the turns may be run
+abbrev pub MayRun : List StoreWords → Turns → Moment → Type 0
+MayRun stores turns moment = (state : FlatState) → Sees stores state → AreNamedIn stores state turns → moment.places.stores ≡ stores
+
+-- these are the coordinates that the turns want in the layout of a store, by its number
+pub record IsMeant (stores : List StoreWords) (turns : Turns) (number : ℕ) (store : StoreWords) (wanted : List Coord) : Type 0 where
+  pub state : FlatState
+  pub sees : Sees stores state
+  pub named : AreNamedIn stores state turns
+  pub list : wanted ≡ wanted_of (bounds_of_shape store.shape) number (writes_of (turns_in stores state turns))
+
+-- these are the coordinates that the turns want, layout by layout
+pub record AreMeant (stores : List StoreWords) (turns : Turns) (wants : List (List Coord)) : Type 0 where
+  pub count : length wants ≡ length stores
+  pub each : (number : ℕ) (store : StoreWords) (wanted : List Coord) → slice_get stores number ≡ Some store →
+      slice_get wants number ≡ Some wanted → IsMeant stores turns number store wanted
+
+-- what is told of the first write outside of turns
+abbrev pub TellsOutside : List Shape → List Turn → Result Unit (Stop RunFault) → Type 0
+TellsOutside shapes turns (Ok done) = first_outside shapes turns ≡ None
+TellsOutside shapes turns (Err stop.Memory) = Unit {0}
+TellsOutside shapes turns (Err (stop.Refused fault)) = first_outside shapes turns ≡ Some fault
+
+-- the same of a slice at points, over stores that see any state
+abbrev pub SliceTells : List StoreWords → List Inst → List Coord → Result Unit (Stop RunFault) → Type 0
+SliceTells stores block points result = (state : FlatState) → Sees stores state → AreNamedAt stores state block points →
+    TellsOutside (shapes_of stores) (map (slice_turn stores state block) points) result
+
+-- the fault of a layout whose activation was refused
+abbrev pub full_layout : ℕ → ActFault → RunFault
+full_layout layout (full.PoolFull node cap) = fault.PoolFull layout node cap
+
+-- what turns want in the layouts of stores, from a number on
+abbrev pub wants_from : ℕ → List StoreWords → List Turn → List (List Coord)
+wants_from layout [] turns = []
+wants_from layout (store ∷ stores) turns = wanted_of (bounds_of_shape store.shape) layout (writes_of turns) ∷ wants_from (suc layout) stores turns
+
+-- with these wants, what all turns that have them reach is told
+abbrev pub ReachesAll : {A : Type 0} → (A → List StoreWords) → List StoreWords → List (List Coord) → Result A (Stop RunFault) → Type 0
+ReachesAll view stores wants result = (flats : List FlatLayout) (made : List Turn) → AllZip StandsFor stores flats →
+    AreWants flats wants (writes_of made) → AllReached view (shapes_of stores) flats made result
+
+-- No write of the turns is outside, and what they want is active; or the first write outside is told, or the first layout that is too full.
+abbrev pub TurnsActivated : {A : Type 0} → (A → List StoreWords) → List StoreWords → List Turn → Result A (Stop RunFault) → Type 0
+TurnsActivated view stores turns (Ok copies) = (first_outside (shapes_of stores) turns ≡ None)
+    × ReachesAll view stores (wants_from 0 stores turns) (Ok copies)
+TurnsActivated view stores turns (Err stop.Memory) = Unit {0}
+TurnsActivated view stores turns (Err (stop.Refused fault)) = (first_outside (shapes_of stores) turns ≡ Some fault)
+    ⊎ ((first_outside (shapes_of stores) turns ≡ None) × ReachesAll view stores (wants_from 0 stores turns) (Err (stop.Refused fault)))

@@ -1,0 +1,12 @@
+use sg_flat::Way;
+
+/// What an iteration wrote: a layout, a field of it, the cell, none where the coordinate isn't active, and how the value lands there. All
+/// numbers are from 0.
+#[derive(Clone, Copy)]
+pub struct CellWrite {
+    pub layout: u32,
+    pub place: u32,
+    pub cell: Option<u32>,
+    pub way: Way,
+    pub value: u32,
+}

@@ -1,0 +1,88 @@
+//! What the turns of a run want in one layout.
+
+ghost use Rattle.std.specs.Prelude.{◌≡◌, ◌++◌, All, OnOk};
+ghost use Rattle.sg_coord.specs.Bounds.{bounds_of};
+ghost use Rattle.sg_coord.specs.Coord.{Inside};
+ghost use Rattle.sg_exec.specs.steps.Turning.{count_of, wanted_of};
+
+use crate::moment::Moment;
+use crate::turns::Turns;
+use crate::values::ONE_POINT;
+use sg_activate::Wanted;
+use sg_coord::{Coord, Extents, inside, numbering};
+use sg_flat::Write;
+use sg_store::Stores;
+use sg_words::Memory;
+use std::alloc::Global;
+
+/// What turns want in a layout with these extents; each turn is a piece. A worker runs the slice on rows of its own.
+#[derive(Drop)]
+pub struct LayoutWants<'a> {
+    pub stores: &'a Stores,
+    pub turns: Turns<'a>,
+    pub count: u32,
+    pub layout: u32,
+    pub extents: Extents,
+    ghost counted: { count ≡ count_of turns },
+}
+
+impl<'a> Wanted for LayoutWants<'a> {
+    type Hand = Moment<'a>;
+
+    ghost use Rattle.sg_coord.specs.Bounds.{bounds_of};
+    ghost use Rattle.sg_exec.specs.steps.Turning.{Means, MayRun};
+
+    ghost count = { λ want. want.count };
+
+    ghost bounds = { λ want. bounds_of want.extents };
+
+    ghost Means = { λ want list. Means want.stores.now.list want.turns (bounds_of want.extents) want.layout list };
+
+    ghost IsHand = { λ want hand. MayRun want.stores.now.list want.turns hand };
+
+    fn pieces(&self) -> u32 {
+        self.count
+    }
+
+    fn hand(&self, alloc: Global) -> Result<Moment<'a>, Memory> {
+        Ok(Moment::new(alloc, self.stores, &[]))
+    }
+
+    fn wanted(
+        &self,
+        hand: &mut Moment<'a>,
+        piece: u32,
+        into: &mut Vec<Coord>,
+    ) -> Result<(), Memory> {
+        match self.turns {
+            Turns::Slice { points, block } => {
+                hand.iterate(points[piece as usize], block)?;
+                add_wants(hand.wants.as_slice(), self.layout, &self.extents, into)
+            }
+            Turns::Rows(rows) => {
+                let row = rows[piece as usize];
+                add_wants(&[row], self.layout, &self.extents, into)
+            }
+        }
+    }
+}
+
+/// Adds the coordinates of the writes into a layout that are inside its extents.
+fn add_wants(
+    writes: &[Write],
+    layout: u32,
+    extents: &Extents,
+    into: &mut Vec<Coord>,
+) -> Result<(), Memory>
+    ensures list { OnOk result (into.new.items ≡ into.old.items ++ wanted_of (bounds_of extents.now) layout writes.now) }
+    ensures inside { OnOk result (All (Inside (bounds_of extents.now)) into.old.items → All (Inside (bounds_of extents.now)) into.new.items) }
+{
+    // for the law that it ensures
+    numbering(&ONE_POINT);
+    for write in writes {
+        if write.layout == layout && inside(extents, write.at) {
+            into.push(write.at)?;
+        }
+    }
+    Ok(())
+}
