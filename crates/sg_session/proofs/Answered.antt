@@ -43,10 +43,8 @@ use Rattle.sg_admit.specs.Bounds.{constant_domain, box_size}
 use Rattle.sg_admit.specs.Lines.{kernel_lines}
 use Rattle.sg_admit.specs.Rules.{facts_of}
 use Rattle.sg_admit.specs.Admission.{admission, box_answer, kept_of, first_fault}
-use Rattle.sg_store.specs.WellFormed.{is_built, is_built_shape}
 use Rattle.sg_session.specs.declared.refusal.Refusal.{Refusal}
 use Rattle.sg_session.specs.declared.refusal.Refusal.TheVariants as refusal
-use Rattle.sg_session.specs.Built.{is_built_item, first_not_built}
 use Rattle.sg_session.specs.CommandRules.{commands_refusal}
 use Rattle.sg_session.specs.Compiled.{CheckedProgram}
 use Rattle.sg_session.specs.Compiling.{checked_layouts, few_words, layouts_of, admitted_kernels, kernels_of, compiled_parts, compiled_with}
@@ -106,30 +104,6 @@ layouts_kept names program layouts e =
     let few = few_ok (nat_le (total_words first.x) most_words) first.x layouts first.gives in
     let small : total_words first.x ≤ most_words = leb-true (total_words first.x) most_words few.0 in
     (sym few.1 ∙ layouts_same 0 (declared_shapes names program) first.x first.is, subst (λ (ls : List Shape). total_words ls ≤ most_words) few.1 small)
-
--- ---- what is built
-
-pub next_built : (b : Bool) (o : Option ℕ) (n : ℕ) → (if b then o else Some n) ≡ None → (b ≡ true) × (o ≡ None)
-next_built true o n e = (refl, e)
-next_built false o n e = absurd (cc)
-
-same_nodes : (names : Tables) (axes : List Name) (nodes : List NodeDecl) → list_all (λ node. is_built (node_kind node.kind)) nodes ≡ list_all (λ node. is_built node.kind) (map (node_shape names axes) nodes)
-same_nodes names axes [] = refl
-same_nodes names axes (node ∷ nodes) = ap (λ (b : Bool). is_built (node_kind node.kind) && b) (same_nodes names axes nodes)
-
-both_hold : (a b : Bool) → a ≡ true → b ≡ true → (a && b) ≡ true
-both_hold a b p q = ap (λ (x : Bool). x && b) p ∙ q
-
-pub built_kept : (names : Tables) (n : ℕ) (items : List Item) → first_not_built n items ≡ None → list_all is_built_shape (map (shape_of names) (layout_decls items)) ≡ true
-built_kept names n [] e = refl
-built_kept names n (item.Const decl ∷ items) e = built_kept names (suc n) items (next_built true (first_not_built (suc n) items) n e).1
-built_kept names n (item.Layout decl ∷ items) e =
-    let next = next_built (is_built_item (item.Layout decl)) (first_not_built (suc n) items) n e in
-    both_hold (is_built_shape (shape_of names decl)) (list_all is_built_shape (map (shape_of names) (layout_decls items)))
-    (sym (same_nodes names decl.axes decl.nodes) ∙ next.0) (built_kept names (suc n) items next.1)
-built_kept names n (item.Kernel decl ∷ items) e = built_kept names (suc n) items (next_built true (first_not_built (suc n) items) n e).1
-built_kept names n (item.Command command ∷ items) e =
-    built_kept names (suc n) items (next_built (is_built_item (item.Command command)) (first_not_built (suc n) items) n e).1
 
 -- ---- kernels
 
@@ -232,16 +206,13 @@ typed_ready names layouts program typed law good fits e =
 pub record HasTyped (names : Tables) (program : Program) (kernels : List Admitted) : Type 0 where
   pub typed : Typed
   pub typed_is : typed_program names program ≡ Ok typed
-  pub built : first_not_built 1 program.items ≡ None
   pub admitted : admitted_kernels 0 typed.kernels ≡ Ok kernels
 
 pub kernels_kept : (names : Tables) (program : Program) (kernels : List Admitted) → kernels_of names program ≡ Ok kernels → HasTyped names program kernels
 unfolding kernels_of
 kernels_kept names program kernels e =
-    let found = bound_ok (fault_as refusal.Types (typed_program names program))
-    (λ typed. fault_or (option_map refusal.NotBuilt (first_not_built 1 program.items)) (admitted_kernels 0 typed.kernels)) kernels e in
-    let parts = fault_or-ok (option_map refusal.NotBuilt (first_not_built 1 program.items)) (admitted_kernels 0 found.x.kernels) kernels found.gives in
-    record { typed = found.x; typed_is = as_ok refusal.Types (typed_program names program) found.x found.is; built = told_none refusal.NotBuilt (first_not_built 1 program.items) parts.0; admitted = parts.1 }
+    let found = bound_ok (fault_as refusal.Types (typed_program names program)) (λ typed. admitted_kernels 0 typed.kernels) kernels e in
+    record { typed = found.x; typed_is = as_ok refusal.Types (typed_program names program) found.x found.is; admitted = found.gives }
 
 -- ---- the whole
 

@@ -31,10 +31,11 @@ use Rattle.sg_ir.specs.Runs.{CodeWant, CodeWrite, iteration}
 use Rattle.sg_ir.specs.WellTyped.{is_well_typed}
 use Rattle.sg_ir.specs.Apt as apt
 use Rattle.sg_ir.specs.Apt.{IsApt, walks}
+use Rattle.sg_ir.specs.Named.{IsNamed}
 use Rattle.sg_lower.specs.Lowered.{code_write, want_of, WritesAsKernel, WantsAsKernel, PointsAreWhole}
 use Rattle.sg_exec.specs.Running.{place_of, wants_left, write_at, located, seen_at, code_turn, code_effects}
-use Rattle.sg_session.specs.Compiled.{IsCodeOf, world_of}
-use Rattle.sg_session.specs.steps.Kernels.{IsLowerable}
+use Rattle.sg_session.specs.Compiled.{IsSharedAndTrimmed, IsCodeOf, world_of}
+use Rattle.sg_session.specs.steps.Kernels.{IsLowerable, IsLoweredOf, AreSimplified}
 
 -- ---- which writes may activate
 
@@ -120,20 +121,83 @@ module _ (constant : DomainIsConstant) (own_stand : OwnWritesStand) (shapes : Li
       ∙ ap (λ (d : Domain). map (λ at. let it : Turn = record { at = at; writes = writes_at world kernel.kernel at } in it) (domain_points state d)) (sym (constant world kernel.kernel kernel lowerable.admitted)))
 
 -- what the clauses of lowering say
-pub code_is : (constant : DomainIsConstant) (own_stand : OwnWritesStand) (shapes : List Shape) (kernel : Admitted) (result : Result KernelCode Memory) → IsLowerable shapes kernel
+pub lowered_is : (constant : DomainIsConstant) (own_stand : OwnWritesStand) (shapes : List Shape) (kernel : Admitted) (result : Result KernelCode Memory) → IsLowerable shapes kernel
     → IfOk result (λ it. it.domain ≡ kernel.domain) → IfOk result (λ it. WritesAsKernel shapes kernel.kernel it.code.body) → IfOk result (λ it. WantsAsKernel shapes kernel.kernel it.slice.body)
     → IfOk result (λ it. kernel.kernel.vars ≤ 3 → (is_well_typed shapes it.code ≡ true) × (is_well_typed shapes it.slice ≡ true)) → IfOk result (λ it. kernel.kernel.vars ≤ 3 → IsApt shapes it)
-    → IfOk result (λ it. kernel.kernel.vars ≤ 3 → PointsAreWhole shapes kernel) → IfOk result (IsCodeOf shapes kernel)
-code_is constant own_stand shapes kernel (Ok code) lowerable goes writes wants typed is_apt points =
+    → IfOk result (λ it. kernel.kernel.vars ≤ 3 → PointsAreWhole shapes kernel) → IfOk result (IsLoweredOf shapes kernel)
+lowered_is constant own_stand shapes kernel (Ok code) lowerable goes writes wants typed is_apt points =
     let few = lowerable.ready.few in
     let fine = typed few in
     record {
       runnable = record { slice_typed = fine.1; code_typed = fine.0; apt = is_apt few };
       domain = goes;
-      writes = turn_writes constant own_stand shapes kernel lowerable code goes writes wants;
       effects = turns_same constant own_stand shapes kernel lowerable code goes writes wants (points few);
     }
-code_is constant own_stand shapes kernel (Err why) lowerable goes writes wants typed is_apt points = tt
+lowered_is constant own_stand shapes kernel (Err why) lowerable goes writes wants typed is_apt points = tt
+
+-- ---- simplified code
+
+-- where code tells the same, its turns are the same
+turn_same : (shapes : List Shape) (given made : KernelCode) → AreSimplified shapes given made → (state : FlatState) → IsFlat shapes state → (at : Coord) → Contains (domain_points state given.domain) at
+    → code_turn shapes state made at ≡ code_turn shapes state given at
+turn_same shapes given made simple state fine at has =
+    let slice = simple.slice.same state fine at has in
+    let code = simple.code.same state fine at has in
+    ap (λ (ws : List Write). let it : Turn = record { at = at; writes = ws } in it)
+    (ap (λ (d : Domain). located d at (iteration (seen_at shapes state at) made.slice.body).wants (iteration (seen_at shapes state at) made.code.body).writes) simple.domain
+    ∙ ap (λ (ws : List CodeWant). located given.domain at ws (iteration (seen_at shapes state at) made.code.body).writes) slice.wants
+    ∙ ap (λ (cs : List CodeWrite). located given.domain at (iteration (seen_at shapes state at) given.slice.body).wants cs) code.writes)
+
+simplified_effects : (shapes : List Shape) (given made : KernelCode) → AreSimplified shapes given made → (state : FlatState) → IsFlat shapes state → code_effects shapes state made ≡ code_effects shapes state given
+simplified_effects shapes given made simple state fine =
+    ap (λ (ts : List Turn). let it : Effects = record { turns = ts } in it)
+    (ap (λ (d : Domain). map (code_turn shapes state made) (domain_points state d)) simple.domain
+    ∙ same_on (code_turn shapes state made) (code_turn shapes state given) (domain_points state given.domain) (turn_same shapes given made simple state fine))
+
+-- code stays apt
+stays_apt : (shapes : List Shape) (given made : KernelCode) → AreSimplified shapes given made → IsApt shapes given → IsApt shapes made
+stays_apt shapes given made simple is_apt =
+    let goes = sym simple.domain in
+    record {
+      domain = subst (λ (d : Domain). apt.IsDomain shapes d) goes is_apt.domain;
+      slice_named = subst (λ (d : Domain). IsNamed shapes d made.slice.body) goes simple.slice.named;
+      code_named = subst (λ (d : Domain). IsNamed shapes d made.code.body) goes simple.code.named;
+      wants = subst (λ (d : Domain). apt.WantsItsWrites shapes d made.slice.body made.code.body) goes
+          (λ state fine at has.
+          let wants = (simple.slice.same state fine at has).wants in
+          let writes = (simple.code.same state fine at has).writes in
+          subst (λ (ws : List CodeWant). AllZip (apt.IsWantOf shapes) ws (filter (apt.may_activate given.domain) (iteration (seen_at shapes state at) made.code.body).writes)) (sym wants)
+          (subst (λ (cs : List CodeWrite). AllZip (apt.IsWantOf shapes) (iteration (seen_at shapes state at) given.slice.body).wants (filter (apt.may_activate given.domain) cs)) (sym writes)
+          (is_apt.wants state fine at has)));
+      ways = subst (λ (d : Domain). apt.KeepsItsWays shapes d (apt.uses_in made.code.body)) goes ways;
+    }
+  where
+    only : (it : apt.Use) → Contains (apt.uses_in made.code.body) it → Contains (apt.uses_in given.code.body) it
+    only = simple.code.only
+
+    ways : apt.KeepsItsWays shapes given.domain (apt.uses_in made.code.body)
+    ways = record {
+      one_way = λ layout field way other one two. is_apt.ways.one_way layout field way other (only (apt.Writes layout field way) one) (only (apt.Writes layout field other) two);
+      unread = λ layout field way write read. is_apt.ways.unread layout field way (only (apt.Writes layout field way) write) (only (apt.Reads layout field) read);
+      no_own_read = λ layout field op write read. is_apt.ways.no_own_read layout field op (only (apt.Writes layout field (Acc op)) write) (only (apt.ReadsOwn layout field) read);
+      own_axes = λ layout field write. is_apt.ways.own_axes layout field (only (apt.Writes layout field Own) write);
+    }
+
+pub simplified_is : (shapes : List Shape) (kernel : Admitted) (given made : KernelCode) → IsLoweredOf shapes kernel given → AreSimplified shapes given made → IsCodeOf shapes kernel made
+simplified_is shapes kernel given made lowered simple =
+    let goes = sym simple.domain in
+    record {
+      runnable = record { slice_typed = simple.slice.typed; code_typed = simple.code.typed; apt = stays_apt shapes given made simple lowered.runnable.apt };
+      domain = simple.domain ∙ lowered.domain;
+      effects = λ state fine. simplified_effects shapes given made simple state fine ∙ lowered.effects state fine;
+      simple_slice = subst (λ (d : Domain). IsSharedAndTrimmed shapes d made.slice) goes (record { shared = simple.slice.shared; trimmed = simple.slice.trimmed });
+      simple_code = subst (λ (d : Domain). IsSharedAndTrimmed shapes d made.code) goes (record { shared = simple.code.shared; trimmed = simple.code.trimmed });
+    }
+
+-- what simplifying the lowered code of a kernel answers
+pub code_is : (shapes : List Shape) (kernel : Admitted) (given : KernelCode) (result : Result KernelCode Memory) → IsLoweredOf shapes kernel given → IfOk result (AreSimplified shapes given) → IfOk result (IsCodeOf shapes kernel)
+code_is shapes kernel given (Ok made) lowered simple = simplified_is shapes kernel given made lowered simple
+code_is shapes kernel given (Err why) lowered simple = tt
 
 -- one code more, of the next kernel
 pub coded_next : (shapes : List Shape) (kernels : List Admitted) (i : ℕ) (kernel : Admitted) (codes more : List KernelCode) (code : KernelCode) → i < length kernels → kernel ≡ get_or kernels i kernel → more ≡ codes ++ code ∷ []

@@ -1,14 +1,19 @@
 -- What every compiled program keeps, from the answer of compiling and the laws of names and types.
-use Rattle.std.proofs.Common.{◌≡◌, ℕ, zero, suc, ◌<◌, ◌≤◌, Bool, true, false, List, [], ◌∷◌, ◌++◌, length, Option, Some, None, Result, Ok, Err, IfOk, refl, sym, ap, ◌∙◌, subst, arith}
-use Rattle.std.specs.Prelude.{if◌then◌else◌, ◌==◌, nat_lt, map, slice_get, option_map, IsTrue}
+use Rattle.std.proofs.Common.{◌≡◌, ℕ, zero, suc, ◌+◌, ◌^◌, ◌&&◌, ℤ, pos, negsuc, neg_ℤ, ◌≤ℤ◌, ◌<ℤ◌, ◌<◌, ◌≤◌, Bool, true, false, cond, List, [], ◌∷◌, ◌++◌, length, Option, Some, None, Result, Ok, Err, IfOk, refl, sym, ap, ◌∙◌, subst, arith}
+use Rattle.std.specs.Prelude.{if◌then◌else◌, ◌==◌, not, int_lt, nat_le, option_and_then, nat_lt, map, slice_get, option_map, IsTrue}
+use Rattle.std.specs.Cmp.{int_ranks}
+use Rattle.std.specs.Ordering.{MatchOrdering}
+use Rattle.std.specs.declared.cmp.Ordering.TheVariants.{Less, Equal, Greater}
 use Rattle.std.specs.Result.{IsOkAnd}
 use Rattle.std.specs.List.{AllByRecursion, AllZip, list_all, cons_option, filter_map, repeat}
-use Rattle.std.proofs.lemmas.Bool.{leb-false}
+use Rattle.std.proofs.lemmas.Bool.{and_parts, leb-false, leb-true}
+use Rattle.std.proofs.lemmas.Int.{ints}
 use Rattle.std.proofs.lemmas.Option.{slice_get_within}
 use Rattle.sg_words.specs.declared.memory.Memory.{Memory}
 use Rattle.sg_words.specs.Results.{◌>>=◌, fault_or}
 use Rattle.sg_admit.specs.Neutral.{is_neutral_kernel}
-use Rattle.sg_ast.specs.Grammar.{is_program}
+use Rattle.sg_ast.specs.Token.{is_name, is_number}
+use Rattle.sg_ast.specs.Grammar.{is_bound, one_or_more, is_simple_layer, is_simple, is_command_layer, is_item, is_program}
 use Rattle.sg_ir.specs.declared.code.KernelCode.{KernelCode}
 use Rattle.sg_exec.specs.Running.{IsRunnable}
 use Rattle.sg_words.proofs.Uses.{neither, neither_holds}
@@ -25,27 +30,26 @@ use Rattle.sg_ast.specs.declared.layout.LayoutDecl.{LayoutDecl}
 use Rattle.sg_ast.specs.declared.kernel.KernelDecl.{KernelDecl}
 use Rattle.sg_names.specs.declared.tables.NamedField.{NamedField}
 use Rattle.sg_names.specs.declared.tables.NamedLayout.{NamedLayout}
-use Rattle.sg_names.specs.Tables.{Tables, field_named, kernel_named}
+use Rattle.sg_names.specs.Tables.{Tables, layout_named, field_named, kernel_named}
 use Rattle.sg_names.specs.Names.{tables_of}
 use Rattle.sg_names.specs.Shapes.{shape_of}
-use Rattle.sg_names.specs.Laws.{layout_decls, kernel_decls, LayoutsAreDeclared, KernelsAreDeclared, FieldsArePlaced, FieldsAreFound, KernelsAreFound}
+use Rattle.sg_names.specs.Laws.{layout_decls, kernel_decls, LayoutsAreDeclared, KernelsAreDeclared, FieldsArePlaced, FieldsAreFound, KernelsAreFound, LayoutsAreFound}
 use Rattle.sg_types.specs.Laws.{TablesFit, declared_shapes, DeclaredLayoutsFit, TypedIsWellTyped, VariablesAreNumbered}
 use Rattle.sg_types.specs.WellTyped.{is_well_typed_kernel}
-use Rattle.sg_store.specs.WellFormed.{is_built_shape}
 use Rattle.sg_admit.specs.declared.admitted.Admitted.{Admitted}
 use Rattle.sg_session.specs.declared.refusal.Refusal.{Refusal}
 use Rattle.sg_session.specs.declared.refusal.Refusal.TheVariants as refusal
 use Rattle.sg_session.specs.declared.tasks.Task.{Task}
-use Rattle.sg_session.specs.declared.tasks.Task.TheVariants.{Load, Run, Dump}
+use Rattle.sg_session.specs.declared.tasks.Task.TheVariants.{Load, Run, Dump, Image, Stats, Prune, Clear}
 use Rattle.sg_session.specs.declared.tasks.Stage.{Stage}
 use Rattle.sg_session.specs.declared.tasks.Stage.TheVariants.{Once, Times}
-use Rattle.sg_session.specs.CommandRules.{breaks_layer, some_breaks, is_large_layer, layer_refusal, commands_refusal}
+use Rattle.sg_session.specs.CommandRules.{shape_of_field, has_two_axes, is_large, breaks_simple, some_breaks, breaks_layer, is_large_simple, some_is_large, is_large_layer, layer_refusal, commands_refusal}
 use Rattle.sg_session.specs.Tasks.{simple_task, body_tasks, layer_stage, stages_of}
 use Rattle.sg_session.specs.Limits.{most_times}
-use Rattle.sg_session.specs.Compiled.{CheckedProgram, CompiledProgram, Compiles, IsCodeOf, field_numbered, IsField, IsTask, IsStage, IsCompiled, unfolded}
+use Rattle.sg_session.specs.Compiled.{CheckedProgram, CompiledProgram, Compiles, IsCodeOf, field_numbered, IsField, IsDrawn, IsTask, IsStage, IsCompiled, unfolded}
 use Rattle.sg_session.specs.Compiling.{layouts_of, kernels_of, compiled_with, compiled_parts}
 use Rattle.sg_session.proofs.Lists.{count_map}
-use Rattle.sg_session.proofs.Answered.{layouts_kept, built_kept, lowerable, typed_ready, kernels_kept, parts_kept}
+use Rattle.sg_session.proofs.Answered.{layouts_kept, lowerable, typed_ready, kernels_kept, parts_kept}
 
 -- ---- lists of what is there
 
@@ -73,61 +77,133 @@ all_repeated P (suc n) xs all = all_joined P xs (repeat n xs) all (all_repeated 
 record Knows (names : Tables) (value : CompiledProgram) : Type 0 where
   pub field : (name : Name) (at : FieldAt) → field_named names name ≡ Some at → IsField value at
   pub kernel : (name : Name) (k : ℕ) → kernel_named names name ≡ Some k → k < length value.kernels
+  pub layout : (name : Name) (k : ℕ) → layout_named names name ≡ Some k → k < length value.layouts
 
 -- what a mapped option has is made of what the option has
 mapped : {X Y : Type 0} (P : Y → Type 0) (f : X → Y) (o : Option X) (y : Y) → option_map f o ≡ Some y → ((x : X) → o ≡ Some x → P (f x)) → P y
 mapped P f None y e each = absurd (cc)
 mapped P f (Some x) y e each = let same : f x ≡ y = cc in subst P same (each x refl)
 
-module _ (names : Tables) (value : CompiledProgram) (knows : Knows names value) where
-  task_known : (layer : Command-F Command) (task : Task) → simple_task names layer ≡ Some task → IsTask value task
-  task_known (c.Load field) task e = mapped (IsTask value) Load (field_named names field) task e (λ at found. knows.field field at found)
-  task_known (c.Run kernel) task e = mapped (IsTask value) Run (kernel_named names kernel) task e (λ k found. knows.kernel kernel k found)
-  task_known (c.Dump field) task e = mapped (IsTask value) Dump (field_named names field) task e (λ at found. knows.field field at found)
-  task_known (c.Times number body) task e = absurd (cc)
-  task_known (c.Image field lo hi) task e = absurd (cc)
-  task_known (c.Stats layout) task e = absurd (cc)
-  task_known (c.Prune layout) task e = absurd (cc)
-  task_known (c.Clear layout) task e = absurd (cc)
+-- what a mapped option is made of
+mapped_there : {X Y : Type 0} (f : X → Y) (o : Option X) (y : Y) → option_map f o ≡ Some y → (x : X) × (o ≡ Some x)
+mapped_there f None y e = absurd (cc)
+mapped_there f (Some x) y e = (x, refl)
 
-  once_known : (layer : Command-F Command) (stage : Stage) → option_map Once (simple_task names layer) ≡ Some stage → IsStage value stage
-  once_known layer stage e = mapped (IsStage value) Once (simple_task names layer) stage e (λ task found. task_known layer task found)
+-- a test of two numbers tells their order
+int_lt-true : (x y : ℤ) → int_lt x y ≡ true → x <ℤ y
+int_lt-true x y e = subst (λ (b : Bool). MatchOrdering (cond b Less (cond (int_lt y x) Greater Equal)) (x <ℤ y) (x ≡ y) (y <ℤ x)) e (int_ranks x y)
+
+-- a number of the grammar is below its limit
+below_limit : (n : ℕ) → is_number n true ≡ true → n ≤ 4294967295
+below_limit n e = leb-true n 4294967295 e
+
+not_false : (b : Bool) → not b ≡ false → b ≡ true
+not_false true e = refl
+not_false false e = absurd (cc)
+
+module _ (names : Tables) (value : CompiledProgram) (knows : Knows names value) where
+  -- a bound of the grammar is between -2^32 and 2^32
+  bound_low : (z : ℤ) → is_bound z ≡ true → neg_ℤ (pos (2 ^ 32)) ≤ℤ z
+  bound_low (pos n) e = omega (arith, ints)
+  bound_low (negsuc n) e = let small : n + 1 ≤ 4294967295 = below_limit (n + 1) e in omega (arith, ints, small)
+
+  bound_high : (z : ℤ) → is_bound z ≡ true → z ≤ℤ pos (2 ^ 32)
+  bound_high (pos n) e = let small : n ≤ 4294967295 = below_limit n e in omega (arith, ints, small)
+  bound_high (negsuc n) e = omega (arith, ints)
+
+  -- the field of an image is that of its layout
+  drawn : (field : Name) (lo hi : ℤ) → breaks_simple names value.layouts (c.Image field lo hi) ≡ false → is_large_simple names value.layouts (c.Image field lo hi) ≡ false → is_simple_layer (c.Image field lo hi) ≡ true
+      → (at : FieldAt) → field_named names field ≡ Some at → IsDrawn value at lo hi
+  drawn field lo hi fine small good at found =
+      let shape : shape_of_field names value.layouts field ≡ slice_get value.layouts at.layout = ap (λ (o : Option FieldAt). option_and_then (λ a. slice_get value.layouts a.layout) o) found in
+      let parts = neither_holds (not (has_two_axes (shape_of_field names value.layouts field))) (not (int_lt lo hi)) fine in
+      let bounds = and_parts (is_bound lo) (is_bound hi) (and_parts (is_name field) (is_bound lo && is_bound hi) good).1 in
+      record {
+        field = knows.field field at found;
+        plane = ap has_two_axes (sym shape) ∙ not_false (has_two_axes (shape_of_field names value.layouts field)) parts.0;
+        small = ap is_large (sym shape) ∙ small;
+        rising = int_lt-true lo hi (not_false (int_lt lo hi) parts.1);
+        lo_low = bound_low lo bounds.0;
+        hi_high = bound_high hi bounds.1;
+      }
+
+  task_known : (layer : Command-F Command) (task : Task) → breaks_simple names value.layouts layer ≡ false → is_large_simple names value.layouts layer ≡ false → is_simple_layer layer ≡ true
+      → simple_task names layer ≡ Some task → IsTask value task
+  task_known (c.Load field) task fine small good e = mapped (IsTask value) Load (field_named names field) task e (λ at found. knows.field field at found)
+  task_known (c.Run kernel) task fine small good e = mapped (IsTask value) Run (kernel_named names kernel) task e (λ k found. knows.kernel kernel k found)
+  task_known (c.Dump field) task fine small good e = mapped (IsTask value) Dump (field_named names field) task e (λ at found. knows.field field at found)
+  task_known (c.Times number body) task fine small good e = absurd (cc)
+  task_known (c.Image field lo hi) task fine small good e = mapped (IsTask value) (λ at. Image at lo hi) (field_named names field) task e (λ at found. drawn field lo hi fine small good at found)
+  task_known (c.Stats layout) task fine small good e = mapped (IsTask value) Stats (layout_named names layout) task e (λ k found. knows.layout layout k found)
+  task_known (c.Prune layout) task fine small good e = mapped (IsTask value) Prune (layout_named names layout) task e (λ k found. knows.layout layout k found)
+  task_known (c.Clear layout) task fine small good e = mapped (IsTask value) Clear (layout_named names layout) task e (λ k found. knows.layout layout k found)
+
+  once_known : (layer : Command-F Command) (stage : Stage) → breaks_simple names value.layouts layer ≡ false → is_large_simple names value.layouts layer ≡ false → is_simple_layer layer ≡ true
+      → option_map Once (simple_task names layer) ≡ Some stage → IsStage value stage
+  once_known layer stage fine small good e = mapped (IsStage value) Once (simple_task names layer) stage e (λ task found. task_known layer task fine small good found)
+
+  -- the tasks in a `times`
+  body_known : (body : List Command) → some_breaks names value.layouts body ≡ false → some_is_large names value.layouts body ≡ false → list_all is_simple body ≡ true → AllByRecursion (IsTask value) (body_tasks names body)
+  body_known [] fine small good = tt
+  body_known (command ∷ body) fine small good =
+      let f = neither_holds (breaks_simple names value.layouts (out-Command command)) (some_breaks names value.layouts body) fine in
+      let s = neither_holds (is_large_simple names value.layouts (out-Command command)) (some_is_large names value.layouts body) small in
+      let g = and_parts (is_simple command) (list_all is_simple body) good in
+      put_before (IsTask value) (simple_task names (out-Command command)) (body_tasks names body)
+      (λ task found. task_known (out-Command command) task f.0 s.0 g.0 found) (body_known body f.1 s.1 g.1)
 
   -- no refusal of a layer: it breaks no rule and isn't long
-  no_refusal : (a b d : Bool) (n : ℕ) → (if a then Some (refusal.Command n) else (if b then Some refusal.Times else (if d then Some refusal.Image else None))) ≡ None → (a ≡ false) × (b ≡ false)
+  no_refusal : (a b d : Bool) (n : ℕ) → (if a then Some (refusal.Command n) else (if b then Some refusal.Times else (if d then Some refusal.Image else None))) ≡ None → (a ≡ false) × (b ≡ false) × (d ≡ false)
   no_refusal true b d n e = absurd (cc)
   no_refusal false true d n e = absurd (cc)
-  no_refusal false false d n e = (refl, refl)
+  no_refusal false false true n e = absurd (cc)
+  no_refusal false false false n e = (refl, refl, refl)
 
   not_zero : (number : ℕ) → (number == 0) ≡ false → 1 ≤ number
   not_zero zero e = absurd (cc)
   not_zero (suc number) e = omega arith
 
-  stage_known : (n : ℕ) (layer : Command-F Command) (stage : Stage) → layer_refusal names value.layouts n layer ≡ None → layer_stage names layer ≡ Some stage → IsStage value stage
-  stage_known n (c.Times number body) stage none e =
+  stage_known : (n : ℕ) (layer : Command-F Command) (stage : Stage) → layer_refusal names value.layouts n layer ≡ None → is_command_layer layer ≡ true → layer_stage names layer ≡ Some stage → IsStage value stage
+  stage_known n (c.Times number body) stage none good e =
       let fine = no_refusal (breaks_layer names value.layouts (c.Times number body)) (nat_lt most_times number) (is_large_layer names value.layouts (c.Times number body)) n none in
       let turns = neither_holds (number == 0) (some_breaks names value.layouts body) fine.0 in
       let few : number ≤ most_times = omega (arith, leb-false (suc most_times) number fine.1) in
-      let tasks = all_given (IsTask value) (λ command. simple_task names (out-Command command)) body (λ command task found. task_known (out-Command command) task found) in
+      let simple = (and_parts (nat_le 1 (length body)) (list_all is_simple body) (and_parts (is_number number false) (one_or_more is_simple body) good).1).1 in
+      let tasks = body_known body turns.1 fine.2 simple in
       let same : Times number (body_tasks names body) ≡ stage = cc in
       subst (IsStage value) same (not_zero number turns.0, few, tasks)
-  stage_known n (c.Load field) stage none e = once_known (c.Load field) stage e
-  stage_known n (c.Run kernel) stage none e = once_known (c.Run kernel) stage e
-  stage_known n (c.Dump field) stage none e = once_known (c.Dump field) stage e
-  stage_known n (c.Image field lo hi) stage none e = once_known (c.Image field lo hi) stage e
-  stage_known n (c.Stats layout) stage none e = once_known (c.Stats layout) stage e
-  stage_known n (c.Prune layout) stage none e = once_known (c.Prune layout) stage e
-  stage_known n (c.Clear layout) stage none e = once_known (c.Clear layout) stage e
+  stage_known n (c.Load field) stage none good e =
+      let fine = no_refusal (breaks_simple names value.layouts (c.Load field)) false (is_large_simple names value.layouts (c.Load field)) n none in
+      once_known (c.Load field) stage fine.0 fine.2 good e
+  stage_known n (c.Run kernel) stage none good e =
+      let fine = no_refusal (breaks_simple names value.layouts (c.Run kernel)) false (is_large_simple names value.layouts (c.Run kernel)) n none in
+      once_known (c.Run kernel) stage fine.0 fine.2 good e
+  stage_known n (c.Dump field) stage none good e =
+      let fine = no_refusal (breaks_simple names value.layouts (c.Dump field)) false (is_large_simple names value.layouts (c.Dump field)) n none in
+      once_known (c.Dump field) stage fine.0 fine.2 good e
+  stage_known n (c.Image field lo hi) stage none good e =
+      let fine = no_refusal (breaks_simple names value.layouts (c.Image field lo hi)) false (is_large_simple names value.layouts (c.Image field lo hi)) n none in
+      once_known (c.Image field lo hi) stage fine.0 fine.2 good e
+  stage_known n (c.Stats layout) stage none good e =
+      let fine = no_refusal (breaks_simple names value.layouts (c.Stats layout)) false (is_large_simple names value.layouts (c.Stats layout)) n none in
+      once_known (c.Stats layout) stage fine.0 fine.2 good e
+  stage_known n (c.Prune layout) stage none good e =
+      let fine = no_refusal (breaks_simple names value.layouts (c.Prune layout)) false (is_large_simple names value.layouts (c.Prune layout)) n none in
+      once_known (c.Prune layout) stage fine.0 fine.2 good e
+  stage_known n (c.Clear layout) stage none good e =
+      let fine = no_refusal (breaks_simple names value.layouts (c.Clear layout)) false (is_large_simple names value.layouts (c.Clear layout)) n none in
+      once_known (c.Clear layout) stage fine.0 fine.2 good e
 
-  stages_known : (n : ℕ) (items : List Item) → commands_refusal names value.layouts n items ≡ None → AllByRecursion (IsStage value) (stages_of names items)
-  stages_known n [] none = tt
-  stages_known n (item.Const decl ∷ items) none = stages_known (suc n) items none
-  stages_known n (item.Layout decl ∷ items) none = stages_known (suc n) items none
-  stages_known n (item.Kernel decl ∷ items) none = stages_known (suc n) items none
-  stages_known n (item.Command command ∷ items) none =
+  stages_known : (n : ℕ) (items : List Item) → list_all is_item items ≡ true → commands_refusal names value.layouts n items ≡ None → AllByRecursion (IsStage value) (stages_of names items)
+  stages_known n [] good none = tt
+  stages_known n (item.Const decl ∷ items) good none = stages_known (suc n) items (and_parts (is_item (item.Const decl)) (list_all is_item items) good).1 none
+  stages_known n (item.Layout decl ∷ items) good none = stages_known (suc n) items (and_parts (is_item (item.Layout decl)) (list_all is_item items) good).1 none
+  stages_known n (item.Kernel decl ∷ items) good none = stages_known (suc n) items (and_parts (is_item (item.Kernel decl)) (list_all is_item items) good).1 none
+  stages_known n (item.Command command ∷ items) good none =
       let parts = neither (layer_refusal names value.layouts n (out-Command command)) (commands_refusal names value.layouts (suc n) items) none in
+      let g = and_parts (is_item (item.Command command)) (list_all is_item items) good in
       put_before (IsStage value) (layer_stage names (out-Command command)) (stages_of names items)
-      (λ stage found. stage_known n (out-Command command) stage parts.0 found) (stages_known (suc n) items parts.1)
+      (λ stage found. stage_known n (out-Command command) stage parts.0 g.0 found) (stages_known (suc n) items g.1 parts.1)
 
 -- the tasks of stages that are of the program are
 pub tasks_kept : (value : CompiledProgram) (stages : List Stage) → AllByRecursion (IsStage value) stages → AllByRecursion (IsTask value) (unfolded stages)
@@ -146,6 +222,7 @@ pub record HasLaws (program : Program) : Type 0 where
   pub placed : FieldsArePlaced program
   pub fields : FieldsAreFound program
   pub named : KernelsAreFound program
+  pub numbered : LayoutsAreFound program
   pub fit : DeclaredLayoutsFit
   pub typed : TypedIsWellTyped
   pub variables : VariablesAreNumbered
@@ -176,6 +253,12 @@ module _ (program : Program) (names : Tables) (laws : HasLaws program) (named : 
   kernel_known : length value.kernels ≡ length names.kernels → (name : Name) (k : ℕ) → kernel_named names name ≡ Some k → k < length value.kernels
   kernel_known many name k e =
       let below : k < length names.kernels = slice_get_within names.kernels k name ((laws.named names named name k).0 e) in omega arith
+
+  layout_known : length names.layouts ≡ length value.layouts → (name : Name) (k : ℕ) → layout_named names name ≡ Some k → k < length value.layouts
+  layout_known many name k e =
+      let found = mapped_there (λ (n : NamedLayout). n.name) (slice_get names.layouts k) name ((laws.numbered names named name k).0 e) in
+      let below : k < length names.layouts = slice_get_within names.layouts k found.0 found.1 in
+      omega (arith, many, below)
 
 -- the name and the axes of a declared layout
 abbrev named_layout : LayoutDecl → NamedLayout
@@ -210,14 +293,13 @@ kept_parts program names layouts kernels codes grammar laws named layouts_are ke
     let layout_count : length names.layouts ≡ length layouts =
     ap length (laws.layouts names named) ∙ count_map named_layout (layout_decls program.items)
     ∙ sym (count_map (shape_of names) (layout_decls program.items)) ∙ sym (ap length lays.0) in
-    let knows : Knows names value = record { field = field_known program names laws named value refl lays.0; kernel = kernel_known program names laws named value refl lays.0 (sym many) } in
+    let knows : Knows names value = record { field = field_known program names laws named value refl lays.0; kernel = kernel_known program names laws named value refl lays.0 (sym many); layout = layout_known program names laws named value refl lays.0 layout_count } in
     record {
       few_words = lays.1;
-      built = subst (λ (ls : List Shape). list_all is_built_shape ls ≡ true) (sym lays.0) (built_kept names 1 program.items from.built);
       numbers = record { layouts = layout_count; kernels = many; fields = number_known program names laws named value refl lays.0 };
       neutral = count_map (λ (kernel : Admitted). is_neutral_kernel kernel.kernel) kernels ∙ sym coded.1;
       kernels = coded.0;
-      commands = stages_known names value knows 1 program.items none;
+      commands = stages_known names value knows 1 program.items grammar none;
     }
 
 -- what a program is compiled to, put together from its parts
@@ -268,3 +350,7 @@ tasks_there value stages (Err why) kept same is = tt
 -- each kernel has a name, and is neutral or not
 pub neutral_many : (value : CompiledProgram) → IsCompiled value → length value.neutral ≡ length value.names.kernels
 neutral_many value kept = kept.neutral ∙ sym kept.numbers.kernels
+
+-- a compiled program has as many names of kernels as codes
+pub kernels_many : (compiled : CompiledProgram) → IsCompiled compiled → length compiled.kernels ≡ length compiled.names.kernels
+kernels_many compiled kept = sym kept.numbers.kernels

@@ -10,3 +10,5 @@ mod Behind
 mod Declared
 mod KernelLines
 mod Numbered
+pub mod Viewing
+pub mod Changing

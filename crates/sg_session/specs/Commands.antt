@@ -1,5 +1,5 @@
 -- What a command makes of a flat state, and the text that it gives.
-use Rattle.std.specs.Prelude.{ℕ, List, [], Option, Some, None, Result, Ok, Err, slice_get, find, map, option_map, option_and_then, string_bytes}
+use Rattle.std.specs.Prelude.{ℕ, zero, suc, ℤ, List, [], ◌∷◌, Option, Some, None, Result, Ok, Err, slice_get, find, map, option_map, option_and_then, string_bytes}
 use Rattle.sg_words.specs.Results.{◌>>=◌, fault_as}
 use Rattle.sg_coord.specs.Bounds.{Bounds}
 use Rattle.sg_ast.specs.declared.token.Name.{Name}
@@ -13,7 +13,7 @@ use Rattle.sg_flat.specs.declared.effects.Write.{Write}
 use Rattle.sg_flat.specs.declared.effects.Way.TheVariants.{Own}
 use Rattle.sg_names.specs.declared.tables.FieldAt.{FieldAt}
 use Rattle.sg_flat.specs.Kernel.{kernel_meaning}
-use Rattle.sg_names.specs.Tables.{Tables, field_name_of}
+use Rattle.sg_names.specs.Tables.{Tables, field_name_of, layout_name_of}
 use Rattle.sg_types.specs.Iterations.{kernel_effects}
 use Rattle.sg_admit.specs.declared.admitted.Admitted.{Admitted}
 use Rattle.sg_grid.specs.declared.grid.GridFault.{GridFault}
@@ -21,13 +21,17 @@ use Rattle.sg_grid.specs.declared.grid.GridFault.TheVariants as grid
 use Rattle.sg_grid.specs.declared.grid.GridRow.{GridRow}
 use Rattle.sg_grid.specs.Reading.{rows_of}
 use Rattle.sg_grid.specs.Dump.{dump_text}
+use Rattle.sg_image.specs.Image.{image_text}
+use Rattle.sg_image.specs.Counts.{stats_text}
+use Rattle.sg_flat.specs.State.{opening_layout}
+use Rattle.sg_store.specs.Pruning.{pruned}
 use Rattle.sg_exec.specs.Running.{load_meaning}
 use Rattle.sg_outside.specs.Files.{Reading, Bytes, TooMany, Missing}
 use Rattle.sg_session.specs.declared.binds.Bind.{Bind}
 use Rattle.sg_session.specs.declared.refusal.RunRefusal.{RunRefusal}
 use Rattle.sg_session.specs.declared.refusal.RunRefusal.TheVariants as refusal
 use Rattle.sg_session.specs.declared.tasks.Task.{Task}
-use Rattle.sg_session.specs.declared.tasks.Task.TheVariants.{Load, Run, Dump}
+use Rattle.sg_session.specs.declared.tasks.Task.TheVariants.{Load, Run, Dump, Image, Stats, Prune, Clear}
 use Rattle.sg_session.specs.Compiled.{CheckedProgram, world_of}
 
 -- ---- the files of fields
@@ -45,6 +49,10 @@ abbrev pub file_of : Tables → List Bind → Task → Option (List ℕ)
 file_of names binds (Load field) = file_of_field names binds field
 file_of names binds (Run kernel) = None
 file_of names binds (Dump field) = None
+file_of names binds (Image field lo hi) = None
+file_of names binds (Stats layout) = None
+file_of names binds (Prune layout) = None
+file_of names binds (Clear layout) = None
 
 -- ---- what a task makes of a state
 
@@ -119,8 +127,45 @@ run_made layouts state number kernel = do
 abbrev pub dump_made : List Shape → FlatState → FieldAt → Result Left RunRefusal
 dump_made layouts state at = Ok (record { state = state; text = text_of_field at.place (slice_get layouts at.layout) (slice_get state.layouts at.layout) })
 
+-- the image of a field of a layout that may be there
+abbrev pub image_of_field : ℕ → (lo hi : ℤ) → Option Shape → Option FlatLayout → List ℕ
+image_of_field place lo hi None flat = []
+image_of_field place lo hi (Some shape) None = []
+image_of_field place lo hi (Some shape) (Some flat) = image_text shape flat place lo hi
+
+-- what an image leaves
+abbrev pub image_made : List Shape → FlatState → FieldAt → (lo hi : ℤ) → Result Left RunRefusal
+image_made layouts state at lo hi = Ok (record { state = state; text = image_of_field at.place lo hi (slice_get layouts at.layout) (slice_get state.layouts at.layout) })
+
+-- the counts of a layout that may be there, under a name that may be there
+abbrev pub counts_of_layout : Option Name → Option Shape → Option FlatLayout → List ℕ
+counts_of_layout (Some name) (Some shape) (Some flat) = stats_text shape flat name.text
+counts_of_layout _ _ _ = []
+
+-- what counting leaves
+abbrev pub stats_made : Tables → List Shape → FlatState → ℕ → Result Left RunRefusal
+stats_made names layouts state layout = Ok (record { state = state; text = counts_of_layout (layout_name_of names layout) (slice_get layouts layout) (slice_get state.layouts layout) })
+
+-- flat layouts of these shapes, of which the one of a number has changed
+abbrev pub changed_at : (Shape → FlatLayout → FlatLayout) → List Shape → List FlatLayout → ℕ → List FlatLayout
+changed_at change (shape ∷ shapes) (flat ∷ flats) zero = change shape flat ∷ flats
+changed_at change (shape ∷ shapes) (flat ∷ flats) (suc number) = flat ∷ changed_at change shapes flats number
+changed_at change _ flats _ = flats
+
+-- what a change of one layout leaves
+abbrev pub layout_made : (Shape → FlatLayout → FlatLayout) → List Shape → FlatState → ℕ → Result Left RunRefusal
+layout_made change layouts state layout = Ok (without_text (record { layouts = changed_at change layouts state.layouts layout }))
+
+-- a layout without values, in which only that is active which is so without any write
+abbrev pub cleared : Shape → FlatLayout → FlatLayout
+cleared shape flat = opening_layout shape
+
 -- What a task makes of a state, and its text; or its refusal, which leaves the state. What the read of its file gave counts for a load.
 abbrev pub task_meaning : CheckedProgram → FlatState → Task → Reading → Result Left RunRefusal
 task_meaning program state (Load field) reading = load_made program.layouts state field reading
 task_meaning program state (Run kernel) reading = run_made program.layouts state kernel (slice_get program.kernels kernel)
 task_meaning program state (Dump field) reading = dump_made program.layouts state field
+task_meaning program state (Image field lo hi) reading = image_made program.layouts state field lo hi
+task_meaning program state (Stats layout) reading = stats_made program.names program.layouts state layout
+task_meaning program state (Prune layout) reading = layout_made pruned program.layouts state layout
+task_meaning program state (Clear layout) reading = layout_made cleared program.layouts state layout

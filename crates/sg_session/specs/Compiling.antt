@@ -21,7 +21,6 @@ use Rattle.sg_admit.specs.Admission.{admission}
 use Rattle.sg_admit.specs.Neutral.{is_neutral_kernel}
 use Rattle.sg_session.specs.declared.refusal.Refusal.{Refusal}
 use Rattle.sg_session.specs.declared.refusal.Refusal.TheVariants as refusal
-use Rattle.sg_session.specs.Built.{first_not_built}
 use Rattle.sg_session.specs.CommandRules.{commands_refusal}
 use Rattle.sg_session.specs.Tasks.{stages_of}
 use Rattle.sg_session.specs.Compiled.{CheckedProgram, CompiledProgram, Compiles}
@@ -56,11 +55,11 @@ admitted_kernels number (kernel ∷ kernels) = do
   more ← admitted_kernels (suc number) kernels
   Ok (admitted ∷ more)
 
--- the kernels of a program: types, then what isn't built, then admission
+-- the kernels of a program: types, then admission
 unfoldable pub kernels_of : Tables → Program → Result (List Admitted) Refusal
 kernels_of names program = do
   typed ← fault_as refusal.Types (typed_program names program)
-  fault_or (option_map refusal.NotBuilt (first_not_built 1 program.items)) (admitted_kernels 0 typed.kernels)
+  admitted_kernels 0 typed.kernels
 
 -- a program with these names, layouts and kernels
 abbrev pub compiled_parts : Tables → List Shape → List Admitted → Program → CheckedProgram

@@ -1,14 +1,12 @@
 -- Worked equations.
 use Rattle.std.specs.Prelude.{◌≡◌, refl, true, [], ◌∷◌, Some, None, pos, codes}
 use Rattle.sg_ast.specs.declared.command.Command.TheOpen as c
-use Rattle.sg_ast.specs.declared.layout.NodeKind.TheVariants as kind
 use Rattle.sg_names.specs.Tables.{no_tables}
 use Rattle.sg_grid.specs.declared.grid.GridFault.TheVariants as grid
 use Rattle.sg_session.specs.declared.refusal.Refusal.TheVariants as refusal
 use Rattle.sg_session.specs.declared.refusal.RunRefusal.TheVariants as run
 use Rattle.sg_session.specs.declared.tasks.Task.TheVariants.{Run}
 use Rattle.sg_session.specs.declared.tasks.Stage.TheVariants.{Once, Times}
-use Rattle.sg_session.specs.Built.{is_built_layout}
 use Rattle.sg_session.specs.CommandRules.{layer_refusal}
 use Rattle.sg_session.specs.Commands.{grid_refusal}
 use Rattle.sg_session.specs.Compiled.{unfolded}
@@ -37,20 +35,3 @@ rows_of_a_grid = refl
 
 line_of_a_grid : grid_refusal 4 (grid.NotRising 3) ≡ run.Grid 4 3
 line_of_a_grid = refl
-
--- a layout with a hash node is built, and so is one with a dynamic node
-hashed : is_built_layout (record {
-  name = record { text = codes "A" };
-  axes = [];
-  nodes = record { kind = kind.Hash; axes = []; chunk = None; cap = None } ∷ [];
-  fields = [];
-}) ≡ true
-hashed = refl
-
-chained : is_built_layout (record {
-  name = record { text = codes "A" };
-  axes = [];
-  nodes = record { kind = kind.Dynamic; axes = []; chunk = None; cap = None } ∷ [];
-  fields = [];
-}) ≡ true
-chained = refl

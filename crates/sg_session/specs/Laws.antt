@@ -1,5 +1,5 @@
 -- The law of commands: numbering leaves none out.
-use Rattle.std.specs.Prelude.{◌≡◌, List, filter_map, Option, Some, None, Ok}
+use Rattle.std.specs.Prelude.{◌≡◌, IsTrue, List, filter_map, Option, Some, None, Ok}
 use Rattle.std.specs.List.{AllZip}
 use Rattle.sg_ast.specs.declared.command.Command.{Command, out-Command}
 use Rattle.sg_ast.specs.declared.command.Command.TheOpen as c
@@ -7,9 +7,10 @@ use Rattle.sg_ast.specs.declared.command.Command.TheOpen.{Command-F}
 use Rattle.sg_ast.specs.declared.program.Item.{Item}
 use Rattle.sg_ast.specs.declared.program.Item.TheVariants as item
 use Rattle.sg_ast.specs.declared.program.Program.{Program}
-use Rattle.sg_names.specs.Tables.{Tables, field_named, kernel_named}
+use Rattle.sg_ast.specs.Grammar.{is_program}
+use Rattle.sg_names.specs.Tables.{Tables, layout_named, field_named, kernel_named}
 use Rattle.sg_session.specs.declared.tasks.Task.{Task}
-use Rattle.sg_session.specs.declared.tasks.Task.TheVariants.{Load, Run, Dump}
+use Rattle.sg_session.specs.declared.tasks.Task.TheVariants.{Load, Run, Dump, Image, Stats, Prune, Clear}
 use Rattle.sg_session.specs.declared.tasks.Stage.{Stage}
 use Rattle.sg_session.specs.declared.tasks.Stage.TheVariants.{Once, Times}
 use Rattle.sg_session.specs.Compiled.{CheckedProgram}
@@ -26,11 +27,15 @@ as_command (item.Command command) = Some command
 abbrev pub commands_of : Program → List Command
 commands_of program = filter_map as_command program.items
 
--- a task is that of a command: a load or a dump of the field of its name, or a run of the kernel of its name
+-- a task is that of a command: of the field, the kernel or the layout of its name, and an image has its bounds
 abbrev pub IsTaskOf : Tables → Command-F Command → Task → Type 0
 IsTaskOf names (c.Load field) (Load at) = field_named names field ≡ Some at
 IsTaskOf names (c.Run name) (Run kernel) = kernel_named names name ≡ Some kernel
 IsTaskOf names (c.Dump field) (Dump at) = field_named names field ≡ Some at
+IsTaskOf names (c.Image field lo hi) (Image at low high) = (field_named names field ≡ Some at) × (low ≡ lo) × (high ≡ hi)
+IsTaskOf names (c.Stats layout) (Stats number) = layout_named names layout ≡ Some number
+IsTaskOf names (c.Prune layout) (Prune number) = layout_named names layout ≡ Some number
+IsTaskOf names (c.Clear layout) (Clear number) = layout_named names layout ≡ Some number
 IsTaskOf names _ _ = ⊥
 
 -- a stage is that of a command: its task, or for a `times` as many turns, with a task for each command in it, in order
@@ -39,7 +44,7 @@ IsStageOf names (c.Times number body) (Times turns tasks) = (turns ≡ number) �
 IsStageOf names layer (Once task) = IsTaskOf names layer task
 IsStageOf names _ _ = ⊥
 
--- The commands of a compiled program are those of its file, one for one and in order.
+-- The commands of a compiled program, which is a tree of the grammar, are those of its file, one for one and in order.
 abbrev pub CommandsAreKept : Type 0
-CommandsAreKept = (program : Program) (compiled : CheckedProgram) → compiled_tree program ≡ Ok compiled →
+CommandsAreKept = (program : Program) (compiled : CheckedProgram) → IsTrue (is_program program) → compiled_tree program ≡ Ok compiled →
     AllZip (λ command stage. IsStageOf compiled.names (out-Command command) stage) (commands_of program) compiled.commands

@@ -1,5 +1,4 @@
 pub mod Limits
-pub mod Built
 pub mod CommandRules
 pub mod Tasks
 pub mod Compiled

@@ -15,7 +15,7 @@ use Rattle.sg_session.specs.declared.refusal.RunRefusal.{RunRefusal}
 use Rattle.sg_session.specs.declared.refusal.RunRefusal.TheVariants as refusal
 use Rattle.sg_session.specs.declared.binds.Bind.{Bind}
 use Rattle.sg_session.specs.declared.tasks.Task.{Task}
-use Rattle.sg_session.specs.declared.tasks.Task.TheVariants.{Load, Run, Dump}
+use Rattle.sg_session.specs.declared.tasks.Task.TheVariants.{Load, Run, Dump, Image, Stats, Prune, Clear}
 use Rattle.sg_session.specs.Compiled.{CompiledProgram}
 use Rattle.sg_session.specs.Commands.{Left, file_of_field}
 
@@ -69,3 +69,7 @@ abbrev pub HasFile : Tables → List Bind → Task → Type 0
 HasFile names binds (Load field) = IsSome (file_of_field names binds field)
 HasFile names binds (Run kernel) = Unit {0}
 HasFile names binds (Dump field) = Unit {0}
+HasFile names binds (Image field lo hi) = Unit {0}
+HasFile names binds (Stats layout) = Unit {0}
+HasFile names binds (Prune layout) = Unit {0}
+HasFile names binds (Clear layout) = Unit {0}

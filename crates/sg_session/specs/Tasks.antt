@@ -5,9 +5,9 @@ use Rattle.sg_ast.specs.declared.command.Command.TheOpen as c
 use Rattle.sg_ast.specs.declared.command.Command.TheOpen.{Command-F}
 use Rattle.sg_ast.specs.declared.program.Item.{Item}
 use Rattle.sg_ast.specs.declared.program.Item.TheVariants as item
-use Rattle.sg_names.specs.Tables.{Tables, field_named, kernel_named}
+use Rattle.sg_names.specs.Tables.{Tables, layout_named, field_named, kernel_named}
 use Rattle.sg_session.specs.declared.tasks.Task.{Task}
-use Rattle.sg_session.specs.declared.tasks.Task.TheVariants.{Load, Run, Dump}
+use Rattle.sg_session.specs.declared.tasks.Task.TheVariants.{Load, Run, Dump, Image, Stats, Prune, Clear}
 use Rattle.sg_session.specs.declared.tasks.Stage.{Stage}
 use Rattle.sg_session.specs.declared.tasks.Stage.TheVariants.{Once, Times}
 
@@ -16,7 +16,11 @@ abbrev pub simple_task : Tables → Command-F Command → Option Task
 simple_task names (c.Load field) = option_map Load (field_named names field)
 simple_task names (c.Run kernel) = option_map Run (kernel_named names kernel)
 simple_task names (c.Dump field) = option_map Dump (field_named names field)
-simple_task names _ = None
+simple_task names (c.Image field lo hi) = option_map (λ at. Image at lo hi) (field_named names field)
+simple_task names (c.Stats layout) = option_map Stats (layout_named names layout)
+simple_task names (c.Prune layout) = option_map Prune (layout_named names layout)
+simple_task names (c.Clear layout) = option_map Clear (layout_named names layout)
+simple_task names (c.Times number body) = None
 
 -- the tasks of commands in a `times`
 abbrev pub body_tasks : Tables → List Command → List Task

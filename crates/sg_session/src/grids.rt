@@ -24,12 +24,14 @@ use sg_outside::{Files, Got};
 use sg_store::Stores;
 use sg_words::{Items, Memory, Stop, Text};
 use std::alloc::Global;
+use std::thread::Threads;
 
 /// The most bytes of a file that is loaded.
 const GRID_LIMIT: u64 = 1 << 24;
 
 /// Reads the file of a field and loads its grid.
-pub fn load<F: Files>(
+pub fn load<R: Threads + Sync, F: Files>(
+    rt: &R,
     alloc: Global,
     compiled: &Compiled,
     stores: &mut Stores,
@@ -57,7 +59,7 @@ pub fn load<F: Files>(
     };
     let mut bytes = Vec::new(alloc);
     match files.read(name, GRID_LIMIT, &mut bytes) {
-        Got::All => load_bytes(alloc, compiled, stores, at, bytes.as_slice()),
+        Got::All => load_bytes(rt, alloc, compiled, stores, at, bytes.as_slice()),
         Got::TooLong => Err(Stop::Refused(RunRefusal::GridBytes { field: at.number })),
         Got::Failed => Err(Stop::Refused(RunRefusal::Read { field: at.number })),
         Got::Memory => Err(Stop::Memory),
@@ -85,7 +87,8 @@ fn file_bound<'a>(binds: &'a Binds, name: &Name) -> Option<&'a str>
 }
 
 /// Loads the grid that these bytes are.
-fn load_bytes(
+fn load_bytes<R: Threads + Sync>(
+    rt: &R,
     alloc: Global,
     compiled: &Compiled,
     stores: &mut Stores,
@@ -99,7 +102,7 @@ fn load_bytes(
     ensures stays { OnErr result (stores.new ≡ stores.old) }
 {
     match rows_of(alloc, compiled, at, bytes) {
-        Ok(rows) => match load_rows(alloc, stores, &compiled.layouts, rows.as_slice()) {
+        Ok(rows) => match load_rows(rt, alloc, stores, &compiled.layouts, rows.as_slice()) {
             Ok(()) => Ok(no_text(alloc)),
             Err(Stop::Refused(fault)) => Err(Stop::Refused(RunRefusal::Run {
                 kernel: None,

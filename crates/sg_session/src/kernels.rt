@@ -9,9 +9,9 @@ ghost use Rattle.sg_admit.specs.Neutral.{is_neutral_kernel};
 ghost use Rattle.sg_session.specs.Compiled.{IsCodeOf};
 ghost use Rattle.sg_session.specs.Compiling.{kernels_of, admitted_kernels};
 ghost use Rattle.sg_session.specs.Spelled.{IsSpelled};
-ghost use Rattle.sg_session.specs.steps.Kernels.{IsReady, IsLowerable};
+ghost use Rattle.sg_exec.specs.Running.{IsRunnable};
+ghost use Rattle.sg_session.specs.steps.Kernels.{IsReady, IsLowerable, IsLoweredOf, AreSimplified};
 
-use crate::built::first_not_built;
 use crate::refusal::Refusal;
 use sg_admit::laws::{domain_is_constant, own_writes_stand};
 use sg_admit::{Admitted, admit, is_neutral};
@@ -20,12 +20,12 @@ use sg_ir::KernelCode;
 use sg_layout::Layouts;
 use sg_lower::lower;
 use sg_names::Names;
+use sg_simplify::simplify;
 use sg_types::{Typed, TypedKernel, type_program};
 use sg_words::{Items, Memory, Stop};
 use std::alloc::Global;
 
-/// The kernels of a program with what is known of them; or the first fault of types, then the first item that isn't built, then the
-/// first kernel that isn't admitted.
+/// The kernels of a program with what is known of them; or the first fault of types, then the first kernel that isn't admitted.
 #[tactic(auto, unfolding(crate::specs::Compiling::kernels_of))]
 pub fn kernels_of(
     alloc: Global,
@@ -43,10 +43,7 @@ pub fn kernels_of(
     sg_types::laws::typed_is_well_typed();
     sg_types::laws::variables_are_numbered();
     match type_program(alloc, program, names) {
-        Ok(typed) => match first_not_built(program.items.as_slice()) {
-            Some(item) => Err(Stop::Refused(Refusal::NotBuilt { item })),
-            None => admit_all(alloc, typed.kernels, layouts),
-        },
+        Ok(typed) => admit_all(alloc, typed.kernels, layouts),
         Err(Stop::Refused(fault)) => Err(Stop::Refused(Refusal::Types(fault))),
         Err(Stop::Memory) => Err(Stop::Memory),
     }
@@ -96,15 +93,42 @@ pub fn lower_all(
     Ok(codes)
 }
 
-/// The access code of a kernel.
+/// The access code of a kernel, shared and trimmed.
 fn code_of(alloc: Global, kernel: &Admitted, layouts: &Layouts) -> Result<KernelCode, Memory>
     requires { IsLowerable layouts.now.list kernel.now }
     ensures { IfOk result (IsCodeOf layouts.now.list kernel.now) }
+{
+    let lowered = lowered_of(alloc, kernel, layouts)?;
+    simplified_of(alloc, &lowered, layouts)
+}
+
+/// The access code of a kernel as it is lowered.
+fn lowered_of(alloc: Global, kernel: &Admitted, layouts: &Layouts) -> Result<KernelCode, Memory>
+    requires { IsLowerable layouts.now.list kernel.now }
+    ensures { IfOk result (IsLoweredOf layouts.now.list kernel.now) }
 {
     // for the laws that they ensure
     domain_is_constant();
     own_writes_stand();
     lower(alloc, kernel, layouts)
+}
+
+/// Both codes of a kernel, simplified over its domain.
+fn simplified_of(
+    alloc: Global,
+    kernel: &KernelCode,
+    layouts: &Layouts,
+) -> Result<KernelCode, Memory>
+    requires { IsRunnable layouts.now.list kernel.now }
+    ensures { IfOk result (AreSimplified layouts.now.list kernel.now) }
+{
+    let slice = simplify(alloc, &kernel.slice, &kernel.domain, layouts)?;
+    let code = simplify(alloc, &kernel.code, &kernel.domain, layouts)?;
+    Ok(KernelCode {
+        slice,
+        code,
+        domain: kernel.domain,
+    })
 }
 
 /// For each kernel whether it is neutral.

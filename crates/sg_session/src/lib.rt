@@ -2,14 +2,15 @@
 #![tactic(auto)]
 
 pub mod binds;
-mod built;
 mod check;
 pub mod compilation;
 pub mod compiled;
+mod freeing;
 mod grids;
 mod kernels;
 pub mod laws;
 mod layouts;
+mod lowered;
 mod opening;
 mod perform;
 pub mod refusal;
@@ -21,11 +22,13 @@ mod step;
 pub mod tasks;
 #[cfg(test)]
 mod tests;
+mod views;
 
 pub use binds::{Bind, Binds};
 pub use check::check_text;
 pub use compilation::compile;
 pub use compiled::Compiled;
+pub use lowered::lower_text;
 pub use refusal::{Refusal, RunRefusal};
 pub use session::Session;
 pub use spelled::spell;

@@ -1,6 +1,6 @@
 //! Runs of kernels and dumps over stores.
 
-ghost use Rattle.std.specs.Prelude.{◌≡◌, ◌<◌, false, [], length, OnErr, IfOk, slice_get};
+ghost use Rattle.std.specs.Prelude.{◌≡◌, ◌<◌, ◌≤◌, false, [], length, OnErr, IfOk, slice_get};
 ghost use Rattle.sg_flat.specs.declared.state.FlatState.{FlatState};
 ghost use Rattle.sg_exec.specs.Standing.{StandForState};
 ghost use Rattle.sg_outside.specs.Files.{Missing};
@@ -14,18 +14,25 @@ use crate::compiled::Compiled;
 use crate::refusal::RunRefusal;
 use sg_exec::run_kernel;
 use sg_names::FieldAt;
+use sg_outside::Gate;
 use sg_store::Stores;
 use sg_words::{Items, Memory, Stop, Text};
 use std::alloc::Global;
+use std::thread::Threads;
 
-/// Runs the kernel with this number.
-pub fn run(
+/// Runs the kernel with this number, on so many workers, which pass the gate.
+pub fn run<R: Threads + Sync, G: Gate + Sync>(
+    rt: &R,
     alloc: Global,
     compiled: &Compiled,
     stores: &mut Stores,
     kernel: u32,
+    workers: u32,
+    gate: &G,
 ) -> Result<Text, Stop<RunRefusal>>
-    requires { kernel < length compiled.now.kernels }
+    requires there { kernel < length compiled.now.kernels }
+    requires some { 1 ≤ workers }
+    requires few { workers ≤ 16 }
     ensures performed { (program : CheckedProgram) → Compiles program compiled.now → (state : FlatState) → StandForState compiled.now.layouts stores.old.list state →
         Performs compiled.now.layouts stores.new.list result (task_meaning program state (Run kernel) Missing) }
     ensures stand { IfOk result (λ text. HasState compiled.now.layouts stores.old.list → HasState compiled.now.layouts stores.new.list) }
@@ -33,7 +40,7 @@ pub fn run(
     ensures stays { OnErr result (stores.new ≡ stores.old) }
 {
     let code = &compiled.kernels.as_slice()[kernel as usize];
-    match run_kernel(alloc, stores, &compiled.layouts, code) {
+    match run_kernel(rt, alloc, stores, &compiled.layouts, code, workers, gate) {
         Ok(()) => Ok(no_text(alloc)),
         Err(Stop::Refused(fault)) => Err(Stop::Refused(RunRefusal::Run {
             kernel: Some(kernel),

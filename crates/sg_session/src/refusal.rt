@@ -23,8 +23,6 @@ pub enum Refusal {
     Words,
     /// A kernel breaks a rule on types.
     Types(TypeFault),
-    /// An item has a form that is not built yet: the first such item.
-    NotBuilt { item: u32 },
     /// A kernel is not admitted.
     Admit { kernel: u32, fault: AdmitFault },
     /// A command breaks a rule: an image of a layout without 2 axes or with bounds that don't rise, or `times 0`.

@@ -78,6 +78,26 @@ fn simple_task(names: &Names, command: &Command) -> Option<Task>
             let at = names.field(field)?;
             Some(Task::Dump(at))
         }
-        _ => None,
+        Command::Image { field, lo, hi } => {
+            let at = names.field(field)?;
+            Some(Task::Image {
+                field: at,
+                lo: *lo,
+                hi: *hi,
+            })
+        }
+        Command::Stats(name) => {
+            let layout = names.layout(name)?;
+            Some(Task::Stats { layout })
+        }
+        Command::Prune(name) => {
+            let layout = names.layout(name)?;
+            Some(Task::Prune { layout })
+        }
+        Command::Clear(name) => {
+            let layout = names.layout(name)?;
+            Some(Task::Clear { layout })
+        }
+        Command::Times { number: _, body: _ } => None,
     }
 }

@@ -2,14 +2,17 @@
 
 use crate::binds::Binds;
 use crate::compiled::Compiled;
+use crate::freeing::{clear, prune};
 use crate::grids::load;
 use crate::perform::{run, write_out};
 use crate::refusal::RunRefusal;
 use crate::session::Session;
 use crate::tasks::Task;
-use sg_outside::Files;
+use crate::views::{count, draw};
+use sg_outside::{Files, Gate};
 use sg_words::{Stop, Text};
 use std::alloc::Global;
+use std::thread::Threads;
 
 impl Session {
     ghost use Rattle.std.specs.Prelude.{◌≡◌, ◌≤◌, Some, OnErr};
@@ -21,16 +24,22 @@ impl Session {
     ghost use Rattle.sg_session.specs.Performed.{Performs, reading_of, StepCause, HasFile, reads_after, asked_after};
 
     /// Performs a task and gives its text, or its refusal. After any answer but `Ok` the stores are as before. A load reads its file
-    /// once, and no other; every other task reads none.
-    pub fn step<F: Files>(
+    /// once, and no other; every other task reads none. A kernel runs on so many workers, from 1 to 16, each of which passes the gate
+    /// before each of its iterations; a load takes one worker, and no gate.
+    pub fn step<R: Threads + Sync, F: Files, G: Gate + Sync>(
         &mut self,
+        rt: &R,
         alloc: Global,
         task: Task,
         binds: &Binds,
         files: &mut F,
+        workers: u32,
+        gate: &G,
     ) -> Result<Text, Stop<RunRefusal>>
         requires there { IsTask self.old.compiled task }
         requires bound { HasFile self.old.compiled.names binds.now.list task }
+        requires some { 1 ≤ workers }
+        requires few { workers ≤ 16 }
 
         // What a task means is what it means in each program that is compiled to the session's. What the files tell is what a load means;
         // a failed read is told by its refusal alone.
@@ -53,9 +62,31 @@ impl Session {
         ensures never_falls { F.faults files.old ≤ F.faults files.new }
     {
         match task {
-            Task::Load(field) => load(alloc, &self.compiled, &mut self.stores, field, binds, files),
-            Task::Run { kernel } => run(alloc, &self.compiled, &mut self.stores, kernel),
+            Task::Load(field) => load(
+                rt,
+                alloc,
+                &self.compiled,
+                &mut self.stores,
+                field,
+                binds,
+                files,
+            ),
+            Task::Run { kernel } => run(
+                rt,
+                alloc,
+                &self.compiled,
+                &mut self.stores,
+                kernel,
+                workers,
+                gate,
+            ),
             Task::Dump(field) => write_out(alloc, &self.compiled, &self.stores, field),
+            Task::Image { field, lo, hi } => {
+                draw(alloc, &self.compiled, &self.stores, field, lo, hi)
+            }
+            Task::Stats { layout } => count(alloc, &self.compiled, &self.stores, layout),
+            Task::Prune { layout } => prune(alloc, &self.compiled, &mut self.stores, layout),
+            Task::Clear { layout } => clear(alloc, &self.compiled, &mut self.stores, layout),
         }
     }
 }

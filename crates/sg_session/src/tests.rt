@@ -126,8 +126,16 @@ static REFUSED: &[(&str, Refusal)] = &[
         Refusal::Words,
     ),
     (
-        "layout A(i) { hash(i: 4) cap 2; field x: i32; } kernel k { for i in A { x[i] += x[i]; } } times 0 { stats A; }",
-        Refusal::NotBuilt { item: 3 },
+        "layout A(i) { dense(i: 4); field x: i32; } times 2 { stats A; image x 0 9; }",
+        Refusal::Command { item: 2 },
+    ),
+    (
+        "layout A(i, j) { dense(i: 4, j: 4); field x: i32; } image x 9 9; times 0 { prune A; }",
+        Refusal::Command { item: 2 },
+    ),
+    (
+        "layout A(i, j) { dense(i: 2048, j: 1024); field x: i32; } times 2 { clear A; image x 0 9; }",
+        Refusal::Image,
     ),
     (
         "kernel k { for i in 0..1048577 { let t = i; } } times 0 { run k; }",

@@ -7,7 +7,7 @@ use Rattle.sg_ast.specs.Token.{same_name}
 use Rattle.sg_names.specs.Tables.{Tables, field_name_of}
 use Rattle.sg_session.specs.declared.binds.Bind.{Bind}
 use Rattle.sg_session.specs.declared.tasks.Task.{Task}
-use Rattle.sg_session.specs.declared.tasks.Task.TheVariants.{Load, Run, Dump}
+use Rattle.sg_session.specs.declared.tasks.Task.TheVariants.{Load, Run, Dump, Image, Stats, Prune, Clear}
 use Rattle.sg_session.specs.Commands as session
 use Rattle.sg_session.specs.Performed.{HasFile}
 use Rattle.sparsegrid.specs.Words.{Binding, binding_read}
@@ -57,6 +57,10 @@ same_files names binds (Load at) = by_name (field_name_of names at.number) where
   by_name (Some name) = same_file binds name
 same_files names binds (Run kernel) = refl
 same_files names binds (Dump at) = refl
+same_files names binds (Image field lo hi) = refl
+same_files names binds (Stats layout) = refl
+same_files names binds (Prune layout) = refl
+same_files names binds (Clear layout) = refl
 
 some_of : {A : Type 0} (o : Option A) → is_none o ≡ false → IsSome o
 some_of (Some a) h = refl
@@ -71,6 +75,10 @@ all_bound names binds (task ∷ tasks) none = by_test (is_unbound names (map bin
   has_file (Load at) h = rw (same_files names binds (Load at)) (some_of (file_of_task names (map binding_read binds) (Load at)) h)
   has_file (Run kernel) h = tt
   has_file (Dump at) h = tt
+  has_file (Image field lo hi) h = tt
+  has_file (Stats layout) h = tt
+  has_file (Prune layout) h = tt
+  has_file (Clear layout) h = tt
 
   by_test : (test : Bool) → is_unbound names (map binding_read binds) task ≡ test
       → (if test then Some task else find (is_unbound names (map binding_read binds)) tasks) ≡ None

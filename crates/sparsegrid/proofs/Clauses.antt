@@ -1,4 +1,4 @@
--- From what a run did to the clauses that say it.
+-- From what a run did, but for the text of access code, to the clauses that say it.
 use Rattle.std.proofs.Common.{◌≡◌, ◌≢◌, ℕ, suc, ◌+◌, ◌-◌, ◌<◌, ◌≤◌, ◌⊎◌, inl, inr, List, [], ◌∷◌, ◌++◌, length, Option, Some, None, Result, Ok, Err, IfOk, refl, sym, ap, ◌∙◌, subst, arith}
 use Rattle.std.specs.Prelude.{IsSome, ◌↔◌}
 use Rattle.std.specs.Option.{IfSome}
@@ -11,8 +11,8 @@ use Rattle.sg_session.specs.Performed.{SessionParts}
 use Rattle.sparsegrid.specs.declared.output.PutFailed.{PutFailed}
 use Rattle.sparsegrid.specs.declared.session.Done.{Done}
 use Rattle.sparsegrid.specs.Words.{Asked, good_words}
-use Rattle.sparsegrid.specs.Meaning.{Meaning, meaning, meaning_by, meaning_of_words, readings_in}
-use Rattle.sparsegrid.specs.Outcome.{Outside, IsWhole, IsCutShort, IsEnding, HasSession, Wrote, WroteMeaning, WroteStopped, AskedFront, WentAFront, WroteFront, EndsAs, AsksAs, ReadFaults, PutFaults, ReadCount, StandsForLast, asked_more, counted_more}
+use Rattle.sparsegrid.specs.Meaning.{Meaning, Readings, meaning, meaning_by, meaning_of_words, readings_in}
+use Rattle.sparsegrid.specs.Outcome.{Outside, IsWhole, IsCutShort, IsEnding, HasSession, Wrote, AskedFront, WentAFront, AsksAs, ReadFaults, PutFaults, ReadCount, StandsForLast, asked_more, counted_more}
 use Rattle.sparsegrid.specs.steps.Along.{SendCause, status_of, session_of, ReadMade, names_of, Followed, NoneFailed, LastFailed, ReadsEnd, Went, IsEnd}
 use Rattle.sparsegrid.proofs.Readings.{count_low, count_rose, agree_told, agree_stopped, readings_of, agree_own}
 
@@ -70,20 +70,21 @@ module _ (words : List (List ℕ)) (before after : Outside) (result : Result Don
 
   -- ---- the clauses
 
-  pub whole : IsWhole (status_of result) → WroteMeaning words None before after (status_of result)
+  pub whole : IsWhole (status_of result) → (held : Held) → before.held ≡ Some held → Wrote (meaning words held None) before after (status_of result)
   whole is held told = by_ends went.ends where
     by_ends : ReadsEnd before after went.made result → Wrote (meaning words held None) before after (status_of result)
     by_ends (inl well) = wrote_as (meaning words held None) result (followed_none held told well.0) (ending_whole (status_of result) is)
     by_ends (inr failed) = absurd (two_whole result failed.1 is)
 
-  pub stopped : status_of result ≡ 2 → WroteStopped words before after (status_of result)
+  pub stopped : status_of result ≡ 2 → after.reads < last_count → (held : Held) → before.held ≡ Some held → Wrote (meaning words held (Some (after.reads - before.reads))) before after (status_of result)
   stopped two low held told = by_ends went.ends where
     by_ends : ReadsEnd before after went.made result → Wrote (meaning words held (Some (after.reads - before.reads))) before after (status_of result)
     by_ends (inl well) = absurd (no_two result well.1 two)
     by_ends (inr failed) =
         wrote_as (meaning words held (Some (after.reads - before.reads))) result (followed_stopped held told failed.0 low) ((λ three. absurd (omega arith)), (λ nine. absurd (omega arith)))
 
-  pub front : IsCutShort (status_of result) → WroteFront words before after (status_of result)
+  pub front : IsCutShort (status_of result) → (held : Held) → before.held ≡ Some held → WentAFront (meaning words held None) before after (status_of result)
+      ⊎ (Rose before.failed_reads after.failed_reads × (after.reads < last_count → WentAFront (meaning words held (Some (after.reads - before.reads))) before after (status_of result)))
   front cut held told = by_ends went.ends where
     by_ends : ReadsEnd before after went.made result → WentAFront (meaning words held None) before after (status_of result)
         ⊎ (Rose before.failed_reads after.failed_reads × (after.reads < last_count → WentAFront (meaning words held (Some (after.reads - before.reads))) before after (status_of result)))
@@ -94,7 +95,7 @@ module _ (words : List (List ℕ)) (before after : Outside) (result : Result Don
   own : Followed (meaning_by words (readings_of 0 went.made)) (names_of went.made) before after result
   own = went.followed (readings_of 0 went.made) (agree_own 0 went.made)
 
-  pub ended : IsEnding (status_of result) → EndsAs words before after (status_of result)
+  pub ended : IsEnding (status_of result) → (readings : Readings) × Wrote (meaning_by words readings) before after (status_of result)
   ended ending = (readings_of 0 went.made, wrote_as (meaning_by words (readings_of 0 went.made)) result own ending)
 
   pub asked : AsksAs words before after

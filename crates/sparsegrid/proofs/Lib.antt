@@ -1,4 +1,5 @@
 mod Cuts
+mod Workers
 pub mod Writing
 pub mod Bound
 pub mod Readings
@@ -7,3 +8,4 @@ pub mod Tasks
 pub mod Clauses
 pub mod Sources
 pub mod OfFile
+pub mod Codes

@@ -52,6 +52,7 @@ run_ends compiled bindings readings tasks = by_find (find (is_unbound compiled.n
 pub in_ends : (m : Mode) (compiled : CheckedProgram) (bindings : List Binding) (readings : Readings) → EndsInLine (meaning_in m compiled bindings readings)
 in_ends mode.Run compiled bindings readings = run_ends compiled bindings readings (unfolded compiled.commands)
 in_ends mode.Check compiled bindings readings = λ other. absurd (other refl)
+in_ends mode.Lower compiled bindings readings = λ other. absurd (other refl)
 
 pub compiled_ends : (asked : Asked) (readings : Readings) (bytes : List ℕ) (answer : Result CheckedProgram Refusal) → EndsInLine (meaning_of_compiled asked readings bytes answer)
 compiled_ends asked readings bytes (Err why) = λ other. refused_ends None (refusal_last (items_or_none (spelled_program bytes)) why)
@@ -152,7 +153,6 @@ file_statuses items (refusal.Layout number layout.TooLarge) = inr (inr refl)
 file_statuses items (refusal.Layout number (layout.BadCap node)) = inr (inl refl)
 file_statuses items refusal.Words = inr (inr refl)
 file_statuses items (refusal.Types fault) = inr (inl refl)
-file_statuses items (refusal.NotBuilt item) = inr (inl refl)
 file_statuses items (refusal.Admit kernel (admit.Rule stmt rule)) = inr (inl refl)
 file_statuses items (refusal.Admit kernel admit.BoxTooLarge) = inr (inr refl)
 file_statuses items (refusal.Command item) = inr (inl refl)
@@ -279,6 +279,11 @@ checked_along program compiled old new result compiles along =
     subst (λ (ls : List Shape). WentAlong (all_done (check_text program.names program.neutral) (opening ls)) old new result) compiles.layouts
     (subst (λ (bs : List Bool). WentAlong (all_done (check_text program.names bs) (opening compiled.layouts)) old new result) compiles.neutral
     (subst (λ (t : Tables). WentAlong (all_done (check_text t compiled.neutral) (opening compiled.layouts)) old new result) compiles.names along))
+
+-- a text that is written over the layouts of a compiled program is over the program's
+pub opened_along : (program : CheckedProgram) (compiled : CompiledProgram) (text : List ℕ) (old new : Option (List ℕ)) (result : Result Done (Stop PutFailed)) → Compiles program compiled
+    → WentAlong (all_done text (opening compiled.layouts)) old new result → WentAlong (all_done text (opening program.layouts)) old new result
+opened_along program compiled text old new result compiles along = subst (λ (ls : List Shape). WentAlong (all_done text (opening ls)) old new result) compiles.layouts along
 
 -- ---- a text, and the stores as they are opened
 

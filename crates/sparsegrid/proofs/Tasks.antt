@@ -27,7 +27,7 @@ use Rattle.sg_session.specs.declared.refusal.RunRefusal.TheVariants as refusal
 use Rattle.sg_session.specs.declared.binds.Bind.{Bind}
 use Rattle.sg_session.specs.Performed.{SessionParts}
 use Rattle.sg_session.specs.declared.tasks.Task.{Task}
-use Rattle.sg_session.specs.declared.tasks.Task.TheVariants.{Load, Run, Dump}
+use Rattle.sg_session.specs.declared.tasks.Task.TheVariants.{Load, Run, Dump, Image, Stats, Prune, Clear}
 use Rattle.sg_session.specs.Compiled.{CheckedProgram, CompiledProgram, Compiles}
 use Rattle.sg_session.specs.Commands as commands
 use Rattle.sg_session.specs.Commands.{Left, task_meaning}
@@ -99,6 +99,10 @@ module _ (compiled : CheckedProgram) (binds : List Bind) where
   given_same state (Load at) given has none = absurd (some_none (commands.file_of compiled.names binds (Load at)) has (same_files compiled.names binds (Load at) ∙ none))
   given_same state (Run kernel) given has none = refl
   given_same state (Dump at) given has none = refl
+  given_same state (Image field lo hi) given has none = refl
+  given_same state (Stats layout) given has none = refl
+  given_same state (Prune layout) given has none = refl
+  given_same state (Clear layout) given has none = refl
 
   -- what a task and those behind it mean, where its read gave this
   one_task : (readings : Readings) (n : ℕ) (state : FlatState) (task : Task) (tasks : List Task) (given : Reading) → HasFile compiled.names binds task
@@ -204,6 +208,10 @@ read_refused compiled state (Run kernel) given field is = absurd (by_run (comman
   by_run (Ok after) e = absurd (cc)
   by_run (Err fault) e = absurd (cc)
 read_refused compiled state (Dump at) given field is = absurd (cc)
+read_refused compiled state (Image at lo hi) given field is = absurd (cc)
+read_refused compiled state (Stats layout) given field is = absurd (cc)
+read_refused compiled state (Prune layout) given field is = absurd (cc)
+read_refused compiled state (Clear layout) given field is = absurd (cc)
 
 -- ---- the statuses of refused tasks
 
@@ -509,6 +517,10 @@ module _ (compiled : CheckedProgram) (binds : List Bind) where
               absurd_run (Ok next) h = absurd (cc)
               absurd_run (Err fault) h = absurd (cc)
             no_load (Dump at) has nothing e = absurd (cc)
+            no_load (Image field lo hi) has nothing e = absurd (cc)
+            no_load (Stats layout) has nothing e = absurd (cc)
+            no_load (Prune layout) has nothing e = absurd (cc)
+            no_load (Clear layout) has nothing e = absurd (cc)
           by_file (Some name) some =
               went_failed (λ readings. meaning_of_tasks compiled (map binding_read binds) readings n came.state rest) (refused_with (Some came.state) line) n name most_grid_bytes now after (ended_with session answer)
               is refl (along_line came.state line now.written after.written session answer

@@ -26,7 +26,7 @@ use Rattle.sg_session.specs.declared.refusal.Refusal.TheVariants as refusal
 use Rattle.sg_session.specs.declared.refusal.RunRefusal.{RunRefusal}
 use Rattle.sg_session.specs.declared.refusal.RunRefusal.TheVariants as run
 use Rattle.sg_session.specs.declared.tasks.Task.{Task}
-use Rattle.sg_session.specs.declared.tasks.Task.TheVariants.{Load, Run, Dump}
+use Rattle.sg_session.specs.declared.tasks.Task.TheVariants.{Load, Run, Dump, Image, Stats, Prune, Clear}
 use Rattle.sparsegrid.specs.declared.last_line.LastLine.{LastLine}
 
 -- the last line with this status and this reason
@@ -125,10 +125,6 @@ abbrev pub admit_last : List ℕ → AdmitFault → LastLine
 admit_last name (admit.Rule stmt rule) = named_as 5 (codes "admission: kernel ") name (codes " statement " ++ (decimal stmt ++ (codes " rule " ++ decimal rule)))
 admit_last name admit.BoxTooLarge = limit_last (codes "box " ++ name)
 
--- an item has a form that isn't built yet
-abbrev pub not_built_last : ℕ → LastLine
-not_built_last item = refused_as 5 (codes "not built: item " ++ decimal item)
-
 -- an item is a command that breaks a rule
 abbrev pub command_last : ℕ → LastLine
 command_last item = refused_as 5 (codes "command: item " ++ decimal item)
@@ -141,7 +137,6 @@ refusal_last items (refusal.Name fault) = name_last fault
 refusal_last items (refusal.Layout number fault) = layout_last (name_text (slice_get (layout_names items) number)) fault
 refusal_last items refusal.Words = limit_last (codes "words")
 refusal_last items (refusal.Types fault) = type_last (name_text (slice_get (kernel_names items) fault.kernel)) fault
-refusal_last items (refusal.NotBuilt item) = not_built_last item
 refusal_last items (refusal.Admit kernel fault) = admit_last (name_text (slice_get (kernel_names items) kernel)) fault
 refusal_last items (refusal.Command item) = command_last item
 refusal_last items refusal.Times = limit_last (codes "times")
@@ -154,6 +149,10 @@ abbrev pub field_text : Tables → Task → List ℕ
 field_text names (Load at) = name_text (field_name_of names at.number)
 field_text names (Run kernel) = []
 field_text names (Dump at) = name_text (field_name_of names at.number)
+field_text names (Image at lo hi) = name_text (field_name_of names at.number)
+field_text names (Stats layout) = []
+field_text names (Prune layout) = []
+field_text names (Clear layout) = []
 
 -- the name of a kernel that is run
 abbrev pub kernel_text : Tables → Option ℕ → List ℕ

@@ -1,5 +1,5 @@
 -- What a run means: the text that it writes, its status, the last state, and the files that it asks for.
-use Rattle.std.specs.Prelude.{ℕ, suc, Bool, false, List, [], ◌∷◌, ◌++◌, find, if◌then◌else◌, ◌==◌, Option, Some, None, is_none, option_map, option_and_then, Result, Ok, Err}
+use Rattle.std.specs.Prelude.{ℕ, suc, Bool, true, false, ◌&&◌, List, [], ◌∷◌, ◌++◌, find, if◌then◌else◌, ◌==◌, Option, Some, None, is_none, option_map, option_and_then, Result, Ok, Err}
 use Rattle.sg_outside.specs.Files.{Held, Reading, Bytes, TooMany, Missing, reading}
 use Rattle.sg_ast.specs.declared.token.Name.{Name}
 use Rattle.sg_ast.specs.Token.{same_name}
@@ -14,7 +14,7 @@ use Rattle.sg_names.specs.Tables.{Tables, field_name_of}
 use Rattle.sg_session.specs.declared.refusal.Refusal.{Refusal}
 use Rattle.sg_session.specs.declared.refusal.RunRefusal.{RunRefusal}
 use Rattle.sg_session.specs.declared.tasks.Task.{Task}
-use Rattle.sg_session.specs.declared.tasks.Task.TheVariants.{Load, Run, Dump}
+use Rattle.sg_session.specs.declared.tasks.Task.TheVariants.{Load, Run, Dump, Image, Stats, Prune, Clear}
 use Rattle.sg_session.specs.Compiled.{CheckedProgram, unfolded}
 use Rattle.sg_session.specs.Compiling.{spelled_program, compiled_program}
 use Rattle.sg_session.specs.Commands.{Left, task_meaning}
@@ -72,12 +72,20 @@ abbrev pub file_of_task : Tables → List Binding → Task → Option (List ℕ)
 file_of_task names bindings (Load field) = file_of_field names bindings field
 file_of_task names bindings (Run kernel) = None
 file_of_task names bindings (Dump field) = None
+file_of_task names bindings (Image field lo hi) = None
+file_of_task names bindings (Stats layout) = None
+file_of_task names bindings (Prune layout) = None
+file_of_task names bindings (Clear layout) = None
 
 -- a load whose field has no file
 abbrev pub is_unbound : Tables → List Binding → Task → Bool
 is_unbound names bindings (Load field) = is_none (file_of_field names bindings field)
 is_unbound names bindings (Run kernel) = false
 is_unbound names bindings (Dump field) = false
+is_unbound names bindings (Image field lo hi) = false
+is_unbound names bindings (Stats layout) = false
+is_unbound names bindings (Prune layout) = false
+is_unbound names bindings (Clear layout) = false
 
 -- ---- the tasks of a program, one after the other
 
@@ -110,10 +118,12 @@ meaning_unless None program bindings readings tasks = meaning_of_tasks program b
 abbrev pub meaning_of_run : CheckedProgram → List Binding → Readings → List Task → Meaning
 meaning_of_run program bindings readings tasks = meaning_unless (find (is_unbound program.names bindings) tasks) program bindings readings tasks
 
--- what is done with a compiled program: its tasks are performed, or its kernels are looked at
+-- What is done with a compiled program: its tasks are performed, its kernels are looked at, or their access code is written. That text is no
+-- part of the meaning, since the code's registers may be numbered in any way: it is that of the session which the run leaves.
 abbrev pub meaning_in : Mode → CheckedProgram → List Binding → Readings → Meaning
 meaning_in mode.Run program bindings readings = meaning_of_run program bindings readings (unfolded program.commands)
 meaning_in mode.Check program bindings readings = all_done (check_text program.names program.neutral) (opening program.layouts)
+meaning_in mode.Lower program bindings readings = all_done [] (opening program.layouts)
 
 -- the items of a program, where there is one
 abbrev pub items_or_none : Result Program Refusal → List Item
@@ -143,6 +153,27 @@ meaning_of_words (Some asked) readings = meaning_of_asked asked readings
 -- the meaning of a run with these words, whose reads give these readings
 abbrev pub meaning_by : List (List ℕ) → Readings → Meaning
 meaning_by words readings = meaning_of_words (good_words words) readings
+
+-- ---- the text of access code
+
+-- whether good words ask for access code
+abbrev pub is_lower : Mode → Bool
+is_lower mode.Run = false
+is_lower mode.Check = false
+is_lower mode.Lower = true
+
+abbrev pub asks_code : Option Asked → Bool
+asks_code None = false
+asks_code (Some asked) = is_lower asked.mode
+
+-- a meaning with the text of access code behind its own, where this is so
+abbrev pub with_text : Bool → List ℕ → Meaning → Meaning
+with_text false code m = m
+with_text true code m = record { text = m.text ++ code; status = m.status; last = m.last; asked = m.asked }
+
+-- A meaning has no text of its own where the words ask for code and the status is 0: then its text is that of this code.
+abbrev pub with_code : List (List ℕ) → List ℕ → Meaning → Meaning
+with_code words code m = with_text (asks_code (good_words words) && (m.status == 0)) code m
 
 -- ---- the reads
 

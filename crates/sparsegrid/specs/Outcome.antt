@@ -1,5 +1,5 @@
 -- What a run does to the outside: what its files and its sink tell before it and after it, and how it ends.
-use Rattle.std.specs.Prelude.{◌≡◌, ◌≢◌, ℕ, ◌-◌, ◌<◌, ◌≤◌, ◌⊎◌, List, [], ◌∷◌, ◌++◌, Option, Some, None, option_map, refl}
+use Rattle.std.specs.Prelude.{◌≡◌, ◌≢◌, ℕ, ◌-◌, ◌<◌, ◌≤◌, ◌⊎◌, true, List, [], ◌∷◌, ◌++◌, Option, Some, None, option_map, IsSome, refl}
 use Rattle.std.specs.Option.{IsSomeAnd}
 use Rattle.std.specs.Result.{IsOkAnd}
 use Rattle.sg_outside.specs.Counts.{Rose, one_more, last_count}
@@ -13,8 +13,9 @@ use Rattle.sg_lexer.specs.Limits.{most_file_bytes}
 use Rattle.sg_session.specs.Performed.{SessionParts}
 use Rattle.sg_session.specs.Compiled.{Compiles}
 use Rattle.sg_session.specs.Compiling.{compiled_program}
+use Rattle.sg_session.specs.Texts.{lower_text}
 use Rattle.sparsegrid.specs.Words.{Asked, good_words}
-use Rattle.sparsegrid.specs.Meaning.{Meaning, Readings, meaning, meaning_by}
+use Rattle.sparsegrid.specs.Meaning.{Meaning, Readings, meaning, meaning_by, asks_code, with_code}
 
 -- what files and a sink tell at one moment
 pub record Outside : Type 0 where
@@ -69,6 +70,16 @@ IsEnding status = (status ≢ 3) × (status ≢ 9)
 abbrev pub HasSession : ℕ → Type 0
 HasSession status = (status ≡ 0) ⊎ (status ≡ 7)
 
+-- with these statuses a session is left, and else only where the words ask for access code and the put of its text failed
+pub record LeavesSession (words : List (List ℕ)) (status : ℕ) (session : Option SessionParts) : Type 0 where
+  pub kept : HasSession status → IsSome session
+  pub only : IsSome session → HasSession status ⊎ ((status ≡ 3) × (asks_code (good_words words) ≡ true))
+
+-- the text of the access code of the session that a run leaves, if any
+abbrev pub code_in : Option SessionParts → List ℕ
+code_in None = []
+code_in (Some session) = lower_text session.compiled.names session.compiled.kernels
+
 -- ---- what was written and asked for, where the files are told
 
 -- the written bytes grew by exactly the text of the meaning, the status is its status, and exactly the files that it asks for were read
@@ -78,15 +89,16 @@ pub record Wrote (m : Meaning) (before after : Outside) (answer : ℕ) : Type 0 
   pub asked : after.asked ≡ asked_more before.asked m.asked
   pub reads : after.reads ≡ counted_more before.reads m.asked
 
--- a run with these words wrote what it means, where the read of the given number fails, if any
-abbrev pub WroteMeaning : List (List ℕ) → Option ℕ → Outside → Outside → ℕ → Type 0
-WroteMeaning words stop before after status =
-    (held : Held) → before.held ≡ Some held → Wrote (meaning words held stop) before after status
+-- A run with these words wrote what it means, where the read of the given number fails, if any; `code` is the text of the access code of the
+-- session that it leaves.
+abbrev pub WroteMeaning : List (List ℕ) → List ℕ → Option ℕ → Outside → Outside → ℕ → Type 0
+WroteMeaning words code stop before after status =
+    (held : Held) → before.held ≡ Some held → Wrote (with_code words code (meaning words held stop)) before after status
 
 -- it wrote what it means where its last read fails
-abbrev pub WroteStopped : List (List ℕ) → Outside → Outside → ℕ → Type 0
-WroteStopped words before after status =
-    after.reads < last_count → WroteMeaning words (Some (after.reads - before.reads)) before after status
+abbrev pub WroteStopped : List (List ℕ) → List ℕ → Outside → Outside → ℕ → Type 0
+WroteStopped words code before after status =
+    after.reads < last_count → WroteMeaning words code (Some (after.reads - before.reads)) before after status
 
 -- The written bytes grew by a front of the text that goes with a status. Some of the text is missing where a put failed, and where the text
 -- ends in a last line.
@@ -111,18 +123,18 @@ pub record WentAFront (m : Meaning) (before after : Outside) (answer : ℕ) : Ty
   pub names : AskedFront m before after
 
 -- a run went along a front of what it means; only where a read failed it may be what it means where its last read fails
-abbrev pub WroteFront : List (List ℕ) → Outside → Outside → ℕ → Type 0
-WroteFront words before after status =
+abbrev pub WroteFront : List (List ℕ) → List ℕ → Outside → Outside → ℕ → Type 0
+WroteFront words code before after status =
     (held : Held) → before.held ≡ Some held →
-    WentAFront (meaning words held None) before after status
+    WentAFront (with_code words code (meaning words held None)) before after status
     ⊎ (Rose before.failed_reads after.failed_reads
-    × (after.reads < last_count → WentAFront (meaning words held (Some (after.reads - before.reads))) before after status))
+    × (after.reads < last_count → WentAFront (with_code words code (meaning words held (Some (after.reads - before.reads)))) before after status))
 
 -- ---- what was written and asked for, whatever the files tell
 
 -- a run ended as it means where its reads give some readings
-abbrev pub EndsAs : List (List ℕ) → Outside → Outside → ℕ → Type 0
-EndsAs words before after status = (readings : Readings) × Wrote (meaning_by words readings) before after status
+abbrev pub EndsAs : List (List ℕ) → List ℕ → Outside → Outside → ℕ → Type 0
+EndsAs words code before after status = (readings : Readings) × Wrote (with_code words code (meaning_by words readings)) before after status
 
 -- a run asked for a front of the files that it means to ask for, where its reads give some readings
 abbrev pub AsksAs : List (List ℕ) → Outside → Outside → Type 0

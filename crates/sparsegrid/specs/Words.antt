@@ -102,7 +102,7 @@ workers_of (Some value) = number_beside worker_numbers value
 -- the mode, which is to run without the option
 abbrev pub mode_of : Option (List ℕ) → Option Mode
 mode_of None = Some mode.Run
-mode_of (Some value) = if bytes_eq value (codes "run") then Some mode.Run else (if bytes_eq value (codes "check") then Some mode.Check else None)
+mode_of (Some value) = if bytes_eq value (codes "run") then Some mode.Run else (if bytes_eq value (codes "check") then Some mode.Check else (if bytes_eq value (codes "lower") then Some mode.Lower else None))
 
 -- a binding: a name of the file language, and the file that is bound to it, which isn't empty
 pub record Binding : Type 0 where

@@ -15,21 +15,27 @@ ghost use Rattle.sparsegrid.specs.steps.Along.{SendCause, WroteAll, Went, line_t
 use crate::output::{PutFailed, send, send_last};
 use crate::run_line::run_last;
 use crate::unbound::file_of_task;
-use sg_outside::{Files, Sink};
+use sg_outside::{Files, Gate, Sink};
 use sg_session::{Binds, Compiled, RunRefusal, Session, Task};
 use sg_words::{Memory, Stop};
 use std::alloc::Global;
+use std::thread::Threads;
 
 /// Performs tasks in order and writes their texts, up to the first that is refused, whose last line it writes. Gives the status: 0 where
 /// none is refused. The file of the program was read before.
-pub fn drive<F: Files, S: Sink>(
+pub fn drive<R: Threads + Sync, F: Files, S: Sink, G: Gate + Sync>(
+    rt: &R,
     alloc: Global,
     session: &mut Session,
     tasks: &[Task],
     binds: &Binds,
     files: &mut F,
     out: &mut S,
+    workers: u32,
+    gate: &G,
 ) -> Result<u8, Stop<PutFailed>>
+    requires some { 1 ≤ workers }
+    requires few { workers ≤ 16 }
     requires there { AllByRecursion (IsTask session.old.compiled) tasks.now }
     requires bound { AllByRecursion (HasFile session.old.compiled.names binds.now.list) tasks.now }
     ensures went { (program : CheckedProgram) → Compiles program session.old.compiled →
@@ -43,7 +49,7 @@ pub fn drive<F: Files, S: Sink>(
     ensures status { IfOk result (λ status. (status ≢ 3) × (status ≢ 9)) }
 {
     for task in tasks {
-        match session.step(alloc, *task, binds, files) {
+        match session.step(rt, alloc, *task, binds, files, workers, gate) {
             Ok(text) => match send(out, text.bytes.as_slice()) {
                 Ok(()) => {}
                 Err(why) => return Err(why),

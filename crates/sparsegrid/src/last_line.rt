@@ -187,7 +187,6 @@ pub fn refusal_last(alloc: Global, items: &[Item], refusal: Refusal) -> Result<L
         Refusal::Types(fault) => {
             type_last(alloc, name_text(kernel_name(items, fault.kernel)), fault)
         }
-        Refusal::NotBuilt { item } => not_built_last(alloc, item),
         Refusal::Admit { kernel, fault } => {
             admit_last(alloc, name_text(kernel_name(items, kernel)), fault)
         }
@@ -195,13 +194,6 @@ pub fn refusal_last(alloc: Global, items: &[Item], refusal: Refusal) -> Result<L
         Refusal::Times => refused_as(alloc, 8, b"limit: times"),
         Refusal::Image => refused_as(alloc, 8, b"limit: image"),
     }
-}
-
-fn not_built_last(alloc: Global, item: u32) -> Result<LastLine, Memory>
-    ensures { IfOk result (λ last. last ≡ spec.not_built_last item) }
-{
-    let reason = format!(in alloc; "not built: item {item}")?;
-    refused_as(alloc, 5, reason.as_bytes())
 }
 
 fn command_last(alloc: Global, item: u32) -> Result<LastLine, Memory>

@@ -9,6 +9,8 @@ pub mod laws;
 #[cfg(test)]
 mod loading_examples;
 mod output;
+#[cfg(test)]
+mod picture_examples;
 mod run_line;
 mod session;
 #[cfg(test)]

@@ -98,6 +98,14 @@ pub fn field_text(compiled: &Compiled, task: Task) -> &[u8]
         Task::Load(field) => compiled.names.field_name(field.number).text.as_slice(),
         Task::Run { kernel: _kernel } => &[],
         Task::Dump(field) => compiled.names.field_name(field.number).text.as_slice(),
+        Task::Image {
+            field,
+            lo: _lo,
+            hi: _hi,
+        } => compiled.names.field_name(field.number).text.as_slice(),
+        Task::Stats { layout: _layout } => &[],
+        Task::Prune { layout: _layout } => &[],
+        Task::Clear { layout: _layout } => &[],
     }
 }
 

@@ -2,15 +2,16 @@
 
 mod admissions;
 mod checks;
+mod commands;
 mod containers;
 mod faults;
 mod kernels;
 mod language;
 mod limits;
 mod loads;
+mod lowered;
 mod mistakes;
 mod names;
-mod not_built;
 mod refusals;
 mod runs;
 mod setting;
@@ -19,3 +20,4 @@ mod tokens;
 mod trees;
 mod types;
 mod words;
+mod workers;

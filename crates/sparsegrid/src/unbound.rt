@@ -32,6 +32,14 @@ pub fn file_of_task<'a>(compiled: &Compiled, binds: &'a Binds, task: Task) -> Op
         Task::Load(field) => file_bound(binds, compiled.names.field_name(field.number)),
         Task::Run { kernel: _kernel } => None,
         Task::Dump(_field) => None,
+        Task::Image {
+            field: _field,
+            lo: _lo,
+            hi: _hi,
+        } => None,
+        Task::Stats { layout: _layout } => None,
+        Task::Prune { layout: _layout } => None,
+        Task::Clear { layout: _layout } => None,
     }
 }
 
@@ -44,6 +52,14 @@ fn is_unbound(compiled: &Compiled, binds: &Binds, task: Task) -> bool
         Task::Load(_field) => file_of_task(compiled, binds, task).is_none(),
         Task::Run { kernel: _kernel } => false,
         Task::Dump(_field) => false,
+        Task::Image {
+            field: _field,
+            lo: _lo,
+            hi: _hi,
+        } => false,
+        Task::Stats { layout: _layout } => false,
+        Task::Prune { layout: _layout } => false,
+        Task::Clear { layout: _layout } => false,
     }
 }
 

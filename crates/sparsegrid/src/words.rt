@@ -1,6 +1,6 @@
 //! The words of the command line, and what they ask for.
 
-ghost use Rattle.std.specs.Prelude.{◌≡◌, ◌∷◌, [], map, option_map, string_bytes};
+ghost use Rattle.std.specs.Prelude.{◌≡◌, ◌∷◌, ◌≤◌, [], IfOk, IfSome, map, option_map, string_bytes};
 ghost use Rattle.std.specs.Option.{option_copied};
 ghost use Rattle.sparsegrid.specs.Words as spec;
 ghost use Rattle.sparsegrid.specs.steps.WordTurns.{Reads, parts_seen};
@@ -11,11 +11,12 @@ use sg_session::{Bind, Binds};
 use sg_words::{Items, Memory, Stop};
 use std::alloc::Global;
 
-/// What is done with the file: it is run, or looked at.
+/// What is done with the file: it is run, its kernels are looked at, or their access code is written.
 #[derive(Clone, Copy, Debug, PartialEq, Eq)]
 pub enum Mode {
     Run,
     Check,
+    Lower,
 }
 
 /// What the words ask for: how many workers (1 to 16), the mode, the file, and the files that are bound to names.
@@ -223,7 +224,9 @@ fn number_beside(mut table: &[(&str, u32)], text: &str) -> Option<u32>
 
 /// The number of workers, which is 4 without the option.
 fn workers_of(value: Option<&str>) -> Option<u32>
-    ensures { result ≡ spec.workers_of (option_copied value.entry) }
+    ensures workers { result ≡ spec.workers_of (option_copied value.entry) }
+    ensures some { IfSome result (λ count. 1 ≤ count) }
+    ensures few { IfSome result (λ count. count ≤ 16) }
 {
     match value {
         None => Some(4),
@@ -242,6 +245,8 @@ fn mode_of(value: Option<&str>) -> Option<Mode>
                 Some(Mode::Run)
             } else if value == "check" {
                 Some(Mode::Check)
+            } else if value == "lower" {
+                Some(Mode::Lower)
             } else {
                 None
             }
@@ -299,7 +304,8 @@ fn asked_of(
     mode: Mode,
     positionals: &[&str],
 ) -> Result<Words, Stop<BadWords>>
-    ensures { Reads spec.asked_by result (spec.asked_of workers mode (map (λ word. word.now) positionals.now)) }
+    ensures asked { Reads spec.asked_by result (spec.asked_of workers mode (map (λ word. word.now) positionals.now)) }
+    ensures workers { IfOk result (λ asked. asked.workers ≡ workers) }
 {
     match positionals {
         [] => Err(Stop::Refused(BadWords)),
@@ -317,9 +323,11 @@ fn asked_of(
     }
 }
 
-/// What the words behind the program's name ask for; refused exactly where they aren't good.
+/// What the words behind the program's name ask for; refused exactly where they aren't good. There are 1 to 16 workers.
 pub fn read_words(alloc: Global, words: &[String]) -> Result<Words, Stop<BadWords>>
-    ensures { Reads spec.asked_by result (spec.good_words (map string_bytes words.now)) }
+    ensures asked { Reads spec.asked_by result (spec.good_words (map string_bytes words.now)) }
+    ensures some { IfOk result (λ asked. 1 ≤ asked.workers) }
+    ensures few { IfOk result (λ asked. asked.workers ≤ 16) }
 {
     let parts = parts_of(alloc, words)?;
     let Some(workers) = workers_of(parts.workers) else {

@@ -4,11 +4,12 @@ use crate::{Binds, RunRefusal, Session, Task, compile};
 use sg_coord::Coord;
 use sg_flat::RunFault;
 use sg_grid::dump;
-use sg_outside::MemFiles;
+use sg_outside::{FreeGate, MemFiles};
 use sg_store::Store;
 use sg_words::{Items, Memory, Stop};
 use std::alloc::{AllocError, Global};
 use std::test::Fail;
+use std::thread::Threads;
 
 /// The value of the first field of the first layout at a coordinate, where it is active.
 fn value_at(session: &Session, a: i32) -> Option<u32> {
@@ -27,7 +28,8 @@ fn value_at(session: &Session, a: i32) -> Option<u32> {
 }
 
 /// Whether a kernel of this number is there, and its run ends with this refusal, or with none.
-fn ends(
+fn ends<R: Threads + Sync>(
+    rt: &R,
     alloc: Global,
     session: &mut Session,
     kernel: u32,
@@ -40,7 +42,15 @@ fn ends(
         list: Items::new(alloc),
     };
     let mut files = MemFiles::new(Vec::new(alloc), Vec::new(alloc));
-    match session.step(alloc, Task::Run { kernel }, &binds, &mut files) {
+    match session.step(
+        rt,
+        alloc,
+        Task::Run { kernel },
+        &binds,
+        &mut files,
+        3,
+        &FreeGate,
+    ) {
         Ok(_text) => Ok(refusal == None),
         Err(Stop::Refused(why)) => Ok(refusal == Some(why)),
         Err(Stop::Memory) => Err(Memory),
@@ -48,10 +58,15 @@ fn ends(
 }
 
 /// Whether the values at 5, 6 and 10 are these when the first kernel ran twice; before it ran nothing is active.
-fn runs_to(alloc: Global, session: &mut Session, values: [Option<u32>; 3]) -> Result<bool, Memory> {
+fn runs_to<R: Threads + Sync>(
+    rt: &R,
+    alloc: Global,
+    session: &mut Session,
+    values: [Option<u32>; 3],
+) -> Result<bool, Memory> {
     if value_at(session, 6).is_some()
-        || !ends(alloc, session, 0, None)?
-        || !ends(alloc, session, 0, None)?
+        || !ends(rt, alloc, session, 0, None)?
+        || !ends(rt, alloc, session, 0, None)?
     {
         return Ok(false);
     }
@@ -64,13 +79,18 @@ fn runs_to(alloc: Global, session: &mut Session, values: [Option<u32>; 3]) -> Re
 }
 
 /// Whether a program is compiled, and its first kernel, run twice from its start, leaves these values.
-fn leaves(alloc: Global, text: &str, values: [Option<u32>; 3]) -> Result<bool, Memory> {
+fn leaves<R: Threads + Sync>(
+    rt: &R,
+    alloc: Global,
+    text: &str,
+    values: [Option<u32>; 3],
+) -> Result<bool, Memory> {
     if text.len() > 65_536 {
         return Err(Memory);
     }
     match compile(alloc, text.as_bytes()) {
         Ok(compiled) => match Session::open(alloc, compiled) {
-            Ok(mut session) => runs_to(alloc, &mut session, values),
+            Ok(mut session) => runs_to(rt, alloc, &mut session, values),
             Err(Memory) => Err(Memory),
         },
         Err(Stop::Refused(_refusal)) => Ok(false),
@@ -84,7 +104,7 @@ static SUMS: &str =
 #[test]
 fn kernels_run_over_stores(rt: HostRuntime) -> Result<(), Fail> {
     let alloc = rt.alloc();
-    assert!(rt; leaves(alloc, SUMS, [None, Some(12), Some(6)])?);
+    assert!(rt; leaves(&rt, alloc, SUMS, [None, Some(12), Some(6)])?);
     Ok(())
 }
 
@@ -107,28 +127,35 @@ fn holds(alloc: Global, session: &Session, want: &str) -> Result<bool, Memory> {
 }
 
 /// Whether the first kernel runs and leaves the stores so, and the second is then refused for this cause and leaves them as they were.
-fn stays(
+fn stays<R: Threads + Sync>(
+    rt: &R,
     alloc: Global,
     session: &mut Session,
     why: RunRefusal,
     want: &str,
 ) -> Result<bool, Memory> {
     Ok(
-        ends(alloc, session, 0, None)?
+        ends(rt, alloc, session, 0, None)?
             && holds(alloc, session, want)?
-            && ends(alloc, session, 1, Some(why))?
+            && ends(rt, alloc, session, 1, Some(why))?
             && holds(alloc, session, want)?,
     )
 }
 
 /// The same of a program from its start.
-fn refuses(alloc: Global, text: &str, why: RunRefusal, want: &str) -> Result<bool, Memory> {
+fn refuses<R: Threads + Sync>(
+    rt: &R,
+    alloc: Global,
+    text: &str,
+    why: RunRefusal,
+    want: &str,
+) -> Result<bool, Memory> {
     if text.len() > 65_536 {
         return Err(Memory);
     }
     match compile(alloc, text.as_bytes()) {
         Ok(compiled) => match Session::open(alloc, compiled) {
-            Ok(mut session) => stays(alloc, &mut session, why, want),
+            Ok(mut session) => stays(rt, alloc, &mut session, why, want),
             Err(Memory) => Err(Memory),
         },
         Err(Stop::Refused(_refusal)) => Ok(false),
@@ -204,7 +231,7 @@ static REFUSED: &[(&str, RunRefusal, &str)] = &[
 fn a_refused_run_leaves_the_stores(rt: HostRuntime) -> Result<(), Fail> {
     let alloc = rt.alloc();
     for (text, why, want) in REFUSED {
-        assert!(rt; refuses(alloc, text, *why, want)?, "{text}");
+        assert!(rt; refuses(&rt, alloc, text, *why, want)?, "{text}");
     }
     Ok(())
 }

@@ -1,5 +1,5 @@
 -- What a part of a run does, whether it comes to its end or is cut short.
-use Rattle.std.specs.Prelude.{◌≡◌, ◌≢◌, ℕ, suc, ◌+◌, ◌≤◌, ◌⊎◌, ◌↔◌, List, [], ◌∷◌, ◌++◌, map, length, Option, Some, None, Result, Ok, Err, IfOk, IsSome}
+use Rattle.std.specs.Prelude.{◌≡◌, ◌≢◌, ℕ, suc, ◌+◌, ◌≤◌, ◌==◌, ◌⊎◌, ◌↔◌, Bool, true, ◌&&◌, if◌then◌else◌, List, [], ◌∷◌, ◌++◌, map, length, Option, Some, None, Result, Ok, Err, IfOk, IsSome}
 use Rattle.std.specs.Option.{IfSome}
 use Rattle.std.specs.List.{AllByRecursion}
 use Rattle.sg_words.specs.declared.memory.Stop.{Stop}
@@ -19,7 +19,7 @@ use Rattle.sparsegrid.specs.declared.session.Done.{Done}
 use Rattle.sparsegrid.specs.declared.last_line.LastLine.{LastLine}
 use Rattle.sparsegrid.specs.Words.{Binding}
 use Rattle.sparsegrid.specs.Meaning.{Meaning, Readings, asking, before as before_text, meaning_of_tasks}
-use Rattle.sparsegrid.specs.Outcome.{Outside, TextFront, HasSession, StandsForLast, asked_more, counted_more}
+use Rattle.sparsegrid.specs.Outcome.{Outside, TextFront, HasSession, StandsForLast, asked_more, counted_more, code_in}
 
 -- ---- the sink
 
@@ -172,3 +172,22 @@ pub record Came (program : CheckedProgram) (bindings : List Binding) (start : Fl
 -- how a run that came to its end ended: not by a failed put or want of memory, and with a session exactly where its status leaves one
 abbrev pub IsEnd : Done → Type 0
 IsEnd done = (done.status ≢ 3) × (done.status ≢ 9) × (IsSome done.session ↔ HasSession done.status)
+
+-- ---- the text of access code
+
+-- all is done, and the text of access code is asked for
+pub record IsDue (lower : Bool) (done : Done) : Type 0 where
+  pub asked : lower ≡ true
+  pub all_done : done.status ≡ 0
+
+-- the text of access code that is left to be written
+abbrev pub code_left : Bool → Done → List ℕ
+code_left lower done = if lower && (done.status == 0) then code_in done.session else []
+
+-- How a run ended that has come this far: its text of code was written; or the put failed, and the session is left all the same; or memory ran
+-- out, and nothing more was written.
+abbrev pub PutsCode : Bool → Done → Done → Option (List ℕ) → Option (List ℕ) → ℕ → ℕ → Type 0
+PutsCode lower done end old new faults now =
+    ((end ≡ done) × (new ≡ followed_by old (code_left lower done)) × (now ≡ faults))
+    ⊎ ((IsDue lower done × (end ≡ record { status = 3; session = done.session }) × GrewByPart old new (code_left lower done) × Rose faults now × (faults ≤ now))
+    ⊎ (IsDue lower done × (end ≡ record { status = 9; session = None }) × (new ≡ old) × (now ≡ faults)))

@@ -474,6 +474,7 @@ fn grids_of_the_page(rt: HostRuntime) -> Result<(), Fail> {
 static WORDS: &[(&[&str], u8, &str)] = &[
     (&["--workers=2", "--", "p.sg"], 0, ""),
     (&["p.sg", "x=a.txt", "--mode=check"], 0, ""),
+    (&["--mode", "lower", "p.sg"], 0, ""),
     (&[], 1, "refused: words\n"),
     (&["-"], 1, "refused: words\n"),
     (&["--help"], 1, "refused: words\n"),
@@ -489,7 +490,6 @@ static WORDS: &[(&[&str], u8, &str)] = &[
     (&["p.sg", "x="], 1, "refused: words\n"),
     (&["p.sg", "load=a"], 1, "refused: words\n"),
     (&["p.sg", "x=a", "x=b"], 1, "refused: words\n"),
-    (&["--mode", "lower", "p.sg"], 1, "refused: words\n"),
     (&["--mode=gen", "7"], 1, "refused: words\n"),
 ];
 

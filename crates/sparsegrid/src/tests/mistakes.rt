@@ -42,27 +42,27 @@ static OTHERS: &[(&str, u8, &str)] = &[
     (
         "const N = 4; layout A(i) { dense(i: 4); field x: i32; } kernel k { for i in A { x[i + 1] = 2; } } image x 0 9;",
         5,
-        "refused: not built: item 4\n",
+        "refused: admission: kernel k statement 1 rule 2\n",
     ),
     (
         "const N = 4; layout A(i) { dense(i: 4); field x: i32; } kernel k { for i in A { x[i + 1] = 2; } } stats A;",
         5,
-        "refused: not built: item 4\n",
+        "refused: admission: kernel k statement 1 rule 2\n",
     ),
     (
         "const N = 4; layout A(i) { dense(i: 4); field x: i32; } kernel k { for i in A { x[i + 1] = 2; } } prune A;",
         5,
-        "refused: not built: item 4\n",
+        "refused: admission: kernel k statement 1 rule 2\n",
     ),
     (
         "const N = 4; layout A(i) { dense(i: 4); field x: i32; } kernel k { for i in A { x[i + 1] = 2; } } clear A;",
         5,
-        "refused: not built: item 4\n",
+        "refused: admission: kernel k statement 1 rule 2\n",
     ),
     (
         "const N = 4; layout A(i) { dense(i: 4); field x: i32; } kernel k { for i in A { x[i + 1] = 2; } } times 2 { run k; clear A; }",
         5,
-        "refused: not built: item 4\n",
+        "refused: admission: kernel k statement 1 rule 2\n",
     ),
     (
         "const N = 4; layout A(i) { dense(i: 4); field x: i32; } kernel k { for i in A { } } times 0 { run k; }",

@@ -1,5 +1,5 @@
 use crate::{Done, run};
-use sg_outside::{FreeGate, MemFiles, MemSink, NamedBytes, Sink};
+use sg_outside::{FreeGate, Gate, MemFiles, MemSink, NamedBytes, Sink};
 use sg_session::spell;
 use std::alloc::{AllocError, Global};
 use std::process::Abort;
@@ -45,9 +45,20 @@ impl<'a> Setting<'a> {
         alloc: Global,
         out: &mut S,
     ) -> Result<Done, AllocError> {
+        self.gated(rt, alloc, out, &FreeGate)
+    }
+
+    /// How a run over a sink ended whose workers pass a gate.
+    pub fn gated<R: Threads + Sync, S: Sink, G: Gate + Sync>(
+        &self,
+        rt: &R,
+        alloc: Global,
+        out: &mut S,
+        gate: &G,
+    ) -> Result<Done, AllocError> {
         let words = owned(alloc, self.words)?;
         let mut files = self.files(alloc)?;
-        Ok(run(rt, alloc, words.as_slice(), &mut files, out, &FreeGate))
+        Ok(run(rt, alloc, words.as_slice(), &mut files, out, gate))
     }
 
     /// Runs over a sink: the status, and whether there is a session.
@@ -100,7 +111,7 @@ impl<'a> Setting<'a> {
 }
 
 /// A file.
-fn named(alloc: Global, name: &str, text: &str) -> Result<NamedBytes, AllocError> {
+pub fn named(alloc: Global, name: &str, text: &str) -> Result<NamedBytes, AllocError> {
     Ok(NamedBytes {
         name: String::from_str(alloc, name)?,
         bytes: Vec::from_slice(alloc, text.as_bytes())?,
@@ -108,7 +119,7 @@ fn named(alloc: Global, name: &str, text: &str) -> Result<NamedBytes, AllocError
 }
 
 /// Words of their own.
-fn owned(alloc: Global, words: &[&str]) -> Result<Vec<String>, AllocError> {
+pub fn owned(alloc: Global, words: &[&str]) -> Result<Vec<String>, AllocError> {
     let mut list = Vec::new(alloc);
     for word in words {
         list.push(String::from_str(alloc, word)?)?;

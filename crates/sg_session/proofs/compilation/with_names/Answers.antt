@@ -11,6 +11,7 @@ invariant_of-result c =
       placed = c.tables_declared.ensures.placed program;
       fields = c.look_ups_invert.ensures.fields program;
       named = c.look_ups_invert.ensures.kernels program;
+      numbered = c.look_ups_invert.ensures.layouts program;
       fit = c.declared_layouts_fit.ensures;
       typed = c.typed_is_well_typed.ensures;
       variables = c.variables_are_numbered.ensures;

@@ -2,6 +2,4 @@ use Rattle.sg_session.proofs.Coded.{code_is}
 use Rattle.sg_session.proofs.kernels.code_of.Goals as goal
 
 pub returns : goal.returns
-returns c =
-    code_is c.domain_is_constant.ensures c.own_writes_stand.ensures c.args.layouts.now.list c.args.kernel.now c.lower.result c.requires
-    c.lower.ensures.domain c.lower.ensures.writes c.lower.ensures.wants c.lower.ensures.well_typed c.lower.ensures.apt c.lower.ensures.points
+returns c = code_is c.args.layouts.now.list c.args.kernel.now c.in_ok-lowered.lowered c.simplified_of.result c.in_ok-lowered.ensures c.simplified_of.ensures

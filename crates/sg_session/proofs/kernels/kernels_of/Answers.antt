@@ -19,8 +19,8 @@ admit_all-requires-clause-few c =
     (c.typed_is_well_typed.ensures names layouts program c.in-Ok.typed c.requires.fit c.in-Ok.ensures) c.in-Ok.ensures in
     omega (arith, ready.1, count_kernels program.items, c.requires.spelled.few_items)
 
-pub returns-in-None-clause-lowerable : goal.returns-in-None-clause-lowerable
-returns-in-None-clause-lowerable c =
+pub returns-in-Ok-clause-lowerable : goal.returns-in-Ok-clause-lowerable
+returns-in-Ok-clause-lowerable c =
     let names = c.args.names.now in
     let layouts = c.args.layouts.now.list in
     let program = c.args.program.now in

@@ -10,7 +10,7 @@ use Rattle.sparsegrid.proofs.session.answer.Goals as goal
 
 pub returns-in-Err-Refused-clause-went : goal.returns-in-Err-Refused-clause-went
 returns-in-Err-Refused-clause-went g c =
-    let bad : good_words (texts c.args.words.now) ≡ None = rw c.in-Err-Refused.field-0-is at c.in-Err-Refused.ensures in
+    let bad : good_words (texts c.args.words.now) ≡ None = rw c.in-Err-Refused.field-0-is at c.in-Err-Refused.ensures.asked in
     went_same (meaning_by (texts c.args.words.now)) (λ readings. refused words_last) 0 _ _ c.refuse_words.result
     (λ readings. ap (λ (o : Option Asked). meaning_of_words o readings) bad)
     (went_line (refused words_last) 0 _ _ c.refuse_words.result refl c.refuse_words.ensures.along refl refl refl (not_two c.refuse_words.result 1 (λ e. absurd (omega arith)) c.refuse_words.ensures.status))

@@ -9,7 +9,7 @@ use Rattle.sparsegrid.proofs.Sources.{from_opened, went_kept}
 use Rattle.sparsegrid.proofs.session.perform_tasks.Goals as goal
 
 pub drive-requires-clause-bound : goal.drive-requires-clause-bound
-drive-requires-clause-bound g c = rw c.in-Ok.ensures.compiled (all_bound c.args.compiled.names c.args.binds.now.list c.args.tasks.now c.requires.bound)
+drive-requires-clause-bound g c = λ lifetimes outlive. rw c.in-Ok.ensures.compiled (all_bound c.args.compiled.names c.args.binds.now.list c.args.tasks.now c.requires.bound)
 
 pub returns-in-Ok-drive-clause-went : goal.returns-in-Ok-drive-clause-went
 returns-in-Ok-drive-clause-went g c = λ program compiles.

@@ -1,0 +1,78 @@
+-- A store that changes, and what all stores stand for then.
+use Rattle.std.proofs.Common.{◌≡◌, ℕ, zero, suc, List, [], ◌∷◌, map, Option, Some, None, Result, refl, sym, ap, ◌∙◌, subst}
+use Rattle.std.specs.Prelude.{slice_get, slice_set}
+use Rattle.std.specs.List.{AllZip}
+use Rattle.sg_layout.specs.declared.shape.Shape.{Shape}
+use Rattle.sg_flat.specs.declared.state.FlatLayout.{FlatLayout}
+use Rattle.sg_flat.specs.declared.state.FlatState.{FlatState}
+use Rattle.sg_store.specs.StoreWords.{StoreWords}
+use Rattle.sg_store.specs.StandsFor.{StandsFor}
+use Rattle.sg_exec.specs.Standing.{StandForState, shapes_of}
+use Rattle.sg_words.specs.declared.memory.Stop.{Stop}
+use Rattle.sg_words.specs.declared.text.Text.{Text}
+use Rattle.sg_outside.specs.Files.{Reading}
+use Rattle.sg_store.specs.Pruning.{pruned}
+use Rattle.sg_session.specs.declared.refusal.RunRefusal.{RunRefusal}
+use Rattle.sg_session.specs.declared.tasks.Task.TheVariants.{Prune, Clear}
+use Rattle.sg_session.specs.Compiled.{CheckedProgram, CompiledProgram, Compiles}
+use Rattle.sg_session.specs.Commands.{changed_at, cleared, without_text, layout_made, task_meaning}
+use Rattle.sg_session.specs.Performed.{Leaves, HasState, Performs}
+
+-- a store has changed to another of its shape, as its layout changes
+pub record HasChanged (change : Shape → FlatLayout → FlatLayout) (store now : StoreWords) : Type 0 where
+  pub shape : now.shape ≡ store.shape
+  pub stands : (flat : FlatLayout) → StandsFor store flat → StandsFor now (change store.shape flat)
+
+-- a copy that has changed
+pub copy_changed : (change : Shape → FlatLayout → FlatLayout) (store copy now : StoreWords) → copy ≡ store → now.shape ≡ copy.shape → ((flat : FlatLayout) → StandsFor copy flat → StandsFor now (change copy.shape flat)) → HasChanged change store now
+copy_changed change store copy now same shape stands = subst (λ (s : StoreWords). HasChanged change s now) same (record { shape = shape; stands = stands })
+
+shapes_stay : (stores : List StoreWords) (k : ℕ) (store now : StoreWords) → slice_get stores k ≡ Some store → now.shape ≡ store.shape → shapes_of (slice_set stores k now) ≡ shapes_of stores
+shapes_stay [] k store now there same = absurd (cc)
+shapes_stay (other ∷ stores) zero store now there same =
+    let is : other ≡ store = cc in ap (λ (s : Shape). s ∷ shapes_of stores) (same ∙ ap (λ (o : StoreWords). o.shape) (sym is))
+shapes_stay (other ∷ stores) (suc k) store now there same = ap (λ (ss : List Shape). other.shape ∷ ss) (shapes_stay stores k store now there same)
+
+stand_changed : (change : Shape → FlatLayout → FlatLayout) (stores : List StoreWords) (flats : List FlatLayout) (k : ℕ) (store now : StoreWords) → AllZip StandsFor stores flats → slice_get stores k ≡ Some store → HasChanged change store now
+    → AllZip StandsFor (slice_set stores k now) (changed_at change (shapes_of stores) flats k)
+stand_changed change [] flats k store now all there changed = absurd (cc)
+stand_changed change (other ∷ stores) [] k store now all there changed = absurd all
+stand_changed change (other ∷ stores) (flat ∷ flats) zero store now all there changed =
+    let is : other ≡ store = cc in
+    let here : StandsFor now (change store.shape flat) = changed.stands flat (subst (λ (s : StoreWords). StandsFor s flat) is all.0) in
+    (subst (λ (s : StoreWords). StandsFor now (change s.shape flat)) (sym is) here, all.1)
+stand_changed change (other ∷ stores) (flat ∷ flats) (suc k) store now all there changed = (all.0, stand_changed change stores flats k store now all.1 there changed)
+
+-- the stores stand for the state whose layout has changed
+pub state_changed : (change : Shape → FlatLayout → FlatLayout) (layouts : List Shape) (stores : List StoreWords) (state : FlatState) (k : ℕ) (store now : StoreWords) → StandForState layouts stores state → slice_get stores k ≡ Some store → HasChanged change store now
+    → StandForState layouts (slice_set stores k now) (record { layouts = changed_at change layouts state.layouts k })
+state_changed change layouts stores state k store now stand there changed = record {
+  shapes_are = shapes_stay stores k store now there changed.shape ∙ stand.shapes_are;
+  stand = subst (λ (ss : List Shape). AllZip StandsFor (slice_set stores k now) (changed_at change ss state.layouts k)) stand.shapes_are
+      (stand_changed change stores state.layouts k store now stand.stand there changed);
+}
+
+-- what the change leaves
+pub change_left : (change : Shape → FlatLayout → FlatLayout) (layouts : List Shape) (stores : List StoreWords) (state : FlatState) (k : ℕ) (store now : StoreWords) (text : List ℕ) → text ≡ [] → StandForState layouts stores state → slice_get stores k ≡ Some store → HasChanged change store now
+    → Leaves layouts (slice_set stores k now) text (layout_made change layouts state k)
+change_left change layouts stores state k store now text none stand there changed = record {
+  left = without_text (record { layouts = changed_at change layouts state.layouts k });
+  is = refl;
+  stand = state_changed change layouts stores state k store now stand there changed;
+  text_is = none;
+}
+
+pub change_stands : (change : Shape → FlatLayout → FlatLayout) (layouts : List Shape) (stores : List StoreWords) (k : ℕ) (store now : StoreWords) → HasState layouts stores → slice_get stores k ≡ Some store → HasChanged change store now
+    → HasState layouts (slice_set stores k now)
+change_stands change layouts stores k store now had there changed =
+    (record { layouts = changed_at change layouts had.0.layouts k }, state_changed change layouts stores had.0 k store now had.1 there changed)
+
+-- ---- in a program that is compiled to this
+
+pub prune_over : (program : CheckedProgram) (compiled : CompiledProgram) (stores : List StoreWords) (result : Result Text (Stop RunRefusal)) (state : FlatState) (layout : ℕ) (given : Reading) → Compiles program compiled
+    → Performs compiled.layouts stores result (layout_made pruned compiled.layouts state layout) → Performs compiled.layouts stores result (task_meaning program state (Prune layout) given)
+prune_over program compiled stores result state layout given compiles h = subst (λ (ls : List Shape). Performs compiled.layouts stores result (layout_made pruned ls state layout)) compiles.layouts h
+
+pub clear_over : (program : CheckedProgram) (compiled : CompiledProgram) (stores : List StoreWords) (result : Result Text (Stop RunRefusal)) (state : FlatState) (layout : ℕ) (given : Reading) → Compiles program compiled
+    → Performs compiled.layouts stores result (layout_made cleared compiled.layouts state layout) → Performs compiled.layouts stores result (task_meaning program state (Clear layout) given)
+clear_over program compiled stores result state layout given compiles h = subst (λ (ls : List Shape). Performs compiled.layouts stores result (layout_made cleared ls state layout)) compiles.layouts h
