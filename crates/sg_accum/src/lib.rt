@@ -2,6 +2,7 @@
 #![tactic(auto)]
 
 pub mod begin;
+pub mod laws;
 pub mod pass;
 pub mod rule;
 pub mod seat;

@@ -1,3 +1,4 @@
 pub mod Growth
 pub mod Uses
 pub mod Raises
+pub mod Events

@@ -1,3 +1,4 @@
 pub mod Marking
 pub mod MaskRace
+pub mod MaskLaws
 pub mod steps
