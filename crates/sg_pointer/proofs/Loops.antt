@@ -1,13 +1,15 @@
 -- The loops that take a table apart.
-use Rattle.std.proofs.Common.{◌≡◌, ℕ, zero, suc, ◌+◌, ◌-◌, ◌<◌, ◌≢◌, ◌⊎◌, inl, inr, Bool, true, false, cond, not, ◌&&◌, ◌==◌, eqb, nat_lt, List, [], ◌∷◌, ◌++◌, length, set, take, drop, append_assoc, refl, sym, ap, ◌∙◌, subst, arith}
+use Rattle.std.proofs.Common.{◌≡◌, ℕ, zero, suc, ◌+◌, ◌-◌, ◌<◌, ◌≢◌, ◌⊎◌, inl, inr, Bool, true, false, cond, not, ◌&&◌, ◌==◌, eqb, nat_lt, List, [], ◌∷◌, ◌++◌, length, get_or, set, take, drop, append_assoc, refl, sym, ap, ◌∙◌, subst, arith}
 use Rattle.std.specs.Prelude.{slice_index}
 use Rattle.std.specs.Ordering.{nat_cmp, is_eq}
 use Rattle.std.specs.declared.cmp.Ordering.TheVariants.{Less, Equal, Greater}
 use Rattle.std.specs.Cmp.{nat_cmp_is}
 use Rattle.std.proofs.lemmas.Bool.{cases_order, eq-eqb, ne_eqb}
 use Rattle.std.proofs.lemmas.Bool.Decides.{nat_tests}
-use Rattle.std.proofs.lemmas.List.{take_more}
+use Rattle.std.proofs.lemmas.List.{take_more, get_or-set_same, get_or-set_other}
 use mathlib.Core.Option.{some, some-injective, some-ne-none}
+use mathlib.Core.Logic.{dite}
+use native.Mathlib.Decide.{ℕ_discrete}
 use lib.ListN.{get_elem?}
 use Rattle.sg_words.specs.Counts.{one, times_in}
 use Rattle.sg_words.proofs.Uses.{total-append}
@@ -36,6 +38,13 @@ is_eq-nat_cmp a b = elim (cases_order a b) [
   | inr (inl below) ↦ ap is_eq (sym (nat_cmp_is a b Less below)) ∙ sym (ne_eqb a b (λ same. omega arith))
   | inr (inr above) ↦ ap is_eq (sym (nat_cmp_is a b Greater above)) ∙ sym (ne_eqb a b (λ same. omega arith))
 ]
+
+-- a place more of a row of truth values is true
+pub set-more : (row : List Bool) (k x : ℕ) → k < length row → get_or (set row k true) x false ≡ cond (is_eq (nat_cmp k x)) true (get_or row x false)
+set-more row k x below = dite (ℕ_discrete k x)
+    (λ same. subst (λ y. get_or (set row k true) y false ≡ cond true true (get_or row y false)) same (get_or-set_same row k true false below)
+    ∙ sym (ap (λ b. cond b true (get_or row x false)) (is_eq-nat_cmp k x ∙ eq-eqb k x same)))
+    (λ other. get_or-set_other row k x true false (λ same. other (sym same)) ∙ sym (ap (λ b. cond b true (get_or row x false)) (is_eq-nat_cmp k x ∙ ne_eqb k x other)))
 
 pub number-more : (numbers : List ℕ) (i x k : ℕ) (before now : Bool) → i < length numbers → k ≡ slice_index numbers i → now ≡ cond (is_eq (nat_cmp k x)) true before
     → before ≡ nat_lt 0 (times_in x (take i numbers)) → now ≡ nat_lt 0 (times_in x (take (i + 1) numbers))

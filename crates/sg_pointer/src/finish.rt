@@ -1,8 +1,6 @@
 //! The end of a pass: its last seat takes the table apart.
-ghost use Rattle.std.specs.Prelude.{◌≡◌, ℕ, ◌+◌, ◌^◌, ◌<◌, ◌≤◌, min, nat_lt, length, take, IfOk, slice_index};
+ghost use Rattle.std.specs.Prelude.{◌≡◌, ℕ, ◌+◌, ◌^◌, ◌<◌, ◌≤◌, false, min, nat_lt, length, take, IfOk, slice_index, slice_index_or};
 ghost use Rattle.std.specs.Mem.Slots.{slots_items, slots_len, IsFull};
-ghost use Rattle.std.specs.BTreeSet.{contains};
-ghost use Rattle.std.specs.Ordering.{nat_cmp};
 ghost use Rattle.sg_words.specs.Counts.{times_in};
 ghost use Rattle.sg_words.specs.RaceInvariant.{weight};
 ghost use Rattle.sg_pointer.specs.Asking.{AreLinks, is_dry};
@@ -15,7 +13,6 @@ use crate::seat::{AskSeat, PointerPass};
 use atomic_table::Closed;
 use sg_words::{Items, Memory};
 use std::alloc::Global;
-use std::collections::BTreeSet;
 
 /// What a pass leaves: the slot words, the numbers of the new links, the drawn numbers that aren't linked, and whether the stock ran out.
 #[derive(Debug, Drop)]
@@ -118,30 +115,52 @@ fn taken_numbers(alloc: Global, old: &[u64], new: &[u64]) -> Result<Items<u32>, 
     Ok(taken)
 }
 
-fn set_of(alloc: Global, numbers: &[u32]) -> Result<BTreeSet<u32>, Memory>
-    ensures { IfOk result (λ set. (x : ℕ) → contains nat_cmp set x ≡ nat_lt 0 (times_in x numbers.now)) }
+// For each number up to the greatest of these, whether it is one of them.
+fn set_of(alloc: Global, numbers: &[u32]) -> Result<Items<bool>, Memory>
+    ensures { IfOk result (λ set. (x : ℕ) → slice_index_or set x false ≡ nat_lt 0 (times_in x numbers.now)) }
 {
-    let mut set = BTreeSet::new(alloc);
+    let places = places_for(numbers);
+    let mut set = Items::from_vec(vec![in alloc; false; places]?);
     for number in numbers {
-        set.insert(*number)?;
+        set.set(*number as usize, true);
     }
     Ok(set)
+}
+
+// One more than the greatest of these numbers, 0 where there is none.
+fn places_for(numbers: &[u32]) -> usize
+    ensures { (i : ℕ) → i < length numbers.now → slice_index numbers.now i < result }
+{
+    let mut places = 0;
+    for number in numbers {
+        places = places.max(*number as usize + 1);
+    }
+    places
+}
+
+fn is_in(set: &Items<bool>, number: u32) -> bool
+    ensures { result ≡ slice_index_or set.now number false }
+{
+    match set.get(number as usize) {
+        Some(marked) => *marked,
+        None => false,
+    }
 }
 
 // The drawn numbers of the stock that aren't in the set.
 fn spare_numbers(
     alloc: Global,
     stock: &[u32],
-    taken: &BTreeSet<u32>,
+    taken: &Items<bool>,
     count: u64,
 ) -> Result<Items<u32>, Memory>
-    ensures { IfOk result (λ spares. spares ≡ outside (contains nat_cmp taken.now) (take (min count (length stock.now)) stock.now)) }
+    ensures { IfOk result (λ spares. spares ≡ outside (λ x. slice_index_or taken.now x false) (take (min count (length stock.now)) stock.now)) }
 {
     let most = count.min(stock.len() as u64) as usize;
     let drawn = &stock[..most];
     let mut spares = Items::new(alloc);
     for number in drawn {
-        if !taken.contains(number) {
+        if !is_in(taken, *number) {
             spares.push(*number)?;
         }
     }

@@ -1,11 +1,17 @@
-use Rattle.std.proofs.Common.{refl}
-use Rattle.std.specs.BTreeSet.{contains}
-use Rattle.std.specs.Ordering.{nat_cmp}
-use Rattle.std.specs.Prelude.{slice_index}
-use Rattle.sg_hash.proofs.Loops.{number-more}
+use Rattle.std.proofs.Common.{true, false, length, refl, ap, ◌∙◌, arith}
+use Rattle.std.proofs.lemmas.List.{length-set}
+use Rattle.std.specs.Prelude.{slice_index, slice_index_or}
+use Rattle.sg_hash.proofs.Loops.{number-more, set-more}
 use Rattle.sg_hash.proofs.finish.set_of.Goals as goal
 
 pub loop-number-preserved : goal.loop-number-preserved
-loop-number-preserved c x =
-    number-more c.args.numbers.now c.loop-number.number-index x (slice_index c.args.numbers.now c.loop-number.number-index) (contains nat_cmp c.loop-number.set x) (contains nat_cmp c.insert.new.self x)
-    c.loop-number-test.true refl (c.in_ok-insert.ensures.updates.0 x) (c.loop-number.invariant x)
+loop-number-preserved c =
+    let numbers = c.args.numbers.now in
+    let number = slice_index numbers c.loop-number.number-index in
+    let below = c.places_for-places.ensures c.loop-number.number-index c.loop-number-test.true in
+    let long = c.loop-number.invariant.long in
+    record {
+      long = ap length c.set.ensures ∙ length-set c.loop-number.set number true ∙ long;
+      stand = λ x. number-more numbers c.loop-number.number-index x number (slice_index_or c.loop-number.set x false) (slice_index_or c.set.new.self x false) c.loop-number-test.true refl
+          (ap (λ l. slice_index_or l x false) c.set.ensures ∙ set-more c.loop-number.set number x (omega arith)) (c.loop-number.invariant.stand x);
+    }

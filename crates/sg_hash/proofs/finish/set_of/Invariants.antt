@@ -1,8 +1,10 @@
-use Rattle.std.proofs.Common.{◌≡◌, ℕ, take, nat_lt}
-use Rattle.std.specs.Ordering.{nat_cmp}
-use Rattle.std.specs.BTreeSet.{contains}
+use Rattle.std.proofs.Common.{◌≡◌, ℕ, false, take, length, nat_lt}
+use Rattle.std.specs.Prelude.{slice_index_or}
 use Rattle.sg_words.specs.Counts.{times_in}
 use Rattle.sg_hash.proofs.finish.set_of.Given as goal
 
 abbrev pub invariant-loop-number : goal.invariant-loop-number
-invariant-loop-number l = (x : ℕ) → contains nat_cmp l.set x ≡ nat_lt 0 (times_in x (take l.number-index l.numbers))
+invariant-loop-number l = record {
+  long : length l.set ≡ l.places;
+  stand : (x : ℕ) → slice_index_or l.set x false ≡ nat_lt 0 (times_in x (take l.number-index l.numbers));
+}

@@ -1,9 +1,7 @@
-use Rattle.std.proofs.Common.{ap, sym, ◌∙◌, cond, Bool, List, ℕ, ◌++◌, [], ◌∷◌, take}
-use Rattle.std.specs.BTreeSet.{contains}
-use Rattle.std.specs.Ordering.{nat_cmp}
-use Rattle.std.specs.Prelude.{slice_index}
+use Rattle.std.proofs.Common.{ap, sym, ◌∙◌, cond, Bool, false, List, ℕ, ◌++◌, [], ◌∷◌, take}
+use Rattle.std.specs.Prelude.{slice_index, slice_index_or}
 use Rattle.sg_hash.proofs.Loops.{outside-more}
-use Rattle.sg_hash.proofs.finish.spare_numbers.Goals.{then-not-contains+in_ok-push, else-not-contains}
+use Rattle.sg_hash.proofs.finish.spare_numbers.Goals.{then-not-is_in+in_ok-push, else-not-is_in}
 use Rattle.sg_hash.proofs.finish.spare_numbers.Goals as goal
 
 pub loop-number-preserved : goal.loop-number-preserved
@@ -11,9 +9,9 @@ loop-number-preserved c =
     let drawn = take c.min-most.result c.args.stock.now in
     let x = slice_index drawn c.loop-number.number-index in
     let kept : Bool → List ℕ = λ b. cond b c.loop-number.spares (c.loop-number.spares ++ x ∷ []) in
-    outside-more (contains nat_cmp c.args.taken.now) drawn c.loop-number.spares c.if-not-contains.spares c.loop-number.number-index c.loop-number-test.true
-    (elim c.if-not-contains.branch [
-      | then-not-contains+in_ok-push w ↦ w.spares-is ∙ w.in_ok-push.ensures.ok ∙ sym (ap kept (sym c.contains.ensures ∙ w.if-not-contains.true))
-      | else-not-contains w ↦ w.spares-is ∙ sym (ap kept (sym c.contains.ensures ∙ w.if-not-contains.false))
+    outside-more (λ x. slice_index_or c.args.taken.now x false) drawn c.loop-number.spares c.if-not-is_in.spares c.loop-number.number-index c.loop-number-test.true
+    (elim c.if-not-is_in.branch [
+      | then-not-is_in+in_ok-push w ↦ w.spares-is ∙ w.in_ok-push.ensures.ok ∙ sym (ap kept (sym c.is_in.ensures ∙ w.if-not-is_in.true))
+      | else-not-is_in w ↦ w.spares-is ∙ sym (ap kept (sym c.is_in.ensures ∙ w.if-not-is_in.false))
     ])
     ∙ c.loop-number.invariant

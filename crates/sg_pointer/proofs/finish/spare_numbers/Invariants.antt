@@ -1,8 +1,7 @@
-use Rattle.std.proofs.Common.{◌≡◌, ◌++◌, drop}
-use Rattle.std.specs.Ordering.{nat_cmp}
-use Rattle.std.specs.BTreeSet.{contains}
+use Rattle.std.proofs.Common.{◌≡◌, false, ◌++◌, drop}
+use Rattle.std.specs.Prelude.{slice_index_or}
 use Rattle.sg_pointer.specs.steps.Ending.{outside}
 use Rattle.sg_pointer.proofs.finish.spare_numbers.Given as goal
 
 abbrev pub invariant-loop-number : goal.invariant-loop-number
-invariant-loop-number l = l.spares ++ outside (contains nat_cmp l.taken) (drop l.number-index l.drawn) ≡ outside (contains nat_cmp l.taken) l.drawn
+invariant-loop-number l = l.spares ++ outside (λ x. slice_index_or l.taken x false) (drop l.number-index l.drawn) ≡ outside (λ x. slice_index_or l.taken x false) l.drawn

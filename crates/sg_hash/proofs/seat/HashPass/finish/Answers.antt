@@ -1,6 +1,5 @@
-use Rattle.std.proofs.Common.{ℕ, length, take, min, nat_lt, ap, sym, subst, ◌∙◌}
-use Rattle.std.specs.BTreeSet.{contains}
-use Rattle.std.specs.Ordering.{nat_cmp}
+use Rattle.std.proofs.Common.{ℕ, false, length, take, min, nat_lt, ap, sym, subst, ◌∙◌}
+use Rattle.std.specs.Prelude.{slice_index_or}
 use Rattle.sg_words.specs.Counts.{times_in}
 use Rattle.sg_hash.specs.declared.rule.Start.{Start}
 use Rattle.sg_hash.specs.Finishing.{AreSpares, taken_of}
@@ -23,7 +22,7 @@ returns-clause-spares c =
     let g = c.gather-start in
     let start = c.args.self.start in
     let v = c.args.seat.seat.me.0 in
-    let test : ℕ → _ = contains nat_cmp c.in_ok-set.set in
+    let test : ℕ → _ = λ x. slice_index_or c.in_ok-set.set x false in
     let old = c.as_slice-3.ensures ∙ ap (λ (s : Start). s.links) g.ensures.start in
     let taken = c.in_ok-taken.ensures ∙ ap (λ l. taken_of l c.as_slice-4.result.now) old ∙ ap (λ l. taken_of start.links l) c.as_slice-4.ensures in
     let stock = c.as_slice-6.ensures ∙ ap (λ (s : Start). s.stock) g.ensures.start in
