@@ -5,3 +5,4 @@ pub mod Levels
 pub mod Links
 pub mod Masks
 pub mod Racing
+pub mod Tests

@@ -16,3 +16,6 @@ pub mod wanted;
 pub use activation::{activate, activated};
 pub use fault::ActFault;
 pub use wanted::Wanted;
+
+#[cfg(test)]
+mod tests;

@@ -1,4 +1,4 @@
-ghost use Rattle.std.specs.Prelude.{◌≡◌, ℕ, ◌+◌, ◌<◌, ◌≤◌, List, Contains, IsTrue, IsSome, IfOk};
+ghost use Rattle.std.specs.Prelude.{◌≡◌, ℕ, ◌+◌, ◌<◌, ◌≤◌, List, Contains, Some, IsTrue, IsSome, IfOk};
 ghost use Rattle.sg_coord.specs.declared.coord.Coord.{Coord};
 ghost use Rattle.sg_layout.specs.Axes.{bounds_of_shape};
 ghost use Rattle.sg_layout.specs.declared.shape.Shape.{Shape};
@@ -21,11 +21,12 @@ struct Look<'a> {
     store: &'a Store,
 }
 
-/// The workers that a seat may still be split for, and whether all that it has looked at is active.
+/// The workers that a seat may still be split for, whether all that it has looked at is active, and what it looked at last.
 #[derive(Drop)]
 struct LookSeat {
     share: u32,
     all: bool,
+    last: Option<Coord>,
 }
 
 impl<'a> Pass for Look<'a> {
@@ -33,7 +34,8 @@ impl<'a> Pass for Look<'a> {
 
     ghost bounds = { λ look. bounds_of_shape look.store.now.shape };
 
-    ghost IsSeatOf = { λ look seat. Unit {0} };
+    ghost IsSeatOf = { λ look seat. (at : Coord) → seat.last ≡ Some at → IsTrue seat.all →
+        IsSome (cell_in look.store.now at) };
 
     ghost share = { λ seat. seat.share };
 
@@ -48,19 +50,34 @@ impl<'a> Pass for Look<'a> {
     }
 
     fn ask(&self, seat: &mut LookSeat, at: Coord) {
-        if seat.all {
+        if seat.all && !is_last(&seat.last, at) {
             seat.all = self.store.cell_of(at).is_some();
+            seat.last = Some(at);
         }
     }
 
     fn split(&self, seat: &mut LookSeat) -> LookSeat {
         let share = seat.share / 2;
         seat.share -= share;
-        LookSeat { share, all: true }
+        LookSeat {
+            share,
+            all: true,
+            last: None,
+        }
     }
 
     fn join(&self, seat: &mut LookSeat, other: LookSeat) {
         seat.all = seat.all && other.all;
+    }
+}
+
+/// Whether a coordinate is the one that was looked at last.
+fn is_last(last: &Option<Coord>, at: Coord) -> bool
+    ensures { IsTrue result → last.now ≡ Some at }
+{
+    match last {
+        Some(other) => *other == at,
+        None => false,
     }
 }
 
@@ -79,6 +96,7 @@ pub(crate) fn is_active<R: Threads + Sync, W: Wanted + Sync, G: Gate + Sync>(
     let seat = LookSeat {
         share: 16,
         all: true,
+        last: None,
     };
     let Raced { seat, done } = race_all(rt, alloc, work, &look, seat);
     done?;
