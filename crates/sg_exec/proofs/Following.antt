@@ -41,12 +41,6 @@ writes_next {X} f xs i d below =
     ∙ flat_map-append (λ (turn : Turn). turn.writes) (map f (take i xs)) (f (get_or xs i d) ∷ [])
     ∙ ap (λ (ws : List Write). writes_of (map f (take i xs)) ++ ws) (append-nil (f (get_or xs i d)).writes)
 
-pub lands_turn : {X : Type 0} (f : X → Turn) (olds mids news : List StoreWords) (xs : List X) (i : ℕ) (d : X) (writes : List Write) → i < length xs → Lands olds mids (writes_of (map f (take i xs)))
-    → Lands mids news writes → writes ≡ (f (get_or xs i d)).writes → Lands olds news (writes_of (map f (take (i + 1) xs)))
-lands_turn {X} f olds mids news xs i d writes below first second is =
-    subst (λ (ws : List Write). Lands olds news ws) (sym (writes_next f xs i d below))
-    (lands_more olds mids news (writes_of (map f (take i xs))) (f (get_or xs i d)).writes first (subst (λ (ws : List Write). Lands mids news ws) is second))
-
 -- ---- writes outside
 
 default_any : {X : Type 0} (ws : List X) (k : ℕ) (e e' : X) → k < length ws → get_or ws k e ≡ get_or ws k e'

@@ -67,7 +67,7 @@ all_to bounds write = cond-true (is_to bounds write.layout write.place (row_of b
 
 -- ---- words stay words
 
-are_words_from : (start size : ℕ) (f : ℕ → ℕ) → ((row : ℕ) → f row < 2 ^ 32) → IsTrue (are_words (filter (λ (entry : ℕ × ℕ). not (eqb entry.1 0)) (map (λ (row : ℕ). (row, f row)) (range_with_len start size))))
+pub are_words_from : (start size : ℕ) (f : ℕ → ℕ) → ((row : ℕ) → f row < 2 ^ 32) → IsTrue (are_words (filter (λ (entry : ℕ × ℕ). not (eqb entry.1 0)) (map (λ (row : ℕ). (row, f row)) (range_with_len start size))))
 are_words_from start zero f low = refl
 are_words_from start (suc size) f low =
     by_test (not (eqb (f start) 0)) (filter (λ (entry : ℕ × ℕ). not (eqb entry.1 0)) (map (λ (row : ℕ). (row, f row)) (range_with_len (start + 1) size))) (are_words_from (start + 1) size f low)
@@ -76,7 +76,7 @@ are_words_from start (suc size) f low =
     by_test true rest all = and_from (nat_lt (f start) (2 ^ 32)) (are_words rest) (lt-ltb (f start) (2 ^ 32) (low start)) all
     by_test false rest all = all
 
-word_low : (words : Words) (row : ℕ) → IsTrue (are_words words) → word_at words row < 2 ^ 32
+pub word_low : (words : Words) (row : ℕ) → IsTrue (are_words words) → word_at words row < 2 ^ 32
 word_low [] row all = lit< tt
 word_low (entry ∷ entries) row all =
     let parts = and_parts (nat_lt entry.1 (2 ^ 32)) (are_words entries) all in

@@ -7,3 +7,6 @@ pub mod Written
 pub mod Wants
 pub mod Turning
 pub mod Landing
+pub mod Racing
+pub mod Passes
+pub mod Working

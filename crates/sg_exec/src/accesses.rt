@@ -14,6 +14,7 @@ impl<'a> Moment<'a> {
     ghost use Rattle.sg_exec.specs.steps.Moments.{Moves};
 
     /// A register becomes the value of a field at a place.
+    #[inline(always)]
     pub fn read(&mut self, to: u32, place: u32, layout: u32, field: u32, index: &[u32])
         ensures { Moves (λ seen. does seen (v.ReadCell to place layout field index.now)) self.old self.new }
     {
@@ -23,6 +24,7 @@ impl<'a> Moment<'a> {
     }
 
     /// A register becomes the value of a field in the iteration's own cell: the last own value, or else the state's value.
+    #[inline(always)]
     pub fn own_read(&mut self, to: u32, layout: u32, field: u32)
         ensures { Moves (λ seen. does seen (v.OwnRead to layout field)) self.old self.new }
     {
@@ -31,6 +33,7 @@ impl<'a> Moment<'a> {
     }
 
     /// An own write.
+    #[inline(always)]
     pub fn own_write(&mut self, layout: u32, field: u32, from: u32, stmt: u32)
         ensures { Moves (λ seen. does seen (v.OwnWrite layout field from stmt)) self.old self.new }
     {
@@ -51,6 +54,7 @@ impl<'a> Moment<'a> {
     }
 
     /// A contribution, in the cell of its place.
+    #[inline(always)]
     pub fn contribute(
         &mut self,
         op: AccOp,
@@ -80,6 +84,7 @@ impl<'a> Moment<'a> {
     }
 
     /// A wanted coordinate.
+    #[inline(always)]
     pub fn want(&mut self, layout: u32, index: &[u32], stmt: u32)
         ensures { Moves (λ seen. does seen (v.Want layout index.now stmt)) self.old self.new }
     {
@@ -103,6 +108,7 @@ impl<'a> Moment<'a> {
 }
 
 /// The coordinate that index registers name. None where memory is wanting for so many.
+#[inline(always)]
 fn named_by(at: &Moment, index: &[u32]) -> Option<Coord>
     ensures { IfSome result (λ coord. coord ≡ coord_of (map (λ r. get_or at.now.regs.items r 0) index.now)) }
 {
@@ -116,6 +122,7 @@ fn named_by(at: &Moment, index: &[u32]) -> Option<Coord>
 }
 
 /// The word of the index register for an axis, and 0 past the last.
+#[inline(always)]
 fn part(at: &Moment, index: &[u32], axis: usize) -> u32
     ensures { result ≡ get_or (map (λ r. get_or at.now.regs.items r 0) index.now) axis 0 }
 {
@@ -126,6 +133,7 @@ fn part(at: &Moment, index: &[u32], axis: usize) -> u32
 }
 
 /// How many parts a coordinate has. There are never 2^32, which no memory has room for.
+#[inline(always)]
 fn part_count(parts: usize) -> Option<u32>
     ensures { IfSome result (λ n. n ≡ parts) }
 {
@@ -136,6 +144,7 @@ fn part_count(parts: usize) -> Option<u32>
 }
 
 /// The coordinate with these words as its parts.
+#[inline(always)]
 fn coord_from(n: u32, a: u32, b: u32, c: u32) -> Coord
     ensures { result ≡ coord_from n a b c }
 {

@@ -16,7 +16,7 @@ ghost use Rattle.sg_exec.specs.steps.Turning.{AreMeant, IsMeant, TurnsActivated,
 ghost use Rattle.sg_exec.specs.steps.Wants.{AreWants, StoreReached, AllReached};
 
 use crate::layout_wants::LayoutWants;
-use crate::outside::{first_outside, no_want_outside};
+use crate::outside::{first_outside, first_pass};
 use crate::turns::{Turns, count_of, turns_want};
 use crate::values::ONE_POINT;
 use sg_activate::{ActFault, activated};
@@ -51,7 +51,7 @@ pub(crate) fn activated_for_slice<R: Threads + Sync, G: Gate + Sync>(
     ensures shapes { IfOk result (λ copies. shapes_of (current copies.items stores.now.list) ≡ shapes_of stores.now.list) }
     ensures room { IfOk result (λ copies. length copies.items ≡ length stores.now.list) }
 {
-    no_want_outside(rt, alloc, stores, points, block, workers)?;
+    first_pass(rt, alloc, stores, points, block, workers)?;
     let turns = Turns::Slice { points, block };
     activated_copies(rt, alloc, stores, turns, workers, gate)
 }

@@ -10,6 +10,7 @@ pub struct Held {
 }
 
 /// A spot of a layout, where there is one.
+#[inline(always)]
 pub(crate) fn held_in(layout: u32, spot: Option<Spot>) -> Option<Held>
     ensures { result ≡ option_map (λ spot. record { layout = layout; spot = spot }) spot }
 {

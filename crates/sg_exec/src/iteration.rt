@@ -23,6 +23,7 @@ impl<'a> Moment<'a> {
 
     /// Runs an instruction.
     #[cycle(insts)]
+    #[inline(always)]
     fn run(&mut self, inst: &Inst)
         ensures { Moves (λ seen. does seen inst.now) self.old self.new }
     {
@@ -118,6 +119,7 @@ impl<'a> Moment<'a> {
 
     /// Runs the body of an inner loop, with its variable at each of the numbers from one up to below another.
     #[cycle(insts)]
+    #[inline(never)]
     fn run_turns(&mut self, var: u32, lo: i32, hi: i32, body: &[Inst])
         ensures { Moves (λ seen now. run_turns seen var body.now now (numbers lo hi)) self.old self.new }
     {

@@ -1,55 +1,25 @@
 ghost use Rattle.std.specs.Prelude.{◌≡◌, ◌∷◌, [], List, map, length, Contains, IfOk, IfSome, OnOk, unwrap_or};
-ghost use Rattle.std.specs.List.{AllZip};
-ghost use Rattle.sg_coord.specs.declared.coord.Coord.{Coord};
-ghost use Rattle.sg_flat.specs.declared.effects.Turn.{Turn};
 ghost use Rattle.sg_flat.specs.declared.effects.Write.{Write};
 ghost use Rattle.sg_flat.specs.declared.state.FlatLayout.{FlatLayout};
-ghost use Rattle.sg_flat.specs.declared.state.FlatState.{FlatState};
-ghost use Rattle.sg_flat.specs.Effects.{land, writes_of};
+ghost use Rattle.sg_flat.specs.Effects.{land};
 ghost use Rattle.sg_store.specs.StandsFor.{StandsFor};
 ghost use Rattle.sg_store.specs.WellFormed.{IsReached};
-ghost use Rattle.sg_exec.specs.steps.Machines.{Sees, IsCellOf, AreCells};
-ghost use Rattle.sg_exec.specs.steps.Moments.{AreNamedAt};
-ghost use Rattle.sg_exec.specs.steps.Landing.{current, landing, landed_layout, AreTurnsOf, HasTree, IsLanding, AreCopies, Lands};
+ghost use Rattle.sg_exec.specs.steps.Machines.{IsCellOf, AreCells};
+ghost use Rattle.sg_exec.specs.steps.Landing.{current, landing, landed_layout, HasTree, IsLanding, AreCopies, Lands};
 
 use crate::cell_write::CellWrite;
-use crate::moment::Moment;
 use crate::values::ONE_POINT;
 use crate::view::View;
-use sg_coord::{Coord, numbering};
+use sg_coord::numbering;
 use sg_flat::{Way, Write};
-use sg_ir::Inst;
 use sg_layout::{closure_closes, closure_members};
 use sg_store::laws::cells_are_active;
 use sg_store::{Store, Stores};
 use sg_words::{Memory, Ty, fold};
 use std::alloc::Global;
 
-/// Copies of the stores, with what was reached in their places, in which what code writes at these points has landed.
-pub(crate) fn land_points(
-    alloc: Global,
-    stores: &Stores,
-    reached: &[Option<Store>],
-    points: &[Coord],
-    code: &[Inst],
-) -> Result<Vec<Option<Store>>, Memory>
-    ensures lands { IfOk result (λ copies. (state : FlatState) → Sees (current reached.now stores.now.list) state →
-        AreNamedAt (current reached.now stores.now.list) state code.now points.now →
-        (turn : Coord → Turn) → AreTurnsOf (current reached.now stores.now.list) state code.now points.now turn →
-        Lands (current reached.now stores.now.list) (current copies.items (current reached.now stores.now.list)) (writes_of (map turn points.now))) }
-    ensures room { IfOk result (λ copies. length copies.items ≡ length stores.now.list) }
-{
-    let mut copies = no_copies(alloc, stores, reached)?;
-    let mut moment = Moment::new(alloc, stores, reached);
-    for at in points {
-        moment.iterate(*at, code)?;
-        land_cells(alloc, stores, reached, &mut copies, moment.places.writes())?;
-    }
-    Ok(copies)
-}
-
 /// No copy of any store.
-fn no_copies(
+pub(crate) fn no_copies(
     alloc: Global,
     stores: &Stores,
     reached: &[Option<Store>],
@@ -66,7 +36,7 @@ fn no_copies(
 }
 
 /// Lands what an iteration wrote in the copies, in order.
-fn land_cells(
+pub(crate) fn land_cells(
     alloc: Global,
     stores: &Stores,
     reached: &[Option<Store>],

@@ -68,6 +68,7 @@ impl<'a> Wanted for LayoutWants<'a> {
 }
 
 /// Adds the coordinates of the writes into a layout that are inside its extents.
+#[inline(always)]
 fn add_wants(
     writes: &[Write],
     layout: u32,

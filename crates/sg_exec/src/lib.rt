@@ -4,6 +4,9 @@
 mod accesses;
 mod activated;
 mod cell_write;
+mod contributions;
+mod fields;
+pub mod hand;
 mod held;
 mod instructions;
 mod iteration;
@@ -17,11 +20,15 @@ mod places;
 mod points;
 mod row;
 pub mod run;
+pub mod shared;
+pub mod sums;
 #[cfg(test)]
 mod tests;
 mod turns;
 mod values;
 mod view;
+mod workers;
 mod written;
+pub mod written_fields;
 
 pub use run::{load_rows, run_kernel};

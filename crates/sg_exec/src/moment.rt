@@ -59,6 +59,7 @@ impl<'a> Moment<'a> {
     }
 
     /// The start of the iteration at a coordinate.
+    #[inline(always)]
     fn start(&mut self, at: Coord)
         ensures stores { self.new.places.stores ≡ self.old.places.stores }
         ensures start { (stores : List StoreWords) (state : FlatState) → self.old.places.stores ≡ stores →
@@ -76,6 +77,7 @@ impl<'a> Moment<'a> {
     }
 
     /// The word of a register.
+    #[inline(always)]
     pub fn reg(&self, reg: u32) -> u32
         ensures { result ≡ get_or self.now.regs.items reg 0 }
     {
@@ -83,6 +85,7 @@ impl<'a> Moment<'a> {
     }
 
     /// The word of a variable.
+    #[inline(always)]
     pub fn var(&self, var: u32) -> u32
         ensures { result ≡ get_or self.now.vars.items var 0 }
     {
@@ -90,6 +93,7 @@ impl<'a> Moment<'a> {
     }
 
     /// Gives a register a word.
+    #[inline(always)]
     pub fn set_reg(&mut self, to: u32, word: u32)
         ensures { Moves (λ seen. set_reg to word) self.old self.new }
     {
@@ -100,6 +104,7 @@ impl<'a> Moment<'a> {
     }
 
     /// Gives a variable a word.
+    #[inline(always)]
     pub fn set_var(&mut self, var: u32, word: u32)
         ensures { Moves (λ seen. set_var var word) self.old self.new }
     {

@@ -8,6 +8,7 @@ ghost use Rattle.sg_exec.specs.Standing.{shapes_of};
 ghost use Rattle.sg_exec.specs.steps.Turning.{SliceTells};
 
 use crate::moment::Moment;
+use crate::turns::block_seeks;
 use sg_coord::{Coord, inside};
 use sg_flat::{RunFault, Write};
 use sg_ir::Inst;
@@ -16,9 +17,28 @@ use sg_words::Stop;
 use std::alloc::Global;
 use std::thread::{Threads, join};
 
-/// Refuses where a slice wants a coordinate outside at one of these points, with the fault of the first. So many workers run it, each
-/// at a part of the points; what the left half finds stands before what the right half finds.
-pub(crate) fn no_want_outside<R: Threads + Sync>(
+/// Refuses where a slice wants a coordinate outside at one of these points, with the fault of the first. A slice in which no instruction
+/// wants isn't run; any other by so many workers.
+pub(crate) fn first_pass<R: Threads + Sync>(
+    rt: &R,
+    alloc: Global,
+    stores: &Stores,
+    points: &[Coord],
+    block: &[Inst],
+    workers: u32,
+) -> Result<(), Stop<RunFault>>
+    requires some { 1 ≤ workers }
+    ensures { SliceTells stores.now.list block.now points.now result }
+{
+    if block_seeks(block) {
+        return no_want_outside(rt, alloc, stores, points, block, workers);
+    }
+    Ok(())
+}
+
+/// The same of any slice. The workers run it each at a part of the points; what the left half finds stands before what the right half
+/// finds.
+fn no_want_outside<R: Threads + Sync>(
     rt: &R,
     alloc: Global,
     stores: &Stores,
@@ -83,6 +103,7 @@ pub(crate) fn first_outside(stores: &Stores, rows: &[Write]) -> Option<RunFault>
 }
 
 /// The fault of the first write outside of one turn.
+#[inline(always)]
 fn outside_among(stores: &Stores, at: Coord, writes: &[Write]) -> Option<RunFault>
     ensures { result ≡ outside_among (shapes_of stores.now.list) at writes.now }
 {
@@ -98,6 +119,7 @@ fn outside_among(stores: &Stores, at: Coord, writes: &[Write]) -> Option<RunFaul
 }
 
 /// Whether a coordinate is inside the extents of a layout.
+#[inline(always)]
 fn is_inside(stores: &Stores, layout: u32, at: Coord) -> bool
     ensures { result ≡ is_inside_of (slice_get (shapes_of stores.now.list) layout) at }
 {

@@ -14,6 +14,7 @@ use crate::view::View;
 use sg_coord::Coord;
 
 /// The cell that was found in a layout's store, where it was looked for.
+#[inline(always)]
 pub(crate) fn found_in(found: &[OwnCell], layout: u32) -> Option<OwnCell>
     ensures same { IfSome result (λ own. own.layout ≡ layout) }
     ensures among { IfSome result (λ own. Contains found.now own) }
@@ -27,6 +28,7 @@ pub(crate) fn found_in(found: &[OwnCell], layout: u32) -> Option<OwnCell>
 }
 
 /// Keeps a cell that was found. Where memory is wanting it isn't kept, and is looked for again.
+#[inline(always)]
 pub(crate) fn remember(found: &mut Vec<OwnCell>, own: OwnCell)
     ensures { (stores : List StoreWords) (at : Coord) → AreOwnCells stores at found.old.items → IsOwnCell stores at own →
         AreOwnCells stores at found.new.items }
@@ -38,6 +40,7 @@ pub(crate) fn remember(found: &mut Vec<OwnCell>, own: OwnCell)
 }
 
 /// The cell of a coordinate in a layout's store.
+#[inline(always)]
 pub(crate) fn cell_of(view: &View, layout: u32, at: Coord) -> Option<u32>
     ensures cell { result ≡ cell_there view.now layout (Some at) }
     ensures reached { IfSome result (IsCellOf view.now layout) }
@@ -49,6 +52,7 @@ pub(crate) fn cell_of(view: &View, layout: u32, at: Coord) -> Option<u32>
 }
 
 /// The value of a field in a cell of a layout's store, and 0 where there is none.
+#[inline(always)]
 pub(crate) fn value_of(view: &View, layout: u32, place: u32, cell: Option<u32>) -> u32
     requires cell { IfSome cell (IsCellOf view.now layout) }
     ensures { (state : FlatState) → AllZip StandsFor view.now state.layouts → (at : Coord) → cell_there view.now layout (Some at) ≡ cell →

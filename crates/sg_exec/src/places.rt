@@ -97,6 +97,7 @@ impl<'a> Places<'a> {
     }
 
     /// No places, at the coordinate of another iteration.
+    #[inline(always)]
     pub fn start(&mut self, at: Coord)
         ensures stores { self.new.stores ≡ self.old.stores }
         ensures at { self.new.at ≡ at }
@@ -110,6 +111,7 @@ impl<'a> Places<'a> {
     }
 
     /// The cell of the iteration's coordinate in a layout's store. None where the coordinate isn't active there.
+    #[inline(always)]
     pub fn own_cell(&mut self, layout: u32) -> Option<u32>
         ensures cell { result ≡ cell_there self.old.stores layout (Some self.old.at) }
         ensures reached { IfSome result (IsCellOf self.old.stores layout) }
@@ -125,6 +127,7 @@ impl<'a> Places<'a> {
 
     /// The value of a field in the iteration's own cell, both from 0: the last own value, or else the store's, which is 0 where the
     /// coordinate isn't active, and where there is no such layout or field.
+    #[inline(always)]
     pub fn own_value(&mut self, layout: u32, place: u32) -> u32
         ensures value { (state : FlatState) → AllZip StandsFor self.old.stores state.layouts →
             result ≡ last_or (own_write layout place self.old.writes) (value_of (shapes_of self.old.stores) state layout place self.old.at) }
@@ -138,6 +141,7 @@ impl<'a> Places<'a> {
     }
 
     /// Adds a write.
+    #[inline(always)]
     pub fn write(&mut self, write: CellWrite) -> Result<(), Memory>
         requires cell { IfSome write.cell (IsCellOf self.old.stores write.layout) }
         ensures ok { OnOk result (self.new ≡ record self.old { writes = self.old.writes ++ write ∷ [] }) }
@@ -162,6 +166,7 @@ impl<'a> Places<'a> {
     }
 
     /// A place register becomes the root of a layout.
+    #[inline(always)]
     pub fn root(&mut self, to: u32, layout: u32) -> Result<(), Memory>
         ensures stores { self.new.stores ≡ self.old.stores }
         ensures at { self.new.at ≡ self.old.at }
@@ -174,6 +179,7 @@ impl<'a> Places<'a> {
     }
 
     /// A place register becomes another where the word, as an i32, is from 0 to below the extent, and none where it isn't.
+    #[inline(always)]
     pub fn check(&mut self, to: u32, place: u32, extent: u32, word: u32) -> Result<(), Memory>
         ensures stores { self.new.stores ≡ self.old.stores }
         ensures at { self.new.at ≡ self.old.at }
@@ -186,6 +192,7 @@ impl<'a> Places<'a> {
     }
 
     /// A place register becomes the place one node below another.
+    #[inline(always)]
     pub fn step(&mut self, to: u32, place: u32, node: u32, offset: u32) -> Result<(), Memory>
         ensures stores { self.new.stores ≡ self.old.stores }
         ensures at { self.new.at ≡ self.old.at }
@@ -198,6 +205,7 @@ impl<'a> Places<'a> {
     }
 
     /// The value of a field, from 0, at a place: 0 where nothing is active.
+    #[inline(always)]
     pub fn value(&self, place: u32, field: u32) -> u32
         ensures { (state : FlatState) → AllZip StandsFor self.now.stores state.layouts →
             (places : ℕ → Option Place) → ArePlaces self.now.stores self.now places → (layout : ℕ) (at loop : Coord) →
@@ -214,6 +222,7 @@ impl<'a> Places<'a> {
     }
 
     /// The value of a field, from 0, at a spot.
+    #[inline(always)]
     fn value_held(&self, held: Held, field: u32) -> u32
         requires held { IsHeld self.now.stores held }
         ensures { (store : StoreWords) → slice_get self.now.stores held.layout ≡ Some store → (flat : FlatLayout) → StandsFor store flat →
@@ -227,6 +236,7 @@ impl<'a> Places<'a> {
     }
 
     /// The cell of a place in a layout's store. None where nothing is active, and where the place is another layout's.
+    #[inline(always)]
     pub fn cell(&self, place: u32, layout: u32) -> Option<u32>
         ensures reached { IfSome result (IsCellOf self.now.stores layout) }
         ensures cell { (places : ℕ → Option Place) → ArePlaces self.now.stores self.now places → (at : Coord) →
@@ -259,6 +269,7 @@ impl<'a> Places<'a> {
     }
 
     /// What a place register holds.
+    #[inline(always)]
     fn get(&self, place: u32) -> Option<Held>
         ensures value { result ≡ get_or self.now.list place None }
         ensures held { IfSome result (IsHeld self.now.stores) }
@@ -267,6 +278,7 @@ impl<'a> Places<'a> {
     }
 
     /// A place register holds something else.
+    #[inline(always)]
     fn put(&mut self, to: u32, held: Option<Held>) -> Result<(), Memory>
         requires held { IfSome held (IsHeld self.old.stores) }
         ensures stores { self.new.stores ≡ self.old.stores }
@@ -279,6 +291,7 @@ impl<'a> Places<'a> {
     }
 
     /// The root of a layout.
+    #[inline(always)]
     fn root_of(&self, layout: u32) -> Option<Held>
         ensures held { IfSome result (IsHeld self.now.stores) }
         ensures holds { Holds self.now.stores result (Some (record { layout = layout; path = [] })) }
@@ -290,6 +303,7 @@ impl<'a> Places<'a> {
     }
 
     /// The place of a register, or none where a check fails.
+    #[inline(always)]
     fn checked(&self, place: u32, passes: bool) -> Option<Held>
         ensures held { IfSome result (IsHeld self.now.stores) }
         ensures holds { (places : ℕ → Option Place) → ArePlaces self.now.stores self.now places →
@@ -299,6 +313,7 @@ impl<'a> Places<'a> {
     }
 
     /// The place one node below that of a register.
+    #[inline(always)]
     fn below(&self, place: u32, node: u32, offset: u32) -> Option<Held>
         ensures held { IfSome result (IsHeld self.now.stores) }
         ensures holds { (places : ℕ → Option Place) → ArePlaces self.now.stores self.now places →
@@ -311,6 +326,7 @@ impl<'a> Places<'a> {
     }
 
     /// The place one node below another.
+    #[inline(always)]
     fn below_held(&self, held: Held, node: u32, offset: u32) -> Option<Held>
         requires held { IsHeld self.now.stores held }
         ensures held { IfSome result (IsHeld self.now.stores) }
@@ -325,6 +341,7 @@ impl<'a> Places<'a> {
 }
 
 /// Whether a word, as an i32, is from 0 to below an extent.
+#[inline(always)]
 fn on_axis(extent: u32, word: u32) -> bool
     ensures { result ≡ is_on_axis extent (number ty.I32 word) }
 {
@@ -334,6 +351,7 @@ fn on_axis(extent: u32, word: u32) -> bool
 
 /// The spot one node below, over an offset. None where there is no such node, where the offset isn't below its size, and where the slot
 /// isn't active.
+#[inline(always)]
 fn spot_below(store: &Store, spot: Spot, node: u32, offset: u32) -> Option<Spot>
     requires leads { IsSpot store.now spot }
     ensures some { IfSome result (λ below. (path : List ℕ) → LeadsAlong store.now spot path → StepLeads store.now below node path offset) }
@@ -384,6 +402,7 @@ fn cell_under(store: &Store, spot: Spot) -> Option<u32>
 }
 
 /// The value of a field, from 0, at a spot: 0 where the spot isn't after the last node, and where there is no such field.
+#[inline(always)]
 fn value_in(store: &Store, spot: Spot, field: u32) -> u32
     requires leads { IsSpot store.now spot }
     ensures { (flat : FlatLayout) → StandsFor store.now flat → (path : List ℕ) → LeadsAlong store.now spot path →

@@ -8,8 +8,9 @@ ghost use Rattle.sg_exec.specs.Running.{IsRunnable, Ran, run_meaning, load_meani
 ghost use Rattle.sg_exec.specs.steps.Landing.{current, placed, with_copy, CopiesRan};
 
 use crate::activated::{activated_for_rows, activated_for_slice};
-use crate::landing::{land_all, land_points};
+use crate::landing::land_all;
 use crate::points::domain_points;
+use crate::sums::raced_points;
 use crate::values::ONE_POINT;
 use sg_coord::numbering;
 use sg_flat::{RunFault, Write};
@@ -89,7 +90,16 @@ pub(crate) fn kernel_copies<R: Threads + Sync, G: Gate + Sync>(
     let points = points.as_slice();
     let slice = kernel.slice.body.as_slice();
     let mut copies = activated_for_slice(rt, alloc, stores, points, slice, workers, gate)?;
-    let landed = land_points(alloc, stores, &copies, points, kernel.code.body.as_slice())?;
+    let landed = raced_points(
+        rt,
+        alloc,
+        stores,
+        &copies,
+        points,
+        kernel.code.body.as_slice(),
+        workers,
+        gate,
+    )?;
     take_copies(&mut copies, landed);
     Ok(copies)
 }

@@ -1,7 +1,7 @@
 //! The turns of a run, and the layouts into which they want to write.
 
 ghost use Rattle.std.specs.Prelude.{◌≡◌, ◌==◌, [], false, filter};
-ghost use Rattle.sg_exec.specs.steps.Turning.{count_of, WantsNone, BlockWantsNone, InstWantsNone};
+ghost use Rattle.sg_exec.specs.steps.Turning.{count_of, WantsNone, BlockWantsNone, InstWantsNone, BlockSeeksNone, InstSeeksNone};
 
 use sg_coord::Coord;
 use sg_flat::Write;
@@ -84,6 +84,45 @@ fn inst_wants(inst: &Inst, layout: u32) -> bool
             hi: _hi,
             body,
         } => block_wants(body.as_slice(), layout),
+        _ => false,
+    }
+}
+
+/// Whether a block has an instruction that wants a coordinate, of any layout and however deep it stands. Where the answer is no, it wants none.
+#[cycle(seeking)]
+pub(crate) fn block_seeks(block: &[Inst]) -> bool
+    ensures { result ≡ false → BlockSeeksNone block.now }
+{
+    for inst in block {
+        if inst_seeks(inst) {
+            return true;
+        }
+    }
+    false
+}
+
+/// The same of an instruction, with those in it.
+#[cycle(seeking)]
+fn inst_seeks(inst: &Inst) -> bool
+    ensures { result ≡ false → InstSeeksNone inst.now }
+{
+    match inst {
+        Inst::Want {
+            layout: _layout,
+            index: _index,
+            stmt: _stmt,
+        } => true,
+        Inst::If {
+            cond: _cond,
+            yes,
+            no,
+        } => { block_seeks(yes.as_slice()) || block_seeks(no.as_slice()) }
+        Inst::For {
+            var: _var,
+            lo: _lo,
+            hi: _hi,
+            body,
+        } => block_seeks(body.as_slice()),
         _ => false,
     }
 }

@@ -40,6 +40,7 @@ impl<'a> View<'a> {
     }
 
     /// The store of a layout, from 0; none where there is no such layout.
+    #[inline(always)]
     pub fn get(&self, layout: u32) -> Option<&'a Store>
         ensures value { option_map (λ store. store.now) result ≡ slice_get self.now layout }
     {
@@ -52,6 +53,7 @@ impl<'a> View<'a> {
 }
 
 /// The copy with a number, or else the store.
+#[inline(always)]
 fn copy_or<'a>(copies: &'a [Option<Store>], number: usize, store: &'a Store) -> &'a Store
     ensures { result.now ≡ unwrap_or (get_or copies.now number None) store.now }
 {

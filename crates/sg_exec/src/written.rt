@@ -42,6 +42,7 @@ impl Written {
     }
 
     /// Adds a write.
+    #[inline(always)]
     pub fn push(&mut self, write: CellWrite) -> Result<(), Memory>
         ensures ok { OnOk result (self.new ≡ self.old ++ write ∷ []) }
         ensures err { OnErr result (self.new ≡ self.old) }
@@ -60,6 +61,7 @@ impl Written {
     }
 
     /// The last own write to a field.
+    #[inline(always)]
     pub fn own_write(&self, layout: u32, place: u32) -> Option<CellWrite>
         ensures { result ≡ own_write layout place self.now }
     {
@@ -88,6 +90,7 @@ impl Written {
 }
 
 /// Puts an own write in the place of the one to the same field, or behind all where there is none.
+#[inline(always)]
 fn remember(own: &mut Vec<CellWrite>, write: CellWrite) -> Result<(), Memory>
     ensures ok { OnOk result (own.new.items ≡ replaced write own.old.items) }
     ensures err { OnErr result (own.new.items ≡ own.old.items) }
@@ -103,6 +106,7 @@ fn remember(own: &mut Vec<CellWrite>, write: CellWrite) -> Result<(), Memory>
 }
 
 /// Whether a write is an own write to this field.
+#[inline(always)]
 fn is_own_to(write: &CellWrite, layout: u32, place: u32) -> bool
     ensures { result ≡ is_own_to layout place write.now }
 {
@@ -110,12 +114,14 @@ fn is_own_to(write: &CellWrite, layout: u32, place: u32) -> bool
 }
 
 /// Whether two writes are to one field.
+#[inline(always)]
 fn is_same_field(write: &CellWrite, other: &CellWrite) -> bool
     ensures { result ≡ is_same_field write.now other.now }
 {
     write.layout == other.layout && write.place == other.place
 }
 
+#[inline(always)]
 fn is_own(way: Way) -> bool
     ensures { result ≡ is_own way }
 {

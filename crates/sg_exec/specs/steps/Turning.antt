@@ -58,6 +58,14 @@ InstWantsNone layout inst = (seen : Seen) (now : Moved) → wants_for layout (do
 abbrev pub BlockWantsNone : ℕ → List Inst → Type 0
 BlockWantsNone layout block = (seen : Seen) (now : Moved) → wants_for layout (runs seen block now) ≡ wants_for layout now
 
+-- an instruction wants nothing in any layout
+abbrev pub InstSeeksNone : Inst → Type 0
+InstSeeksNone inst = (layout : ℕ) → InstWantsNone layout inst
+
+-- a block wants nothing in any layout
+abbrev pub BlockSeeksNone : List Inst → Type 0
+BlockSeeksNone block = (layout : ℕ) → BlockWantsNone layout block
+
 -- turns want nothing in a layout
 abbrev pub WantsNone : Turns → ℕ → Type 0
 WantsNone (Slice points block) layout = BlockWantsNone layout block.now

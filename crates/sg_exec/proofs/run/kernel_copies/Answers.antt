@@ -2,11 +2,13 @@ use Rattle.std.proofs.Common.{◌≡◌, ◌∙◌, List, Option, map, inl, inr,
 use Rattle.sg_flat.specs.Effects.{writes_of}
 use Rattle.sg_store.specs.StoreWords.{StoreWords}
 use Rattle.sg_ir.specs.declared.code.Inst.{Inst}
+use Rattle.sg_ir.specs.Apt.{uses_in}
 use Rattle.sg_exec.specs.Standing.{shapes_of}
 use Rattle.sg_exec.specs.Running.{code_turn, run_meaning}
 use Rattle.sg_exec.specs.steps.Machines.{Sees}
 use Rattle.sg_exec.specs.steps.Moments.{AreNamedAt, slice_turn}
 use Rattle.sg_exec.specs.steps.Landing.{current, AreTurnsOf, Lands}
+use Rattle.sg_exec.specs.steps.Passes.{WritesOneWay}
 use Rattle.sg_exec.specs.steps.Turning.{wants_from, TurnsActivated}
 use Rattle.sg_exec.proofs.Kernels.{KernelLaws, slice_is_named, code_is_named, turns_are, kernel_outside, kernel_full, kernel_ran}
 use Rattle.sg_exec.proofs.Seeing.{sees_reached, named_over, turns_over}
@@ -57,5 +59,5 @@ returns-clause-ran g c = λ runnable state all.
     kernel_ran laws stores state kept points all runnable are (wants_from 0 stores slices) mids _ (ran.0, wanted) ran.1 c.in_ok-copies.ensures.shapes
     (subst (λ (news : List StoreWords). Lands mids news (writes_of (map turn points))) (sym (c.take_copies.ensures.copies stores (sym c.in_ok-copies.ensures.room)))
     (subst (λ (ms : List StoreWords). Lands ms (current c.in_ok-landed.landed.items ms) (writes_of (map turn points))) lent
-    (c.in_ok-landed.ensures.lands state (subst (λ (ms : List StoreWords). Sees ms state) (sym lent) sees) (named_over stores held state c.as_slice.result.now points shapes code_named) turn
+    (c.in_ok-landed.ensures.lands (subst (λ (block : List Inst). WritesOneWay (uses_in block)) (sym c.as_slice.ensures) runnable.apt.ways.one_way) state (subst (λ (ms : List StoreWords). Sees ms state) (sym lent) sees) (named_over stores held state c.as_slice.result.now points shapes code_named) turn
     (turns_over stores held state c.as_slice.result.now points turn shapes turns))))

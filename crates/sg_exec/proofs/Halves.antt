@@ -1,0 +1,209 @@
+-- What hands of workers have, put together.
+use Rattle.std.proofs.Common.{◌≡◌, ℕ, zero, suc, ◌+◌, ◌-◌, ◌/◌, ◌<◌, ◌≤◌, List, [], ◌∷◌, ◌++◌, length, map, take, drop, Result, Ok, Err, refl, sym, ap, ◌∙◌, subst, arith, append_assoc}
+use Rattle.std.specs.Prelude.{IfOk, IfSome}
+use Rattle.std.specs.List.{flat_map}
+use Rattle.std.proofs.Math.Nat.{mul-le-mul_right}
+use Rattle.std.proofs.lemmas.List.{append-nil, drop-drop, map-append}
+use Rattle.std.proofs.lemmas.List.Elements.{All-append}
+use Rattle.std.proofs.lemmas.Option.{slice_get_within}
+use Rattle.sg_coord.specs.Slices.{slice_start}
+use Rattle.sg_words.specs.declared.memory.Memory.{Memory}
+use Rattle.sg_store.specs.StoreWords.{StoreWords}
+use Rattle.sg_flat.specs.declared.state.FlatState.{FlatState}
+use Rattle.sg_exec.specs.steps.Machines.{AreCells, IsCellOf}
+use Rattle.sg_coord.specs.declared.coord.Coord.{Coord}
+use Rattle.sg_words.specs.declared.race.Worker.{Worker}
+use Rattle.sg_words.specs.RaceMachine.{after_split, other_half, after_join}
+use Rattle.sg_words.specs.RaceInvariant.{weight}
+use Rattle.sg_accum.specs.declared.seat.AccSeat.{AccSeat}
+use Rattle.sg_accum.specs.Folding.{worker_of}
+use Rattle.sg_exec.specs.declared.cell_write.CellWrite.{CellWrite}
+use Rattle.sg_exec.specs.declared.shared.Accumulated.{Accumulated}
+use Rattle.sg_exec.specs.declared.shared.Owned.{Owned}
+use Rattle.sg_exec.specs.declared.hand.Hand.{Hand}
+use Rattle.sg_exec.specs.steps.Racing.{contributions, last_own, between, AreSeats, HaveGiven, HaveShares, HasWorked, HasRun, AreSplit, AreJoined, IsDivided, IsOfBoth}
+use Rattle.sg_exec.proofs.Giving.{at_below, contributions-append}
+
+abbrev pub Writes : Type 0
+Writes = List CellWrite
+
+abbrev pub joined_writes : List Writes → Writes
+joined_writes turns = flat_map (λ (ws : Writes). ws) turns
+
+pub flat-append : {X A : Type 0} (f : X → List A) (xs ys : List X) → flat_map f (xs ++ ys) ≡ flat_map f xs ++ flat_map f ys
+flat-append f [] ys = refl
+flat-append {X} {A} f (x ∷ xs) ys = ap (λ (zs : List A). f x ++ zs) (flat-append f xs ys) ∙ sym (append_assoc (f x) (flat_map f xs) (flat_map f ys))
+
+-- ---- shares
+
+pub half_left : (share workers : ℕ) → workers ≤ share → workers - workers / 2 ≤ share - share / 2
+half_left share workers more = omega arith
+
+pub half_right : (share workers : ℕ) → workers ≤ share → workers / 2 ≤ share / 2
+half_right share workers more = omega arith
+
+pub shares_left : (accumulated : List Accumulated) (olds nows others : List AccSeat) (workers half : ℕ) → half ≡ workers / 2 → AreSeats accumulated olds → AreSeats accumulated nows → AreSeats accumulated others → AreSplit olds nows others
+    → HaveShares workers olds → HaveShares (workers - half) nows
+shares_left accumulated olds nows others workers half is was are also split shares = λ k now at.
+    let below : k < length nows = slice_get_within nows k now at in
+    let a = was.long in let b = are.long in let c = also.long in
+    let old = at_below olds k (omega arith) in
+    let other = at_below others k (omega arith) in
+    let one = split k old.0 now other.0 old.1 at other.1 in
+    subst (λ (h : ℕ). workers - h ≤ (worker_of now).share) (sym is)
+    (subst (λ (w : Worker). workers - workers / 2 ≤ w.share) (sym one.now_is) (half_left (worker_of old.0).share workers (shares k old.0 old.1)))
+
+pub shares_right : (accumulated : List Accumulated) (olds nows others : List AccSeat) (workers half : ℕ) → half ≡ workers / 2 → AreSeats accumulated olds → AreSeats accumulated nows → AreSeats accumulated others → AreSplit olds nows others
+    → HaveShares workers olds → HaveShares half others
+shares_right accumulated olds nows others workers half is was are also split shares = λ k other at.
+    let below : k < length others = slice_get_within others k other at in
+    let a = was.long in let b = are.long in let c = also.long in
+    let old = at_below olds k (omega arith) in
+    let now = at_below nows k (omega arith) in
+    let one = split k old.0 now.0 other old.1 now.1 at in
+    subst (λ (h : ℕ). h ≤ (worker_of other).share) (sym is)
+    (subst (λ (w : Worker). workers / 2 ≤ w.share) (sym one.other_is) (half_right (worker_of old.0).share workers (shares k old.0 old.1)))
+
+pub two_shares : (workers : ℕ) (seats : List AccSeat) → 2 ≤ workers → HaveShares workers seats → HaveShares 2 seats
+two_shares workers seats more shares = λ k seat at. let h = shares k seat at in omega arith
+
+-- ---- what two halves gave
+
+-- the shares of a split come back at the join
+weight_back : (old left right : Worker) → weight left ≡ weight (after_split old) → weight right ≡ weight (other_half old) → weight (after_join left right) ≡ weight old
+weight_back old left right l r =
+    let first : left.share + left.back ≡ (old.share - old.share / 2) + old.back = l in
+    let second : right.share + right.back ≡ old.share / 2 + 0 = r in
+    let whole : left.share + (left.back + (right.share + right.back)) ≡ old.share + old.back = omega arith in
+    whole
+
+module _ (accumulated : List Accumulated) (olds nows others lefts rights afters : List AccSeat) (split : AreSplit olds nows others) (join : AreJoined lefts rights afters)
+    (was : AreSeats accumulated olds) (are : AreSeats accumulated nows) (also : AreSeats accumulated others) (left_are : AreSeats accumulated lefts) (right_are : AreSeats accumulated rights) where
+  pub gave_both : (xs ys : Writes) → HaveGiven accumulated xs nows lefts → HaveGiven accumulated ys others rights → HaveGiven accumulated (xs ++ ys) olds afters
+  gave_both xs ys first second = λ k it old after is old_at after_at.
+      let below : k < length accumulated = slice_get_within accumulated k it is in
+      let a = was.long in let b = are.long in let c = also.long in let d = left_are.long in let e = right_are.long in
+      let now = at_below nows k (omega arith) in
+      let other = at_below others k (omega arith) in
+      let left = at_below lefts k (omega arith) in
+      let right = at_below rights k (omega arith) in
+      let one = split k old now.0 other.0 old_at now.1 other.1 in
+      let l = first k it now.0 left.0 is now.1 left.1 in
+      let r = second k it other.0 right.0 is other.1 right.1 in
+      let j = join k left.0 right.0 after left.1 right.1 after_at in
+      record {
+        given = ap (λ (w : Worker). w.given) j
+            ∙ ap (λ (g : List (ℕ × ℕ)). g ++ (worker_of right.0).given) (l.given ∙ ap (λ (w : Worker). w.given ++ contributions it.layout it.field xs) one.now_is)
+            ∙ ap (λ (g : List (ℕ × ℕ)). ((worker_of old).given ++ contributions it.layout it.field xs) ++ g) (r.given ∙ ap (λ (w : Worker). w.given ++ contributions it.layout it.field ys) one.other_is)
+            ∙ append_assoc (worker_of old).given (contributions it.layout it.field xs) (contributions it.layout it.field ys)
+            ∙ ap (λ (g : List (ℕ × ℕ)). (worker_of old).given ++ g) (sym (contributions-append it.layout it.field xs ys));
+        weight_is = ap weight j ∙ weight_back (worker_of old) (worker_of left.0) (worker_of right.0) (l.weight_is ∙ ap weight one.now_is) (r.weight_is ∙ ap weight one.other_is);
+      }
+
+-- ---- pieces of a list
+
+take_none : {A : Type 0} (n : ℕ) → take {A = A} n [] ≡ []
+take_none zero = refl
+take_none (suc n) = refl
+
+take_split : (a b : ℕ) (xs : List Coord) → take a xs ++ take b (drop a xs) ≡ take (a + b) xs
+take_split zero b xs = ap (λ (n : ℕ). take n xs) (sym (zero_plus b))
+  where
+    zero_plus : (n : ℕ) → 0 + n ≡ n
+    zero_plus n = omega arith
+take_split (suc a) b [] = take_none b ∙ sym (take_none (suc a + b))
+take_split (suc a) b (x ∷ xs) =
+    ap (λ (ys : List Coord). x ∷ ys) (take_split a b xs) ∙ ap (λ (n : ℕ). take n (x ∷ xs)) (next a b)
+  where
+    next : (m n : ℕ) → suc (m + n) ≡ suc m + n
+    next m n = omega arith
+
+pub between-more : (from mid to : ℕ) (points : List Coord) → from ≤ mid → mid ≤ to → between from mid points ++ between mid to points ≡ between from to points
+between-more from mid to points first second =
+    let there : from + (mid - from) ≡ mid = omega arith in
+    let whole : (mid - from) + (to - mid) ≡ to - from = omega arith in
+    ap (λ (ps : List Coord). take (mid - from) (drop from points) ++ take (to - mid) ps) (ap (λ (n : ℕ). drop n points) (sym there) ∙ sym (drop-drop (mid - from) from points))
+    ∙ take_split (mid - from) (to - mid) (drop from points)
+    ∙ ap (λ (n : ℕ). take n (drop from points)) whole
+
+-- ---- hands
+
+pub worked_nothing : (accumulated : List Accumulated) (owned : List Owned) (hand : Hand) → HaveGiven accumulated [] hand.seats.items hand.seats.items → HasWorked accumulated owned [] hand hand
+worked_nothing accumulated owned hand gave = record { gave = gave; puts = sym (append-nil hand.puts.items) }
+
+pub worked_next : (accumulated : List Accumulated) (owned : List Owned) (turns : List Writes) (writes : Writes) (old mid now : Hand) → HasWorked accumulated owned turns old mid
+    → HaveGiven accumulated (joined_writes turns ++ writes) old.seats.items now.seats.items → now.puts.items ≡ mid.puts.items ++ last_own owned writes
+    → HasWorked accumulated owned (turns ++ writes ∷ []) old now
+worked_next accumulated owned turns writes old mid now worked gave puts = record {
+  gave = subst (λ (ws : Writes). HaveGiven accumulated ws old.seats.items now.seats.items)
+      (ap (λ (ws : Writes). joined_writes turns ++ ws) (sym (append-nil writes)) ∙ sym (flat-append (λ (ws : Writes). ws) turns (writes ∷ []))) gave;
+  puts = puts ∙ ap (λ (ps : Writes). ps ++ last_own owned writes) worked.puts
+      ∙ append_assoc old.puts.items (flat_map (last_own owned) turns) (last_own owned writes)
+      ∙ ap (λ (ps : Writes). old.puts.items ++ ps)
+      (ap (λ (ps : Writes). flat_map (last_own owned) turns ++ ps) (sym (append-nil (last_own owned writes))) ∙ sym (flat-append (last_own owned) turns (writes ∷ [])));
+}
+
+pub cells_both : (stores : List StoreWords) (xs ys : List Writes) → AreCells stores (joined_writes xs) → AreCells stores (joined_writes ys) → AreCells stores (joined_writes (xs ++ ys))
+cells_both stores xs ys first second =
+    subst (λ (ws : Writes). AreCells stores ws) (sym (flat-append (λ (ws : Writes). ws) xs ys))
+    (All-append (λ (write : CellWrite). IfSome write.cell (IsCellOf stores write.layout)) (joined_writes xs) (joined_writes ys) first second)
+
+module _ (accumulated : List Accumulated) (owned : List Owned) (old now other left right after : Hand) (split : AreSplit old.seats.items now.seats.items other.seats.items) (join : AreJoined left.seats.items right.seats.items after.seats.items)
+    (was : AreSeats accumulated old.seats.items) (are : AreSeats accumulated now.seats.items) (also : AreSeats accumulated other.seats.items) (left_are : AreSeats accumulated left.seats.items) (right_are : AreSeats accumulated right.seats.items)
+    (kept : now.puts.items ≡ old.puts.items) (none : other.puts.items ≡ []) (puts : after.puts.items ≡ left.puts.items ++ right.puts.items) where
+  pub worked_both : (xs ys : List Writes) → HasWorked accumulated owned xs now left → HasWorked accumulated owned ys other right → HasWorked accumulated owned (xs ++ ys) old after
+  worked_both xs ys first second = record {
+    gave = subst (λ (ws : Writes). HaveGiven accumulated ws old.seats.items after.seats.items) (sym (flat-append (λ (ws : Writes). ws) xs ys))
+        (gave_both accumulated old.seats.items now.seats.items other.seats.items left.seats.items right.seats.items after.seats.items split join was are also left_are right_are (joined_writes xs) (joined_writes ys) first.gave second.gave);
+    puts = puts ∙ ap (λ (ps : Writes). ps ++ right.puts.items) (first.puts ∙ ap (λ (ps : Writes). ps ++ flat_map (last_own owned) xs) kept)
+        ∙ ap (λ (ps : Writes). (old.puts.items ++ flat_map (last_own owned) xs) ++ ps) (second.puts ∙ ap (λ (ps : Writes). ps ++ flat_map (last_own owned) ys) none)
+        ∙ append_assoc old.puts.items (flat_map (last_own owned) xs) (flat_map (last_own owned) ys)
+        ∙ ap (λ (ps : Writes). old.puts.items ++ ps) (sym (flat-append (last_own owned) xs ys));
+  }
+
+-- what both halves did is what the whole does
+pub joined_run : (P : FlatState → Type 0) (accumulated : List Accumulated) (owned : List Owned) (stores : List StoreWords) (old now other : Hand) (xs ys zs : FlatState → List Writes) (left right result : Result Hand Memory)
+    → ((s : FlatState) → xs s ++ ys s ≡ zs s) → IsDivided old now other → AreSeats accumulated old.seats.items → AreSeats accumulated now.seats.items → AreSeats accumulated other.seats.items
+    → IfOk left (λ h. AreSeats accumulated h.seats.items × AreCells stores h.puts.items × HasRun stores accumulated owned P xs now h)
+    → IfOk right (λ h. AreSeats accumulated h.seats.items × AreCells stores h.puts.items × HasRun stores accumulated owned P ys other h)
+    → IfOk result (IsOfBoth left right) → IfOk result (HasRun stores accumulated owned P zs old)
+joined_run P accumulated owned stores old now other xs ys zs left right (Err e) whole divided was are also first second both = tt
+joined_run P accumulated owned stores old now other xs ys zs left right (Ok after) whole divided was are also first second both =
+    let l = subst (λ (r : Result Hand Memory). IfOk r (λ h. AreSeats accumulated h.seats.items × AreCells stores h.puts.items × HasRun stores accumulated owned P xs now h)) both.left_is first in
+    let r = subst (λ (r : Result Hand Memory). IfOk r (λ h. AreSeats accumulated h.seats.items × AreCells stores h.puts.items × HasRun stores accumulated owned P ys other h)) both.right_is second in
+    record {
+      turns = l.2.turns ++ r.2.turns;
+      worked = worked_both accumulated owned old now other both.hand both.other after divided.split both.seats_join was are also l.0 r.0 divided.kept divided.none both.puts_are l.2.turns r.2.turns l.2.worked r.2.worked;
+      cells = cells_both stores l.2.turns r.2.turns l.2.cells r.2.cells;
+      are = λ s p. ap (λ (ts : List Writes). ts ++ r.2.turns) (l.2.are s p) ∙ ap (λ (ts : List Writes). xs s ++ ts) (r.2.are s p) ∙ whole s;
+    }
+
+starts_rise : (len workers v w : ℕ) → v ≤ w → slice_start len workers v ≤ slice_start len workers w
+starts_rise len workers v w below = omega (arith, mul-le-mul_right (len / workers) below)
+
+-- the points of two ranges of workers are those of both
+pub workers_points : {X : Type 0} (f : Coord → X) (points : List Coord) (workers first mid more : ℕ) {last : ℕ} → mid + more ≡ last → first ≤ mid
+    → map f (between (slice_start (length points) workers first) (slice_start (length points) workers mid) points)
+    ++ map f (between (slice_start (length points) workers mid) (slice_start (length points) workers (mid + more)) points)
+    ≡ map f (between (slice_start (length points) workers first) (slice_start (length points) workers last) points)
+workers_points f points workers first mid more {last} is below =
+    let a = slice_start (length points) workers first in
+    let b = slice_start (length points) workers mid in
+    let c = slice_start (length points) workers (mid + more) in
+    sym (map-append f (between a b points) (between b c points))
+    ∙ ap (map f) (between-more a b c points (starts_rise (length points) workers first mid below) (starts_rise (length points) workers mid (mid + more) (omega arith)))
+    ∙ ap (λ (n : ℕ). map f (between a (slice_start (length points) workers n) points)) is
+
+pub if_first_two : (accumulated : List Accumulated) (stores : List StoreWords) (C : Hand → Type 0) (r : Result Hand Memory) → IfOk r (λ h. AreSeats accumulated h.seats.items × AreCells stores h.puts.items × C h)
+    → IfOk r (λ h. AreSeats accumulated h.seats.items × AreCells stores h.puts.items)
+if_first_two accumulated stores C (Ok h) all = (all.0, all.1)
+if_first_two accumulated stores C (Err e) all = tt
+
+pub of_both : (left right result : Result Hand Memory) (hand other : Hand) → left ≡ Ok hand → right ≡ Ok other → IfOk result (λ after. AreJoined hand.seats.items other.seats.items after.seats.items)
+    → IfOk result (λ after. after.puts.items ≡ hand.puts.items ++ other.puts.items) → IfOk result (IsOfBoth left right)
+of_both left right (Err e) hand other l r seats puts = tt
+of_both left right (Ok after) hand other l r seats puts = record { hand = hand; other = other; left_is = l; right_is = r; seats_join = seats; puts_are = puts }
+
+-- one worker's iterations are those of so many workers where that is one
+pub one_worker : (C : ℕ → Hand → Type 0) (workers : ℕ) (result : Result Hand Memory) → 1 ≤ workers → workers < 2 → IfOk result (C 1) → IfOk result (C workers)
+one_worker C workers result some few is = let one : 1 ≡ workers = omega arith in subst (λ (n : ℕ). IfOk result (C n)) one is

@@ -1,0 +1,80 @@
+-- A hand after all iterations of a run.
+use Rattle.std.proofs.Common.{◌≡◌, ℕ, ◌+◌, ◌-◌, ◌≤◌, List, [], map, length, take, Option, Result, Ok, Err, sym, ap, ◌∙◌, subst, arith}
+use Rattle.std.specs.Prelude.{slice_get, IfOk}
+use Rattle.std.proofs.lemmas.List.{take_all}
+use Rattle.std.proofs.lemmas.Option.{same_Some}
+use Rattle.sg_words.specs.declared.memory.Memory.{Memory}
+use Rattle.sg_words.specs.declared.race.Worker.{Worker}
+use Rattle.sg_coord.specs.declared.coord.Coord.{Coord}
+use Rattle.sg_coord.specs.Slices.{slice_start, IsPartition}
+use Rattle.sg_flat.specs.declared.effects.Write.{Write}
+use Rattle.sg_accum.specs.declared.seat.AccSeat.{AccSeat}
+use Rattle.sg_store.specs.StoreWords.{StoreWords, word_in}
+use Rattle.sg_ir.specs.declared.code.Inst.{Inst}
+use Rattle.sg_ir.specs.Apt.{uses_in}
+use Rattle.sg_exec.specs.declared.shared.Accumulated.{Accumulated}
+use Rattle.sg_exec.specs.declared.shared.Owned.{Owned}
+use Rattle.sg_exec.specs.declared.hand.Hand.{Hand}
+use Rattle.sg_exec.specs.steps.Machines.{AreCells}
+use Rattle.sg_exec.specs.steps.Landing.{current, Lands}
+use Rattle.sg_exec.specs.steps.Racing.{between, wrote, AreSeats, HaveShares}
+use Rattle.sg_exec.specs.steps.Passes.{HaveFields, AreGiven, IsFresh, passed}
+use Rattle.sg_exec.specs.steps.Working.{HasRunAt, HasRaced}
+use Rattle.sg_exec.proofs.CellsLanded.{landings_are}
+use Rattle.sg_exec.proofs.PassesLanded.{turns_writes}
+use Rattle.sg_exec.proofs.RacedRun.{are_whole, gave_reached, are_given, puts_are, raced_lands, turn_is, turn_used, turn_own}
+
+-- the first seats have all shares
+pub all_shares : (stores : List StoreWords) (code : List Inst) (accumulated : List Accumulated) (seats : List AccSeat) (owned : List Owned) (workers : ℕ) → HaveFields stores (uses_in code) accumulated seats owned → workers ≤ 16 → HaveShares workers seats
+all_shares stores code accumulated seats owned workers have few = λ k seat at. subst (λ (w : Worker). workers ≤ w.share) (sym (have.new k seat at)) few
+
+-- the points of all workers
+all_points : (points : List Coord) (workers : ℕ) → IsPartition (length points) workers → between (slice_start (length points) workers 0) (slice_start (length points) workers (0 + workers)) points ≡ points
+all_points points workers parts =
+    let zero_plus : 0 + workers ≡ workers = omega arith in
+    let none : length points - 0 ≡ length points = omega arith in
+    ap (λ (n : ℕ). between (slice_start (length points) workers 0) (slice_start (length points) workers n) points) zero_plus
+    ∙ ap (λ (n : ℕ). between n (slice_start (length points) workers workers) points) parts.first
+    ∙ ap (λ (n : ℕ). between 0 n points) parts.last
+    ∙ ap (λ (n : ℕ). take n points) none
+    ∙ take_all (length points) points (omega arith)
+
+module _ (stores : List StoreWords) (code : List Inst) (points : List Coord) (accumulated : List Accumulated) (owned : List Owned) (workers : ℕ) (old : Hand) (have : HaveFields stores (uses_in code) accumulated old.seats.items owned) (none : old.puts.items ≡ [])
+    (parts : IsPartition (length points) workers) where
+  raced : (after : Hand) → AreSeats accumulated after.seats.items → AreCells stores after.puts.items
+      → HasRunAt stores code points (between (slice_start (length points) workers 0) (slice_start (length points) workers (0 + workers)) points) accumulated owned old after → HasRaced stores code points accumulated after
+  raced after seats cells ran = record {
+    seats = seats;
+    cells = cells;
+    whole = are_whole stores (uses_in code) accumulated owned _ _ old after have seats ran;
+    reached = gave_reached stores (uses_in code) accumulated owned _ _ old after have seats ran;
+    turns = λ one_way state sees named turn are.
+        let turns_are : ran.turns ≡ map (wrote stores state code) points = ran.are state (sees, named) ∙ ap (map (wrote stores state code)) (all_points points workers parts) in
+        let whole = turns_writes turn points in
+        let given = are_given stores (uses_in code) accumulated owned _ _ old after have seats ran one_way (λ (at : Coord). (turn at).writes) points (wrote stores state code) turns_are
+        (λ at has. landings_are stores _ (turn at).writes (turn_is stores state code points turn are at has)) (turn_used stores state code points turn are) (turn_own stores state code points turn are) in
+        let puts = puts_are stores (uses_in code) accumulated owned _ _ old after have seats ran one_way (λ (at : Coord). (turn at).writes) points (wrote stores state code) turns_are
+        (λ at has. landings_are stores _ (turn at).writes (turn_is stores state code points turn are at has)) (turn_used stores state code points turn are) (turn_own stores state code points turn are) none in
+        record {
+          given = subst (λ (ws : List Write). AreGiven stores accumulated after.seats.items ws) (sym whole) given;
+          lands = λ mids news first second.
+              subst (λ (ws : List Write). Lands stores news ws) (sym whole)
+              (raced_lands stores (uses_in code) accumulated owned _ _ old after have seats ran one_way (λ (at : Coord). (turn at).writes) points (wrote stores state code) turns_are
+              (λ at has. landings_are stores _ (turn at).writes (turn_is stores state code points turn are at has)) (turn_used stores state code points turn are) (turn_own stores state code points turn are)
+              mids news (subst (λ (ws : List Write). Lands stores mids (passed accumulated ws)) whole first) (second _ puts));
+        };
+  }
+
+  pub if_raced : (result : Result Hand Memory) → IfOk result (λ after. AreSeats accumulated after.seats.items) → IfOk result (λ after. AreCells stores after.puts.items)
+      → IfOk result (HasRunAt stores code points (between (slice_start (length points) workers 0) (slice_start (length points) workers (0 + workers)) points) accumulated owned old) → IfOk result (HasRaced stores code points accumulated)
+  if_raced (Ok after) seats cells ran = raced after seats cells ran
+  if_raced (Err e) seats cells ran = tt
+
+pub if_ok : {A E : Type 0} (P Q : A → Type 0) (result : Result A E) → ((a : A) → P a → Q a) → IfOk result P → IfOk result Q
+if_ok P Q (Ok a) step is = step a is
+if_ok P Q (Err e) step is = tt
+
+-- where there are no copies all is as before
+pub fresh_none : (stores : List StoreWords) (copies : List (Option StoreWords)) (layout field : ℕ) → current copies stores ≡ stores → IsFresh stores copies layout field
+fresh_none stores copies layout field none = λ store copy at copy_at cell.
+    ap (λ (s : StoreWords). word_in s field cell) (same_Some _ _ (sym copy_at ∙ ap (λ (l : List StoreWords). slice_get l layout) none ∙ at))

@@ -1,0 +1,10 @@
+use Rattle.std.proofs.Common.{◌≡◌, ◌++◌, take}
+use Rattle.sg_exec.specs.steps.Machines.{AreCells}
+use Rattle.sg_exec.specs.steps.Racing.{last_own}
+use Rattle.sg_exec.proofs.contributions.put_all.Given as goal
+
+abbrev pub invariant-loop-own : goal.invariant-loop-own
+invariant-loop-own l = record {
+  puts : l.puts.items ≡ l.fn.puts.items ++ last_own (take l.own-index l.owned) l.places.writes;
+  cells : AreCells l.places.stores l.fn.puts.items → AreCells l.places.stores l.puts.items;
+}

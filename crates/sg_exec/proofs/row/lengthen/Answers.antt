@@ -1,0 +1,7 @@
+use Rattle.std.proofs.Common.{◌≡◌, length, rules, refl}
+use Rattle.sg_exec.proofs.row.lengthen.Goals as goal
+
+pub loop-size-init : goal.loop-size-init
+loop-size-init g c =
+    let long : length c.args.row.now.items ≡ c.len-size.result = search rules in
+    record { size = long; same = λ number. refl }
