@@ -1,5 +1,5 @@
 -- A store that changes, and what all stores stand for then.
-use Rattle.std.proofs.Common.{◌≡◌, ℕ, zero, suc, List, [], ◌∷◌, map, Option, Some, None, Result, refl, sym, ap, ◌∙◌, subst}
+use Rattle.std.proofs.Common.{◌≡◌, ℕ, zero, suc, List, [], ◌∷◌, map, Option, Some, None, refl, sym, ap, ◌∙◌, subst}
 use Rattle.std.specs.Prelude.{slice_get, slice_set}
 use Rattle.std.specs.List.{AllZip}
 use Rattle.sg_layout.specs.declared.shape.Shape.{Shape}
@@ -8,15 +8,8 @@ use Rattle.sg_flat.specs.declared.state.FlatState.{FlatState}
 use Rattle.sg_store.specs.StoreWords.{StoreWords}
 use Rattle.sg_store.specs.StandsFor.{StandsFor}
 use Rattle.sg_exec.specs.Standing.{StandForState, shapes_of}
-use Rattle.sg_words.specs.declared.memory.Stop.{Stop}
-use Rattle.sg_words.specs.declared.text.Text.{Text}
-use Rattle.sg_outside.specs.Files.{Reading}
-use Rattle.sg_store.specs.Pruning.{pruned}
-use Rattle.sg_session.specs.declared.refusal.RunRefusal.{RunRefusal}
-use Rattle.sg_session.specs.declared.tasks.Task.TheVariants.{Prune, Clear}
-use Rattle.sg_session.specs.Compiled.{CheckedProgram, CompiledProgram, Compiles}
-use Rattle.sg_session.specs.Commands.{changed_at, cleared, without_text, layout_made, task_meaning}
-use Rattle.sg_session.specs.Performed.{Leaves, HasState, Performs}
+use Rattle.sg_session.specs.Commands.{changed_at, without_text, layout_made}
+use Rattle.sg_session.specs.Performed.{Leaves, HasState}
 
 -- a store has changed to another of its shape, as its layout changes
 pub record HasChanged (change : Shape → FlatLayout → FlatLayout) (store now : StoreWords) : Type 0 where
@@ -66,13 +59,3 @@ pub change_stands : (change : Shape → FlatLayout → FlatLayout) (layouts : Li
     → HasState layouts (slice_set stores k now)
 change_stands change layouts stores k store now had there changed =
     (record { layouts = changed_at change layouts had.0.layouts k }, state_changed change layouts stores had.0 k store now had.1 there changed)
-
--- ---- in a program that is compiled to this
-
-pub prune_over : (program : CheckedProgram) (compiled : CompiledProgram) (stores : List StoreWords) (result : Result Text (Stop RunRefusal)) (state : FlatState) (layout : ℕ) (given : Reading) → Compiles program compiled
-    → Performs compiled.layouts stores result (layout_made pruned compiled.layouts state layout) → Performs compiled.layouts stores result (task_meaning program state (Prune layout) given)
-prune_over program compiled stores result state layout given compiles h = subst (λ (ls : List Shape). Performs compiled.layouts stores result (layout_made pruned ls state layout)) compiles.layouts h
-
-pub clear_over : (program : CheckedProgram) (compiled : CompiledProgram) (stores : List StoreWords) (result : Result Text (Stop RunRefusal)) (state : FlatState) (layout : ℕ) (given : Reading) → Compiles program compiled
-    → Performs compiled.layouts stores result (layout_made cleared compiled.layouts state layout) → Performs compiled.layouts stores result (task_meaning program state (Clear layout) given)
-clear_over program compiled stores result state layout given compiles h = subst (λ (ls : List Shape). Performs compiled.layouts stores result (layout_made cleared ls state layout)) compiles.layouts h

@@ -12,3 +12,14 @@ mod KernelLines
 mod Numbered
 pub mod Viewing
 pub mod Changing
+mod TasksKept
+pub mod Uses
+mod SameLayouts
+mod SameWorlds
+mod GuardedBodies
+mod WholePoints
+mod NeutralRuns
+mod SameTasks
+mod PlainElses
+mod SamePrograms
+mod SameRuns

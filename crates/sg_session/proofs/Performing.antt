@@ -1,4 +1,4 @@
--- From what a run, a load or a dump over stores answers to the meaning of a task.
+-- From what a run or a dump over stores answers to what a task makes of a state.
 use Rattle.std.proofs.Common.{◌≡◌, ℕ, zero, suc, ◌<◌, List, [], ◌∷◌, map, length, Option, Some, None, Result, Ok, Err, IfOk, refl, sym, ap, ◌∙◌, subst, arith}
 use Rattle.std.specs.Prelude.{slice_get, option_map, OnErr}
 use Rattle.std.specs.List.{AllZip}
@@ -10,10 +10,6 @@ use Rattle.sg_words.specs.declared.memory.Stop.{Stop}
 use Rattle.sg_words.specs.declared.text.Text.{Text}
 use Rattle.sg_layout.specs.declared.shape.Shape.{Shape}
 use Rattle.sg_flat.specs.declared.effects.RunFault.{RunFault}
-use Rattle.sg_flat.specs.declared.effects.Effects.{Effects}
-use Rattle.sg_flat.specs.Kernel.{kernel_meaning}
-use Rattle.sg_flat.specs.State.{AreFlatLayouts, IsFlat}
-use Rattle.sg_types.specs.Iterations.{kernel_effects}
 use Rattle.sg_ir.specs.declared.code.KernelCode.{KernelCode}
 use Rattle.sg_flat.specs.declared.state.FlatLayout.{FlatLayout}
 use Rattle.sg_flat.specs.declared.state.FlatState.{FlatState}
@@ -23,16 +19,12 @@ use Rattle.sg_store.specs.StandsFor.{StandsFor}
 use Rattle.sg_names.specs.declared.tables.FieldAt.{FieldAt}
 use Rattle.sg_words.specs.declared.operators.Ty.{Ty}
 use Rattle.sg_types.specs.WellTyped.{field_in}
-use Rattle.sg_admit.specs.declared.admitted.Admitted.{Admitted}
 use Rattle.sg_grid.specs.Dump.{dump_text}
-use Rattle.sg_outside.specs.Files.{Reading, Missing}
 use Rattle.sg_exec.specs.Standing.{StandForState}
 use Rattle.sg_exec.specs.Running.{run_meaning}
 use Rattle.sg_session.specs.declared.refusal.RunRefusal.{RunRefusal}
 use Rattle.sg_session.specs.declared.refusal.RunRefusal.TheVariants as refusal
-use Rattle.sg_session.specs.declared.tasks.Task.TheVariants.{Load, Run, Dump}
-use Rattle.sg_session.specs.Compiled.{CheckedProgram, CompiledProgram, Compiles, IsCodeOf, world_of}
-use Rattle.sg_session.specs.Commands.{without_text, after_kernel, text_of_field, load_made, dump_made, task_meaning}
+use Rattle.sg_session.specs.Commands.{without_text, after_code, text_of_field, run_made, dump_made}
 use Rattle.sg_session.specs.Performed.{Leaves, HasState, Performs}
 use Rattle.sg_session.proofs.Lists.{then_some, count_map}
 
@@ -68,12 +60,6 @@ leaves_by : (layouts : List Shape) (after : List StoreWords) (text : List ℕ) (
 leaves_by layouts after text tell (Ok state) none h = record { left = without_text state; is = refl; stand = h; text_is = none }
 leaves_by layouts after text tell (Err fault) none h = absurd h
 
--- the run of a kernel that is there
-run_of : (program : CheckedProgram) (state : FlatState) (kernel : ℕ) (admitted : Admitted) → slice_get program.kernels kernel ≡ Some admitted
-    → task_meaning program state (Run kernel) Missing
-    ≡ (fault_as (refusal.Run (Some kernel)) (kernel_meaning program.layouts state (kernel_effects (world_of program.layouts state) admitted.kernel)) >>= (λ state. Ok (without_text state)))
-run_of program state kernel admitted there = ap (λ (o : Option Admitted). fault_as (refusal.Run (Some kernel)) (after_kernel program.layouts state o) >>= (λ state. Ok (without_text state))) there
-
 -- ---- dumps
 
 pub dump_done : (layouts : List Shape) (stores : List StoreWords) (place k : ℕ) (store : StoreWords) (result : Result Text Memory) → slice_get stores k ≡ Some store
@@ -97,75 +83,28 @@ dump_performs layouts stores at (Ok text) h = λ state stand. record {
 }
 dump_performs layouts stores at (Err why) h = tt
 
--- ---- loads and dumps in a program that is compiled to this
-
-pub load_over : (program : CheckedProgram) (compiled : CompiledProgram) (stores : List StoreWords) (result : Result Text (Stop RunRefusal)) (state : FlatState) (at : FieldAt) (given : Reading) → Compiles program compiled
-    → Performs compiled.layouts stores result (load_made compiled.layouts state at given) → Performs compiled.layouts stores result (task_meaning program state (Load at) given)
-load_over program compiled stores result state at given compiles h = subst (λ (ls : List Shape). Performs compiled.layouts stores result (load_made ls state at given)) compiles.layouts h
-
-pub dump_over : (program : CheckedProgram) (compiled : CompiledProgram) (stores : List StoreWords) (result : Result Text (Stop RunRefusal)) (state : FlatState) (at : FieldAt) (given : Reading) → Compiles program compiled
-    → Performs compiled.layouts stores result (dump_made compiled.layouts state at) → Performs compiled.layouts stores result (task_meaning program state (Dump at) given)
-dump_over program compiled stores result state at given compiles h = subst (λ (ls : List Shape). Performs compiled.layouts stores result (dump_made ls state at)) compiles.layouts h
-
 -- ---- runs of code
 
--- the kernel of a code
-pub record HasKernel (program : CheckedProgram) (kernel : ℕ) (code : KernelCode) : Type 0 where
-  pub admitted : Admitted
-  pub there : slice_get program.kernels kernel ≡ Some admitted
-  pub is : IsCodeOf program.layouts admitted code
+module _ (layouts inner : List Shape) (kernels : List KernelCode) (kernel : ℕ) (code : KernelCode) (stores after : List StoreWords) (same : inner ≡ layouts) (there : slice_get kernels kernel ≡ Some code) where
+  -- the run of the code that is there
+  means : (state : FlatState) → run_made kernel (after_code layouts state (slice_get kernels kernel)) ≡ run_made kernel (run_meaning inner state code)
+  means state =
+      ap (λ (o : Option KernelCode). run_made kernel (after_code layouts state o)) there
+      ∙ ap (λ (ls : List Shape). run_made kernel (run_meaning ls state code)) (sym same)
 
-kernel_in : (layouts : List Shape) (kernels : List Admitted) (codes : List KernelCode) (k : ℕ) (code : KernelCode) → AllZip (IsCodeOf layouts) kernels codes → slice_get codes k ≡ Some code
-    → (admitted : Admitted) × (slice_get kernels k ≡ Some admitted) × IsCodeOf layouts admitted code
-kernel_in layouts [] [] k code all e = absurd (cc)
-kernel_in layouts [] (other ∷ codes) k code all e = absurd all
-kernel_in layouts (kernel ∷ kernels) [] k code all e = absurd all
-kernel_in layouts (kernel ∷ kernels) (other ∷ codes) zero code all e = let same : other ≡ code = cc in (kernel, refl, subst (IsCodeOf layouts kernel) same all.0)
-kernel_in layouts (kernel ∷ kernels) (other ∷ codes) (suc k) code all e = kernel_in layouts kernels codes k code all.1 e
-
-has_kernel : (program : CheckedProgram) (compiled : CompiledProgram) (kernel : ℕ) (code : KernelCode) → Compiles program compiled → slice_get compiled.kernels kernel ≡ Some code → HasKernel program kernel code
-has_kernel program compiled kernel code compiles e =
-    let found = kernel_in program.layouts program.kernels compiled.kernels kernel code compiles.kernels e in
-    record { admitted = found.0; there = found.1; is = found.2 }
-
--- stores stand for flat states
-stands_flat : (stores : List StoreWords) (flats : List FlatLayout) → AllZip StandsFor stores flats → AreFlatLayouts (map (λ (s : StoreWords). s.shape) stores) flats
-stands_flat [] [] all = tt
-stands_flat [] (flat ∷ flats) all = absurd all
-stands_flat (store ∷ stores) [] all = absurd all
-stands_flat (store ∷ stores) (flat ∷ flats) all = (all.0.is_flat, stands_flat stores flats all.1)
-
-pub state_flat : (layouts : List Shape) (stores : List StoreWords) (state : FlatState) → StandForState layouts stores state → IsFlat layouts state
-state_flat layouts stores state stand = subst (λ (ls : List Shape). IsFlat ls state) stand.shapes_are (stands_flat stores state.layouts stand.stand)
-
-module _ (program : CheckedProgram) (compiled : CompiledProgram) (inner : List Shape) (kernel : ℕ) (code : KernelCode) (stores after : List StoreWords) (compiles : Compiles program compiled)
-    (same : inner ≡ compiled.layouts) (there : slice_get compiled.kernels kernel ≡ Some code) where
-  layouts_are : inner ≡ program.layouts
-  layouts_are = same ∙ compiles.layouts
-
-  -- the run of the kernel means the run of its code
-  means : (state : FlatState) → StandForState compiled.layouts stores state
-      → task_meaning program state (Run kernel) Missing ≡ (fault_as (refusal.Run (Some kernel)) (run_meaning inner state code) >>= (λ state. Ok (without_text state)))
-  means state stand =
-      let has = has_kernel program compiled kernel code compiles there in
-      let fine : IsFlat program.layouts state = subst (λ (ls : List Shape). IsFlat ls state) compiles.layouts (state_flat compiled.layouts stores state stand) in
-      run_of program state kernel has.admitted has.there
-      ∙ ap (λ (it : Effects). fault_as (refusal.Run (Some kernel)) (kernel_meaning program.layouts state it) >>= (λ state. Ok (without_text state))) (sym (has.is.effects state fine))
-      ∙ ap (λ (ls : List Shape). fault_as (refusal.Run (Some kernel)) (run_meaning ls state code) >>= (λ state. Ok (without_text state))) (sym layouts_are)
+  over : (state : FlatState) → StandForState layouts stores state → StandForState inner stores state
+  over state stand = subst (λ (ls : List Shape). StandForState ls stores state) (sym same) stand
 
   pub run_done_over : (text : List ℕ) → text ≡ [] → ((state : FlatState) → StandForState inner stores state → IsOkAnd (run_meaning inner state code) (StandForState inner after))
-      → (state : FlatState) → StandForState compiled.layouts stores state → Leaves compiled.layouts after text (task_meaning program state (Run kernel) Missing)
+      → (state : FlatState) → StandForState layouts stores state → Leaves layouts after text (run_made kernel (after_code layouts state (slice_get kernels kernel)))
   run_done_over text none h state stand =
-      subst (Leaves compiled.layouts after text) (sym (means state stand))
-      (leaves_by compiled.layouts after text (refusal.Run (Some kernel)) (run_meaning inner state code) none
-      (subst (λ (ls : List Shape). IsOkAnd (run_meaning inner state code) (StandForState ls after)) same (h state (subst (λ (ls : List Shape). StandForState ls stores state) (sym same) stand))))
+      subst (Leaves layouts after text) (sym (means state))
+      (leaves_by layouts after text (refusal.Run (Some kernel)) (run_meaning inner state code) none
+      (subst (λ (ls : List Shape). IsOkAnd (run_meaning inner state code) (StandForState ls after)) same (h state (over state stand))))
 
   pub run_refused_over : (fault : RunFault) → ((state : FlatState) → StandForState inner stores state → run_meaning inner state code ≡ Err fault)
-      → (state : FlatState) → StandForState compiled.layouts stores state → task_meaning program state (Run kernel) Missing ≡ Err (refusal.Run (Some kernel) fault)
-  run_refused_over fault h state stand =
-      means state stand
-      ∙ ap (λ (m : Result FlatState RunFault). fault_as (refusal.Run (Some kernel)) m >>= (λ state. Ok (without_text state)))
-      (h state (subst (λ (ls : List Shape). StandForState ls stores state) (sym same) stand))
+      → (state : FlatState) → StandForState layouts stores state → run_made kernel (after_code layouts state (slice_get kernels kernel)) ≡ Err (refusal.Run (Some kernel) fault)
+  run_refused_over fault h state stand = means state ∙ ap (run_made kernel) (h state (over state stand))
 
 -- ---- what stores stand for after a run
 

@@ -15,11 +15,8 @@ use Rattle.sg_exec.specs.Standing.{StandForState}
 use Rattle.sg_words.specs.declared.memory.Stop.{Stop}
 use Rattle.sg_names.specs.declared.tables.FieldAt.{FieldAt}
 use Rattle.sg_names.specs.Tables.{Tables}
-use Rattle.sg_outside.specs.Files.{Reading}
 use Rattle.sg_session.specs.declared.refusal.RunRefusal.{RunRefusal}
-use Rattle.sg_session.specs.declared.tasks.Task.TheVariants.{Image, Stats}
-use Rattle.sg_session.specs.Compiled.{CheckedProgram, CompiledProgram, Compiles}
-use Rattle.sg_session.specs.Commands.{image_of_field, image_made, counts_of_layout, stats_made, task_meaning}
+use Rattle.sg_session.specs.Commands.{image_of_field, image_made, counts_of_layout}
 use Rattle.sg_session.specs.Performed.{HasState, Performs}
 use Rattle.sg_session.proofs.Lists.{count_map}
 use Rattle.sg_session.proofs.Performing.{stands_at, shape_at}
@@ -50,17 +47,11 @@ has_own_store layouts stores k stand below =
     let many : length (map (λ (s : StoreWords). s.shape) stores) ≡ length layouts = ap length stand.1.shapes_are in
     omega (arith, many, below, count_map (λ (s : StoreWords). s.shape) stores)
 
--- ---- in a program that is compiled to this
+-- ---- bounds
 
-pub image_over : (program : CheckedProgram) (compiled : CompiledProgram) (stores : List StoreWords) (result : Result Text (Stop RunRefusal)) (state : FlatState) (at : FieldAt) (lo hi low high : ℤ) (given : Reading) → Compiles program compiled → low ≡ lo → high ≡ hi
-    → Performs compiled.layouts stores result (image_made compiled.layouts state at low high) → Performs compiled.layouts stores result (task_meaning program state (Image at lo hi) given)
-image_over program compiled stores result state at lo hi low high given compiles low_is high_is h =
-    subst (λ (ls : List Shape). Performs compiled.layouts stores result (image_made ls state at lo hi)) compiles.layouts
-    (subst (λ (z : ℤ). Performs compiled.layouts stores result (image_made compiled.layouts state at lo z)) high_is
-    (subst (λ (z : ℤ). Performs compiled.layouts stores result (image_made compiled.layouts state at z high)) low_is h))
-
-pub stats_over : (program : CheckedProgram) (compiled : CompiledProgram) (stores : List StoreWords) (result : Result Text (Stop RunRefusal)) (state : FlatState) (layout : ℕ) (given : Reading) → Compiles program compiled
-    → Performs compiled.layouts stores result (stats_made compiled.names compiled.layouts state layout) → Performs compiled.layouts stores result (task_meaning program state (Stats layout) given)
-stats_over program compiled stores result state layout given compiles h =
-    subst (λ (ls : List Shape). Performs compiled.layouts stores result (stats_made program.names ls state layout)) compiles.layouts
-    (subst (λ (t : Tables). Performs compiled.layouts stores result (stats_made t compiled.layouts state layout)) compiles.names h)
+-- an image between bounds that are these
+pub image_between : (layouts : List Shape) (stores : List StoreWords) (result : Result Text (Stop RunRefusal)) (state : FlatState) (at : FieldAt) (lo hi low high : ℤ) → low ≡ lo → high ≡ hi
+    → Performs layouts stores result (image_made layouts state at low high) → Performs layouts stores result (image_made layouts state at lo hi)
+image_between layouts stores result state at lo hi low high low_is high_is h =
+    subst (λ (z : ℤ). Performs layouts stores result (image_made layouts state at lo z)) high_is
+    (subst (λ (z : ℤ). Performs layouts stores result (image_made layouts state at z high)) low_is h)

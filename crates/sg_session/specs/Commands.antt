@@ -25,14 +25,15 @@ use Rattle.sg_image.specs.Image.{image_text}
 use Rattle.sg_image.specs.Counts.{stats_text}
 use Rattle.sg_flat.specs.State.{opening_layout}
 use Rattle.sg_store.specs.Pruning.{pruned}
-use Rattle.sg_exec.specs.Running.{load_meaning}
+use Rattle.sg_ir.specs.declared.code.KernelCode.{KernelCode}
+use Rattle.sg_exec.specs.Running.{load_meaning, run_meaning}
 use Rattle.sg_outside.specs.Files.{Reading, Bytes, TooMany, Missing}
 use Rattle.sg_session.specs.declared.binds.Bind.{Bind}
 use Rattle.sg_session.specs.declared.refusal.RunRefusal.{RunRefusal}
 use Rattle.sg_session.specs.declared.refusal.RunRefusal.TheVariants as refusal
 use Rattle.sg_session.specs.declared.tasks.Task.{Task}
 use Rattle.sg_session.specs.declared.tasks.Task.TheVariants.{Load, Run, Dump, Image, Stats, Prune, Clear}
-use Rattle.sg_session.specs.Compiled.{CheckedProgram, world_of}
+use Rattle.sg_session.specs.Compiled.{CheckedProgram, CompiledProgram, world_of}
 
 -- ---- the files of fields
 
@@ -69,6 +70,11 @@ without_text state = record { state = state; text = [] }
 abbrev pub after_kernel : List Shape → FlatState → Option Admitted → Result FlatState RunFault
 after_kernel layouts state None = Ok state
 after_kernel layouts state (Some kernel) = kernel_meaning layouts state (kernel_effects (world_of layouts state) kernel.kernel)
+
+-- the run of a kernel's code that may be there
+abbrev pub after_code : List Shape → FlatState → Option KernelCode → Result FlatState RunFault
+after_code layouts state None = Ok state
+after_code layouts state (Some code) = run_meaning layouts state code
 
 -- why bytes are no grid of a field
 abbrev pub grid_refusal : ℕ → GridFault → RunRefusal
@@ -118,9 +124,9 @@ load_made layouts state at reading = do
   Ok (without_text after)
 
 -- what the run of a kernel of this number leaves
-abbrev pub run_made : List Shape → FlatState → ℕ → Option Admitted → Result Left RunRefusal
-run_made layouts state number kernel = do
-  after ← fault_as (refusal.Run (Some number)) (after_kernel layouts state kernel)
+abbrev pub run_made : ℕ → Result FlatState RunFault → Result Left RunRefusal
+run_made number ran = do
+  after ← fault_as (refusal.Run (Some number)) ran
   Ok (without_text after)
 
 -- what a dump leaves
@@ -160,12 +166,23 @@ layout_made change layouts state layout = Ok (without_text (record { layouts = c
 abbrev pub cleared : Shape → FlatLayout → FlatLayout
 cleared shape flat = opening_layout shape
 
--- What a task makes of a state, and its text; or its refusal, which leaves the state. What the read of its file gave counts for a load.
+-- What a task makes of a state, and its text; or its refusal, which leaves the state. The run of the kernel of a number is given; what
+-- the read of its file gave counts for a load.
+abbrev pub made_of : Tables → List Shape → (ℕ → Result FlatState RunFault) → FlatState → Task → Reading → Result Left RunRefusal
+made_of names layouts ran state (Load field) reading = load_made layouts state field reading
+made_of names layouts ran state (Run kernel) reading = run_made kernel (ran kernel)
+made_of names layouts ran state (Dump field) reading = dump_made layouts state field
+made_of names layouts ran state (Image field lo hi) reading = image_made layouts state field lo hi
+made_of names layouts ran state (Stats layout) reading = stats_made names layouts state layout
+made_of names layouts ran state (Prune layout) reading = layout_made pruned layouts state layout
+made_of names layouts ran state (Clear layout) reading = layout_made cleared layouts state layout
+
+-- what a task of a program means: each kernel has the effects of its iterations
 abbrev pub task_meaning : CheckedProgram → FlatState → Task → Reading → Result Left RunRefusal
-task_meaning program state (Load field) reading = load_made program.layouts state field reading
-task_meaning program state (Run kernel) reading = run_made program.layouts state kernel (slice_get program.kernels kernel)
-task_meaning program state (Dump field) reading = dump_made program.layouts state field
-task_meaning program state (Image field lo hi) reading = image_made program.layouts state field lo hi
-task_meaning program state (Stats layout) reading = stats_made program.names program.layouts state layout
-task_meaning program state (Prune layout) reading = layout_made pruned program.layouts state layout
-task_meaning program state (Clear layout) reading = layout_made cleared program.layouts state layout
+task_meaning program state task reading =
+    made_of program.names program.layouts (λ kernel. after_kernel program.layouts state (slice_get program.kernels kernel)) state task reading
+
+-- what a task of a compiled program means: each kernel has the effects of its code
+abbrev pub compiled_meaning : CompiledProgram → FlatState → Task → Reading → Result Left RunRefusal
+compiled_meaning compiled state task reading =
+    made_of compiled.names compiled.layouts (λ kernel. after_code compiled.layouts state (slice_get compiled.kernels kernel)) state task reading

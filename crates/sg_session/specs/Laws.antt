@@ -1,4 +1,4 @@
--- The law of commands: numbering leaves none out.
+-- The laws of compiling: numbering leaves no command out, and code keeps what tasks mean.
 use Rattle.std.specs.Prelude.{◌≡◌, IsTrue, List, filter_map, Option, Some, None, Ok}
 use Rattle.std.specs.List.{AllZip}
 use Rattle.sg_ast.specs.declared.command.Command.{Command, out-Command}
@@ -8,12 +8,16 @@ use Rattle.sg_ast.specs.declared.program.Item.{Item}
 use Rattle.sg_ast.specs.declared.program.Item.TheVariants as item
 use Rattle.sg_ast.specs.declared.program.Program.{Program}
 use Rattle.sg_ast.specs.Grammar.{is_program}
+use Rattle.sg_flat.specs.declared.state.FlatState.{FlatState}
+use Rattle.sg_flat.specs.State.{IsFlat}
+use Rattle.sg_outside.specs.Files.{Reading}
 use Rattle.sg_names.specs.Tables.{Tables, layout_named, field_named, kernel_named}
 use Rattle.sg_session.specs.declared.tasks.Task.{Task}
 use Rattle.sg_session.specs.declared.tasks.Task.TheVariants.{Load, Run, Dump, Image, Stats, Prune, Clear}
 use Rattle.sg_session.specs.declared.tasks.Stage.{Stage}
 use Rattle.sg_session.specs.declared.tasks.Stage.TheVariants.{Once, Times}
-use Rattle.sg_session.specs.Compiled.{CheckedProgram}
+use Rattle.sg_session.specs.Compiled.{CheckedProgram, CompiledProgram, Compiles}
+use Rattle.sg_session.specs.Commands.{task_meaning, compiled_meaning}
 use Rattle.sg_session.specs.Compiling.{compiled_tree}
 
 -- the command that an item is
@@ -48,3 +52,8 @@ IsStageOf names _ _ = ⊥
 abbrev pub CommandsAreKept : Type 0
 CommandsAreKept = (program : Program) (compiled : CheckedProgram) → IsTrue (is_program program) → compiled_tree program ≡ Ok compiled →
     AllZip (λ command stage. IsStageOf compiled.names (out-Command command) stage) (commands_of program) compiled.commands
+
+-- A task of a compiled program means what it means in each program that is compiled to it.
+abbrev pub CompilingKeepsTasks : Type 0
+CompilingKeepsTasks = (program : CheckedProgram) (compiled : CompiledProgram) → Compiles program compiled → (state : FlatState) → IsFlat compiled.layouts state →
+    (task : Task) (reading : Reading) → compiled_meaning compiled state task reading ≡ task_meaning program state task reading

@@ -8,5 +8,6 @@ pub mod Commands
 pub mod Performed
 pub mod Texts
 pub mod Laws
+pub mod Independence
 pub mod Examples
 pub mod steps

@@ -3,10 +3,8 @@
 ghost use Rattle.std.specs.Prelude.{◌≡◌, ◌<◌, ◌≤◌, false, [], length, OnErr, IfOk, slice_get};
 ghost use Rattle.sg_flat.specs.declared.state.FlatState.{FlatState};
 ghost use Rattle.sg_exec.specs.Standing.{StandForState};
-ghost use Rattle.sg_outside.specs.Files.{Missing};
-ghost use Rattle.sg_session.specs.declared.tasks.Task.TheVariants.{Run};
-ghost use Rattle.sg_session.specs.Compiled.{CheckedProgram, Compiles, IsField};
-ghost use Rattle.sg_session.specs.Commands.{task_meaning, dump_made, text_of_field};
+ghost use Rattle.sg_session.specs.Compiled.{IsField};
+ghost use Rattle.sg_session.specs.Commands.{after_code, run_made, dump_made, text_of_field};
 ghost use Rattle.sg_session.specs.Performed.{HasState, Performs};
 ghost use Rattle.sg_session.specs.steps.Reads.{is_read_refusal};
 
@@ -33,8 +31,8 @@ pub fn run<R: Threads + Sync, G: Gate + Sync>(
     requires there { kernel < length compiled.now.kernels }
     requires some { 1 ≤ workers }
     requires few { workers ≤ 16 }
-    ensures performed { (program : CheckedProgram) → Compiles program compiled.now → (state : FlatState) → StandForState compiled.now.layouts stores.old.list state →
-        Performs compiled.now.layouts stores.new.list result (task_meaning program state (Run kernel) Missing) }
+    ensures performed { (state : FlatState) → StandForState compiled.now.layouts stores.old.list state →
+        Performs compiled.now.layouts stores.new.list result (run_made kernel (after_code compiled.now.layouts state (slice_get compiled.now.kernels kernel))) }
     ensures stand { IfOk result (λ text. HasState compiled.now.layouts stores.old.list → HasState compiled.now.layouts stores.new.list) }
     ensures read { is_read_refusal result ≡ false }
     ensures stays { OnErr result (stores.new ≡ stores.old) }

@@ -19,8 +19,8 @@ impl Session {
     ghost use Rattle.sg_flat.specs.declared.state.FlatState.{FlatState};
     ghost use Rattle.sg_outside.specs.Files.{Held, Reading};
     ghost use Rattle.sg_exec.specs.Standing.{StandForState};
-    ghost use Rattle.sg_session.specs.Compiled.{CheckedProgram, Compiles, IsTask};
-    ghost use Rattle.sg_session.specs.Commands.{file_of, task_meaning};
+    ghost use Rattle.sg_session.specs.Compiled.{IsTask};
+    ghost use Rattle.sg_session.specs.Commands.{file_of, compiled_meaning};
     ghost use Rattle.sg_session.specs.Performed.{Performs, reading_of, StepCause, HasFile, reads_after, asked_after};
 
     /// Performs a task and gives its text, or its refusal. After any answer but `Ok` the stores are as before. A load reads its file
@@ -41,17 +41,15 @@ impl Session {
         requires some { 1 ≤ workers }
         requires few { workers ≤ 16 }
 
-        // What a task means is what it means in each program that is compiled to the session's. What the files tell is what a load means;
-        // a failed read is told by its refusal alone.
-        ensures told { (program : CheckedProgram) → Compiles program self.old.compiled →
-            (held : Held) → F.holds files.old ≡ Some held → (state : FlatState) →
+        // What a task means is said over the compiled program; the law of kernels says that it is what the task means in each program that is
+        // compiled to it. What the files tell is what a load means; a failed read is told by its refusal alone.
+        ensures told { (held : Held) → F.holds files.old ≡ Some held → (state : FlatState) →
             StandForState self.old.compiled.layouts self.old.stores state →
-            Performs self.old.compiled.layouts self.new.stores result (task_meaning program state task
+            Performs self.old.compiled.layouts self.new.stores result (compiled_meaning self.old.compiled state task
             (reading_of held (file_of self.old.compiled.names binds.now.list task) result)) }
         // Where they tell nothing, some reading of the file is what the load means.
-        ensures performed { (program : CheckedProgram) → Compiles program self.old.compiled → (state : FlatState) →
-            StandForState self.old.compiled.layouts self.old.stores state →
-            (given : Reading) × Performs self.old.compiled.layouts self.new.stores result (task_meaning program state task given) }
+        ensures performed { (state : FlatState) → StandForState self.old.compiled.layouts self.old.stores state →
+            (given : Reading) × Performs self.old.compiled.layouts self.new.stores result (compiled_meaning self.old.compiled state task given) }
         ensures compiled { self.new.compiled ≡ self.old.compiled }
         ensures stays { OnErr result (self.new.stores ≡ self.old.stores) }
 
