@@ -1,5 +1,5 @@
 -- From what a run did, but for the text of access code, to the clauses that say it.
-use Rattle.std.proofs.Common.{◌≡◌, ◌≢◌, ℕ, suc, ◌+◌, ◌-◌, ◌<◌, ◌≤◌, ◌⊎◌, inl, inr, List, [], ◌∷◌, ◌++◌, length, Option, Some, None, Result, Ok, Err, IfOk, refl, sym, ap, ◌∙◌, subst, arith}
+use Rattle.std.proofs.Common.{◌≡◌, ◌≢◌, ℕ, suc, ◌+◌, ◌-◌, ◌<◌, ◌≤◌, ◌⊎◌, inl, inr, Bool, true, false, List, [], ◌∷◌, ◌++◌, length, Option, Some, None, Result, Ok, Err, IfOk, refl, sym, ap, ◌∙◌, subst, arith}
 use Rattle.std.specs.Prelude.{IsSome, ◌↔◌}
 use Rattle.std.specs.Option.{IfSome}
 use Rattle.std.proofs.lemmas.List.{append-nil, length-append, length-map}
@@ -10,10 +10,12 @@ use Rattle.sg_outside.specs.Files.{Held}
 use Rattle.sg_session.specs.Performed.{SessionParts}
 use Rattle.sparsegrid.specs.declared.output.PutFailed.{PutFailed}
 use Rattle.sparsegrid.specs.declared.session.Done.{Done}
-use Rattle.sparsegrid.specs.Words.{Asked, good_words}
-use Rattle.sparsegrid.specs.Meaning.{Meaning, Readings, meaning, meaning_by, meaning_of_words, readings_in}
-use Rattle.sparsegrid.specs.Outcome.{Outside, IsWhole, IsCutShort, IsEnding, HasSession, Wrote, AskedFront, WentAFront, AsksAs, ReadFaults, PutFaults, ReadCount, StandsForLast, asked_more, counted_more}
+use Rattle.sparsegrid.specs.Words.{Asked, good_words, is_gen}
+use Rattle.sparsegrid.specs.Meaning.{Meaning, Readings, meaning, meaning_by, meaning_of_words, meaning_of_asked, readings_in}
+use Rattle.sparsegrid.specs.Outcome.{Outside, IsWhole, IsCutShort, IsEnding, HasSession, Wrote, AskedFront, WentAFront, AsksAs, ReadFaults, PutFaults, CountOf, ReadCount, StandsForLast, asked_more, counted_more}
 use Rattle.sparsegrid.specs.steps.Along.{SendCause, status_of, session_of, ReadMade, names_of, Followed, NoneFailed, LastFailed, ReadsEnd, Went, IsEnd}
+use Rattle.sparsegrid.proofs.Sources.{of_file}
+use Rattle.sparsegrid.proofs.Unread.{generated_asks, no_names}
 use Rattle.sparsegrid.proofs.Readings.{count_low, count_rose, agree_told, agree_stopped, readings_of, agree_own}
 
 module _ (words : List (List ℕ)) (before after : Outside) (result : Result Done (Stop PutFailed)) (went : Went (meaning_by words) 0 before after result) (end : IfOk result IsEnd) where
@@ -109,11 +111,18 @@ module _ (words : List (List ℕ)) (before after : Outside) (result : Result Don
       front_none : (xs ys : List (List ℕ)) → xs ++ ys ≡ [] → xs ≡ []
       front_none [] ys h = refl
       front_none (x ∷ xs) ys h = absurd (cc)
-    by_words (Some wanted) (Ok done) f = λ ending. rose f.asked where
-      rose : {rest : List (List ℕ)} → wanted.file ∷ rest ≡ names_of went.made → Rose before.reads after.reads
-      rose {rest} is = subst (λ (c : ℕ). Rose before.reads c) (sym (went.reads ∙ ap (counted_more before.reads) (sym is))) (count_rose before.reads wanted.file rest)
-    by_words (Some wanted) (Err (stop.Refused failed)) f = λ ending. absurd (ending.0 refl)
-    by_words (Some wanted) (Err stop.Memory) f = λ ending. absurd (ending.1 refl)
+    by_words (Some wanted) r f = by_mode (is_gen wanted.mode) refl where
+      by_file : (a : Result Done (Stop PutFailed)) → is_gen wanted.mode ≡ false → Followed (meaning_of_asked wanted (readings_of 0 went.made)) (names_of went.made) before after a
+          → IsEnding (status_of a) → Rose before.reads after.reads
+      by_file (Ok done) file g ending = rose (sym (ap (λ (m : Meaning). m.asked) (of_file wanted file (readings_of 0 went.made))) ∙ g.asked) where
+        rose : {rest : List (List ℕ)} → wanted.file ∷ rest ≡ names_of went.made → Rose before.reads after.reads
+        rose {rest} is = subst (λ (c : ℕ). Rose before.reads c) (sym (went.reads ∙ ap (counted_more before.reads) (sym is))) (count_rose before.reads wanted.file rest)
+      by_file (Err (stop.Refused failed)) file g ending = absurd (ending.0 refl)
+      by_file (Err stop.Memory) file g ending = absurd (ending.1 refl)
+
+      by_mode : (b : Bool) → is_gen wanted.mode ≡ b → CountOf b before after (status_of r)
+      by_mode true gen = went.reads ∙ ap (counted_more before.reads) (no_names _ (names_of went.made) before after r (generated_asks wanted gen (readings_of 0 went.made)) f)
+      by_mode false file = by_file r file f
 
   pub read_faults : before.failed_reads ≤ after.failed_reads → ReadFaults before after (status_of result)
   read_faults never = by_ends went.ends where

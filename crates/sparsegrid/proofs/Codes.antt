@@ -1,5 +1,5 @@
 -- From what a run did before the text of access code, and what putting that text did, to the clauses that say it.
-use Rattle.std.proofs.Common.{◌≡◌, ◌≢◌, ℕ, ◌-◌, ◌<◌, ◌≤◌, ◌==◌, ◌⊎◌, inl, inr, Bool, true, false, ◌&&◌, List, [], ◌∷◌, ◌++◌, Option, Some, None, Result, Ok, Err, IfOk, refl, sym, ap, ◌∙◌, subst, append_assoc, arith}
+use Rattle.std.proofs.Common.{◌≡◌, ◌≢◌, ℕ, ◌-◌, ◌<◌, ◌≤◌, ◌==◌, ◌⊎◌, inl, inr, Bool, true, false, ◌&&◌, List, [], ◌++◌, Option, Some, None, Result, Ok, Err, IfOk, refl, sym, ap, ◌∙◌, subst, append_assoc, arith}
 use Rattle.std.specs.Prelude.{IsSome, ◌↔◌, if◌then◌else◌}
 use Rattle.std.specs.Option.{IfSome}
 use Rattle.std.proofs.lemmas.List.{append-nil}
@@ -11,10 +11,10 @@ use Rattle.sg_outside.specs.Sink.{followed_by}
 use Rattle.sg_session.specs.Performed.{SessionParts}
 use Rattle.sparsegrid.specs.declared.output.PutFailed.{PutFailed}
 use Rattle.sparsegrid.specs.declared.session.Done.{Done}
-use Rattle.sparsegrid.specs.Words.{Asked, good_words}
+use Rattle.sparsegrid.specs.Words.{Asked, good_words, is_gen}
 use Rattle.sparsegrid.specs.Meaning.{Meaning, meaning, meaning_by, asks_code, with_text, with_code}
-use Rattle.sparsegrid.specs.Outcome.{Outside, IsWhole, IsCutShort, IsEnding, HasSession, LeavesSession, code_in, Wrote, WroteMeaning, WroteStopped, TextFront, AskedFront, WentAFront, WroteFront, EndsAs, AsksAs, ReadFaults, PutFaults, ReadCount, StandsForLast, asked_more, counted_more}
-use Rattle.sparsegrid.specs.steps.Along.{SendCause, GrewByPart, status_of, session_of, Went, IsEnd, IsDue, code_left, PutsCode}
+use Rattle.sparsegrid.specs.Outcome.{Outside, IsWhole, IsCutShort, IsEnding, HasSession, LeavesSession, code_in, Wrote, WroteMeaning, WroteStopped, WentAFront, WroteFront, EndsAs, AsksAs, ReadFaults, PutFaults, CountOf, ReadCount, StandsForLast, asked_more, counted_more}
+use Rattle.sparsegrid.specs.steps.Along.{SendCause, status_of, session_of, Went, IsEnd, IsDue, code_left, PutsCode}
 use Rattle.sparsegrid.proofs.Writing.{followed_by-nil, followed_by-twice}
 use Rattle.sparsegrid.proofs.Clauses as clauses
 
@@ -237,7 +237,10 @@ module _ (words : List (List ℕ)) (before mid : Outside) (result : Result Done 
   reads = by_puts puts where
     by_words : (o : Option Asked) (n k : ℕ) → (IsEnding k → IsEnding n) → ReadCount o before mid n → ReadCount o before after k
     by_words None n k onward count = count
-    by_words (Some it) n k onward count = λ ending. count (onward ending)
+    by_words (Some it) n k onward count = by_mode (is_gen it.mode) count where
+      by_mode : (b : Bool) → CountOf b before mid n → CountOf b before after k
+      by_mode true same = same
+      by_mode false rose = λ ending. rose (onward ending)
 
     first : ReadCount (good_words words) before mid (status_of result)
     first = clauses.reads words before mid result went is_end

@@ -1,5 +1,12 @@
 mod Cuts
 mod Workers
+mod SplitForms
+mod SplitRows
+mod SplitTurns
+mod SplitWalk
+mod SplitFront
+mod SplitWords
+mod SplitParse
 pub mod Writing
 pub mod Bound
 pub mod Readings
@@ -9,3 +16,5 @@ pub mod Clauses
 pub mod Sources
 pub mod OfFile
 pub mod Codes
+pub mod Unread
+pub mod Generating

@@ -1,6 +1,6 @@
 -- What a run does with what the read of its file gave, and with what the file is compiled to.
-use Rattle.std.proofs.Common.{◌≡◌, ◌≢◌, ◌⊎◌, inl, inr, ℕ, Bool, List, [], ◌∷◌, Option, Some, None, Result, Ok, Err, IfOk, refl, sym, ap, ◌∙◌, subst, arith}
-use Rattle.std.specs.Prelude.{find, IsSome}
+use Rattle.std.proofs.Common.{◌≡◌, ◌≢◌, ◌⊎◌, inl, inr, ℕ, Bool, true, false, List, [], ◌∷◌, Option, Some, None, Result, Ok, Err, IfOk, refl, sym, ap, ◌∙◌, subst, arith}
+use Rattle.std.specs.Prelude.{find, map, IsSome, if◌then◌else◌}
 use Rattle.std.specs.Option.{IfSome}
 use Rattle.std.specs.Result.{IsOkAnd}
 use Rattle.sg_words.specs.declared.memory.Stop.{Stop}
@@ -31,9 +31,11 @@ use Rattle.sparsegrid.specs.declared.output.PutFailed.{PutFailed}
 use Rattle.sparsegrid.specs.declared.session.Done.{Done}
 use Rattle.sparsegrid.specs.declared.words.Mode.{Mode}
 use Rattle.sparsegrid.specs.declared.words.Mode.TheVariants as mode
-use Rattle.sparsegrid.specs.Words.{Asked, Binding, good_words}
+use Rattle.sg_session.specs.declared.binds.Bind.{Bind}
+use Rattle.sparsegrid.specs.Words.{Asked, Binding, binding_read, good_words, is_gen}
+use Rattle.sparsegrid.specs.Generated.{generated}
 use Rattle.sparsegrid.specs.Lines.{read_last, file_bytes_last, no_file_last, refusal_last, field_text, words_last}
-use Rattle.sparsegrid.specs.Meaning.{Meaning, Readings, refused, all_done, asking, is_unbound, meaning_of_tasks, meaning_unless, meaning_of_run, meaning_in, items_or_none, meaning_of_compiled, meaning_of_source, meaning_of_asked, meaning_of_words, meaning_by}
+use Rattle.sparsegrid.specs.Meaning.{Meaning, Readings, refused, all_done, asking, is_unbound, meaning_of_tasks, meaning_unless, meaning_of_run, meaning_in, items_or_none, meaning_of_compiled, meaning_of_source, meaning_of_file, meaning_of_generated, meaning_of_asked, meaning_of_words, meaning_by}
 use Rattle.sparsegrid.specs.Outcome.{Outside, HasSession, StandsForLast}
 use Rattle.sparsegrid.specs.steps.Along.{Sends, WentAlong, Went, AskedAll, Followed, ReadsEnd, ended_with, names_of, IsEnd, LeavesOnly, LeavesProgram}
 use Rattle.sg_outside.specs.Sink.{followed_by}
@@ -53,6 +55,7 @@ pub in_ends : (m : Mode) (compiled : CheckedProgram) (bindings : List Binding) (
 in_ends mode.Run compiled bindings readings = run_ends compiled bindings readings (unfolded compiled.commands)
 in_ends mode.Check compiled bindings readings = λ other. absurd (other refl)
 in_ends mode.Lower compiled bindings readings = λ other. absurd (other refl)
+in_ends mode.Gen compiled bindings readings = run_ends compiled [] readings (unfolded compiled.commands)
 
 pub compiled_ends : (asked : Asked) (readings : Readings) (bytes : List ℕ) (answer : Result CheckedProgram Refusal) → EndsInLine (meaning_of_compiled asked readings bytes answer)
 compiled_ends asked readings bytes (Err why) = λ other. refused_ends None (refusal_last (items_or_none (spelled_program bytes)) why)
@@ -63,41 +66,51 @@ source_ends asked readings Missing = λ other. refused_ends None (read_last aske
 source_ends asked readings TooMany = λ other. refused_ends None file_bytes_last
 source_ends asked readings (Bytes bytes) = compiled_ends asked readings bytes (compiled_program bytes)
 
+pub asked_ends : (asked : Asked) (readings : Readings) → EndsInLine (meaning_of_asked asked readings)
+asked_ends asked readings = by_mode (is_gen asked.mode) where
+  by_mode : (b : Bool) → EndsInLine (if b then meaning_of_generated asked readings else meaning_of_file asked readings)
+  by_mode true = compiled_ends asked readings (generated asked.number) (compiled_program (generated asked.number))
+  by_mode false = source_ends asked readings (readings 1 asked.file most_file_bytes)
+
 pub words_end : (words : List (List ℕ)) (readings : Readings) → EndsInLine (meaning_by words readings)
 words_end words readings = by_words (good_words words) where
   by_words : (o : Option Asked) → EndsInLine (meaning_of_words o readings)
   by_words None = λ other. refused_ends None words_last
-  by_words (Some asked) = source_ends asked readings (readings 1 asked.file most_file_bytes)
+  by_words (Some asked) = asked_ends asked readings
 
 -- ---- the read of the file
 
+-- the file is read
+pub of_file : (asked : Asked) → is_gen asked.mode ≡ false → (readings : Readings) → meaning_of_asked asked readings ≡ meaning_of_file asked readings
+of_file asked file readings = ap (λ (b : Bool). if b then meaning_of_generated asked readings else meaning_of_file asked readings) file
+
 -- the read of the file of this name gave this, and what it means was done
-pub read_gave : (asked : Asked) (name : List ℕ) (given : Reading) (before mid after : Outside) (result : Result Done (Stop PutFailed)) → name ≡ asked.file
+pub read_gave : (asked : Asked) → is_gen asked.mode ≡ false → (name : List ℕ) (given : Reading) (before mid after : Outside) (result : Result Done (Stop PutFailed)) → name ≡ asked.file
     → ((held : Held) → before.held ≡ Some held → reading held name most_file_bytes ≡ given)
     → mid.asked ≡ asked_too before.asked name → mid.reads ≡ one_more before.reads → mid.failed_reads ≡ before.failed_reads → mid.held ≡ before.held → mid.written ≡ before.written
     → Went (λ readings. meaning_of_source asked readings given) 1 mid after result → Went (meaning_of_asked asked) 0 before after result
-read_gave asked name given before mid after result same told names reads faults held written went =
+read_gave asked file name given before mid after result same told names reads faults held written went =
     compose (meaning_of_asked asked) (λ readings. meaning_of_source asked readings given) 0 1 (record { name = asked.file; limit = most_file_bytes; given = given } ∷ []) [] before mid after result (omega arith)
-    (λ readings agree. ap (λ (r : Reading). asking (asked.file ∷ []) (meaning_of_source asked readings r)) agree.0)
+    (λ readings agree. of_file asked file readings ∙ ap (λ (r : Reading). asking (asked.file ∷ []) (meaning_of_source asked readings r)) agree.0)
     (written ∙ sym (followed_by-nil before.written)) (names ∙ ap (asked_too before.asked) same) reads held
     (record { no_fault = faults; told = λ h e. (sym (ap (λ (n : List ℕ). reading h n most_file_bytes) (sym same) ∙ told h e), tt) }) went
 
 -- the read failed
-pub read_failed : (asked : Asked) (name : List ℕ) (before after : Outside) (result : Result Done (Stop PutFailed)) → name ≡ asked.file
+pub read_failed : (asked : Asked) → is_gen asked.mode ≡ false → (name : List ℕ) (before after : Outside) (result : Result Done (Stop PutFailed)) → name ≡ asked.file
     → after.asked ≡ asked_too before.asked name → after.reads ≡ one_more before.reads → Rose before.failed_reads after.failed_reads
     → WentAlong (refused (read_last name)) before.written after.written result → IfOk result (λ done. done.status ≡ 2)
     → Went (meaning_of_asked asked) 0 before after result
-read_failed asked name before after result same names reads rose along status =
+read_failed asked file name before after result same names reads rose along status =
     went_failed (meaning_of_asked asked) (refused (read_last asked.file)) 0 asked.file most_file_bytes before after result
-    (λ readings missing. ap (λ (r : Reading). asking (asked.file ∷ []) (meaning_of_source asked readings r)) missing) refl
+    (λ readings missing. of_file asked file readings ∙ ap (λ (r : Reading). asking (asked.file ∷ []) (meaning_of_source asked readings r)) missing) refl
     (subst (λ (n : List ℕ). WentAlong (refused (read_last n)) before.written after.written result) same along) (names ∙ ap (asked_too before.asked) same) reads rose status
 
 -- there was no memory for what was read
-pub read_memory : (asked : Asked) (name : List ℕ) (before after : Outside) → name ≡ asked.file
+pub read_memory : (asked : Asked) → is_gen asked.mode ≡ false → (name : List ℕ) (before after : Outside) → name ≡ asked.file
     → after.asked ≡ asked_too before.asked name → after.reads ≡ one_more before.reads → after.failed_reads ≡ before.failed_reads → after.held ≡ before.held → after.written ≡ before.written
     → Went (meaning_of_asked asked) 0 before after (Err stop.Memory)
-read_memory asked name before after same names reads faults held written =
-    read_gave asked name (given before.held) before after after (Err stop.Memory) same (told before.held) names reads faults held written
+read_memory asked file name before after same names reads faults held written =
+    read_gave asked file name (given before.held) before after after (Err stop.Memory) same (told before.held) names reads faults held written
     (went_memory (λ readings. meaning_of_source asked readings (given before.held)) 1 after after (λ readings. source_ends asked readings (given before.held)) refl refl refl refl)
   where
     given : Option Held → Reading
@@ -310,3 +323,10 @@ send_cut text state old new stop.Memory same = nothing_sent text state old new s
 pub along_text : (text other : List ℕ) (state : FlatState) (old new : Option (List ℕ)) (result : Result Done (Stop PutFailed)) → text ≡ other
     → WentAlong (all_done text state) old new result → WentAlong (all_done other state) old new result
 along_text text other state old new result same along = subst (λ (t : List ℕ). WentAlong (all_done t state) old new result) same along
+
+-- where no name is bound
+pub went_unbound : (program : CheckedProgram) (binds : List Bind) (before after : Outside) (result : Result Done (Stop PutFailed)) → binds ≡ []
+    → Went (λ readings. meaning_of_run program (map binding_read binds) readings (unfolded program.commands)) 1 before after result
+    → Went (λ readings. meaning_of_run program [] readings (unfolded program.commands)) 1 before after result
+went_unbound program binds before after result none went =
+    subst (λ (bs : List Bind). Went (λ readings. meaning_of_run program (map binding_read bs) readings (unfolded program.commands)) 1 before after result) none went

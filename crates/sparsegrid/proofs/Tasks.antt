@@ -30,7 +30,8 @@ use Rattle.sg_session.specs.declared.tasks.Task.{Task}
 use Rattle.sg_session.specs.declared.tasks.Task.TheVariants.{Load, Run, Dump, Image, Stats, Prune, Clear}
 use Rattle.sg_session.specs.Compiled.{CheckedProgram, CompiledProgram, Compiles}
 use Rattle.sg_session.specs.Commands as commands
-use Rattle.sg_session.specs.Commands.{Left, task_meaning}
+use Rattle.sg_session.specs.Commands.{Left, compiled_meaning, task_meaning}
+use Rattle.sg_session.proofs.Uses.{task_kept}
 use Rattle.sg_session.specs.Performed.{HasFile, Leaves, Performs, StepCause, reading_of, asked_after, reads_after}
 use Rattle.sparsegrid.specs.declared.output.PutFailed.{PutFailed}
 use Rattle.sparsegrid.specs.declared.session.Done.{Done}
@@ -561,9 +562,9 @@ has_head program compiled binds xs rest x compiles split all = subst (λ (t : Ta
 -- what a step of a session that is compiled from this program did
 pub stepped : (program : CheckedProgram) (other : CompiledProgram) (binds : List Bind) (state : FlatState) (task : Task) (stores stores' : List StoreWords) (result : Result Text (Stop RunRefusal)) (now next : Outside)
     → Compiles program other → StandForState program.layouts stores state → HasFile program.names binds task
-    → ((p : CheckedProgram) → Compiles p other → (h : Held) → now.held ≡ Some h → (s : FlatState) → StandForState other.layouts stores s
-    → Performs other.layouts stores' result (task_meaning p s task (reading_of h (commands.file_of other.names binds task) result)))
-    → ((p : CheckedProgram) → Compiles p other → (s : FlatState) → StandForState other.layouts stores s → (given : Reading) × Performs other.layouts stores' result (task_meaning p s task given))
+    → ((h : Held) → now.held ≡ Some h → (s : FlatState) → StandForState other.layouts stores s
+    → Performs other.layouts stores' result (compiled_meaning other s task (reading_of h (commands.file_of other.names binds task) result)))
+    → ((s : FlatState) → StandForState other.layouts stores s → (given : Reading) × Performs other.layouts stores' result (compiled_meaning other s task given))
     → next.asked ≡ asked_after (commands.file_of other.names binds task) now.asked → next.reads ≡ reads_after (commands.file_of other.names binds task) now.reads
     → StepCause result now.failed_reads next.failed_reads → next.held ≡ now.held → Stepped program binds state task stores' result now next
 stepped program other binds state task stores stores' result now next compiles stand has told performed asked reads cause held =
@@ -572,8 +573,9 @@ stepped program other binds state task stores stores' result now next compiles s
       chosen = given_chosen now.held (commands.file_of program.names binds task) result program.layouts stores' (task_meaning program state task)
           (λ h e. subst (λ (t : Tables). Performs program.layouts stores' result (task_meaning program state task (reading_of h (commands.file_of t binds task) result))) compiles.names
           (subst (λ (ls : List Shape). Performs ls stores' result (task_meaning program state task (reading_of h (commands.file_of other.names binds task) result))) compiles.layouts
-          (told program compiles h e state stand_other)))
-          (subst (λ (ls : List Shape). (given : Reading) × Performs ls stores' result (task_meaning program state task given)) compiles.layouts (performed program compiles state stand_other));
+          (kept (reading_of h (commands.file_of other.names binds task) result) (told h e state stand_other))))
+          (let did = performed state stand_other in
+          (did.0, subst (λ (ls : List Shape). Performs ls stores' result (task_meaning program state task did.0)) compiles.layouts (kept did.0 did.1)));
       asked = asked ∙ ap (λ (t : Tables). asked_after (commands.file_of t binds task) now.asked) compiles.names;
       reads = reads ∙ ap (λ (t : Tables). reads_after (commands.file_of t binds task) now.reads) compiles.names;
       cause = cause;
@@ -582,6 +584,9 @@ stepped program other binds state task stores stores' result now next compiles s
   where
     stand_other : StandForState other.layouts stores state
     stand_other = subst (λ (ls : List Shape). StandForState ls stores state) (sym compiles.layouts) stand
+
+    kept : (given : Reading) → Performs other.layouts stores' result (compiled_meaning other state task given) → Performs other.layouts stores' result (task_meaning program state task given)
+    kept given did = subst (Performs other.layouts stores' result) (task_kept program other compiles stores state stand_other task given) did
 
 -- a line that was written in the words of other names
 pub line_of : (names other : Tables) (binds : List Bind) (task : Task) (why : RunRefusal) (answer : Result ℕ (Stop PutFailed)) (old new : Option (List ℕ)) → other ≡ names

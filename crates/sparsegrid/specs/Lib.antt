@@ -2,6 +2,7 @@ pub mod Texts
 pub mod Words
 pub mod WordExamples
 pub mod Lines
+pub mod Generated
 pub mod Meaning
 pub mod Outcome
 pub mod Laws

@@ -22,7 +22,8 @@ use Rattle.sg_session.specs.Texts.{check_text}
 use Rattle.sparsegrid.specs.declared.last_line.LastLine.{LastLine}
 use Rattle.sparsegrid.specs.declared.words.Mode.{Mode}
 use Rattle.sparsegrid.specs.declared.words.Mode.TheVariants as mode
-use Rattle.sparsegrid.specs.Words.{Asked, Binding, good_words}
+use Rattle.sparsegrid.specs.Words.{Asked, Binding, good_words, is_gen}
+use Rattle.sparsegrid.specs.Generated.{generated}
 use Rattle.sparsegrid.specs.Lines.{words_last, no_file_last, read_last, file_bytes_last, refusal_last, run_last, field_text}
 
 -- what a run means: the text that it writes, its status, the last state, where it leaves one, and the names of the files that it asks for,
@@ -119,11 +120,13 @@ abbrev pub meaning_of_run : CheckedProgram → List Binding → Readings → Lis
 meaning_of_run program bindings readings tasks = meaning_unless (find (is_unbound program.names bindings) tasks) program bindings readings tasks
 
 -- What is done with a compiled program: its tasks are performed, its kernels are looked at, or their access code is written. That text is no
--- part of the meaning, since the code's registers may be numbered in any way: it is that of the session which the run leaves.
+-- part of the meaning, since the code's registers may be numbered in any way: it is that of the session which the run leaves. The tasks of a
+-- generated program have no files.
 abbrev pub meaning_in : Mode → CheckedProgram → List Binding → Readings → Meaning
 meaning_in mode.Run program bindings readings = meaning_of_run program bindings readings (unfolded program.commands)
 meaning_in mode.Check program bindings readings = all_done (check_text program.names program.neutral) (opening program.layouts)
 meaning_in mode.Lower program bindings readings = all_done [] (opening program.layouts)
+meaning_in mode.Gen program bindings readings = meaning_of_run program [] readings (unfolded program.commands)
 
 -- the items of a program, where there is one
 abbrev pub items_or_none : Result Program Refusal → List Item
@@ -142,8 +145,16 @@ meaning_of_source asked readings TooMany = refused file_bytes_last
 meaning_of_source asked readings (Bytes bytes) = meaning_of_compiled asked readings bytes (compiled_program bytes)
 
 -- the file that good words name is the first that is asked for
+abbrev pub meaning_of_file : Asked → Readings → Meaning
+meaning_of_file asked readings = asking (asked.file ∷ []) (meaning_of_source asked readings (readings 1 asked.file most_file_bytes))
+
+-- the generated program is asked of no file
+abbrev pub meaning_of_generated : Asked → Readings → Meaning
+meaning_of_generated asked readings = meaning_of_compiled asked readings (generated asked.number) (compiled_program (generated asked.number))
+
+-- what good words ask for
 abbrev pub meaning_of_asked : Asked → Readings → Meaning
-meaning_of_asked asked readings = asking (asked.file ∷ []) (meaning_of_source asked readings (readings 1 asked.file most_file_bytes))
+meaning_of_asked asked readings = if is_gen asked.mode then meaning_of_generated asked readings else meaning_of_file asked readings
 
 -- good words, or bad ones
 abbrev pub meaning_of_words : Option Asked → Readings → Meaning
@@ -161,6 +172,7 @@ abbrev pub is_lower : Mode → Bool
 is_lower mode.Run = false
 is_lower mode.Check = false
 is_lower mode.Lower = true
+is_lower mode.Gen = false
 
 abbrev pub asks_code : Option Asked → Bool
 asks_code None = false

@@ -1,9 +1,9 @@
 -- What a run does to the outside: what its files and its sink tell before it and after it, and how it ends.
-use Rattle.std.specs.Prelude.{◌≡◌, ◌≢◌, ℕ, ◌-◌, ◌<◌, ◌≤◌, ◌⊎◌, true, List, [], ◌∷◌, ◌++◌, Option, Some, None, option_map, IsSome, refl}
+use Rattle.std.specs.Prelude.{◌≡◌, ◌≢◌, ℕ, ◌-◌, ◌<◌, ◌≤◌, ◌⊎◌, Bool, true, false, if◌then◌else◌, List, [], ◌∷◌, ◌++◌, Option, Some, None, option_map, IsSome, refl}
 use Rattle.std.specs.Option.{IsSomeAnd}
 use Rattle.std.specs.Result.{IsOkAnd}
 use Rattle.sg_outside.specs.Counts.{Rose, one_more, last_count}
-use Rattle.sg_outside.specs.Files.{Held, Bytes, reading}
+use Rattle.sg_outside.specs.Files.{Held, Reading, Bytes, reading}
 use Rattle.sg_outside.specs.Sink.{followed_by}
 use Rattle.sg_outside.specs.declared.files.Files as files_of
 use Rattle.sg_outside.specs.declared.sink.Sink as sink_of
@@ -14,7 +14,8 @@ use Rattle.sg_session.specs.Performed.{SessionParts}
 use Rattle.sg_session.specs.Compiled.{Compiles}
 use Rattle.sg_session.specs.Compiling.{compiled_program}
 use Rattle.sg_session.specs.Texts.{lower_text}
-use Rattle.sparsegrid.specs.Words.{Asked, good_words}
+use Rattle.sparsegrid.specs.Words.{Asked, good_words, is_gen}
+use Rattle.sparsegrid.specs.Generated.{generated}
 use Rattle.sparsegrid.specs.Meaning.{Meaning, Readings, meaning, meaning_by, asks_code, with_code}
 
 -- what files and a sink tell at one moment
@@ -156,17 +157,26 @@ pub record PutFaults (before after : Outside) (answer : ℕ) : Type 0 where
 
 -- ---- the reads
 
--- with bad words there is no read, and with good ones there is one at least where a run came to its end
+-- for a generated program there is no read, and for a file there is one at least where a run came to its end
+abbrev pub CountOf : Bool → Outside → Outside → ℕ → Type 0
+CountOf true before after status = after.reads ≡ before.reads
+CountOf false before after status = IsEnding status → Rose before.reads after.reads
+
+-- with bad words there is no read
 abbrev pub ReadCount : Option Asked → Outside → Outside → ℕ → Type 0
 ReadCount None before after status = after.reads ≡ before.reads
-ReadCount (Some asked) before after status = IsEnding status → Rose before.reads after.reads
+ReadCount (Some asked) before after status = CountOf (is_gen asked.mode) before after status
 
 -- ---- the session
 
--- A session is of the program of what good words ask for: it is what the program of the named file is compiled to. So its kernels are well typed and
--- apt for its layouts, and have the effects of the file's kernels, one for one and in order.
+-- the bytes of the program that good words ask for: the generated text, or those that the file holds
+abbrev pub source_of : Asked → Held → Reading
+source_of asked held = if is_gen asked.mode then Bytes (generated asked.number) else reading held asked.file most_file_bytes
+
+-- A session is of the program of what good words ask for: it is what the program of the named file is compiled to, or the generated one. So its
+-- kernels are well typed and apt for its layouts, and have the effects of that program's kernels, one for one and in order.
 abbrev pub IsOfAsked : Asked → Held → SessionParts → Type 0
-IsOfAsked asked held session = (bytes : List ℕ) × (reading held asked.file most_file_bytes ≡ Bytes bytes) × IsOkAnd (compiled_program bytes) (λ program. Compiles program session.compiled)
+IsOfAsked asked held session = (bytes : List ℕ) × (source_of asked held ≡ Bytes bytes) × IsOkAnd (compiled_program bytes) (λ program. Compiles program session.compiled)
 
 -- words are good, and a session is of the program of what they ask for
 abbrev pub IsOfFile : List (List ℕ) → Held → SessionParts → Type 0

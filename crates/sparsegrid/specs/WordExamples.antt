@@ -4,13 +4,13 @@ use Rattle.sg_ast.specs.Token.{is_name, is_reserved}
 use Rattle.sparsegrid.specs.declared.words.Mode.TheVariants as mode
 use Rattle.sparsegrid.specs.Words.{good_words}
 
-bare-file : good_words (codes "p.sg" ∷ []) ≡ Some (record { workers = 4; mode = mode.Run; file = codes "p.sg"; bindings = [] })
+bare-file : good_words (codes "p.sg" ∷ []) ≡ Some (record { workers = 4; mode = mode.Run; file = codes "p.sg"; bindings = []; number = 0 })
 bare-file = refl
 
-options-anywhere : good_words (codes "p.sg" ∷ codes "--workers=16" ∷ codes "--mode" ∷ codes "check" ∷ []) ≡ Some (record { workers = 16; mode = mode.Check; file = codes "p.sg"; bindings = [] })
+options-anywhere : good_words (codes "p.sg" ∷ codes "--workers=16" ∷ codes "--mode" ∷ codes "check" ∷ []) ≡ Some (record { workers = 16; mode = mode.Check; file = codes "p.sg"; bindings = []; number = 0 })
 options-anywhere = refl
 
-all-positional : good_words (codes "--workers=2" ∷ codes "--" ∷ codes "p.sg" ∷ []) ≡ Some (record { workers = 2; mode = mode.Run; file = codes "p.sg"; bindings = [] })
+all-positional : good_words (codes "--workers=2" ∷ codes "--" ∷ codes "p.sg" ∷ []) ≡ Some (record { workers = 2; mode = mode.Run; file = codes "p.sg"; bindings = []; number = 0 })
 all-positional = refl
 
 file-with-equals : good_words (codes "p=q" ∷ codes "x=a=b" ∷ codes "y=-" ∷ []) ≡ Some (record {
@@ -18,9 +18,22 @@ file-with-equals : good_words (codes "p=q" ∷ codes "x=a=b" ∷ codes "y=-" ∷
   mode = mode.Run;
   file = codes "p=q";
   bindings = record { name = codes "x"; file = codes "a=b" } ∷ record { name = codes "y"; file = codes "-" } ∷ [];
+  number = 0;
 })
 unfolding is_name is_reserved
 file-with-equals = refl
+
+a-number : good_words (codes "--mode" ∷ codes "gen" ∷ codes "7" ∷ []) ≡ Some (record { workers = 4; mode = mode.Gen; file = []; bindings = []; number = 7 })
+a-number = refl
+
+the-least-number : good_words (codes "--mode=gen" ∷ codes "0" ∷ []) ≡ Some (record { workers = 4; mode = mode.Gen; file = []; bindings = []; number = 0 })
+the-least-number = refl
+
+the-greatest-number : good_words (codes "4294967295" ∷ codes "--mode=gen" ∷ codes "--workers=16" ∷ []) ≡ Some (record { workers = 16; mode = mode.Gen; file = []; bindings = []; number = 4294967295 })
+the-greatest-number = refl
+
+file-of-digits : good_words (codes "7" ∷ []) ≡ Some (record { workers = 4; mode = mode.Run; file = codes "7"; bindings = []; number = 0 })
+file-of-digits = refl
 
 abbrev bad : List (List (List ℕ))
 bad = [] ∷ (codes "-" ∷ []) ∷ ([] ∷ []) ∷ (codes "--" ∷ []) ∷ (codes "--workers" ∷ codes "17" ∷ codes "p.sg" ∷ [])
@@ -29,7 +42,9 @@ bad = [] ∷ (codes "-" ∷ []) ∷ ([] ∷ []) ∷ (codes "--" ∷ []) ∷ (cod
     ∷ (codes "--mode=go" ∷ codes "p.sg" ∷ []) ∷ (codes "--mode" ∷ codes "run" ∷ codes "--mode" ∷ codes "run" ∷ codes "p.sg" ∷ [])
     ∷ (codes "--help" ∷ []) ∷ (codes "-w" ∷ codes "p.sg" ∷ []) ∷ (codes "--" ∷ codes "--" ∷ codes "p.sg" ∷ [])
     ∷ (codes "p.sg" ∷ codes "x" ∷ []) ∷ (codes "p.sg" ∷ codes "x=" ∷ []) ∷ (codes "p.sg" ∷ codes "=a" ∷ []) ∷ (codes "p.sg" ∷ codes "load=a" ∷ [])
-    ∷ (codes "p.sg" ∷ codes "1x=a" ∷ []) ∷ (codes "p.sg" ∷ codes "x=a" ∷ codes "x=b" ∷ []) ∷ []
+    ∷ (codes "p.sg" ∷ codes "1x=a" ∷ []) ∷ (codes "p.sg" ∷ codes "x=a" ∷ codes "x=b" ∷ []) ∷ (codes "--mode=gen" ∷ [])
+    ∷ (codes "--mode=gen" ∷ codes "4294967296" ∷ []) ∷ (codes "--mode=gen" ∷ codes "07" ∷ []) ∷ (codes "--mode=gen" ∷ codes "+7" ∷ [])
+    ∷ (codes "--mode=gen" ∷ codes "p.sg" ∷ []) ∷ (codes "--mode=gen" ∷ codes "7" ∷ codes "8" ∷ []) ∷ (codes "--mode=gen" ∷ codes "7" ∷ codes "x=a" ∷ []) ∷ []
 
 bad-words : map good_words bad ≡ map (λ _. None) bad
 unfolding is_name is_reserved

@@ -4,15 +4,20 @@
 mod drive;
 #[cfg(test)]
 mod examples;
+mod generated;
 mod last_line;
 pub mod laws;
 #[cfg(test)]
 mod loading_examples;
+mod number;
 mod output;
+mod perform;
 #[cfg(test)]
 mod picture_examples;
+mod refuse;
 mod run_line;
 mod session;
+mod splitting;
 #[cfg(test)]
 mod tests;
 mod unbound;

@@ -1,30 +1,24 @@
-ghost use Rattle.std.specs.Prelude.{◌≡◌, ◌≢◌, ◌≤◌, ◌↔◌, false, length, map, Option, Some, None, IsSome, IfOk, IfSome, find};
-ghost use Rattle.std.specs.List.{AllByRecursion};
+ghost use Rattle.std.specs.Prelude.{◌≡◌, ◌≤◌, true, false, [], length, map, Some, None, IfOk, IfSome};
 ghost use Rattle.std.specs.Result.{IsOkAnd};
 ghost use Rattle.sg_outside.specs.Files.{Held};
 ghost use Rattle.sg_lexer.specs.Limits.{most_file_bytes};
-ghost use Rattle.sg_session.specs.Compiling.{compiled_program, spelled_program};
-ghost use Rattle.sg_session.specs.Texts as texts_of;
-ghost use Rattle.sg_session.specs.Compiled.{CheckedProgram, Compiles, IsTask, unfolded};
-ghost use Rattle.sg_flat.specs.State.{opening};
+ghost use Rattle.sg_session.specs.Compiling.{compiled_program};
+ghost use Rattle.sg_session.specs.Compiled.{CheckedProgram, Compiles};
 ghost use Rattle.sparsegrid.specs.Texts.{texts};
+ghost use Rattle.sparsegrid.specs.Words as spec_words;
 ghost use Rattle.sparsegrid.specs.Words.{asked_by, binding_read, good_words};
-ghost use Rattle.sparsegrid.specs.Lines.{words_last, no_file_last, read_last, file_bytes_last, field_text, refusal_last};
 ghost use Rattle.sparsegrid.specs.Meaning as spec;
-ghost use Rattle.sparsegrid.specs.Meaning.{asks_code, meaning, meaning_by, meaning_of_asked, meaning_of_compiled, meaning_in, meaning_of_run, meaning_of_tasks, is_unbound, items_or_none, refused, all_done};
-ghost use Rattle.sparsegrid.specs.Outcome.{outside, IsWhole, IsCutShort, IsEnding, HasSession, LeavesSession, code_in, WroteMeaning, WroteStopped, WroteFront, EndsAs, AsksAs, ReadFaults, PutFaults, ReadCount, StandsForLast, IsOfAsked, IsOfFile};
-ghost use Rattle.sparsegrid.specs.steps.Along.{WentAlong, Went, SendCause, IsEnd, LeavesOnly, LeavesProgram, status_of, session_of, PutsCode};
+ghost use Rattle.sparsegrid.specs.Meaning.{asks_code, meaning, meaning_by, meaning_of_asked, meaning_of_compiled, meaning_in};
+ghost use Rattle.sparsegrid.specs.Outcome.{outside, IsWhole, IsCutShort, IsEnding, LeavesSession, code_in, WroteMeaning, WroteStopped, WroteFront, EndsAs, AsksAs, ReadFaults, PutFaults, ReadCount, StandsForLast, IsOfAsked, IsOfFile};
+ghost use Rattle.sparsegrid.specs.steps.Along.{Went, SendCause, IsEnd, LeavesOnly, LeavesProgram, status_of, session_of, PutsCode};
 
-use crate::drive::drive;
-use crate::last_line::{
-    LastLine, file_bytes_last, no_file_last, read_last, refusal_last, words_last,
-};
-use crate::output::{PutFailed, send, send_last};
-use crate::run_line::field_text;
-use crate::unbound::first_unbound;
+use crate::generated::{generated, is_gen};
+use crate::output::{PutFailed, send};
+use crate::perform::{check, leave_open, perform};
+use crate::refuse::{refuse_long, refuse_read, refuse_source, refuse_words};
 use crate::words::{BadWords, Mode, Words, read_words};
 use sg_outside::{Files, Gate, Got, Sink};
-use sg_session::{Binds, Compiled, Refusal, Session, Task, check_text, compile, lower_text, spell};
+use sg_session::{Binds, Compiled, Session, compile, lower_text};
 use sg_words::{Items, Memory, Stop, Text};
 use std::alloc::Global;
 use std::thread::Threads;
@@ -41,9 +35,9 @@ pub struct Done {
 }
 
 /// Runs the program that the words name: reads its file and performs its commands in order, or looks at its kernels, or writes their access
-/// code; or writes one last line that says why it was refused. Statuses: 0 all done, 1 bad words, or a load without a file, 2 a read failed, 3 a put failed, 4 the
-/// bytes spell no program, 5 the program breaks a rule, 6 a loaded file is no grid text of its field, 7 a
-/// run of a kernel or a load was refused, 8 a limit was passed, 9 want of memory.
+/// code; or performs the commands of the generated program; or writes one last line that says why it was refused. Statuses: 0 all done, 1 bad
+/// words, or a load without a file, 2 a read failed, 3 a put failed, 4 the bytes spell no program, 5 the program breaks a rule, 6 a loaded file
+/// is no grid text of its field, 7 a run of a kernel or a load was refused, 8 a limit was passed, 9 want of memory.
 pub fn run<R: Threads + Sync, F: Files, S: Sink, G: Gate + Sync>(
     rt: &R,
     alloc: Global,
@@ -186,6 +180,7 @@ fn is_lower(mode: Mode) -> bool
         Mode::Run => false,
         Mode::Check => false,
         Mode::Lower => true,
+        Mode::Gen => false,
     }
 }
 
@@ -200,6 +195,61 @@ fn run_asked<R: Threads + Sync, F: Files, S: Sink, G: Gate + Sync>(
 ) -> Result<Done, Stop<PutFailed>>
     requires some { 1 ≤ asked.now.workers }
     requires few { asked.now.workers ≤ 16 }
+    ensures went { Went (meaning_of_asked (asked_by asked.now)) 0
+        (outside F.Files S.Sink files.old out.old) (outside F.Files S.Sink files.new out.new) result }
+    ensures holds { F.holds files.new ≡ F.holds files.old }
+    ensures never_falls { F.faults files.old ≤ F.faults files.new }
+    ensures cause { SendCause result (S.faults out.old) (S.faults out.new) }
+    ensures end { IfOk result IsEnd }
+    ensures program { LeavesOnly (λ session. (held : Held) → F.holds files.old ≡ Some held →
+        IsOfAsked (asked_by asked.now) held session) result }
+{
+    if is_gen(asked.mode) {
+        run_generated(rt, alloc, asked, files, out, gate)
+    } else {
+        run_file(rt, alloc, asked, files, out, gate)
+    }
+}
+
+/// Runs the generated program of the number that good words name.
+fn run_generated<R: Threads + Sync, F: Files, S: Sink, G: Gate + Sync>(
+    rt: &R,
+    alloc: Global,
+    asked: &Words,
+    files: &mut F,
+    out: &mut S,
+    gate: &G,
+) -> Result<Done, Stop<PutFailed>>
+    requires some { 1 ≤ asked.now.workers }
+    requires few { asked.now.workers ≤ 16 }
+    requires number { spec_words.is_gen asked.now.mode ≡ true }
+    ensures went { Went (meaning_of_asked (asked_by asked.now)) 0
+        (outside F.Files S.Sink files.old out.old) (outside F.Files S.Sink files.new out.new) result }
+    ensures holds { F.holds files.new ≡ F.holds files.old }
+    ensures never_falls { F.faults files.old ≤ F.faults files.new }
+    ensures cause { SendCause result (S.faults out.old) (S.faults out.new) }
+    ensures end { IfOk result IsEnd }
+    ensures program { LeavesOnly (λ session. (held : Held) → F.holds files.old ≡ Some held →
+        IsOfAsked (asked_by asked.now) held session) result }
+{
+    match generated(alloc, asked.number) {
+        Ok(text) => run_source(rt, alloc, asked, text.as_bytes(), files, out, gate),
+        Err(Memory) => Err(Stop::Memory),
+    }
+}
+
+/// Runs the program of the file that good words name.
+fn run_file<R: Threads + Sync, F: Files, S: Sink, G: Gate + Sync>(
+    rt: &R,
+    alloc: Global,
+    asked: &Words,
+    files: &mut F,
+    out: &mut S,
+    gate: &G,
+) -> Result<Done, Stop<PutFailed>>
+    requires some { 1 ≤ asked.now.workers }
+    requires few { asked.now.workers ≤ 16 }
+    requires file { spec_words.is_gen asked.now.mode ≡ false }
     ensures went { Went (meaning_of_asked (asked_by asked.now)) 0
         (outside F.Files S.Sink files.old out.old) (outside F.Files S.Sink files.new out.new) result }
     ensures holds { F.holds files.new ≡ F.holds files.old }
@@ -281,257 +331,18 @@ fn run_compiled<R: Threads + Sync, F: Files, S: Sink, G: Gate + Sync>(
         ),
         Mode::Check => check(alloc, compiled, out),
         Mode::Lower => leave_open(alloc, compiled, b"", out),
-    }
-}
-
-/// Writes for each kernel whether it is neutral.
-fn check<S: Sink>(alloc: Global, compiled: Compiled, out: &mut S) -> Result<Done, Stop<PutFailed>>
-    ensures along { WentAlong (all_done (texts_of.check_text compiled.names compiled.neutral) (opening compiled.layouts)) (S.has out.old) (S.has out.new) result }
-    ensures cause { SendCause result (S.faults out.old) (S.faults out.new) }
-    ensures end { IfOk result IsEnd }
-    ensures program { LeavesProgram compiled result }
-    ensures status { IfOk result (λ done. done.status ≡ 0) }
-{
-    match check_text(alloc, &compiled) {
-        Ok(text) => leave_open(alloc, compiled, text.bytes.as_slice(), out),
-        Err(Memory) => Err(Stop::Memory),
-    }
-}
-
-/// Writes a text and leaves the stores of a program as they are opened.
-fn leave_open<S: Sink>(
-    alloc: Global,
-    compiled: Compiled,
-    text: &[u8],
-    out: &mut S,
-) -> Result<Done, Stop<PutFailed>>
-    ensures along { WentAlong (all_done text.now (opening compiled.layouts)) (S.has out.old) (S.has out.new) result }
-    ensures cause { SendCause result (S.faults out.old) (S.faults out.new) }
-    ensures end { IfOk result IsEnd }
-    ensures program { LeavesProgram compiled result }
-    ensures status { IfOk result (λ done. done.status ≡ 0) }
-{
-    match Session::open(alloc, compiled) {
-        Ok(session) => match send(out, text) {
-            Ok(()) => Ok(Done {
-                status: 0,
-                session: Some(session),
-            }),
-            Err(why) => Err(why),
-        },
-        Err(Memory) => Err(Stop::Memory),
-    }
-}
-
-/// Performs the commands of a program from its opening state on.
-fn perform<R: Threads + Sync, F: Files, S: Sink, G: Gate + Sync>(
-    rt: &R,
-    alloc: Global,
-    compiled: Compiled,
-    binds: &Binds,
-    files: &mut F,
-    out: &mut S,
-    workers: u32,
-    gate: &G,
-) -> Result<Done, Stop<PutFailed>>
-    requires some { 1 ≤ workers }
-    requires few { workers ≤ 16 }
-    ensures went { (program : CheckedProgram) → Compiles program compiled →
-        Went (λ readings. meaning_of_run program (map binding_read binds.now.list) readings (unfolded program.commands)) 1
-        (outside F.Files S.Sink files.old out.old) (outside F.Files S.Sink files.new out.new) result }
-    ensures holds { F.holds files.new ≡ F.holds files.old }
-    ensures never_falls { F.faults files.old ≤ F.faults files.new }
-    ensures cause { SendCause result (S.faults out.old) (S.faults out.new) }
-    ensures end { IfOk result IsEnd }
-    ensures program { LeavesProgram compiled result }
-{
-    match compiled.tasks(alloc) {
-        Ok(tasks) => match first_unbound(&compiled, binds, tasks.as_slice()) {
-            Some(task) => refuse_unbound(alloc, out, &compiled, task),
-            None => perform_tasks(
-                rt,
-                alloc,
-                compiled,
-                tasks.as_slice(),
-                binds,
-                files,
-                out,
-                workers,
-                gate,
-            ),
-        },
-        Err(Memory) => Err(Stop::Memory),
-    }
-}
-
-/// Performs tasks, of which each load has a file, from the opening state of their program on.
-fn perform_tasks<R: Threads + Sync, F: Files, S: Sink, G: Gate + Sync>(
-    rt: &R,
-    alloc: Global,
-    compiled: Compiled,
-    tasks: &[Task],
-    binds: &Binds,
-    files: &mut F,
-    out: &mut S,
-    workers: u32,
-    gate: &G,
-) -> Result<Done, Stop<PutFailed>>
-    requires some { 1 ≤ workers }
-    requires few { workers ≤ 16 }
-    requires there { AllByRecursion (IsTask compiled) tasks.now }
-    requires bound { find (is_unbound compiled.names (map binding_read binds.now.list)) tasks.now ≡ None }
-    ensures went { (program : CheckedProgram) → Compiles program compiled →
-        Went (λ readings. meaning_of_tasks program (map binding_read binds.now.list) readings 1 (opening program.layouts) tasks.now) 1
-        (outside F.Files S.Sink files.old out.old) (outside F.Files S.Sink files.new out.new) result }
-    ensures holds { F.holds files.new ≡ F.holds files.old }
-    ensures never_falls { F.faults files.old ≤ F.faults files.new }
-    ensures cause { SendCause result (S.faults out.old) (S.faults out.new) }
-    ensures end { IfOk result IsEnd }
-    ensures program { LeavesProgram compiled result }
-{
-    match Session::open(alloc, compiled) {
-        Ok(opened) => {
-            let mut session = opened;
-            match drive(
-                rt,
-                alloc,
-                &mut session,
-                tasks,
-                binds,
-                files,
-                out,
-                workers,
-                gate,
-            ) {
-                Ok(status) => Ok(done_with(status, session)),
-                Err(why) => Err(why),
-            }
-        }
-        Err(Memory) => Err(Stop::Memory),
-    }
-}
-
-/// How performed tasks ended: the session is kept where all are done or a run was refused.
-fn done_with(status: u8, session: Session) -> Done
-    ensures status { result.status ≡ status }
-    ensures session { IsSome result.session ↔ HasSession status }
-    ensures same { IfSome result.session (λ kept. kept ≡ session) }
-{
-    if status == 0 || status == 7 {
-        Done {
-            status,
-            session: Some(session),
-        }
-    } else {
-        Done {
-            status,
-            session: None,
+        Mode::Gen => {
+            let binds = no_binds(alloc);
+            perform(rt, alloc, compiled, &binds, files, out, asked.workers, gate)
         }
     }
 }
 
-/// Writes the last line of a run that leaves no session.
-fn refuse<S: Sink>(alloc: Global, out: &mut S, last: &LastLine) -> Result<Done, Stop<PutFailed>>
-    ensures along { WentAlong (refused last.now) (S.has out.old) (S.has out.new) result }
-    ensures cause { SendCause result (S.faults out.old) (S.faults out.new) }
-    ensures status { IfOk result (λ done. done.status ≡ last.now.status) }
-    ensures session { IfOk result (λ done. done.session ≡ None) }
+/// No name is bound to a file.
+fn no_binds(alloc: Global) -> Binds
+    ensures { result.list ≡ [] }
 {
-    match send_last(alloc, out, last) {
-        Ok(status) => Ok(Done {
-            status,
-            session: None,
-        }),
-        Err(why) => Err(why),
-    }
-}
-
-/// Writes the last line of a run with bad words.
-fn refuse_words<S: Sink>(alloc: Global, out: &mut S) -> Result<Done, Stop<PutFailed>>
-    ensures along { WentAlong (refused words_last) (S.has out.old) (S.has out.new) result }
-    ensures cause { SendCause result (S.faults out.old) (S.faults out.new) }
-    ensures status { IfOk result (λ done. done.status ≡ 1) }
-    ensures session { IfOk result (λ done. done.session ≡ None) }
-{
-    match words_last(alloc) {
-        Ok(last) => refuse(alloc, out, &last),
-        Err(Memory) => Err(Stop::Memory),
-    }
-}
-
-/// Writes the last line of a run whose file has too many bytes.
-fn refuse_long<S: Sink>(alloc: Global, out: &mut S) -> Result<Done, Stop<PutFailed>>
-    ensures along { WentAlong (refused file_bytes_last) (S.has out.old) (S.has out.new) result }
-    ensures cause { SendCause result (S.faults out.old) (S.faults out.new) }
-    ensures status { IfOk result (λ done. done.status ≡ 8) }
-    ensures session { IfOk result (λ done. done.session ≡ None) }
-{
-    match file_bytes_last(alloc) {
-        Ok(last) => refuse(alloc, out, &last),
-        Err(Memory) => Err(Stop::Memory),
-    }
-}
-
-/// Writes the last line of a run whose file could not be read.
-fn refuse_read<S: Sink>(alloc: Global, out: &mut S, name: &str) -> Result<Done, Stop<PutFailed>>
-    ensures along { WentAlong (refused (read_last name.now)) (S.has out.old) (S.has out.new) result }
-    ensures cause { SendCause result (S.faults out.old) (S.faults out.new) }
-    ensures status { IfOk result (λ done. done.status ≡ 2) }
-    ensures session { IfOk result (λ done. done.session ≡ None) }
-{
-    match read_last(alloc, name.as_bytes()) {
-        Ok(last) => refuse(alloc, out, &last),
-        Err(Memory) => Err(Stop::Memory),
-    }
-}
-
-/// Writes the last line of a run in which this load has no file.
-fn refuse_unbound<S: Sink>(
-    alloc: Global,
-    out: &mut S,
-    compiled: &Compiled,
-    task: Task,
-) -> Result<Done, Stop<PutFailed>>
-    requires { IsTask compiled.now task }
-    ensures along { WentAlong (refused (no_file_last (field_text compiled.now.names task))) (S.has out.old) (S.has out.new) result }
-    ensures cause { SendCause result (S.faults out.old) (S.faults out.new) }
-    ensures status { IfOk result (λ done. done.status ≡ 1) }
-    ensures session { IfOk result (λ done. done.session ≡ None) }
-{
-    match no_file_last(alloc, field_text(compiled, task)) {
-        Ok(last) => refuse(alloc, out, &last),
-        Err(Memory) => Err(Stop::Memory),
-    }
-}
-
-/// Writes the last line of a run whose file has these bytes and is refused before its commands run. The names in it are those of the
-/// program that the bytes spell.
-fn refuse_source<S: Sink>(
-    alloc: Global,
-    out: &mut S,
-    bytes: &[u8],
-    refusal: Refusal,
-) -> Result<Done, Stop<PutFailed>>
-    requires { length bytes.now ≤ most_file_bytes }
-    ensures along { WentAlong (refused (refusal_last (items_or_none (spelled_program bytes.now)) refusal)) (S.has out.old) (S.has out.new) result }
-    ensures cause { SendCause result (S.faults out.old) (S.faults out.new) }
-    ensures status { IfOk result (λ done. done.status ≡ (refusal_last (items_or_none (spelled_program bytes.now)) refusal).status) }
-    ensures session { IfOk result (λ done. done.session ≡ None) }
-{
-    match source_last(alloc, bytes, refusal) {
-        Ok(last) => refuse(alloc, out, &last),
-        Err(Memory) => Err(Stop::Memory),
-    }
-}
-
-/// The last line of a run whose file has these bytes and is refused before its commands run.
-fn source_last(alloc: Global, bytes: &[u8], refusal: Refusal) -> Result<LastLine, Memory>
-    requires { length bytes.now ≤ most_file_bytes }
-    ensures { IfOk result (λ last. last ≡ refusal_last (items_or_none (spelled_program bytes.now)) refusal) }
-{
-    match spell(alloc, bytes) {
-        Ok(program) => refusal_last(alloc, program.items.as_slice(), refusal),
-        Err(Stop::Refused(_why)) => refusal_last(alloc, &[], refusal),
-        Err(Stop::Memory) => Err(Memory),
+    Binds {
+        list: Items::new(alloc),
     }
 }

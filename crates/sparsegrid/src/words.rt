@@ -1,68 +1,53 @@
 //! The words of the command line, and what they ask for.
 
+ghost use Rattle.std.specs.List.{list_all};
 ghost use Rattle.std.specs.Prelude.{◌≡◌, ◌∷◌, ◌≤◌, [], IfOk, IfSome, map, option_map, string_bytes};
 ghost use Rattle.std.specs.Option.{option_copied};
 ghost use Rattle.sparsegrid.specs.Words as spec;
-ghost use Rattle.sparsegrid.specs.steps.WordTurns.{Reads, parts_seen};
+ghost use Rattle.sparsegrid.specs.steps.WordTurns.{Reads};
+ghost use Rattle.clap.specs.Matches.{found_of};
+ghost use Rattle.clap.specs.Walk.{rows_of};
+ghost use Rattle.sparsegrid.specs.steps.Splitting.{asked_in, parts_in};
 
+use crate::generated::is_gen;
+use crate::number::number_of;
+use crate::splitting::split;
+use clap::ArgMatches;
 use sg_ast::Name;
 use sg_lexer::is_name;
 use sg_session::{Bind, Binds};
 use sg_words::{Items, Memory, Stop};
 use std::alloc::Global;
 
-/// What is done with the file: it is run, its kernels are looked at, or their access code is written.
+/// What is done: the file is run, its kernels are looked at, or their access code is written; or the generated program is run.
 #[derive(Clone, Copy, Debug, PartialEq, Eq)]
 pub enum Mode {
     Run,
     Check,
     Lower,
+    Gen,
 }
 
-/// What the words ask for: how many workers (1 to 16), the mode, the file, and the files that are bound to names.
+/// What the words ask for: how many workers (1 to 16), the mode, the file, the files that are bound to names, and the number of the
+/// generated program. In mode gen there is no file and none is bound; in the others the number is 0.
 #[derive(Debug, Drop)]
 pub struct Words {
     pub workers: u32,
     pub mode: Mode,
     pub file: String,
     pub binds: Binds,
+    pub number: u32,
 }
 
 /// The words aren't good.
 #[derive(Clone, Copy, Debug, PartialEq, Eq)]
 pub struct BadWords;
 
-/// Where a word stands: at the front, as the value of an option, or behind `--`.
-#[derive(Clone, Copy)]
-pub(crate) enum Place {
-    Front,
-    Workers,
-    Mode,
-    Behind,
-}
-
-/// The values of the options, where they are given, and the positional words in their order.
-#[derive(Drop)]
-pub(crate) struct Parts<'a> {
-    workers: Option<&'a str>,
-    mode: Option<&'a str>,
-    positionals: Vec<&'a str>,
-}
-
 /// What stands before and behind the first `=`, where there is one.
 fn at_equals(word: &str) -> Option<(&str, &str)>
     ensures { option_map (λ cut. (cut.0.now, cut.1.now)) result ≡ spec.at_equals word.now }
 {
     word.split_once('=')
-}
-
-fn begins_with_dash(word: &str) -> bool
-    ensures { result ≡ spec.begins_with_dash word.now }
-{
-    match word.as_bytes() {
-        [] => false,
-        [byte, ..] => *byte == b'-',
-    }
 }
 
 fn is_plain(word: &str) -> bool
@@ -74,120 +59,15 @@ fn is_plain(word: &str) -> bool
     }
 }
 
-impl<'a> Parts<'a> {
-    fn positional(&mut self, next: Place, word: &'a str) -> Result<Place, Stop<BadWords>>
-        ensures { Reads (λ next. (next, parts_seen self.new)) result (spec.with_positional next word.now (parts_seen self.old)) }
-    {
-        if !is_plain(word) {
-            return Err(Stop::Refused(BadWords));
-        }
-        match self.positionals.push(word) {
-            Ok(()) => Ok(next),
-            Err(_failed) => Err(Stop::Memory),
-        }
-    }
-
-    fn workers(&mut self, value: &'a str) -> Result<Place, Stop<BadWords>>
-        ensures { Reads (λ next. (next, parts_seen self.new)) result (spec.with_workers value.now (parts_seen self.old)) }
-    {
-        match self.workers {
-            Some(_) => Err(Stop::Refused(BadWords)),
-            None => {
-                self.workers = Some(value);
-                Ok(Place::Front)
-            }
-        }
-    }
-
-    fn mode(&mut self, value: &'a str) -> Result<Place, Stop<BadWords>>
-        ensures { Reads (λ next. (next, parts_seen self.new)) result (spec.with_mode value.now (parts_seen self.old)) }
-    {
-        match self.mode {
-            Some(_) => Err(Stop::Refused(BadWords)),
-            None => {
-                self.mode = Some(value);
-                Ok(Place::Front)
-            }
-        }
-    }
-
-    fn carried(
-        &mut self,
-        word: &'a str,
-        cut: Option<(&'a str, &'a str)>,
-    ) -> Result<Place, Stop<BadWords>>
-        ensures { Reads (λ next. (next, parts_seen self.new)) result
-            (spec.with_carried word.now (parts_seen self.old) (option_map (λ cut. (cut.0.now, cut.1.now)) cut.entry)) }
-    {
-        match cut {
-            None => self.positional(Place::Front, word),
-            Some((option, value)) => {
-                if option == "--workers" {
-                    self.workers(value)
-                } else if option == "--mode" {
-                    self.mode(value)
-                } else {
-                    self.positional(Place::Front, word)
-                }
-            }
-        }
-    }
-
-    fn front(&mut self, word: &'a str) -> Result<Place, Stop<BadWords>>
-        ensures { Reads (λ next. (next, parts_seen self.new)) result (spec.at_front word.now (parts_seen self.old)) }
-    {
-        if word == "--" {
-            Ok(Place::Behind)
-        } else if word == "--workers" {
-            Ok(Place::Workers)
-        } else if word == "--mode" {
-            Ok(Place::Mode)
-        } else {
-            self.carried(word, at_equals(word))
-        }
-    }
-
-    fn take(&mut self, place: Place, word: &'a str) -> Result<Place, Stop<BadWords>>
-        ensures { Reads (λ next. (next, parts_seen self.new)) result (spec.with_word place word.now (parts_seen self.old)) }
-    {
-        match place {
-            Place::Front => self.front(word),
-            Place::Workers => {
-                if begins_with_dash(word) {
-                    return Err(Stop::Refused(BadWords));
-                }
-                self.workers(word)
-            }
-            Place::Mode => {
-                if begins_with_dash(word) {
-                    return Err(Stop::Refused(BadWords));
-                }
-                self.mode(word)
-            }
-            Place::Behind => self.positional(Place::Behind, word),
-        }
-    }
-}
-
-/// The parts of the words.
-fn parts_of(alloc: Global, words: &[String]) -> Result<Parts<'_>, Stop<BadWords>>
-    ensures { Reads parts_seen result (spec.parts_of (map string_bytes words.now)) }
+fn are_plain(words: &[&str]) -> bool
+    ensures { result ≡ list_all spec.is_plain (map (λ word. word.now) words.now) }
 {
-    let mut parts = Parts {
-        workers: None,
-        mode: None,
-        positionals: Vec::new(alloc),
-    };
-    let mut place = Place::Front;
     for word in words {
-        place = parts.take(place, word.as_str())?;
+        if !is_plain(word) {
+            return false;
+        }
     }
-    match place {
-        Place::Front => Ok(parts),
-        Place::Behind => Ok(parts),
-        Place::Workers => Err(Stop::Refused(BadWords)),
-        Place::Mode => Err(Stop::Refused(BadWords)),
-    }
+    true
 }
 
 static WORKERS: [(&str, u32); 16] = [
@@ -247,6 +127,8 @@ fn mode_of(value: Option<&str>) -> Option<Mode>
                 Some(Mode::Check)
             } else if value == "lower" {
                 Some(Mode::Lower)
+            } else if value == "gen" {
+                Some(Mode::Gen)
             } else {
                 None
             }
@@ -298,6 +180,55 @@ fn binds_of(alloc: Global, words: &[&str]) -> Result<Items<Bind>, Stop<BadWords>
     Ok(binds)
 }
 
+fn file_asked(
+    alloc: Global,
+    workers: u32,
+    mode: Mode,
+    file: &str,
+    words: &[&str],
+) -> Result<Words, Stop<BadWords>>
+    ensures asked { Reads spec.asked_by result (spec.file_asked workers mode file.now (map (λ word. word.now) words.now)) }
+    ensures workers { IfOk result (λ asked. asked.workers ≡ workers) }
+{
+    let binds = Binds {
+        list: binds_of(alloc, words)?,
+    };
+    Ok(Words {
+        workers,
+        mode,
+        file: String::from_str(alloc, file)?,
+        binds,
+        number: 0,
+    })
+}
+
+fn number_asked(
+    alloc: Global,
+    workers: u32,
+    mode: Mode,
+    text: &str,
+    words: &[&str],
+) -> Result<Words, Stop<BadWords>>
+    ensures asked { Reads spec.asked_by result (spec.number_asked workers mode text.now (map (λ word. word.now) words.now)) }
+    ensures workers { IfOk result (λ asked. asked.workers ≡ workers) }
+{
+    match words {
+        [] => match number_of(text.as_bytes()) {
+            Some(number) => Ok(Words {
+                workers,
+                mode,
+                file: String::new(alloc),
+                binds: Binds {
+                    list: Items::new(alloc),
+                },
+                number,
+            }),
+            None => Err(Stop::Refused(BadWords)),
+        },
+        [_word, ..] => Err(Stop::Refused(BadWords)),
+    }
+}
+
 fn asked_of(
     alloc: Global,
     workers: u32,
@@ -309,18 +240,52 @@ fn asked_of(
 {
     match positionals {
         [] => Err(Stop::Refused(BadWords)),
-        [file, words @ ..] => {
-            let binds = Binds {
-                list: binds_of(alloc, words)?,
-            };
-            Ok(Words {
-                workers,
-                mode,
-                file: String::from_str(alloc, file)?,
-                binds,
-            })
+        [first, words @ ..] => {
+            if is_gen(mode) {
+                number_asked(alloc, workers, mode, first, words)
+            } else {
+                file_asked(alloc, workers, mode, first, words)
+            }
         }
     }
+}
+
+/// What the values of the options and the positional words ask for; no positional word may be empty or begin with `-`.
+fn parts_asked(
+    alloc: Global,
+    workers: Option<&str>,
+    mode: Option<&str>,
+    positionals: &[&str],
+) -> Result<Words, Stop<BadWords>>
+    ensures asked { Reads spec.asked_by result
+        (asked_in (record { workers = option_copied workers.entry; mode = option_copied mode.entry; positionals = map (λ word. word.now) positionals.now })) }
+    ensures some { IfOk result (λ asked. 1 ≤ asked.workers) }
+    ensures few { IfOk result (λ asked. asked.workers ≤ 16) }
+{
+    if !are_plain(positionals) {
+        return Err(Stop::Refused(BadWords));
+    }
+    let Some(workers) = workers_of(workers) else {
+        return Err(Stop::Refused(BadWords));
+    };
+    let Some(mode) = mode_of(mode) else {
+        return Err(Stop::Refused(BadWords));
+    };
+    asked_of(alloc, workers, mode, positionals)
+}
+
+/// What the matches of the command line ask for.
+fn matches_asked(alloc: Global, matches: &ArgMatches) -> Result<Words, Stop<BadWords>>
+    ensures asked { Reads spec.asked_by result (asked_in (parts_in (rows_of (found_of matches.now)))) }
+    ensures some { IfOk result (λ asked. 1 ≤ asked.workers) }
+    ensures few { IfOk result (λ asked. asked.workers ≤ 16) }
+{
+    parts_asked(
+        alloc,
+        matches.get_str("workers"),
+        matches.get_str("mode"),
+        matches.get_raw("positionals").unwrap_or(&[]),
+    )
 }
 
 /// What the words behind the program's name ask for; refused exactly where they aren't good. There are 1 to 16 workers.
@@ -329,12 +294,8 @@ pub fn read_words(alloc: Global, words: &[String]) -> Result<Words, Stop<BadWord
     ensures some { IfOk result (λ asked. 1 ≤ asked.workers) }
     ensures few { IfOk result (λ asked. asked.workers ≤ 16) }
 {
-    let parts = parts_of(alloc, words)?;
-    let Some(workers) = workers_of(parts.workers) else {
-        return Err(Stop::Refused(BadWords));
-    };
-    let Some(mode) = mode_of(parts.mode) else {
-        return Err(Stop::Refused(BadWords));
-    };
-    asked_of(alloc, workers, mode, parts.positionals.as_slice())
+    match split(alloc, words) {
+        Ok(matches) => matches_asked(alloc, &matches),
+        Err(stop) => Err(stop),
+    }
 }

@@ -4,43 +4,34 @@ use std::test::Fail;
 
 /// Programs without loads, with the status and the text.
 static RUNS: &[(&str, u8, &str)] = &[
-    // the whole block of a written coordinate is active
-    (
-        "layout A(i) { pointer(i: 4) cap 2; dense(i: 4); field x: i32; } kernel k { for i in 5..6 { x[i] = 7; } } run k; dump x; stats A;",
-        0,
-        "grid 1 4\n4 0\n5 7\n6 0\n7 0\nstats A active 4 node 1 live 1\n",
-    ),
-    (
-        "layout A(i) { pointer(i: 4) cap 2; bitmasked(i: 4); field x: i32; } kernel k { for i in 5..6 { x[i] = 7; } } run k; dump x; stats A;",
-        0,
-        "grid 1 1\n5 7\nstats A active 1 node 1 live 1\n",
-    ),
-    (
-        "layout A(i) { dynamic(i: 8) chunk 4 cap 2; field x: i32; } kernel k { for i in 5..6 { x[i] = 7; } } run k; dump x; stats A;",
-        0,
-        "grid 1 6\n0 0\n1 0\n2 0\n3 0\n4 0\n5 7\nstats A active 6 node 1 live 2\n",
-    ),
-    (
-        "layout A(i) { dynamic(i: 8) chunk 4 cap 2; field x: i32; } kernel k { for i in 3..4 { x[i] = 7; } } run k; dump x; stats A;",
-        0,
-        "grid 1 4\n0 0\n1 0\n2 0\n3 7\nstats A active 4 node 1 live 1\n",
-    ),
-    // one of two fields holds the block; and pruning it makes room for another
-    (
-        "layout A(i) { pointer(i: 4) cap 1; dense(i: 2); field x: i32; field y: i32; } kernel w { for i in 0..1 { x[i] = 1; y[i] = 2; } } kernel zx { for i in A { x[i] = 0; } } kernel zy { for i in A { y[i] = 0; } } kernel far { for i in 6..7 { x[i] = 5; } } run w; run zx; prune A; stats A; run zy; prune A; stats A; run far; stats A;",
-        0,
-        "stats A active 2 node 1 live 1\nstats A active 0 node 1 live 0\nstats A active 2 node 1 live 1\n",
-    ),
-    (
-        "layout A(i) { dense(i: 1); field x: u32; } kernel k { for i in A { x[i] = x[i] * 2u + 1u; } } times 3 { run k; } dump x; clear A; dump x;",
-        0,
-        "grid 1 1\n0 7\ngrid 1 1\n0 0\n",
-    ),
     // texts of commands in a `times`, and a dense layout that stays active
     (
         "layout A(i) { dense(i: 2); field x: i32; } kernel k { for i in A { x[i] = x[i] + 1; } } times 2 { run k; stats A; prune A; dump x; clear A; }",
         0,
         "stats A active 2\ngrid 1 2\n0 1\n1 1\nstats A active 2\ngrid 1 2\n0 1\n1 1\n",
+    ),
+    // pruning over three axes, under keys, pointers and bits, of lists, and below a node that names the axes in another order
+    (
+        "layout A(i, j, k) { hash(i: 4, j: 4) cap 4; pointer(k: 4) cap 8; bitmasked(i: 2, j: 2, k: 2); field x: i32; field y: u32; } \
+         kernel w { for i, j, k in 1..3, 2..4, 3..5 { x[i, j, k] = i * 100 + j * 10 + k; } } kernel z { for i, j, k in 1..2, 2..4, 3..5 { x[i, j, k] = 0; } } \
+         run w; stats A; prune A; stats A; run z; prune A; stats A; dump x;",
+        0,
+        "stats A active 8 node 1 live 2 node 2 live 4\nstats A active 8 node 1 live 2 node 2 live 4\nstats A active 4 node 1 live 1 node 2 live 2\n\
+         grid 3 4\n2 2 3 223\n2 2 4 224\n2 3 3 233\n2 3 4 234\n",
+    ),
+    (
+        "layout A(i, j) { dense(i: 4); dynamic(j: 8) chunk 2 cap 8; field x: i32; } kernel w { for i, j in 0..3, 0..3 { x[i, j] = i * 10 + j; } } \
+         kernel y { for i, j in 0..3, 2..3 { x[i, j] = 0; } } kernel z { for i, j in 1..2, 0..2 { x[i, j] = 0; } } \
+         run w; prune A; stats A; run y; run z; prune A; stats A; dump x;",
+        0,
+        "stats A active 9 node 2 live 6\nstats A active 4 node 2 live 2\ngrid 2 4\n0 0 0\n0 1 1\n2 0 20\n2 1 21\n",
+    ),
+    (
+        "layout A(i, j, k) { pointer(k: 4, i: 2, j: 2) cap 8; dense(k: 2, j: 2); dynamic(i: 2) chunk 1 cap 16; field x: i32; } \
+         kernel w { for i, j, k in 1..3, 2..4, 3..5 { x[i, j, k] = i * 100 + j * 10 + k; } } kernel z { for i, j, k in 1..2, 2..4, 3..5 { x[i, j, k] = 0; } } \
+         run w; prune A; stats A; run z; prune A; stats A; dump x;",
+        0,
+        "stats A active 12 node 1 live 4 node 3 live 12\nstats A active 4 node 1 live 2 node 3 live 4\ngrid 3 4\n2 2 3 223\n2 2 4 224\n2 3 3 233\n2 3 4 234\n",
     ),
     // greys of words that stand for large numbers in one type and for negative ones in the other
     (
@@ -78,55 +69,6 @@ fn commands_without_loads(rt: HostRuntime) -> Result<(), Fail> {
         ends(&rt, alloc, source, *status, text)?;
     }
     Ok(())
-}
-
-static NEIGHBOURS: Setting<'static> = Setting {
-    words: &["p.sg", "x=x.grid"],
-    source: "layout A(i, j) { dense(i: 4, j: 4); field x: i32; field y: i32; } kernel k { for i, j in A { y[i, j] = x[i - 1, j] + x[i + 1, j] + x[i, j - 1] + x[i, j + 1]; } } load x; run k; image y 0 12;",
-    others: &[("x.grid", "grid 2 3\n0 1 5\n1 0 7\n3 3 9\n")],
-    failing_reads: &[],
-    failing_puts: &[],
-    take: 0,
-};
-
-static DENSE: Setting<'static> = Setting {
-    words: &["p.sg", "x=x.grid"],
-    source: "layout A(i, j) { dense(i: 8, j: 8); field x: i32; } kernel k { for i, j in A { if x[i, j] != 0 { x[i, j] = x[i, j] * 2; } } } load x; run k; image x 0 6; stats A;",
-    others: &[("x.grid", "grid 2 1\n1 2 3\n")],
-    failing_reads: &[],
-    failing_puts: &[],
-    take: 0,
-};
-
-static SPARSE: Setting<'static> = Setting {
-    words: &["p.sg", "x=x.grid"],
-    source: "layout A(i, j) { pointer(i: 2, j: 2) cap 4; dense(i: 4, j: 4); field x: i32; } kernel k { for i, j in A { if x[i, j] != 0 { x[i, j] = x[i, j] * 2; } } } load x; run k; image x 0 6; stats A;",
-    others: &[("x.grid", "grid 2 1\n1 2 3\n")],
-    failing_reads: &[],
-    failing_puts: &[],
-    take: 0,
-};
-
-const ONE_WHITE: &str =
-    "P2\n8 8\n255\n0 0 0 0 0 0 0 0\n0 0 255 0 0 0 0 0\n0 0 0 0 0 0 0 0\n0 0 0 0 0 0 0 0\n0 0 0 0 0 0 0 0\n0 0 0 0 0 0 0 0\n0 0 0 0 0 0 0 0\n0 0 0 0 0 0 0 0\n";
-
-#[test]
-fn image_of_neighbours(rt: HostRuntime) -> Result<(), Fail> {
-    NEIGHBOURS.ends(
-        &rt,
-        rt.alloc(),
-        0,
-        "P2\n4 4\n255\n255 0 106 0\n0 255 0 0\n148 0 0 191\n0 0 191 0\n",
-    )
-}
-
-#[test]
-fn image_under_two_layouts(rt: HostRuntime) -> Result<(), Fail> {
-    let alloc = rt.alloc();
-    let dense = format!(in alloc; "{ONE_WHITE}stats A active 64\n")?;
-    DENSE.ends(&rt, alloc, 0, dense.as_str())?;
-    let sparse = format!(in alloc; "{ONE_WHITE}stats A active 16 node 1 live 1\n")?;
-    SPARSE.ends(&rt, alloc, 0, sparse.as_str())
 }
 
 #[test]

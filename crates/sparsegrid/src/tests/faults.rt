@@ -16,7 +16,16 @@ static SQUARES: Setting = Setting {
 /// Bad words, and the name of a file that there isn't, with the status and the last line.
 static WORDS: &[(&[&str], u8, &str)] = &[
     (&[], 1, "refused: words\n"),
+    (&["--workers", "17", "p.sg"], 1, "refused: words\n"),
+    (&["--workers", "04", "p.sg"], 1, "refused: words\n"),
+    (&["--mode=go", "p.sg"], 1, "refused: words\n"),
+    (
+        &["--mode", "run", "--mode", "run", "p.sg"],
+        1,
+        "refused: words\n",
+    ),
     (&["p.sg", "x"], 1, "refused: words\n"),
+    (&["p.sg", "x=a", "x=b"], 1, "refused: words\n"),
     (&["-"], 1, "refused: words\n"),
     (&[""], 1, "refused: words\n"),
     (&["--help"], 1, "refused: words\n"),
@@ -65,7 +74,13 @@ const DUMP_AND_REFUSAL: &str =
 
 /// A source, the put that fails, how many bytes it takes, the status, and what was written.
 static PUTS: &[(&str, &[u64], usize, u8, &str)] = &[
-    (TWO_DUMPS, &[2], 3, 3, "grid 1 1\n0 0\ngri"),
+    (
+        "layout A(i) { dense(i: 1); field x: u32; } kernel k { for i in A { x[i] = x[i] * 2u + 1u; } } times 3 { run k; } dump x; clear A; dump x;",
+        &[2],
+        3,
+        3,
+        "grid 1 1\n0 7\ngri",
+    ),
     (TWO_DUMPS, &[2], 99, 3, "grid 1 1\n0 0\ngrid 1 1\n0 7"),
     (TWO_DUMPS, &[3], 3, 0, "grid 1 1\n0 0\ngrid 1 1\n0 7\n"),
     (DUMP_AND_REFUSAL, &[2], 4, 3, "grid 1 1\n0 0\nrefu"),

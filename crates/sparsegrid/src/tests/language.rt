@@ -490,7 +490,7 @@ static WORDS: &[(&[&str], u8, &str)] = &[
     (&["p.sg", "x="], 1, "refused: words\n"),
     (&["p.sg", "load=a"], 1, "refused: words\n"),
     (&["p.sg", "x=a", "x=b"], 1, "refused: words\n"),
-    (&["--mode=gen", "7"], 1, "refused: words\n"),
+    (&["--mode=gen", "07"], 1, "refused: words\n"),
 ];
 
 #[test]

@@ -12,7 +12,7 @@ static CODES: &[(&str, &str)] = &[
     ),
     // four reads, each with the one check that its index needs
     (
-        "layout A(i, j) { dense(i: 4, j: 4); field x: i32; field y: i32; } kernel k { for i, j in A { y[i, j] = x[i - 1, j] + x[i + 1, j] + x[i, j - 1] + x[i, j + 1]; } } run k; dump y;",
+        "layout A(i, j) { dense(i: 4, j: 4); field x: i32; field y: i32; } kernel k { for i, j in A { y[i, j] = x[i - 1, j] + x[i + 1, j] + x[i, j - 1] + x[i, j + 1]; } } load x; run k; image y 0 12;",
         "kernel k\nslice\ncode\nr0 = var 0\nr1 = const 1\nr2 = sub i32 r0 r1\nr3 = var 1\nr4 = extract 1 4 r2\nr5 = extract 1 4 r3\nr6 = offset r4 4 r5\np0 = root 0\np1 = check p0 0 4 r2\np2 = child p1 1 r6\nr7 = read p2 0 0 r2 r3\nr8 = add i32 r0 r1\nr9 = extract 1 4 r8\nr10 = offset r9 4 r5\np3 = check p0 0 4 r8\np4 = child p3 1 r10\nr11 = read p4 0 0 r8 r3\nr12 = add i32 r7 r11\nr13 = sub i32 r3 r1\nr14 = extract 1 4 r0\nr15 = extract 1 4 r13\nr16 = offset r14 4 r15\np5 = check p0 1 4 r13\np6 = child p5 1 r16\nr17 = read p6 0 0 r0 r13\nr18 = add i32 r12 r17\nr19 = add i32 r3 r1\nr20 = extract 1 4 r19\nr21 = offset r14 4 r20\np7 = check p0 1 4 r19\np8 = child p7 1 r21\nr22 = read p8 0 0 r0 r19\nr23 = add i32 r18 r22\nownwrite 0 1 r23\n",
     ),
     // an index that may wrap keeps its check, one that comes back to where it was needs none

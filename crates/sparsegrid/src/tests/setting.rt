@@ -1,6 +1,8 @@
-use crate::{Done, run};
+use crate::run;
+use sg_coord::Coord;
 use sg_outside::{FreeGate, Gate, MemFiles, MemSink, NamedBytes, Sink};
 use sg_session::spell;
+use sg_store::Store;
 use std::alloc::{AllocError, Global};
 use std::process::Abort;
 use std::test::Fail;
@@ -16,6 +18,74 @@ pub struct Setting<'a> {
     pub failing_reads: &'a [u64],
     pub failing_puts: &'a [u64],
     pub take: usize,
+}
+
+/// What is looked at when a run has ended: its status, whether there is a session, how many of the coordinates from 0 to 3 and from 0 to 15 are
+/// active in the first store, and the numbers of the first two containers below the root of that store.
+#[derive(Clone, Copy)]
+pub struct Seen {
+    pub status: u8,
+    pub session: bool,
+    pub active: Option<(u32, u32)>,
+    pub containers: Option<(u32, u32)>,
+}
+
+/// Runs with these words over files in memory. No other test function owns a session, since each that does is dear to prove.
+pub fn run_over<R: Threads + Sync, S: Sink, G: Gate + Sync>(
+    rt: &R,
+    alloc: Global,
+    words: &[String],
+    files: &mut MemFiles,
+    out: &mut S,
+    gate: &G,
+) -> Seen {
+    let done = run(rt, alloc, words, files, out, gate);
+    let mut seen = Seen {
+        status: done.status,
+        session: done.session.is_some(),
+        active: None,
+        containers: None,
+    };
+    if let Some(session) = &done.session {
+        if let Some(store) = session.stores.list.get(0) {
+            seen.active = Some(active(store));
+            seen.containers = containers(store);
+        }
+    }
+    seen
+}
+
+/// How many of the coordinates from 0 to 3 and from 0 to 15 are active.
+fn active(store: &Store) -> (u32, u32) {
+    let mut front = 0u32;
+    let mut all = 0u32;
+    for a in 0..16 {
+        let at = Coord {
+            n: 1,
+            a,
+            b: 0,
+            c: 0,
+        };
+        if store.cell_of(at).is_some() {
+            all = all.saturating_add(1);
+            if a < 4 {
+                front = all;
+            }
+        }
+    }
+    (front, all)
+}
+
+/// The number of the container below a slot of the root, where it is live.
+fn container(store: &Store, offset: u32) -> Option<u32> {
+    if store.layout().nodes() == 0 {
+        return None;
+    }
+    Some(store.under(store.root(), offset)?.part)
+}
+
+fn containers(store: &Store) -> Option<(u32, u32)> {
+    Some((container(store, 0)?, container(store, 1)?))
 }
 
 /// What a run left: its status, whether there is a session, and the bytes that the sink took.
@@ -38,27 +108,17 @@ impl<'a> Setting<'a> {
         }
     }
 
-    /// How a run over a sink ended.
-    pub fn done_into<R: Threads + Sync, S: Sink>(
-        &self,
-        rt: &R,
-        alloc: Global,
-        out: &mut S,
-    ) -> Result<Done, AllocError> {
-        self.gated(rt, alloc, out, &FreeGate)
-    }
-
-    /// How a run over a sink ended whose workers pass a gate.
+    /// Runs over a sink, with workers that pass a gate.
     pub fn gated<R: Threads + Sync, S: Sink, G: Gate + Sync>(
         &self,
         rt: &R,
         alloc: Global,
         out: &mut S,
         gate: &G,
-    ) -> Result<Done, AllocError> {
+    ) -> Result<Seen, AllocError> {
         let words = owned(alloc, self.words)?;
         let mut files = self.files(alloc)?;
-        Ok(run(rt, alloc, words.as_slice(), &mut files, out, gate))
+        Ok(run_over(rt, alloc, words.as_slice(), &mut files, out, gate))
     }
 
     /// Runs over a sink: the status, and whether there is a session.
@@ -68,8 +128,8 @@ impl<'a> Setting<'a> {
         alloc: Global,
         out: &mut S,
     ) -> Result<(u8, bool), AllocError> {
-        let done = self.done_into(rt, alloc, out)?;
-        Ok((done.status, done.session.is_some()))
+        let seen = self.gated(rt, alloc, out, &FreeGate)?;
+        Ok((seen.status, seen.session))
     }
 
     /// The files.
@@ -103,9 +163,33 @@ impl<'a> Setting<'a> {
     ) -> Result<(), Fail> {
         let left = self.run(rt, alloc)?;
         let source = self.source;
-        assert_eq!(rt; left.status, status, "{source}");
-        assert_eq!(rt; left.session, status == 0 || status == 7, "{source}");
+        let ended = (left.status, left.session);
+        assert_eq!(rt; ended, (status, status == 0 || status == 7), "{source}");
         assert_eq!(rt; left.text.as_slice(), text.as_bytes(), "{source}");
+        Ok(())
+    }
+
+    /// The run has this status and text on one worker, on two and on sixteen.
+    pub fn ends_on_workers<R: Threads + Sync + Abort>(
+        &self,
+        rt: &R,
+        alloc: Global,
+        status: u8,
+        text: &str,
+    ) -> Result<(), Fail> {
+        for count in ["1", "2", "16"] {
+            let mut words = Vec::new(alloc);
+            words.push("--workers")?;
+            words.push(count)?;
+            for word in self.words {
+                words.push(*word)?;
+            }
+            let setting = Setting {
+                words: words.as_slice(),
+                ..*self
+            };
+            setting.ends(rt, alloc, status, text)?;
+        }
         Ok(())
     }
 }

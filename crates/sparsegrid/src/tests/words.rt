@@ -10,19 +10,31 @@ fn asked(alloc: Global, line: &str) -> Result<String, Fail> {
         words.push(String::from_str(alloc, word)?)?;
     }
     match read_words(alloc, words.as_slice()) {
-        Ok(words) => Ok(format!(in alloc; "{} {:?} {}", words.workers, words.mode, words.file)?),
+        Ok(words) => Ok(format!(in alloc;
+            "{} {:?} {} {}",
+            words.workers, words.mode, words.file, words.number
+        )?),
         Err(Stop::Refused(bad)) => Ok(format!(in alloc; "{bad:?}")?),
         Err(Stop::Memory) => Err(Fail::from("no memory")),
     }
 }
 
-static LINES: [(&str, &str); 6] = [
-    ("p.sg", "4 Run p.sg"),
-    ("--workers 2 p.sg x=a y=b=c", "2 Run p.sg"),
-    ("--workers=16 -- p.sg", "16 Run p.sg"),
-    ("--mode check p.sg --workers 1", "1 Check p.sg"),
+static LINES: [(&str, &str); 12] = [
+    ("p.sg", "4 Run p.sg 0"),
+    ("--workers 2 p.sg x=a y=b=c", "2 Run p.sg 0"),
+    ("--workers=16 -- p.sg", "16 Run p.sg 0"),
+    ("--mode check p.sg --workers 1", "1 Check p.sg 0"),
     ("p.sg x=a x=b", "BadWords"),
     ("p.sg load=a", "BadWords"),
+    ("--mode gen 7", "4 Gen  7"),
+    (
+        "--mode=gen --workers 16 -- 4294967295",
+        "16 Gen  4294967295",
+    ),
+    ("--mode gen 4294967296", "BadWords"),
+    ("--mode gen 07", "BadWords"),
+    ("--mode gen +7", "BadWords"),
+    ("--mode gen 7 x=a", "BadWords"),
 ];
 
 #[test]

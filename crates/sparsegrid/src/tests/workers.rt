@@ -2,76 +2,17 @@
 
 ghost use Rattle.std.specs.Prelude.{◌≤◌};
 
-use super::setting::{Setting, named, owned};
-use crate::{Done, run};
-use sg_coord::Coord;
-use sg_outside::{FreeGate, HoldGate, MemFiles, MemSink, OrderGate, Phase};
-use sg_store::Store;
+use super::setting::{Setting, named, owned, run_over};
+use sg_outside::{FreeGate, MemFiles, MemSink, OrderGate};
 use std::alloc::Global;
 use std::process::Abort;
 use std::test::Fail;
 use std::thread::Threads;
 
-/// Programs, with the status and the text of their run on any number of workers.
-static RUNS: &[(&str, u8, &str)] = &[
-    (
-        "layout A(i) { pointer(i: 4) cap 2; dense(i: 4); field x: i32; } kernel k { for i in 5..6 { x[i] = 7; } } run k; dump x;",
-        0,
-        "grid 1 4\n4 0\n5 7\n6 0\n7 0\n",
-    ),
-    (
-        "layout A(i) { pointer(i: 4) cap 2; bitmasked(i: 4); field x: i32; } kernel k { for i in 5..6 { x[i] = 7; } } run k; dump x;",
-        0,
-        "grid 1 1\n5 7\n",
-    ),
-    (
-        "layout A(i) { dynamic(i: 8) chunk 4 cap 2; field x: i32; } kernel k { for i in 5..6 { x[i] = 7; } } run k; dump x;",
-        0,
-        "grid 1 6\n0 0\n1 0\n2 0\n3 0\n4 0\n5 7\n",
-    ),
-    (
-        "layout A(i) { dynamic(i: 8) chunk 4 cap 2; field x: i32; } kernel k { for i in 3..4 { x[i] = 7; } } run k; dump x;",
-        0,
-        "grid 1 4\n0 0\n1 0\n2 0\n3 7\n",
-    ),
-    (BLOCKS, 7, AFTER_BLOCKS),
-    (
-        "layout A(i) { pointer(i: 4) cap 1; dense(i: 4); field x: i32; } kernel k { for p in 0..4096 { x[0] += 1; } } run k; dump x;",
-        0,
-        "grid 1 4\n0 4096\n1 0\n2 0\n3 0\n",
-    ),
-    // the first of two writes outside, and none before a full pool
-    (
-        "layout A(i) { pointer(i: 4) cap 4; field x: i32; } kernel k { for i in 0..4 { x[i + 1] += 1; } } run k;",
-        7,
-        "refused: write outside: kernel k statement 1 at 3\n",
-    ),
-    (
-        "layout A(i) { pointer(i: 64) cap 1; field x: i32; } kernel k { for i in 0..64 { x[i + 61] += 1; } } run k;",
-        7,
-        "refused: write outside: kernel k statement 1 at 3\n",
-    ),
-    // the first layout that is too full
-    (
-        "layout A(i) { pointer(i: 4) cap 1; field x: i32; } layout B(i) { pointer(i: 4) cap 2; field y: i32; } \
-         kernel k { for i in 0..3 { y[i] = 1; x[i] = 1; } } run k;",
-        7,
-        "refused: pool full: A node 1 cap 1\n",
-    ),
-    (
-        "layout A(i) { pointer(i: 4) cap 3; field x: i32; } layout B(i) { pointer(i: 4) cap 2; field y: i32; } \
-         kernel k { for i in 0..3 { y[i] = 1; x[i] = 1; } } run k; dump x; dump y;",
-        7,
-        "refused: pool full: B node 1 cap 2\n",
-    ),
-];
-
 /// The second run has no room for its block.
 const BLOCKS: &str =
     "layout A(i) { pointer(i: 4) cap 1; dense(i: 4); field x: i32; } kernel one { for i in 0..1 { x[i] = 1; } } \
      kernel two { for i in 4..5 { x[i] = 2; } } run one; dump x; run two; dump x;";
-
-const AFTER_BLOCKS: &str = "grid 1 4\n0 1\n1 0\n2 0\n3 0\nrefused: pool full: A node 1 cap 1\n";
 
 /// A program and its words on so many workers.
 fn on<'a>(words: &'a [&'a str], source: &'a str) -> Setting<'a> {
@@ -81,103 +22,36 @@ fn on<'a>(words: &'a [&'a str], source: &'a str) -> Setting<'a> {
     }
 }
 
-#[test]
-fn any_number_of_workers(rt: HostRuntime) -> Result<(), Fail> {
-    for count in ["1", "2", "16"] {
-        for (source, status, text) in RUNS {
-            let words = ["--workers", count, "p.sg"];
-            on(&words, source).ends(&rt, rt.alloc(), *status, text)?;
-        }
-    }
-    Ok(())
-}
+/// A write outside behind others that are inside.
+const OUTSIDE: &str =
+    "layout A(i) { pointer(i: 4) cap 4; field x: i32; } kernel k { for i in 0..4 { x[i + 1] += 1; } } run k;";
 
-static KEYS: &[(&str, &str)] = &[("g", "grid 1 3\n0 1\n8 1\n16 1\n")];
-
-/// A table of eight places, in which all keys begin at the same one, with no room for a fourth.
-#[test]
-fn a_full_table_on_any_number_of_workers(rt: HostRuntime) -> Result<(), Fail> {
-    for count in ["1", "2", "16"] {
-        let words = ["--workers", count, "p.sg", "x=g"];
-        let setting = Setting {
-            others: KEYS,
-            ..on(
-                &words,
-                "layout A(i) { hash(i: 64) cap 3; field x: i32; } kernel k { for i in 24..25 { x[i] = 1; } } load x; dump x; run k;",
-            )
-        };
-        setting.ends(
-            &rt,
-            rt.alloc(),
-            7,
-            "grid 1 3\n0 1\n8 1\n16 1\nrefused: pool full: A node 1 cap 3\n",
-        )?;
-    }
-    Ok(())
-}
-
-/// However sixteen workers come, a run that is refused leaves no link.
-#[test]
-fn a_full_pool_many_times(rt: HostRuntime) -> Result<(), Fail> {
-    for _ in 0..100 {
-        on(&["--workers", "16", "p.sg"], BLOCKS).ends(&rt, rt.alloc(), 7, AFTER_BLOCKS)?;
-    }
-    Ok(())
-}
-
-/// Whether a coordinate is active in the first store of a session.
-fn is_active(done: &Done, a: i32) -> Option<bool> {
-    let store = done.session.as_ref()?.stores.list.get(0)?;
-    let at = Coord {
-        n: 1,
-        a,
-        b: 0,
-        c: 0,
-    };
-    Some(store.cell_of(at).is_some())
+/// The status of a run on so many workers, and how many of the coordinates from 0 to 3 and from 0 to 15 are active after it.
+fn active_after<R: Threads + Sync>(
+    rt: &R,
+    alloc: Global,
+    count: &'static str,
+    source: &'static str,
+) -> Result<(u8, Option<(u32, u32)>), Fail> {
+    let words = ["--workers", count, "p.sg"];
+    let mut out = MemSink::new(alloc, Vec::new(alloc), 0);
+    let seen = on(&words, source).gated(rt, alloc, &mut out, &FreeGate)?;
+    Ok((seen.status, seen.active))
 }
 
 #[test]
 fn a_refused_run_leaves_the_session(rt: HostRuntime) -> Result<(), Fail> {
-    let alloc = rt.alloc();
-    let mut out = MemSink::new(alloc, Vec::new(alloc), 0);
-    let done = on(&["--workers", "16", "p.sg"], BLOCKS).done_into(&rt, alloc, &mut out)?;
-    assert_eq!(rt;
-        (is_active(&done, 0), is_active(&done, 3)),
-        (Some(true), Some(true))
-    );
-    assert_eq!(rt;
-        (is_active(&done, 4), is_active(&done, 15)),
-        (Some(false), Some(false))
-    );
+    for count in ["1", "2", "16"] {
+        let blocks = active_after(&rt, rt.alloc(), count, BLOCKS)?;
+        assert_eq!(rt; blocks, (7, Some((4, 4))));
+        let outside = active_after(&rt, rt.alloc(), count, OUTSIDE)?;
+        assert_eq!(rt; outside, (7, Some((0, 0))));
+    }
     Ok(())
 }
 
 /// More looks than another worker needs to come.
 const LOOKS: u32 = 100_000_000;
-
-#[test]
-fn two_workers_meet(rt: HostRuntime) -> Result<(), Fail> {
-    let alloc = rt.alloc();
-    let setting = on(
-        &["--workers", "2", "p.sg"],
-        "layout A(i) { dense(i: 4); field x: i32; } kernel k { for i in 0..4 { x[i] = i * i; } } run k; dump x;",
-    );
-    let gate = HoldGate::new(Phase::Activate, LOOKS);
-    let mut out = MemSink::new(alloc, Vec::new(alloc), 0);
-    let done = setting.gated(&rt, alloc, &mut out, &gate)?;
-    assert_eq!(rt; done.status, 0);
-    assert!(rt; gate.met());
-    Ok(())
-}
-
-/// The number of the container below a slot of the root, where it is live.
-fn container(store: &Store, offset: u32) -> Option<u32> {
-    if store.layout().nodes() == 0 {
-        return None;
-    }
-    Some(store.under(store.root(), offset)?.part)
-}
 
 /// The numbers of the first two containers after the run in which a worker comes first; none where the other one didn't see it first.
 fn containers<R: Threads + Sync + Abort>(
@@ -193,14 +67,9 @@ fn containers<R: Threads + Sync + Abort>(
     );
     let gate = OrderGate::new(first, LOOKS);
     let mut out = MemSink::new(alloc, Vec::new(alloc), 0);
-    let done = setting.gated(rt, alloc, &mut out, &gate)?;
+    let seen = setting.gated(rt, alloc, &mut out, &gate)?;
     assert_eq!(rt; out.bytes(), b"grid 1 2\n0 2\n1 2\n".as_slice());
-    Ok(if gate.kept() { numbers(&done) } else { None })
-}
-
-fn numbers(done: &Done) -> Option<(u32, u32)> {
-    let store = done.session.as_ref()?.stores.list.get(0)?;
-    Some((container(store, 0)?, container(store, 1)?))
+    Ok(if gate.kept() { seen.containers } else { None })
 }
 
 /// The worker that comes first draws the first number of the stock.
@@ -273,8 +142,8 @@ fn scatter<R: Threads + Sync>(
 ) -> Result<u8, Fail> {
     let words = owned(alloc, words)?;
     let mut files = particle_files(alloc)?;
-    let done = run(rt, alloc, words.as_slice(), &mut files, out, &FreeGate);
-    Ok(done.status)
+    let seen = run_over(rt, alloc, words.as_slice(), &mut files, out, &FreeGate);
+    Ok(seen.status)
 }
 
 /// The words on one worker, on two and on sixteen.
@@ -293,31 +162,6 @@ fn many_particles_are_scattered(rt: HostRuntime) -> Result<(), Fail> {
         let status = scatter(&rt, alloc, words, &mut out)?;
         assert_eq!(rt; status, 0);
         assert_eq!(rt; out.bytes(), cells.as_str().as_bytes());
-    }
-    Ok(())
-}
-
-static FEW_PARTICLES: &[(&str, &str)] = &[
-    ("a", "grid 1 4\n0 5\n1 300\n2 5\n3 17\n"),
-    ("b", "grid 1 4\n0 8\n1 40\n2 8\n3 17\n"),
-    ("c", "grid 1 4\n0 2\n1 3\n2 5\n3 7\n"),
-];
-
-#[test]
-fn few_particles_are_scattered(rt: HostRuntime) -> Result<(), Fail> {
-    for count in ["1", "2", "16"] {
-        let words = ["--workers", count, "p.sg", "px=a", "py=b", "m=c"];
-        let setting = Setting {
-            others: FEW_PARTICLES,
-            ..on(
-                &words,
-                "layout P(p) { dense(p: 4); field px: i32; field py: i32; field m: i32; } \
-                 layout G(i, j) { hash(i: 4, j: 4) cap 16; pointer(i: 2, j: 2) cap 64; bitmasked(i: 8, j: 8); field g: i32; } \
-                 kernel scatter { for p in P { g[px[p] >> 4, py[p] >> 4] += m[p]; } } \
-                 load px; load py; load m; run scatter; dump g;",
-            )
-        };
-        setting.ends(&rt, rt.alloc(), 0, "grid 2 3\n0 0 7\n1 1 7\n18 2 3\n")?;
     }
     Ok(())
 }

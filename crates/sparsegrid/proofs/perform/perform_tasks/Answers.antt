@@ -6,7 +6,7 @@ use Rattle.sparsegrid.proofs.Bound.{all_bound}
 use Rattle.sparsegrid.proofs.Going.{went_memory}
 use Rattle.sparsegrid.proofs.Tasks.{tasks_end}
 use Rattle.sparsegrid.proofs.Sources.{from_opened, went_kept}
-use Rattle.sparsegrid.proofs.session.perform_tasks.Goals as goal
+use Rattle.sparsegrid.proofs.perform.perform_tasks.Goals as goal
 
 pub drive-requires-clause-bound : goal.drive-requires-clause-bound
 drive-requires-clause-bound g c = λ lifetimes outlive. rw c.in-Ok.ensures.compiled (all_bound c.args.compiled.names c.args.binds.now.list c.args.tasks.now c.requires.bound)

@@ -2,7 +2,7 @@ use Rattle.std.proofs.Common.{refl, ◌∙◌}
 use Rattle.sg_flat.specs.State.{opening}
 use Rattle.sg_session.specs.Texts.{check_text}
 use Rattle.sparsegrid.proofs.Sources.{along_text, nothing_sent}
-use Rattle.sparsegrid.proofs.session.check.Goals as goal
+use Rattle.sparsegrid.proofs.perform.check.Goals as goal
 
 pub returns-in-Ok-clause-along : goal.returns-in-Ok-clause-along
 returns-in-Ok-clause-along g c =

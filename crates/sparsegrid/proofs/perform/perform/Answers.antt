@@ -1,17 +1,16 @@
-use Rattle.std.proofs.Common.{refl, ap, sym, ◌≡◌, ◌∙◌, List, map, Option, Some, None, arith}
+use Rattle.std.proofs.Common.{refl, ap, sym, ◌≡◌, ◌∙◌, List, map, Some, None, arith}
 use Rattle.std.specs.Prelude.{find}
-use Rattle.sg_names.specs.Tables.{Tables}
 use Rattle.sg_session.specs.declared.tasks.Stage.{Stage}
 use Rattle.sg_session.specs.declared.tasks.Task.{Task}
 use Rattle.sg_session.specs.Compiled.{IsTask, unfolded}
 use Rattle.sg_flat.specs.State.{opening}
 use Rattle.sparsegrid.specs.Words.{binding_read}
 use Rattle.sparsegrid.specs.Lines.{no_file_last, field_text}
-use Rattle.sparsegrid.specs.Meaning.{Meaning, refused, meaning_of_run, meaning_of_tasks, is_unbound}
+use Rattle.sparsegrid.specs.Meaning.{refused, meaning_of_run, meaning_of_tasks, is_unbound}
 use Rattle.sparsegrid.proofs.Bound.{holds_of_found}
 use Rattle.sparsegrid.proofs.Going.{went_memory}
 use Rattle.sparsegrid.proofs.Sources.{went_same, went_line, run_ends, run_unbound, not_two, same_first, line_named}
-use Rattle.sparsegrid.proofs.session.perform.Goals as goal
+use Rattle.sparsegrid.proofs.perform.perform.Goals as goal
 
 pub refuse_unbound-requires : goal.refuse_unbound-requires
 refuse_unbound-requires g c =

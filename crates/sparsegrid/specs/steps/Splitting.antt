@@ -1,0 +1,47 @@
+-- The command by which the words are split, and what its matches ask for.
+use Rattle.std.specs.Prelude.{Bool, true, false, List, [], ◌∷◌, Option, Some, None, codes, unwrap_or, if◌then◌else◌}
+use Rattle.std.specs.List.{list_all}
+use Rattle.sg_words.specs.Options.{◌>>=◌, only_if}
+use Rattle.clap.specs.declared.builder.action.ArgAction.TheVariants.{Set, Append}
+use Rattle.clap.specs.Faults.{fault_of}
+use Rattle.clap.specs.Kinds.{Kinds}
+use Rattle.clap.specs.Simple.{App, matches_of, new_app, new_rule, on_top, with_rule}
+use Rattle.clap.specs.Walk.{Row, Rule, Text, all_of, first_of}
+use Rattle.sparsegrid.specs.Words.{Asked, Parts, asked_of, is_plain, mode_of, workers_of}
+
+-- an option that takes a text
+abbrev pub option_of : Text → Rule
+option_of name = record (new_rule name) { long = Some name; action = Some Set }
+
+-- the positional words
+abbrev pub positionals_given : Rule
+positionals_given = record (new_rule (codes "positionals")) { action = Some Append }
+
+abbrev pub program : App
+program =
+    with_rule (with_rule (with_rule (on_top (λ s. record s { no_binary_name = true; disable_help_flag = true }) (new_app (codes "sparsegrid")))
+    (option_of (codes "workers"))) (option_of (codes "mode"))) positionals_given
+
+abbrev pub has_fault : Kinds → Bool
+has_fault [] = false
+has_fault (kind ∷ kinds) = true
+
+abbrev pub unless : {A : Type 0} → Bool → A → Option A
+unless refused value = if refused then None else Some value
+
+-- the rows that a parse of the words finds, where it takes them
+unfoldable pub rows_split : List Text → Option (List Row)
+rows_split words = unless (has_fault (fault_of program words)) (matches_of program words)
+
+-- the parts that are found in rows
+abbrev pub parts_in : List Row → Parts
+parts_in rows = record {
+  workers = first_of (codes "workers") rows;
+  mode = first_of (codes "mode") rows;
+  positionals = unwrap_or (all_of (codes "positionals") rows) [];
+}
+
+-- what parts ask for, where no positional word is empty or begins with `-`
+abbrev pub asked_in : Parts → Option Asked
+asked_in parts =
+    only_if (list_all is_plain parts.positionals) (workers_of parts.workers >>= (λ workers. mode_of parts.mode >>= (λ mode. asked_of workers mode parts.positionals)))

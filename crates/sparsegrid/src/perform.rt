@@ -1,0 +1,172 @@
+//! What is done with a compiled program: its commands are performed, or its kernels are looked at.
+
+ghost use Rattle.std.specs.Prelude.{◌≡◌, ◌≤◌, ◌↔◌, map, None, IsSome, IfOk, IfSome, find};
+ghost use Rattle.std.specs.List.{AllByRecursion};
+ghost use Rattle.sg_session.specs.Texts as texts_of;
+ghost use Rattle.sg_session.specs.Compiled.{CheckedProgram, Compiles, IsTask, unfolded};
+ghost use Rattle.sg_flat.specs.State.{opening};
+ghost use Rattle.sparsegrid.specs.Words.{binding_read};
+ghost use Rattle.sparsegrid.specs.Meaning.{meaning_of_run, meaning_of_tasks, is_unbound, all_done};
+ghost use Rattle.sparsegrid.specs.Outcome.{outside, HasSession};
+ghost use Rattle.sparsegrid.specs.steps.Along.{WentAlong, Went, SendCause, IsEnd, LeavesProgram};
+
+use crate::drive::drive;
+use crate::output::{PutFailed, send};
+use crate::refuse::refuse_unbound;
+use crate::session::Done;
+use crate::unbound::first_unbound;
+use sg_outside::{Files, Gate, Sink};
+use sg_session::{Binds, Compiled, Session, Task, check_text};
+use sg_words::{Memory, Stop};
+use std::alloc::Global;
+use std::thread::Threads;
+
+/// Writes for each kernel whether it is neutral.
+pub(crate) fn check<S: Sink>(
+    alloc: Global,
+    compiled: Compiled,
+    out: &mut S,
+) -> Result<Done, Stop<PutFailed>>
+    ensures along { WentAlong (all_done (texts_of.check_text compiled.names compiled.neutral) (opening compiled.layouts)) (S.has out.old) (S.has out.new) result }
+    ensures cause { SendCause result (S.faults out.old) (S.faults out.new) }
+    ensures end { IfOk result IsEnd }
+    ensures program { LeavesProgram compiled result }
+    ensures status { IfOk result (λ done. done.status ≡ 0) }
+{
+    match check_text(alloc, &compiled) {
+        Ok(text) => leave_open(alloc, compiled, text.bytes.as_slice(), out),
+        Err(Memory) => Err(Stop::Memory),
+    }
+}
+
+/// Writes a text and leaves the stores of a program as they are opened.
+pub(crate) fn leave_open<S: Sink>(
+    alloc: Global,
+    compiled: Compiled,
+    text: &[u8],
+    out: &mut S,
+) -> Result<Done, Stop<PutFailed>>
+    ensures along { WentAlong (all_done text.now (opening compiled.layouts)) (S.has out.old) (S.has out.new) result }
+    ensures cause { SendCause result (S.faults out.old) (S.faults out.new) }
+    ensures end { IfOk result IsEnd }
+    ensures program { LeavesProgram compiled result }
+    ensures status { IfOk result (λ done. done.status ≡ 0) }
+{
+    match Session::open(alloc, compiled) {
+        Ok(session) => match send(out, text) {
+            Ok(()) => Ok(Done {
+                status: 0,
+                session: Some(session),
+            }),
+            Err(why) => Err(why),
+        },
+        Err(Memory) => Err(Stop::Memory),
+    }
+}
+
+/// Performs the commands of a program from its opening state on.
+pub(crate) fn perform<R: Threads + Sync, F: Files, S: Sink, G: Gate + Sync>(
+    rt: &R,
+    alloc: Global,
+    compiled: Compiled,
+    binds: &Binds,
+    files: &mut F,
+    out: &mut S,
+    workers: u32,
+    gate: &G,
+) -> Result<Done, Stop<PutFailed>>
+    requires some { 1 ≤ workers }
+    requires few { workers ≤ 16 }
+    ensures went { (program : CheckedProgram) → Compiles program compiled →
+        Went (λ readings. meaning_of_run program (map binding_read binds.now.list) readings (unfolded program.commands)) 1
+        (outside F.Files S.Sink files.old out.old) (outside F.Files S.Sink files.new out.new) result }
+    ensures holds { F.holds files.new ≡ F.holds files.old }
+    ensures never_falls { F.faults files.old ≤ F.faults files.new }
+    ensures cause { SendCause result (S.faults out.old) (S.faults out.new) }
+    ensures end { IfOk result IsEnd }
+    ensures program { LeavesProgram compiled result }
+{
+    match compiled.tasks(alloc) {
+        Ok(tasks) => match first_unbound(&compiled, binds, tasks.as_slice()) {
+            Some(task) => refuse_unbound(alloc, out, &compiled, task),
+            None => perform_tasks(
+                rt,
+                alloc,
+                compiled,
+                tasks.as_slice(),
+                binds,
+                files,
+                out,
+                workers,
+                gate,
+            ),
+        },
+        Err(Memory) => Err(Stop::Memory),
+    }
+}
+
+/// Performs tasks, of which each load has a file, from the opening state of their program on.
+fn perform_tasks<R: Threads + Sync, F: Files, S: Sink, G: Gate + Sync>(
+    rt: &R,
+    alloc: Global,
+    compiled: Compiled,
+    tasks: &[Task],
+    binds: &Binds,
+    files: &mut F,
+    out: &mut S,
+    workers: u32,
+    gate: &G,
+) -> Result<Done, Stop<PutFailed>>
+    requires some { 1 ≤ workers }
+    requires few { workers ≤ 16 }
+    requires there { AllByRecursion (IsTask compiled) tasks.now }
+    requires bound { find (is_unbound compiled.names (map binding_read binds.now.list)) tasks.now ≡ None }
+    ensures went { (program : CheckedProgram) → Compiles program compiled →
+        Went (λ readings. meaning_of_tasks program (map binding_read binds.now.list) readings 1 (opening program.layouts) tasks.now) 1
+        (outside F.Files S.Sink files.old out.old) (outside F.Files S.Sink files.new out.new) result }
+    ensures holds { F.holds files.new ≡ F.holds files.old }
+    ensures never_falls { F.faults files.old ≤ F.faults files.new }
+    ensures cause { SendCause result (S.faults out.old) (S.faults out.new) }
+    ensures end { IfOk result IsEnd }
+    ensures program { LeavesProgram compiled result }
+{
+    match Session::open(alloc, compiled) {
+        Ok(opened) => {
+            let mut session = opened;
+            match drive(
+                rt,
+                alloc,
+                &mut session,
+                tasks,
+                binds,
+                files,
+                out,
+                workers,
+                gate,
+            ) {
+                Ok(status) => Ok(done_with(status, session)),
+                Err(why) => Err(why),
+            }
+        }
+        Err(Memory) => Err(Stop::Memory),
+    }
+}
+
+/// How performed tasks ended: the session is kept where all are done or a run was refused.
+fn done_with(status: u8, session: Session) -> Done
+    ensures status { result.status ≡ status }
+    ensures session { IsSome result.session ↔ HasSession status }
+    ensures same { IfSome result.session (λ kept. kept ≡ session) }
+{
+    if status == 0 || status == 7 {
+        Done {
+            status,
+            session: Some(session),
+        }
+    } else {
+        Done {
+            status,
+            session: None,
+        }
+    }
+}

@@ -1,0 +1,130 @@
+//! The ends of runs that are refused before any command: each writes its last line.
+
+ghost use Rattle.std.specs.Prelude.{◌≡◌, ◌≤◌, length, None, IfOk};
+ghost use Rattle.sg_lexer.specs.Limits.{most_file_bytes};
+ghost use Rattle.sg_session.specs.Compiling.{spelled_program};
+ghost use Rattle.sg_session.specs.Compiled.{IsTask};
+ghost use Rattle.sparsegrid.specs.Lines.{words_last, no_file_last, read_last, file_bytes_last, field_text, refusal_last};
+ghost use Rattle.sparsegrid.specs.Meaning.{items_or_none, refused};
+ghost use Rattle.sparsegrid.specs.steps.Along.{WentAlong, SendCause};
+
+use crate::last_line::{
+    LastLine, file_bytes_last, no_file_last, read_last, refusal_last, words_last,
+};
+use crate::output::{PutFailed, send_last};
+use crate::run_line::field_text;
+use crate::session::Done;
+use sg_outside::Sink;
+use sg_session::{Compiled, Refusal, Task, spell};
+use sg_words::{Memory, Stop};
+use std::alloc::Global;
+
+/// Writes the last line of a run that leaves no session.
+fn refuse<S: Sink>(alloc: Global, out: &mut S, last: &LastLine) -> Result<Done, Stop<PutFailed>>
+    ensures along { WentAlong (refused last.now) (S.has out.old) (S.has out.new) result }
+    ensures cause { SendCause result (S.faults out.old) (S.faults out.new) }
+    ensures status { IfOk result (λ done. done.status ≡ last.now.status) }
+    ensures session { IfOk result (λ done. done.session ≡ None) }
+{
+    match send_last(alloc, out, last) {
+        Ok(status) => Ok(Done {
+            status,
+            session: None,
+        }),
+        Err(why) => Err(why),
+    }
+}
+
+/// Writes the last line of a run with bad words.
+pub(crate) fn refuse_words<S: Sink>(alloc: Global, out: &mut S) -> Result<Done, Stop<PutFailed>>
+    ensures along { WentAlong (refused words_last) (S.has out.old) (S.has out.new) result }
+    ensures cause { SendCause result (S.faults out.old) (S.faults out.new) }
+    ensures status { IfOk result (λ done. done.status ≡ 1) }
+    ensures session { IfOk result (λ done. done.session ≡ None) }
+{
+    match words_last(alloc) {
+        Ok(last) => refuse(alloc, out, &last),
+        Err(Memory) => Err(Stop::Memory),
+    }
+}
+
+/// Writes the last line of a run whose file has too many bytes.
+pub(crate) fn refuse_long<S: Sink>(alloc: Global, out: &mut S) -> Result<Done, Stop<PutFailed>>
+    ensures along { WentAlong (refused file_bytes_last) (S.has out.old) (S.has out.new) result }
+    ensures cause { SendCause result (S.faults out.old) (S.faults out.new) }
+    ensures status { IfOk result (λ done. done.status ≡ 8) }
+    ensures session { IfOk result (λ done. done.session ≡ None) }
+{
+    match file_bytes_last(alloc) {
+        Ok(last) => refuse(alloc, out, &last),
+        Err(Memory) => Err(Stop::Memory),
+    }
+}
+
+/// Writes the last line of a run whose file could not be read.
+pub(crate) fn refuse_read<S: Sink>(
+    alloc: Global,
+    out: &mut S,
+    name: &str,
+) -> Result<Done, Stop<PutFailed>>
+    ensures along { WentAlong (refused (read_last name.now)) (S.has out.old) (S.has out.new) result }
+    ensures cause { SendCause result (S.faults out.old) (S.faults out.new) }
+    ensures status { IfOk result (λ done. done.status ≡ 2) }
+    ensures session { IfOk result (λ done. done.session ≡ None) }
+{
+    match read_last(alloc, name.as_bytes()) {
+        Ok(last) => refuse(alloc, out, &last),
+        Err(Memory) => Err(Stop::Memory),
+    }
+}
+
+/// Writes the last line of a run in which this load has no file.
+pub(crate) fn refuse_unbound<S: Sink>(
+    alloc: Global,
+    out: &mut S,
+    compiled: &Compiled,
+    task: Task,
+) -> Result<Done, Stop<PutFailed>>
+    requires { IsTask compiled.now task }
+    ensures along { WentAlong (refused (no_file_last (field_text compiled.now.names task))) (S.has out.old) (S.has out.new) result }
+    ensures cause { SendCause result (S.faults out.old) (S.faults out.new) }
+    ensures status { IfOk result (λ done. done.status ≡ 1) }
+    ensures session { IfOk result (λ done. done.session ≡ None) }
+{
+    match no_file_last(alloc, field_text(compiled, task)) {
+        Ok(last) => refuse(alloc, out, &last),
+        Err(Memory) => Err(Stop::Memory),
+    }
+}
+
+/// Writes the last line of a run whose file has these bytes and is refused before its commands run. The names in it are those of the
+/// program that the bytes spell.
+pub(crate) fn refuse_source<S: Sink>(
+    alloc: Global,
+    out: &mut S,
+    bytes: &[u8],
+    refusal: Refusal,
+) -> Result<Done, Stop<PutFailed>>
+    requires { length bytes.now ≤ most_file_bytes }
+    ensures along { WentAlong (refused (refusal_last (items_or_none (spelled_program bytes.now)) refusal)) (S.has out.old) (S.has out.new) result }
+    ensures cause { SendCause result (S.faults out.old) (S.faults out.new) }
+    ensures status { IfOk result (λ done. done.status ≡ (refusal_last (items_or_none (spelled_program bytes.now)) refusal).status) }
+    ensures session { IfOk result (λ done. done.session ≡ None) }
+{
+    match source_last(alloc, bytes, refusal) {
+        Ok(last) => refuse(alloc, out, &last),
+        Err(Memory) => Err(Stop::Memory),
+    }
+}
+
+/// The last line of a run whose file has these bytes and is refused before its commands run.
+fn source_last(alloc: Global, bytes: &[u8], refusal: Refusal) -> Result<LastLine, Memory>
+    requires { length bytes.now ≤ most_file_bytes }
+    ensures { IfOk result (λ last. last ≡ refusal_last (items_or_none (spelled_program bytes.now)) refusal) }
+{
+    match spell(alloc, bytes) {
+        Ok(program) => refusal_last(alloc, program.items.as_slice(), refusal),
+        Err(Stop::Refused(_why)) => refusal_last(alloc, &[], refusal),
+        Err(Stop::Memory) => Err(Memory),
+    }
+}
