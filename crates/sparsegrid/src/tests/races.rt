@@ -114,7 +114,7 @@ fn compare<R: Threads + Sync + Abort>(
 
 #[test]
 fn lists_are_raced(rt: HostRuntime) -> Result<(), Fail> {
-    compare(&rt, rt.alloc(), LISTS, 10)
+    compare(&rt, rt.alloc(), LISTS, 100)
 }
 
 #[test]
