@@ -1,16 +1,14 @@
 -- A level of the walk grows branch by branch.
-use Rattle.std.proofs.Common.{◌≡◌, ◌⊎◌, inl, inr, ℕ, suc, ◌+◌, ◌^◌, ◌<◌, ◌≤◌, Bool, true, false, cond, List, [], ◌∷◌, ◌++◌, length, map, take, get_or, slice_index, Some, None, is_some, refl, sym, ap, ◌∙◌, subst, arith, append_assoc, append-nil}
+use Rattle.std.proofs.Common.{◌≡◌, ◌⊎◌, inl, inr, ℕ, suc, ◌+◌, ◌^◌, ◌<◌, ◌≤◌, Bool, true, false, cond, List, [], ◌∷◌, ◌++◌, length, map, filter, take, get_or, slice_index, Some, None, is_some, refl, sym, ap, ◌∙◌, subst, arith, append_assoc, append-nil}
 use Rattle.std.specs.Prelude.{slice_get}
 use Rattle.std.specs.List.{flat_map}
-use Rattle.std.proofs.lemmas.List.{take_more, take_all}
+use Rattle.std.proofs.lemmas.List.{take_more, take_all, map-append}
 use Rattle.std.proofs.lemmas.List.Concat.{flat_map-append}
-use Rattle.std.proofs.lemmas.List.FromFn.{filter_of_map_range_with_len_more}
+use Rattle.std.proofs.lemmas.List.Elements.{filter-append}
 use Rattle.std.proofs.lemmas.Option.{slice_get-get_or, get_or_from_slice_get}
-use Rattle.sg_coord.specs.declared.coord.Coord.{Coord}
-use Rattle.sg_coord.specs.Bounds.{Bounds, volume, IsBounds}
+use Rattle.sg_coord.specs.Bounds.{volume, IsBounds}
 use Rattle.sg_coord.specs.Coord.{Inside, row_of}
 use Rattle.sg_coord.specs.Laws.{RowBelow}
-use Rattle.sg_layout.specs.declared.shape.Shape.{Shape}
 use Rattle.sg_layout.specs.Axes.{bounds_of_shape, sizes_of}
 use Rattle.sg_layout.specs.PathLaws.{SlotIsReached, CoordinateOfPath}
 use Rattle.sg_layout.specs.Accepted.{IsAccepted}
@@ -20,7 +18,8 @@ use Rattle.sg_store.specs.StoreWords.{StoreWords}
 use Rattle.sg_store.specs.Walks.{cell_along}
 use Rattle.sg_store.specs.Spots.{LeadsAlong}
 use Rattle.sg_elements.specs.declared.branches.Branch.{Branch}
-use Rattle.sg_elements.specs.steps.Levels.{is_led, led_below, node_size, level_at, row_along, IsBranch, AreBranches, AddsBranches}
+use Rattle.sg_elements.specs.declared.ways.Way.{Way}
+use Rattle.sg_elements.specs.steps.Levels.{is_led, led_over, led_below, node_size, level_at, row_along, offsets_of, AreWays, IsBranch, AreBranches, AddsBranches, AddsRows}
 use Rattle.sg_elements.proofs.Lists.{zip_append, zip_length, zip_at}
 use Rattle.sg_elements.proofs.Paths.{slot_push, coordinate_inside, share_inside, row_push, row_none}
 
@@ -64,70 +63,96 @@ more_there store node branch path offset reached whole rows accepted there is be
     }
 
 pub more_branch : (store : StoreWords) (node row : ℕ) (path : List ℕ) (offset : ℕ) (spot : Spot) (sum : ℕ) → length path ≡ node → IsMore store node row path offset → LeadsAlong store spot (path ++ offset ∷ [])
-    → sum ≡ row + row_of (bounds_of_shape store.shape) (share_at store.shape.axes store.shape.nodes node offset) → IsBranch store (suc node) (record { spot = spot; row = sum }) (path ++ offset ∷ [])
+    → sum ≡ row_along store.shape (path ++ offset ∷ []) → IsBranch store (suc node) (record { spot = spot; row = sum }) (path ++ offset ∷ [])
 more_branch store node row path offset spot sum many more leads is = record {
   many = omega (arith, many, pushed path);
   leads = leads;
   is_slot = more.is_slot;
-  row = is ∙ more.row;
+  row = is;
 }
   where
     pushed : (path : List ℕ) → length (path ++ offset ∷ []) ≡ length path + 1
     pushed [] = refl
     pushed (x ∷ path) = omega (arith, pushed path)
 
--- the same, of what the calls answer
-pub record IsAdded (store : StoreWords) (node start : ℕ) (path : List ℕ) (offset : ℕ) (bounds : Bounds) (share : Coord) : Type 0 where
-  pub more : IsMore store node start path offset
-  pub inside : Inside bounds share
-  pub row : row_of bounds share ≡ row_of (bounds_of_shape store.shape) (share_at store.shape.axes store.shape.nodes node offset)
-  pub small : start + row_of bounds share < 2 ^ 32
+-- the same of the offset of the way at a place of a list
+pub way_there : (store : StoreWords) (node : ℕ) (branch : Branch) (path : List ℕ) (ways : List Way) (i : ℕ) (d : Way) → SlotIsReached store.shape → CoordinateOfPath store.shape → RowBelow → IsAccepted store.shape
+    → node < length store.shape.nodes → IsBranch store node branch path → AreWays store node ways → i < length ways → IsMore store node branch.row path (get_or ways i d).offset
+way_there store node branch path ways i d reached whole rows accepted there is are below =
+    more_there store node branch path (get_or ways i d).offset reached whole rows accepted there is (are.below i d below)
 
-pub added_there : (store : StoreWords) (node : ℕ) (branch : Branch) (path : List ℕ) (offset : ℕ) → SlotIsReached store.shape → CoordinateOfPath store.shape → RowBelow → IsAccepted store.shape
-    → node < length store.shape.nodes → IsBranch store node branch path → (shape : Shape) → shape ≡ store.shape → (size : ℕ) → size ≡ slice_index (sizes_of shape.nodes) node → offset < size
-    → (bounds : Bounds) → bounds ≡ bounds_of_shape shape → IsBounds (bounds_of_shape shape) → (share : Coord) → share ≡ share_at shape.axes shape.nodes node offset
-    → IsAdded store node branch.row path offset bounds share
-added_there store node branch path offset reached whole rows accepted there is shape shape_is size size_is below bounds bounds_are good share share_is =
-    let within : offset < slice_index (sizes_of store.shape.nodes) node = omega (arith, ap (λ (s : Shape). slice_index (sizes_of s.nodes) node) shape_is) in
-    let more = more_there store node branch path offset reached whole rows accepted there is within in
-    let own_bounds : bounds ≡ bounds_of_shape store.shape = bounds_are ∙ ap bounds_of_shape shape_is in
-    let own_share : share ≡ share_at store.shape.axes store.shape.nodes node offset = share_is ∙ ap (λ (s : Shape). share_at s.axes s.nodes node offset) shape_is in
-    let same_row : row_of bounds share ≡ row_of (bounds_of_shape store.shape) (share_at store.shape.axes store.shape.nodes node offset) =
-    ap (λ (e : Bounds). row_of e share) own_bounds ∙ ap (row_of (bounds_of_shape store.shape)) own_share in
-    let most : volume (bounds_of_shape store.shape) ≤ 2 ^ 30 = let P : Shape → Type 0 = λ s. volume (bounds_of_shape s) ≤ 2 ^ 30 in subst P shape_is good.volume_most in
-    record {
-      more = more;
-      inside = subst (λ (e : Bounds). Inside e share) (sym own_bounds) (subst (Inside (bounds_of_shape store.shape)) (sym own_share) more.inside);
-      row = same_row;
-      small = omega (arith, same_row, more.row, more.below, most);
-    }
+-- the sum of the row number and what the way adds
+pub way_row : (store : StoreWords) (node start : ℕ) (path : List ℕ) (ways : List Way) (i : ℕ) (d : Way) → AreWays store node ways → i < length ways → IsMore store node start path (get_or ways i d).offset
+    → start + (get_or ways i d).share ≡ row_along store.shape (path ++ (get_or ways i d).offset ∷ [])
+way_row store node start path ways i d are below more = ap (λ (k : ℕ). start + k) (are.shares i d below) ∙ more.row
 
-pub adds_branch : (store : StoreWords) (node offset : ℕ) (path : List ℕ) (old next : List Branch) (branch : Branch) → AddsBranches store node offset path old next
-    → IsBranch store (suc node) branch (path ++ offset ∷ []) → AddsBranches store node (offset + 1) path old (next ++ branch ∷ [])
-adds_branch store node offset path old next branch so is =
-    let led : is_led store (path ++ offset ∷ []) ≡ true = ap is_some is.leads.leads in
-    let list : led_below store (offset + 1) path ≡ led_below store offset path ++ (path ++ offset ∷ []) ∷ [] =
-    filter_of_map_range_with_len_more (is_led store) (λ (o : ℕ). path ++ o ∷ []) 0 offset offset (omega arith)
-    ∙ ap (λ (b : Bool). led_below store offset path ++ cond b ((path ++ offset ∷ []) ∷ []) []) led in
+pub way_small : (store : StoreWords) (node start : ℕ) (path : List ℕ) (ways : List Way) (i : ℕ) (d : Way) → AreWays store node ways → i < length ways → IsMore store node start path (get_or ways i d).offset
+    → IsBounds (bounds_of_shape store.shape) → start + (get_or ways i d).share < 2 ^ 32
+way_small store node start path ways i d are below more good = omega (arith, way_row store node start path ways i d are below more, more.below, good.volume_most)
+
+-- ---- ways, one by one
+
+-- one way more
+pub led_more : (store : StoreWords) (path : List ℕ) (ways : List Way) (i : ℕ) (d : Way) → i < length ways
+    → led_over store path (offsets_of (take (i + 1) ways)) ≡ led_over store path (offsets_of (take i ways)) ++ cond (is_led store (path ++ (get_or ways i d).offset ∷ [])) ((path ++ (get_or ways i d).offset ∷ []) ∷ []) []
+led_more store path ways i d below =
+    let behind : List ℕ → List (List ℕ) = λ offsets. map (λ (offset : ℕ). path ++ offset ∷ []) offsets in
+    let offset : ℕ = (get_or ways i d).offset in
+    let more : offsets_of (take (i + 1) ways) ≡ offsets_of (take i ways) ++ offset ∷ [] =
+    ap offsets_of (take_more ways i d below) ∙ map-append (λ (way : Way). way.offset) (take i ways) (get_or ways i d ∷ []) in
+    ap (led_over store path) more
+    ∙ ap (filter (is_led store)) (map-append (λ (offset : ℕ). path ++ offset ∷ []) (offsets_of (take i ways)) (offset ∷ []))
+    ∙ filter-append (is_led store) (behind (offsets_of (take i ways))) ((path ++ offset ∷ []) ∷ [])
+
+led_one : (store : StoreWords) (path : List ℕ) (ways : List Way) (i : ℕ) (d : Way) → i < length ways → is_led store (path ++ (get_or ways i d).offset ∷ []) ≡ true
+    → led_over store path (offsets_of (take (i + 1) ways)) ≡ led_over store path (offsets_of (take i ways)) ++ (path ++ (get_or ways i d).offset ∷ []) ∷ []
+led_one store path ways i d below led =
+    led_more store path ways i d below ∙ ap (λ (b : Bool). led_over store path (offsets_of (take i ways)) ++ cond b ((path ++ (get_or ways i d).offset ∷ []) ∷ []) []) led
+
+led_none : (store : StoreWords) (path : List ℕ) (ways : List Way) (i : ℕ) (d : Way) → i < length ways → cell_along store (path ++ (get_or ways i d).offset ∷ []) ≡ None
+    → led_over store path (offsets_of (take (i + 1) ways)) ≡ led_over store path (offsets_of (take i ways))
+led_none store path ways i d below none =
+    led_more store path ways i d below ∙ ap (λ (b : Bool). led_over store path (offsets_of (take i ways)) ++ cond b ((path ++ (get_or ways i d).offset ∷ []) ∷ []) []) (ap is_some none)
+    ∙ append-nil (led_over store path (offsets_of (take i ways)))
+
+pub adds_branch : (store : StoreWords) (node : ℕ) (path : List ℕ) (ways : List Way) (i : ℕ) (d : Way) (old next : List Branch) (branch : Branch) → i < length ways → AddsBranches store node (offsets_of (take i ways)) path old next
+    → IsBranch store (suc node) branch (path ++ (get_or ways i d).offset ∷ []) → AddsBranches store node (offsets_of (take (i + 1) ways)) path old (next ++ branch ∷ [])
+adds_branch store node path ways i d old next branch below so is =
+    let long = path ++ (get_or ways i d).offset ∷ [] in
+    let front = led_over store path (offsets_of (take i ways)) in
     record {
       more = so.more ++ branch ∷ [];
       added = ap (λ (list : List Branch). list ++ branch ∷ []) so.added ∙ append_assoc old so.more (branch ∷ []);
-      are = subst (AreBranches store (suc node) (so.more ++ branch ∷ [])) (sym list)
-          (zip_append (IsBranch store (suc node)) so.more (branch ∷ []) (led_below store offset path) ((path ++ offset ∷ []) ∷ []) so.are (is, tt));
+      are = subst (AreBranches store (suc node) (so.more ++ branch ∷ [])) (sym (led_one store path ways i d below (ap is_some is.leads.leads)))
+          (zip_append (IsBranch store (suc node)) so.more (branch ∷ []) front (long ∷ []) so.are (is, tt));
     }
 
-pub adds_none : (store : StoreWords) (node offset : ℕ) (path : List ℕ) (old next : List Branch) → AddsBranches store node offset path old next
-    → cell_along store (path ++ offset ∷ []) ≡ None → AddsBranches store node (offset + 1) path old next
-adds_none store node offset path old next so none =
-    let led : is_led store (path ++ offset ∷ []) ≡ false = ap is_some none in
-    let list : led_below store (offset + 1) path ≡ led_below store offset path ++ [] =
-    filter_of_map_range_with_len_more (is_led store) (λ (o : ℕ). path ++ o ∷ []) 0 offset offset (omega arith)
-    ∙ ap (λ (b : Bool). led_below store offset path ++ cond b ((path ++ offset ∷ []) ∷ []) []) led in
-    record {
-      more = so.more;
-      added = so.added;
-      are = subst (AreBranches store (suc node) so.more) (sym (list ∙ append-nil (led_below store offset path))) so.are;
-    }
+pub adds_none : (store : StoreWords) (node : ℕ) (path : List ℕ) (ways : List Way) (i : ℕ) (d : Way) (old next : List Branch) → i < length ways → AddsBranches store node (offsets_of (take i ways)) path old next
+    → cell_along store (path ++ (get_or ways i d).offset ∷ []) ≡ None → AddsBranches store node (offsets_of (take (i + 1) ways)) path old next
+adds_none store node path ways i d old next below so none = record {
+  more = so.more;
+  added = so.added;
+  are = subst (AreBranches store (suc node) so.more) (sym (led_none store path ways i d below none)) so.are;
+}
+
+pub adds_nothing : (store : StoreWords) (node : ℕ) (path : List ℕ) (old : List Branch) → AddsBranches store node [] path old old
+adds_nothing store node path old = record { more = []; added = sym (append-nil old); are = tt }
+
+pub adds_row : (store : StoreWords) (path : List ℕ) (ways : List Way) (i : ℕ) (d : Way) (old rows : List ℕ) (row : ℕ) → i < length ways → AddsRows store (offsets_of (take i ways)) path old rows
+    → is_led store (path ++ (get_or ways i d).offset ∷ []) ≡ true → row ≡ row_along store.shape (path ++ (get_or ways i d).offset ∷ []) → AddsRows store (offsets_of (take (i + 1) ways)) path old (rows ++ row ∷ [])
+adds_row store path ways i d old rows row below so led is =
+    let long = path ++ (get_or ways i d).offset ∷ [] in
+    let front = led_over store path (offsets_of (take i ways)) in
+    ap (λ (list : List ℕ). list ++ row ∷ []) so
+    ∙ append_assoc old (map (row_along store.shape) front) (row ∷ [])
+    ∙ ap (λ (k : ℕ). old ++ (map (row_along store.shape) front ++ k ∷ [])) is
+    ∙ ap (λ (list : List ℕ). old ++ list) (sym (map-append (row_along store.shape) front (long ∷ [])))
+    ∙ ap (λ (list : List (List ℕ)). old ++ map (row_along store.shape) list) (sym (led_one store path ways i d below led))
+
+pub adds_no_row : (store : StoreWords) (path : List ℕ) (ways : List Way) (i : ℕ) (d : Way) (old rows : List ℕ) → i < length ways → AddsRows store (offsets_of (take i ways)) path old rows
+    → cell_along store (path ++ (get_or ways i d).offset ∷ []) ≡ None → AddsRows store (offsets_of (take (i + 1) ways)) path old rows
+adds_no_row store path ways i d old rows below so none =
+    so ∙ ap (λ (list : List (List ℕ)). old ++ map (row_along store.shape) list) (sym (led_none store path ways i d below none))
 
 -- an offset below the node's size that isn't followed leads nowhere
 pub not_led : (store : StoreWords) (node spot offset : ℕ) (path : List ℕ) → spot ≡ node → offset < slice_index (sizes_of store.shape.nodes) node
@@ -135,33 +160,56 @@ pub not_led : (store : StoreWords) (node spot offset : ℕ) (path : List ℕ) �
 not_led store node spot offset path same below (inl past) = absurd (omega (arith, ap (λ (n : ℕ). slice_index (sizes_of store.shape.nodes) n) same))
 not_led store node spot offset path same below (inr none) = none
 
-pub adds_nothing : (store : StoreWords) (node : ℕ) (path : List ℕ) (old : List Branch) → AddsBranches store node 0 path old old
-adds_nothing store node path old = record { more = []; added = sym (append-nil old); are = tt }
-
 -- ---- a whole level
 
-pub level_more : (store : StoreWords) (node index : ℕ) (level old new : List Branch) → AreBranches store node level (level_at store node) → index < length level
-    → AreBranches store (suc node) old (flat_map (led_below store (node_size store node)) (take index (level_at store node)))
-    → AddsBranches store node (node_size store node) (get_or (level_at store node) index []) old new
-    → AreBranches store (suc node) new (flat_map (led_below store (node_size store node)) (take (index + 1) (level_at store node)))
-level_more store node index level old new are below so adds =
+-- one branch more
+below_more : (store : StoreWords) (node index : ℕ) (level : List Branch) → AreBranches store node level (level_at store node) → index < length level
+    → flat_map (led_below store (node_size store node)) (take (index + 1) (level_at store node)) ≡ flat_map (led_below store (node_size store node)) (take index (level_at store node)) ++ led_below store (node_size store node) (get_or (level_at store node) index [])
+below_more store node index level are below =
     let paths = level_at store node in
     let f = led_below store (node_size store node) in
     let there : index < length (level_at store node) = omega (arith, zip_length (IsBranch store node) level paths are) in
     let path = get_or paths index [] in
-    let list : flat_map (led_below store (node_size store node)) (take (index + 1) (level_at store node)) ≡ flat_map (led_below store (node_size store node)) (take index (level_at store node)) ++ led_below store (node_size store node) (get_or (level_at store node) index []) =
-    ap (flat_map f) (take_more paths index [] there) ∙ flat_map-append f (take index paths) (path ∷ []) ∙ ap (λ (list : List (List ℕ)). flat_map f (take index paths) ++ list) (append-nil (f path)) in
-    subst (λ (bs : List Branch). AreBranches store (suc node) bs (flat_map (led_below store (node_size store node)) (take (index + 1) (level_at store node)))) (sym adds.added)
-    (subst (AreBranches store (suc node) (old ++ adds.more)) (sym list)
-    (zip_append (IsBranch store (suc node)) old adds.more (flat_map f (take index paths)) (f path) so adds.are))
+    ap (flat_map f) (take_more paths index [] there) ∙ flat_map-append f (take index paths) (path ∷ []) ∙ ap (λ (list : List (List ℕ)). flat_map f (take index paths) ++ list) (append-nil (f path))
 
-pub level_all : (store : StoreWords) (node index : ℕ) (level new : List Branch) → AreBranches store node level (level_at store node) → length level ≤ index
-    → AreBranches store (suc node) new (flat_map (led_below store (node_size store node)) (take index (level_at store node))) → AreBranches store (suc node) new (level_at store (suc node))
-level_all store node index level new are past so =
+-- a path of the level has an offset for each node
+path_long : (store : StoreWords) (node index : ℕ) (level : List Branch) → AreBranches store node level (level_at store node) → index < length level → length (get_or (level_at store node) index []) ≡ node
+path_long store node index level are below =
+    (zip_at (IsBranch store node) level (level_at store node) index (record { spot = record { node = 0; part = 0; slot = 0 }; row = 0 }) [] are below).many
+
+pub level_more : (store : StoreWords) (node index : ℕ) (level old new : List Branch) (ways : List Way) → AreBranches store node level (level_at store node) → index < length level → AreWays store node ways
+    → AreBranches store (suc node) old (flat_map (led_below store (node_size store node)) (take index (level_at store node)))
+    → AddsBranches store node (offsets_of ways) (get_or (level_at store node) index []) old new
+    → AreBranches store (suc node) new (flat_map (led_below store (node_size store node)) (take (index + 1) (level_at store node)))
+level_more store node index level old new ways are below of so adds =
+    let paths = level_at store node in
+    let f = led_below store (node_size store node) in
+    let path = get_or paths index [] in
+    let more : AreBranches store (suc node) adds.more (f path) = subst (AreBranches store (suc node) adds.more) (of.all path (path_long store node index level are below)) adds.are in
+    subst (λ (bs : List Branch). AreBranches store (suc node) bs (flat_map (led_below store (node_size store node)) (take (index + 1) (level_at store node)))) (sym adds.added)
+    (subst (AreBranches store (suc node) (old ++ adds.more)) (sym (below_more store node index level are below))
+    (zip_append (IsBranch store (suc node)) old adds.more (flat_map f (take index paths)) (f path) so more))
+
+pub rows_more : (store : StoreWords) (node index : ℕ) (level : List Branch) (old new : List ℕ) (ways : List Way) → AreBranches store node level (level_at store node) → index < length level → AreWays store node ways
+    → old ≡ map (row_along store.shape) (flat_map (led_below store (node_size store node)) (take index (level_at store node)))
+    → AddsRows store (offsets_of ways) (get_or (level_at store node) index []) old new
+    → new ≡ map (row_along store.shape) (flat_map (led_below store (node_size store node)) (take (index + 1) (level_at store node)))
+rows_more store node index level old new ways are below of so adds =
+    let paths = level_at store node in
+    let f = led_below store (node_size store node) in
+    let path = get_or paths index [] in
+    adds ∙ ap (λ (list : List (List ℕ)). old ++ map (row_along store.shape) list) (of.all path (path_long store node index level are below))
+    ∙ ap (λ (list : List ℕ). list ++ map (row_along store.shape) (f path)) so
+    ∙ sym (map-append (row_along store.shape) (flat_map f (take index paths)) (f path))
+    ∙ ap (map (row_along store.shape)) (sym (below_more store node index level are below))
+
+-- all of them
+pub taken_all : (store : StoreWords) (node index : ℕ) (level : List Branch) → AreBranches store node level (level_at store node) → length level ≤ index
+    → flat_map (led_below store (node_size store node)) (take index (level_at store node)) ≡ level_at store (suc node)
+taken_all store node index level are past =
     let paths = level_at store node in
     let there : length (level_at store node) ≤ index = omega (arith, zip_length (IsBranch store node) level paths are) in
-    let P : List (List ℕ) → Type 0 = λ list. AreBranches store (suc node) new (flat_map (led_below store (node_size store node)) list) in
-    subst P (take_all index paths there) so
+    ap (flat_map (led_below store (node_size store node))) (take_all index paths there)
 
 pub branch_at : (store : StoreWords) (node index : ℕ) (level : List Branch) (branch : Branch) → AreBranches store node level (level_at store node) → index < length level
     → slice_get level index ≡ Some branch → IsBranch store node branch (get_or (level_at store node) index [])
@@ -173,11 +221,3 @@ branch_at store node index level branch are below there =
 
 pub root_level : (store : StoreWords) (spot : Spot) → LeadsAlong store spot [] → AreBranches store 0 (record { spot = spot; row = 0 } ∷ []) (level_at store 0)
 root_level store spot leads = (record { many = refl; leads = leads; is_slot = tt; row = sym (row_none store.shape) }, tt)
-
-pub rows_of_level : (store : StoreWords) (node : ℕ) (level : List Branch) (paths : List (List ℕ)) → AreBranches store node level paths
-    → map (λ (branch : Branch). branch.row) level ≡ map (row_along store.shape) paths
-rows_of_level store node [] [] are = refl
-rows_of_level store node [] (path ∷ paths) are = absurd are
-rows_of_level store node (branch ∷ level) [] are = absurd are
-rows_of_level store node (branch ∷ level) (path ∷ paths) are =
-    ap (λ (k : ℕ). k ∷ map (λ (branch : Branch). branch.row) level) are.0.row ∙ ap (λ (list : List ℕ). row_along store.shape path ∷ list) (rows_of_level store node level paths are.1)

@@ -1,5 +1,5 @@
 -- What the levels of the walk contain: exactly the paths along which the store leads, each once.
-use Rattle.std.proofs.Common.{◌≡◌, ◌≢◌, ℕ, zero, suc, ◌<◌, ◌≤◌, true, List, [], ◌∷◌, ◌++◌, length, take, slice_index, refl, sym, ap, ◌∙◌, subst, inl, inr, arith, zero-add}
+use Rattle.std.proofs.Common.{◌≡◌, ◌≢◌, ℕ, zero, suc, ◌<◌, ◌≤◌, true, List, [], ◌∷◌, ◌++◌, length, map, take, slice_index, refl, sym, ap, ◌∙◌, subst, inl, inr, arith, zero-add}
 use Rattle.std.specs.List.{Contains, range_with_len}
 use Rattle.std.proofs.lemmas.List.{same_from_push}
 use Rattle.std.proofs.lemmas.List.FromFn.{length-range_with_len, get_or-range_with_len}
@@ -9,7 +9,7 @@ use Rattle.sg_layout.specs.declared.shape.NodeShape.{NodeShape}
 use Rattle.sg_layout.specs.Axes.{sizes_of}
 use Rattle.sg_layout.specs.Slots.{IsSlot}
 use Rattle.sg_store.specs.StoreWords.{StoreWords}
-use Rattle.sg_elements.specs.steps.Levels.{is_led, paths_below, led_below, node_size, level_at}
+use Rattle.sg_elements.specs.steps.Levels.{is_led, led_below, node_size, level_at}
 use Rattle.sg_elements.proofs.Lists.{from_flat_map, into_flat_map, AreApart, apart_flat_map, apart_map}
 use Rattle.sg_elements.proofs.Paths.{slot_length, slot_push, slot_cut, led_front}
 
@@ -29,6 +29,9 @@ range_apart size i j d less below same =
     omega (arith, get_or-range_with_len 0 size j d there, get_or-range_with_len 0 size i d (omega arith))
 
 -- ---- the paths below one
+
+abbrev paths_below : ℕ → List ℕ → List (List ℕ)
+paths_below size path = map (λ offset. path ++ offset ∷ []) (range_with_len 0 size)
 
 -- such a path is the one above it with an offset behind it
 pub record IsBelow (store : StoreWords) (size : ℕ) (above path : List ℕ) : Type 0 where

@@ -3,3 +3,4 @@ pub mod Levels
 pub mod Lists
 pub mod Paths
 pub mod Rows
+pub mod WaysOn

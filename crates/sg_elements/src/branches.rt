@@ -2,10 +2,10 @@
 
 ghost use Rattle.std.specs.Prelude.{◌≡◌, ◌+◌, ℕ, suc, ◌<◌, ◌≤◌, List, length, map, slice_index, slice_get, Some, IfOk, OnOk};
 ghost use Rattle.sg_store.specs.StoreWords.{StoreWords};
-ghost use Rattle.sg_layout.specs.Axes.{sizes_of};
-ghost use Rattle.sg_elements.specs.steps.Levels.{IsBranch, AreBranches, AddsBranches, node_size, level_at, row_along};
+ghost use Rattle.sg_elements.specs.steps.Levels.{IsBranch, AreBranches, AddsBranches, AddsRows, AreWays, offsets_of, level_at, row_along};
 
-use sg_coord::{numbering, row};
+use crate::ways::{Way, ways_of};
+use sg_coord::numbering;
 use sg_layout::paths_tell;
 use sg_store::{Spot, Store};
 use sg_words::Memory;
@@ -19,29 +19,30 @@ pub struct Branch {
     pub row: u32,
 }
 
-/// Adds the branches that the node with this index, from 0, has below a branch.
+/// Adds the branches that ways of the node with this index, from 0, have below a branch.
 fn push_below(
     store: &Store,
     node: usize,
     level: &[Branch],
     index: usize,
+    ways: &[Way],
     next: &mut Vec<Branch>,
 ) -> Result<(), AllocError>
     ghost path: { List ℕ }
     requires there { node < length store.now.shape.nodes }
     requires within { index < length level.now }
     requires branch { (branch : Branch) → slice_get level.now index ≡ Some branch → IsBranch store.now node branch path }
-    ensures { OnOk result (AddsBranches store.now node (node_size store.now node) path next.old.items next.new.items) }
+    requires ways { AreWays store.now node ways.now }
+    ensures { OnOk result (AddsBranches store.now node (offsets_of ways.now) path next.old.items next.new.items) }
 {
     // for the laws that they ensure
     paths_tell();
-    let layout = store.layout();
-    let extents = layout.extents();
+    let extents = store.layout().extents();
     numbering(&extents);
     let branch = level[index];
-    for offset in 0..layout.size(node) {
-        if let Some(spot) = store.down(branch.spot, offset) {
-            let row = branch.row + row(&extents, layout.share(node, offset));
+    for way in ways {
+        if let Some(spot) = store.down(branch.spot, way.offset) {
+            let row = branch.row + way.share;
             next.push(Branch { spot, row })?;
         }
     }
@@ -59,11 +60,77 @@ fn next_level(
     requires level { AreBranches store.now node level.now (level_at store.now node) }
     ensures { IfOk result (λ next. AreBranches store.now (suc node) next.items (level_at store.now (suc node))) }
 {
+    let ways = ways_of(alloc, store, node)?;
     let mut next = Vec::new(alloc);
     for index in 0..level.len() {
-        push_below(store, node, level, index, &mut next)?;
+        push_below(store, node, level, index, ways.as_slice(), &mut next)?;
     }
     Ok(next)
+}
+
+/// Adds the row numbers of the branches that ways of the node with this index, from 0, have below a branch.
+fn push_rows(
+    store: &Store,
+    node: usize,
+    level: &[Branch],
+    index: usize,
+    ways: &[Way],
+    rows: &mut Vec<u32>,
+) -> Result<(), AllocError>
+    ghost path: { List ℕ }
+    requires there { node < length store.now.shape.nodes }
+    requires within { index < length level.now }
+    requires branch { (branch : Branch) → slice_get level.now index ≡ Some branch → IsBranch store.now node branch path }
+    requires ways { AreWays store.now node ways.now }
+    ensures { OnOk result (AddsRows store.now (offsets_of ways.now) path rows.old.items rows.new.items) }
+{
+    // for the laws that they ensure
+    paths_tell();
+    let extents = store.layout().extents();
+    numbering(&extents);
+    let branch = level[index];
+    for way in ways {
+        if let Some(_spot) = store.down(branch.spot, way.offset) {
+            let row = branch.row + way.share;
+            rows.push(row)?;
+        }
+    }
+    Ok(())
+}
+
+/// The row numbers of the branches below a level, which are those of the node with this index, from 0.
+fn rows_below(
+    alloc: Global,
+    store: &Store,
+    node: usize,
+    level: &[Branch],
+) -> Result<Vec<u32>, Memory>
+    requires there { node < length store.now.shape.nodes }
+    requires level { AreBranches store.now node level.now (level_at store.now node) }
+    ensures { IfOk result (λ rows. rows.items ≡ map (row_along store.now.shape) (level_at store.now (suc node))) }
+{
+    let ways = ways_of(alloc, store, node)?;
+    let mut rows = Vec::new(alloc);
+    for index in 0..level.len() {
+        push_rows(store, node, level, index, ways.as_slice(), &mut rows)?;
+    }
+    Ok(rows)
+}
+
+/// The branches after so many nodes.
+fn level_through(alloc: Global, store: &Store, nodes: usize) -> Result<Vec<Branch>, Memory>
+    requires { nodes < length store.now.shape.nodes }
+    ensures { IfOk result (λ level. AreBranches store.now nodes level.items (level_at store.now nodes)) }
+{
+    let root = Branch {
+        spot: store.root(),
+        row: 0,
+    };
+    let mut level = vec![in alloc; root]?;
+    for node in 0..nodes {
+        level = next_level(alloc, store, node, &level)?;
+    }
+    Ok(level)
 }
 
 /// The row numbers of the coordinates to which the walk leads, in the order of their paths.
@@ -71,17 +138,7 @@ pub fn reached_rows(alloc: Global, store: &Store) -> Result<Vec<u32>, Memory>
     ensures { IfOk result (λ rows. rows.items
         ≡ map (row_along store.now.shape) (level_at store.now (length store.now.shape.nodes))) }
 {
-    let root = Branch {
-        spot: store.root(),
-        row: 0,
-    };
-    let mut level = vec![in alloc; root]?;
-    for node in 0..store.layout().nodes() {
-        level = next_level(alloc, store, node, &level)?;
-    }
-    let mut rows = Vec::new(alloc);
-    for branch in &level {
-        rows.push(branch.row)?;
-    }
-    Ok(rows)
+    let nodes = store.layout().nodes();
+    let level = level_through(alloc, store, nodes - 1)?;
+    rows_below(alloc, store, nodes - 1, &level)
 }

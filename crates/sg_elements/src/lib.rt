@@ -3,5 +3,6 @@
 
 mod branches;
 pub mod listing;
+mod ways;
 
 pub use listing::elements;

@@ -32,9 +32,9 @@ fn points_of(alloc: Global, extents: &Extents, rows: &[u32]) -> Result<Items<Coo
     requires { All (λ row. row < volume (bounds_of extents.now)) rows.now }
     ensures { IfOk result (λ coords. coords ≡ map (point_at (bounds_of extents.now)) rows.now) }
 {
-    let mut coords = Items::new(alloc);
+    let mut coords = Vec::with_capacity(alloc, rows.len())?;
     for row in rows {
         coords.push(coord_at(extents, *row))?;
     }
-    Ok(coords)
+    Ok(Items::from_vec(coords))
 }

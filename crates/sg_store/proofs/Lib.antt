@@ -50,10 +50,12 @@ pub mod Linked
 pub mod Settled
 pub mod PointerLevel
 pub mod HashAt
+pub mod SortedKeys
 pub mod Keyed
 pub mod TablePlaces
 pub mod HashLevel
 pub mod Reached
 pub mod NodeKinds
+pub mod NodeSteps
 pub mod Moved
 pub mod Pruned

@@ -11,7 +11,7 @@ use Rattle.sg_store.specs.StoreWords.{StoreWords, word_in}
 use Rattle.sg_store.specs.Slots.{links_by_slot}
 use Rattle.sg_store.specs.Walks.{is_on, cell_in, place_in}
 use Rattle.sg_store.specs.WellFormed.{cell_count}
-use Rattle.sg_store.specs.Spots.{width_after, place_of}
+use Rattle.sg_store.specs.Spots.{width_after, place_of, root_offsets}
 
 -- a pool of 19 numbers, of which the first two are live
 abbrev pub two_live : PoolNumbers
@@ -160,6 +160,10 @@ block_three_leads_to_zero = refl
 
 five_has_no_key : cell_in hash_store (at1 5) ≡ None
 five_has_no_key = refl
+
+-- the root leads on over the keys, ascending
+over_both_keys : root_offsets hash_store ≡ 2 ∷ (3 ∷ [])
+over_both_keys = refl
 
 -- the key of coordinate 9 is the number of its block
 nine_is_in_block_two : place_in hash_store 1 (at1 9) ≡ Some 2

@@ -1,11 +1,12 @@
 -- Places in the tree, as a walk from outside goes through them.
-use Rattle.std.specs.Prelude.{◌≡◌, ◌≢◌, IsTrue, take, ℕ, zero, suc, ◌+◌, ◌*◌, ◌<◌, List, [], ◌∷◌, length, Some}
+use Rattle.std.specs.Prelude.{◌≡◌, ◌≢◌, IsTrue, take, ℕ, zero, suc, ◌+◌, ◌*◌, ◌<◌, List, [], ◌∷◌, length, Some, is_some, slice_index}
+use Rattle.std.specs.List.{filter, range_with_len}
 use Rattle.sg_coord.specs.declared.coord.Coord.{Coord}
 use Rattle.sg_layout.specs.declared.shape.Kind.{Kind}
 use Rattle.sg_layout.specs.declared.shape.Kind.TheVariants.{Dense, Bitmasked, Pointer, Hash, Dynamic}
 use Rattle.sg_layout.specs.declared.shape.NodeShape.{NodeShape}
 use Rattle.sg_layout.specs.declared.shape.Shape.{Shape}
-use Rattle.sg_layout.specs.Axes.{size_of}
+use Rattle.sg_layout.specs.Axes.{size_of, sizes_of}
 use Rattle.sg_layout.specs.Live.{kind_at, is_live}
 use Rattle.sg_layout.specs.Slots.{IsSlot}
 use Rattle.sg_store.specs.declared.spot.Spot.{Spot}
@@ -51,3 +52,9 @@ IsSpot store spot = (path : List ℕ) × LeadsAlong store spot path
 -- activity of its own, or the slot is live
 abbrev pub IsPassable : Shape → List Coord → ℕ → List ℕ → Type 0
 IsPassable shape active number slot = kind_at shape.nodes number ≢ Dense → IsTrue (is_live shape active number slot)
+
+-- the offsets of the first node over which links and bits lead from the root, ascending
+abbrev pub root_offsets : StoreWords → List ℕ
+root_offsets store =
+    filter (λ offset. is_some (cell_along store (offset ∷ [])))
+    (range_with_len 0 (slice_index (sizes_of store.shape.nodes) 0))

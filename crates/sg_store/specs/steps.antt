@@ -9,3 +9,4 @@ pub mod Walking
 pub mod Widths
 pub mod Raising
 pub mod Moving
+pub mod Sorting

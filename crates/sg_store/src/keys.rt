@@ -1,4 +1,4 @@
-ghost use Rattle.std.specs.Prelude.{◌≡◌, ◌<◌, List, length, IfOk};
+ghost use Rattle.std.specs.Prelude.{◌≡◌, ◌<◌, ◌≤◌, ◌^◌, ◌++◌, [], ◌∷◌, All, List, length, IfOk, OnOk};
 ghost use Rattle.sg_coord.specs.declared.coord.Coord.{Coord};
 ghost use Rattle.sg_layout.specs.declared.shape.Kind.TheVariants.{Hash};
 ghost use Rattle.sg_layout.specs.declared.shape.NodeShape.{NodeShape};
@@ -9,12 +9,38 @@ ghost use Rattle.sg_hash.specs.Tables.{IsTable, AreBeside};
 ghost use Rattle.sg_store.specs.WellFormed.{IsWellFormed};
 ghost use Rattle.sg_store.specs.Reaching.{KeepsCells};
 ghost use Rattle.sg_store.specs.Changes.{IsRekeyed, ChangesNode};
+ghost use Rattle.sg_store.specs.Spots.{root_offsets};
+ghost use Rattle.sg_store.specs.steps.Sorting.{keys_in, AreSortedKeys};
 ghost use Rattle.sg_store.specs.Opening.{keys_of, links_of, CanSettleHash, FitsCap, WantedHaveKeys, NewKeysAreWanted, OpensNode};
 
 use crate::store::Store;
 use sg_layout::{paths_tell, rules_decide};
 use sg_words::{Items, Memory};
-use std::alloc::Global;
+use std::alloc::{AllocError, Global};
+
+/// Adds the key that a word of a table holds, if it holds one.
+fn push_key(keys: &mut Vec<u32>, word: u64) -> Result<(), AllocError>
+    requires { word ≤ 2 ^ 32 }
+    ensures { OnOk result (keys.new.items ≡ keys.old.items ++ keys_in (word ∷ [])) }
+{
+    if word != 0 {
+        keys.push((word - 1) as u32)?;
+    }
+    Ok(())
+}
+
+/// The keys that words of a table hold, ascending.
+fn keys_in_order(alloc: Global, words: &[u64]) -> Result<Items<u32>, Memory>
+    requires { All (λ word. word ≤ 2 ^ 32) words.now }
+    ensures { IfOk result (AreSortedKeys words.now) }
+{
+    let mut keys = Vec::new(alloc);
+    for word in words {
+        push_key(&mut keys, *word)?;
+    }
+    keys.sort()?;
+    Ok(Items::from_vec(keys))
+}
 
 impl Store {
     /// All key words of a hash node, which is the first: each is 0 or one more than a key.
@@ -30,6 +56,18 @@ impl Store {
         rules_decide();
         let kept = &self.nodes.as_slice()[0];
         Ok(Items::from_slice(alloc, kept.keys.as_slice())?)
+    }
+
+    /// The keys of a hash node, which is the first, ascending: the offsets over which the root leads on. Time by the
+    /// places of its table.
+    pub fn sorted_keys(&self, alloc: Global) -> Result<Items<u32>, Memory>
+        requires hash { kind_at self.now.shape.nodes 1 ≡ Hash }
+        ensures { IfOk result (λ keys. keys ≡ root_offsets self.now) }
+    {
+        // for the invariant that it ensures
+        self.layout();
+        let kept = &self.nodes.as_slice()[0];
+        keys_in_order(alloc, kept.keys.as_slice())
     }
 
     /// Gives a hash node, which is the first, these keys and links, and makes the numbers live that they take from the

@@ -1,9 +1,9 @@
-ghost use Rattle.std.specs.Prelude.{◌≡◌, ◌<◌, length, slice_index};
+ghost use Rattle.std.specs.Prelude.{◌≡◌, ◌+◌, ◌*◌, ◌^◌, ◌<◌, nat_lt, Some, length, slice_index};
 ghost use Rattle.sg_hash.specs.Tables.{beside};
-ghost use Rattle.sg_store.specs.Slots.{mask_bit, below_length, chunk_cell, is_set, place_below};
+ghost use Rattle.sg_store.specs.Slots.{mask_bit, linked, chunk_cell};
 ghost use Rattle.sg_links.specs.Lists.{list_of};
 ghost use Rattle.sg_layout.specs.Axes.{count_of, size_of};
-ghost use Rattle.sg_store.specs.steps.Walking.{step_of, CanFind, IsTableFor, IsChainFor};
+ghost use Rattle.sg_store.specs.steps.Walking.{step_of, unless_unset, CanFind, IsTableFor, IsChainFor};
 
 use sg_coord::count;
 use sg_hash::find;
@@ -27,69 +27,65 @@ pub struct NodeWords {
 }
 
 impl NodeWords {
-    /// Whether the node keeps the slot with this number as active.
-    pub(crate) fn is_set(&self, node: &NodeShape, size: usize, slot: usize) -> bool
-        requires sized { size ≡ size_of node.now.sizes }
-        requires find { CanFind node.now.kind node.now self.now slot }
-        ensures { result ≡ is_set node.now.kind node.now self.now slot }
-    {
-        match node.kind {
-            Kind::Dense => true,
-            Kind::Bitmasked => bit(&self.masks, slot),
-            Kind::Pointer => word(&self.links, slot) != 0,
-            Kind::Hash => beside(&self.keys, &self.links, slot).is_some(),
-            Kind::Dynamic => is_below(&self.lengths, size, slot),
-        }
-    }
-
-    /// The place to which the slot with this number leads on: along links, and only where it is active or `bits` is
-    /// false.
+    /// The place to which the slot with this offset under a place leads on: along links, and only where it is active or
+    /// `bits` is false. A link or a key is active where it stands, so that it is looked for once.
     pub(crate) fn onward(
         &self,
         node: &NodeShape,
         size: usize,
-        slot: usize,
+        place: usize,
+        offset: usize,
         bits: bool,
     ) -> Option<usize>
         requires sized { size ≡ size_of node.now.sizes }
-        requires find { CanFind node.now.kind node.now self.now slot }
-        ensures { result ≡ step_of bits node.now.kind node.now self.now slot }
+        requires below { offset < size }
+        requires room { place * size + offset < 2 ^ 47 }
+        requires find { CanFind node.now.kind node.now self.now (place * size + offset) }
+        ensures { result ≡ step_of bits node.now.kind node.now self.now (place * size + offset) }
     {
-        if bits && !self.is_set(node, size, slot) {
-            None
-        } else {
-            self.place_below(node, size, slot)
+        let slot = place * size + offset;
+        match node.kind {
+            Kind::Dense => Some(slot),
+            Kind::Bitmasked => past_bit(&self.masks, slot, bits),
+            Kind::Pointer => link_at(&self.links, slot),
+            Kind::Hash => beside(&self.keys, &self.links, slot),
+            Kind::Dynamic => self.element(chunk_of(node), place, offset, bits),
         }
     }
 
-    /// The place to which the slot with this number leads on by links.
-    pub(crate) fn place_below(&self, node: &NodeShape, size: usize, slot: usize) -> Option<usize>
-        requires sized { size ≡ size_of node.now.sizes }
-        requires find { CanFind node.now.kind node.now self.now slot }
-        ensures { result ≡ place_below node.now.kind node.now self.now slot }
+    /// The cell of an index under a parent of a dynamic node, and only where it is below the length or `bits` is false.
+    fn element(&self, chunk: u32, parent: usize, index: usize, bits: bool) -> Option<usize>
+        requires { IsChainFor self.now.chains chunk parent index }
+        ensures { result ≡ unless_unset bits (nat_lt index (slice_index self.now.lengths parent))
+            (chunk_cell chunk (list_of self.now.chains parent) index) }
     {
-        match node.kind {
-            Kind::Dense | Kind::Bitmasked => Some(slot),
-            Kind::Pointer => {
-                let link = word(&self.links, slot);
-                if link == 0 {
-                    None
-                } else {
-                    Some((link - 1) as usize)
-                }
-            }
-            Kind::Hash => beside(&self.keys, &self.links, slot),
-            Kind::Dynamic => chunk_cell(&self.chains, chunk_of(node), slot / size, slot % size),
+        if bits && index as u64 >= word(&self.lengths, parent) {
+            return None;
         }
+        chunk_cell(&self.chains, chunk, parent, index)
     }
 }
 
-/// Whether the slot with this number is below the length of its parent, where each has so many slots.
-fn is_below(lengths: &Items<u64>, size: usize, slot: usize) -> bool
-    requires { 0 < size }
-    ensures { result ≡ below_length lengths.now size slot }
+/// A slot that leads to itself, and only where its bit is set or `bits` is false.
+fn past_bit(masks: &Items<u64>, slot: usize, bits: bool) -> Option<usize>
+    ensures { result ≡ unless_unset bits (mask_bit masks.now slot) (Some slot) }
 {
-    ((slot % size) as u64) < word(lengths, slot / size)
+    if bits && !bit(masks, slot) {
+        return None;
+    }
+    Some(slot)
+}
+
+/// The number that the link at an index has. None where there is no link.
+fn link_at(links: &Items<u64>, index: usize) -> Option<usize>
+    ensures { result ≡ linked (slice_index links.now index) }
+{
+    let link = word(links, index);
+    if link == 0 {
+        None
+    } else {
+        Some((link - 1) as usize)
+    }
 }
 
 /// The cell of an index under a parent. None past the end of the parent's chain.

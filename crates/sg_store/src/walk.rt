@@ -32,8 +32,8 @@ impl Store {
     {
         let nodes = self.layout.shape().nodes.as_slice();
         let size = self.layout.size(index) as usize;
-        let slot = place * size + offset as usize;
-        self.nodes.as_slice()[index].onward(&nodes[index], size, slot, bits)
+        let kept = &self.nodes.as_slice()[index];
+        kept.onward(&nodes[index], size, place, offset as usize, bits)
     }
 
     /// The place to which the root leads over the path of a coordinate through the first nodes.

@@ -1,26 +1,27 @@
 -- The walk down the tree of a store: the paths at each node over slots that are active, and what the code keeps of each.
-use Rattle.std.specs.Prelude.{◌≡◌, ℕ, zero, suc, Bool, List, [], ◌∷◌, ◌++◌, length, map, filter, take, slice_index, is_some}
-use Rattle.std.specs.List.{AllZip, flat_map, range_with_len}
-use Rattle.sg_coord.specs.Coord.{row_of}
+use Rattle.std.specs.Prelude.{◌≡◌, ℕ, zero, suc, ◌<◌, Bool, List, [], ◌∷◌, ◌++◌, length, map, filter, take, slice_index, is_some}
+use Rattle.std.specs.List.{All, AllZip, flat_map, range_with_len}
+use Rattle.sg_coord.specs.Coord.{Inside, row_of}
 use Rattle.sg_layout.specs.declared.shape.Shape.{Shape}
 use Rattle.sg_layout.specs.Axes.{bounds_of_shape, sizes_of}
-use Rattle.sg_layout.specs.Slots.{IsSlot, coordinate_of}
+use Rattle.sg_layout.specs.Slots.{IsSlot, coordinate_of, share_at}
 use Rattle.sg_store.specs.StoreWords.{StoreWords}
 use Rattle.sg_store.specs.Walks.{cell_along}
 use Rattle.sg_store.specs.Spots.{LeadsAlong}
 use Rattle.sg_elements.specs.declared.branches.Branch.{Branch}
+use Rattle.sg_elements.specs.declared.ways.Way.{Way}
 
 -- links and bits lead along the path
 abbrev pub is_led : StoreWords → List ℕ → Bool
 is_led store path = is_some (cell_along store path)
 
--- a path with each of so many offsets behind it
-abbrev pub paths_below : ℕ → List ℕ → List (List ℕ)
-paths_below size path = map (λ offset. path ++ offset ∷ []) (range_with_len 0 size)
+-- those paths along which the store leads, of a path with each of these offsets behind it
+abbrev pub led_over : StoreWords → List ℕ → List ℕ → List (List ℕ)
+led_over store path offsets = filter (is_led store) (map (λ offset. path ++ offset ∷ []) offsets)
 
--- those of them along which the store leads
+-- the same of all offsets below a size
 abbrev pub led_below : StoreWords → ℕ → List ℕ → List (List ℕ)
-led_below store size path = filter (is_led store) (paths_below size path)
+led_below store size path = led_over store path (range_with_len 0 size)
 
 -- the size of the node with this index, from 0
 abbrev pub node_size : StoreWords → ℕ → ℕ
@@ -35,6 +36,30 @@ level_at store (suc node) = flat_map (led_below store (node_size store node)) (l
 abbrev pub row_along : Shape → List ℕ → ℕ
 row_along shape path = row_of (bounds_of_shape shape) (coordinate_of shape path)
 
+-- what an offset of a node adds to it
+abbrev pub share_row : Shape → ℕ → ℕ → ℕ
+share_row shape node offset = row_of (bounds_of_shape shape) (share_at shape.axes shape.nodes node offset)
+
+-- what the offsets of a node add to a coordinate is inside
+abbrev pub SharesInside : Shape → ℕ → Type 0
+SharesInside shape node =
+    (offset : ℕ) → offset < slice_index (sizes_of shape.nodes) node →
+    Inside (bounds_of_shape shape) (share_at shape.axes shape.nodes node offset)
+
+-- the way over an offset of a node
+abbrev pub way_of : Shape → ℕ → ℕ → Way
+way_of shape node offset = record { offset = offset; share = share_row shape node offset }
+
+abbrev pub offsets_of : List Way → List ℕ
+offsets_of ways = map (λ (way : Way). way.offset) ways
+
+-- ways of a node, over which the store leads on from each place of it as over all its offsets
+pub record AreWays (store : StoreWords) (node : ℕ) (ways : List Way) : Type 0 where
+  pub below : All (λ (way : Way). way.offset < node_size store node) ways
+  pub shares : All (λ (way : Way). way.share ≡ share_row store.shape node way.offset) ways
+  pub all : (path : List ℕ) → length path ≡ node →
+      led_over store path (offsets_of ways) ≡ led_below store (node_size store node) path
+
 -- a branch of the walk after so many nodes
 pub record IsBranch (store : StoreWords) (node : ℕ) (branch : Branch) (path : List ℕ) : Type 0 where
   pub many : length path ≡ node
@@ -46,8 +71,12 @@ pub record IsBranch (store : StoreWords) (node : ℕ) (branch : Branch) (path : 
 abbrev pub AreBranches : StoreWords → ℕ → List Branch → List (List ℕ) → Type 0
 AreBranches store node branches paths = AllZip (IsBranch store node) branches paths
 
--- to some branches those have been added that a path has below it, over so many offsets
-pub record AddsBranches (store : StoreWords) (node size : ℕ) (path : List ℕ) (old new : List Branch) : Type 0 where
+-- to some branches those have been added that a path has below it, over these offsets
+pub record AddsBranches (store : StoreWords) (node : ℕ) (offsets path : List ℕ) (old new : List Branch) : Type 0 where
   pub more : List Branch
   pub added : new ≡ old ++ more
-  pub are : AreBranches store (suc node) more (led_below store size path)
+  pub are : AreBranches store (suc node) more (led_over store path offsets)
+
+-- to some row numbers those of such branches
+abbrev pub AddsRows : StoreWords → List ℕ → List ℕ → List ℕ → List ℕ → Type 0
+AddsRows store offsets path old new = new ≡ old ++ map (row_along store.shape) (led_over store path offsets)

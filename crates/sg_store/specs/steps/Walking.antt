@@ -1,5 +1,5 @@
 -- One step of a walk, and from which places it can be taken.
-use Rattle.std.specs.Prelude.{ℕ, ◌^◌, ◌/◌, ◌%◌, ◌<◌, ◌≤◌, Bool, true, false, List, [], ◌∷◌, length}
+use Rattle.std.specs.Prelude.{ℕ, ◌^◌, ◌/◌, ◌%◌, ◌<◌, ◌≤◌, Bool, true, false, Option, None, if◌then◌else◌, List, [], ◌∷◌, length}
 use Rattle.sg_layout.specs.declared.shape.NodeShape.{NodeShape}
 use Rattle.sg_layout.specs.Axes.{count_of, size_of}
 use Rattle.sg_layout.specs.declared.shape.Kind.{Kind}
@@ -25,6 +25,11 @@ pub record IsPlaceAt (x : ℕ) (node : NodeShape) (kept : NodeWords) (slots : �
 abbrev pub step_of : Bool → Step
 step_of true = active_below
 step_of false = place_below
+
+-- a step, and none where bits count and the slot is not set
+abbrev pub unless_unset : Bool → Bool → Option ℕ → Option ℕ
+unless_unset true set below = if set then below else None
+unless_unset false set below = below
 
 -- a table with room for a key, in which a key is looked for
 pub record IsTableFor (keys links : List ℕ) (key : ℕ) : Type 0 where

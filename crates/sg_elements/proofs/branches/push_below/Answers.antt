@@ -1,63 +1,54 @@
-use Rattle.std.proofs.Common.{◌+◌, ◌<◌, slice_index, get_or, arith, sym, ap, ◌∙◌, subst, List, ℕ, Vec, Global}
-use Rattle.sg_coord.specs.Bounds.{bounds_of}
+use Rattle.std.proofs.Common.{◌≡◌, ◌+◌, ◌<◌, ◌++◌, ◌∷◌, [], length, take, slice_index, get_or, arith, sym, ap, ◌∙◌, subst, List, ℕ, Vec, Global}
+use Rattle.sg_coord.specs.Bounds.{IsBounds}
 use Rattle.sg_layout.specs.declared.shape.Shape.{Shape}
-use Rattle.sg_layout.specs.Axes.{sizes_of}
+use Rattle.sg_layout.specs.Axes.{sizes_of, bounds_of_shape}
 use Rattle.sg_elements.specs.declared.branches.Branch.{Branch}
-use Rattle.sg_elements.specs.steps.Levels.{AddsBranches}
-use Rattle.sg_elements.proofs.Growing.{branch_there, added_there, more_branch, adds_branch, adds_none, adds_nothing, not_led}
+use Rattle.sg_elements.specs.declared.ways.Way.{Way}
+use Rattle.sg_elements.specs.steps.Levels.{AddsBranches, offsets_of}
+use Rattle.sg_elements.proofs.Growing.{branch_there, way_there, way_row, way_small, more_branch, adds_branch, adds_none, adds_nothing, not_led}
 use Rattle.sg_elements.proofs.branches.push_below.Goals as goal
 use Rattle.sg_elements.proofs.branches.push_below.Goals.{in-Some+in_ok-push, in_default}
 
-pub loop-offset-init : goal.loop-offset-init
-loop-offset-init g c = adds_nothing c.args.store.now c.args.node g.path c.args.next.now.items
+pub loop-way-init : goal.loop-way-init
+loop-way-init g c = adds_nothing c.args.store.now c.args.node g.path c.args.next.now.items
 
 pub down-requires : goal.down-requires
 down-requires g c =
-    let store = c.args.store.now in
     let d : Branch = record { spot = record { node = 0; part = 0; slot = 0 }; row = 0 } in
-    let here = branch_there store c.args.node c.args.level.now c.args.index g.path d c.requires.1.0 c.requires.1.1 in
+    let here = branch_there c.args.store.now c.args.node c.args.level.now c.args.index g.path d c.requires.1.0 c.requires.1.1.0 in
     (here.leads, omega (arith, here.many, here.leads.node, c.requires.0))
-
-pub row-requires : goal.row-requires
-row-requires g c =
-    let store = c.args.store.now in
-    let shape = c.layout-layout.ensures.layout in
-    let d : Branch = record { spot = record { node = 0; part = 0; slot = 0 }; row = 0 } in
-    let here = branch_there store c.args.node c.args.level.now c.args.index g.path d c.requires.1.0 c.requires.1.1 in
-    let added = added_there store c.args.node (get_or c.args.level.now c.args.index d) g.path c.loop-offset.offset (c.paths_tell.ensures.reached store.shape) (c.paths_tell.ensures.coordinate store.shape) c.numbering.ensures.row_below
-    c.layout-layout.ensures.well_formed.accepted c.requires.0 here c.layout-layout.result.now shape c.size-offset-end.result c.size-offset-end.ensures.value c.loop-offset-test.true
-    (bounds_of c.extents-extents.result) c.extents-extents.ensures.value c.extents-extents.ensures.bounds c.share.result c.share.ensures in
-    added.inside
 
 pub overflow_add-row : goal.overflow_add-row
 overflow_add-row g c =
     let store = c.args.store.now in
-    let shape = c.layout-layout.ensures.layout in
     let d : Branch = record { spot = record { node = 0; part = 0; slot = 0 }; row = 0 } in
-    let here = branch_there store c.args.node c.args.level.now c.args.index g.path d c.requires.1.0 c.requires.1.1 in
-    let added = added_there store c.args.node (get_or c.args.level.now c.args.index d) g.path c.loop-offset.offset (c.paths_tell.ensures.reached store.shape) (c.paths_tell.ensures.coordinate store.shape) c.numbering.ensures.row_below
-    c.layout-layout.ensures.well_formed.accepted c.requires.0 here c.layout-layout.result.now shape c.size-offset-end.result c.size-offset-end.ensures.value c.loop-offset-test.true
-    (bounds_of c.extents-extents.result) c.extents-extents.ensures.value c.extents-extents.ensures.bounds c.share.result c.share.ensures in
-    omega (arith, added.small, c.row.ensures.value)
+    let e : Way = record { offset = 0; share = 0 } in
+    let here = branch_there store c.args.node c.args.level.now c.args.index g.path d c.requires.1.0 c.requires.1.1.0 in
+    let more = way_there store c.args.node (get_or c.args.level.now c.args.index d) g.path c.args.ways.now c.loop-way.way-index e (c.paths_tell.ensures.reached store.shape) (c.paths_tell.ensures.coordinate store.shape) c.numbering.ensures.row_below
+    c.layout.ensures.well_formed.accepted c.requires.0 here c.requires.1.1.1 c.loop-way-test.true in
+    let good : IsBounds (bounds_of_shape c.args.store.now.shape) = subst (λ (s : Shape). IsBounds (bounds_of_shape s)) c.layout.ensures.layout c.extents-extents.ensures.bounds in
+    omega (arith, way_small store c.args.node (get_or c.args.level.now c.args.index d).row g.path c.args.ways.now c.loop-way.way-index e c.requires.1.1.1 c.loop-way-test.true more good)
 
-pub loop-offset-preserved : goal.loop-offset-preserved
-loop-offset-preserved g c =
+pub loop-way-preserved : goal.loop-way-preserved
+loop-way-preserved g c =
     let store = c.args.store.now in
-    let shape = c.layout-layout.ensures.layout in
     let d : Branch = record { spot = record { node = 0; part = 0; slot = 0 }; row = 0 } in
-    let here = branch_there store c.args.node c.args.level.now c.args.index g.path d c.requires.1.0 c.requires.1.1 in
-    let within : c.loop-offset.offset < slice_index (sizes_of c.args.store.now.shape.nodes) c.args.node =
-    omega (arith, c.loop-offset-test.true, c.size-offset-end.ensures.value, ap (λ (s : Shape). slice_index (sizes_of s.nodes) c.args.node) shape) in
-    let P : List Branch → Type 0 = λ list. AddsBranches store c.args.node (c.loop-offset.offset + 1) g.path c.args.next.now.items list in
+    let e : Way = record { offset = 0; share = 0 } in
+    let i = c.loop-way.way-index in
+    let ways = c.args.ways.now in
+    let way = get_or ways i e in
+    let branch = get_or c.args.level.now c.args.index d in
+    let here = branch_there store c.args.node c.args.level.now c.args.index g.path d c.requires.1.0 c.requires.1.1.0 in
+    let P : List Branch → Type 0 = λ list. AddsBranches c.args.store.now c.args.node (offsets_of (take (c.loop-way.way-index + 1) c.args.ways.now)) g.path c.args.next.now.items list in
     elim c.match-down.branch [
       | in-Some+in_ok-push w ↦ (
-          let added = added_there store c.args.node (get_or c.args.level.now c.args.index d) g.path c.loop-offset.offset (c.paths_tell.ensures.reached store.shape) (c.paths_tell.ensures.coordinate store.shape) c.numbering.ensures.row_below
-          c.layout-layout.ensures.well_formed.accepted c.requires.0 here c.layout-layout.result.now shape c.size-offset-end.result c.size-offset-end.ensures.value c.loop-offset-test.true
-          (bounds_of c.extents-extents.result) c.extents-extents.ensures.value c.extents-extents.ensures.bounds w.share.result w.share.ensures in
-          let start = (get_or c.args.level.now c.args.index d).row in
+          let more = way_there store c.args.node branch g.path ways i e (c.paths_tell.ensures.reached store.shape) (c.paths_tell.ensures.coordinate store.shape) c.numbering.ensures.row_below
+          c.layout.ensures.well_formed.accepted c.requires.0 here c.requires.1.1.1 c.loop-way-test.true in
+          let row = way_row store c.args.node branch.row g.path ways i e c.requires.1.1.1 c.loop-way-test.true more in
           subst P (sym (ap (λ (v : Vec Branch Global). v.items) w.next-is ∙ w.in_ok-push.ensures.items))
-          (adds_branch store c.args.node c.loop-offset.offset g.path c.args.next.now.items c.loop-offset.next.items (record { spot = w.in-Some.spot; row = start + w.row.result }) c.loop-offset.invariant
-          (more_branch store c.args.node start g.path c.loop-offset.offset w.in-Some.spot (start + w.row.result) here.many added.more w.in-Some.ensures.below (ap (λ (k : ℕ). start + k) (w.row.ensures.value ∙ added.row)))))
-      | in_default w ↦ subst P (sym (ap (λ (v : Vec Branch Global). v.items) w.next-is)) (adds_none store c.args.node c.loop-offset.offset g.path c.args.next.now.items c.loop-offset.next.items c.loop-offset.invariant
-          (not_led store c.args.node (get_or c.args.level.now c.args.index d).spot.node c.loop-offset.offset g.path (here.leads.node ∙ here.many) within w.in_default.ensures.none))
+          (adds_branch store c.args.node g.path ways i e c.args.next.now.items c.loop-way.next.items (record { spot = w.in-Some.spot; row = branch.row + way.share }) c.loop-way-test.true c.loop-way.invariant
+          (more_branch store c.args.node branch.row g.path way.offset w.in-Some.spot (branch.row + way.share) here.many more w.in-Some.ensures.below row)))
+      | in_default w ↦ subst P (sym (ap (λ (v : Vec Branch Global). v.items) w.next-is))
+          (adds_none store c.args.node g.path ways i e c.args.next.now.items c.loop-way.next.items c.loop-way-test.true c.loop-way.invariant
+          (not_led store c.args.node branch.spot.node way.offset g.path (here.leads.node ∙ here.many) (c.requires.1.1.1.below i e c.loop-way-test.true) w.in_default.ensures.none))
     ]

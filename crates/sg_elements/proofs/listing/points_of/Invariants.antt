@@ -4,4 +4,4 @@ use Rattle.sg_coord.specs.Coord.{point_at}
 use Rattle.sg_elements.proofs.listing.points_of.Given as goal
 
 abbrev pub invariant-loop-row : goal.invariant-loop-row
-invariant-loop-row l = l.coords ≡ map (point_at (bounds_of l.extents)) (take l.row-index l.rows)
+invariant-loop-row l = l.coords.items ≡ map (point_at (bounds_of l.extents)) (take l.row-index l.rows)

@@ -8,18 +8,6 @@ use Rattle.sg_store.proofs.HashAt.{can_find, find_sized}
 use Rattle.sg_store.proofs.Stepping.{room, words_many, size_at, read_as, step_same}
 use Rattle.sg_store.proofs.store.Store.onward.Goals as goal
 
-pub overflow_mul-slot : goal.overflow_mul-slot
-overflow_mul-slot c =
-    let size : c.size-size.result ≡ slice_index (sizes_of c.args.self.now.shape.nodes) c.args.index =
-    c.size-size.ensures.value ∙ ap (λ (s : StoreWords). slice_index (sizes_of s.shape.nodes) c.args.index) c.self.view_is in
-    omega (arith, room c.args.self.now c.args.index c.args.place c.args.offset c.requires.fits c.requires.below, ap (λ n. c.args.place * n) size)
-
-pub overflow_add-slot : goal.overflow_add-slot
-overflow_add-slot c =
-    let size : c.size-size.result ≡ slice_index (sizes_of c.args.self.now.shape.nodes) c.args.index =
-    c.size-size.ensures.value ∙ ap (λ (s : StoreWords). slice_index (sizes_of s.shape.nodes) c.args.index) c.self.view_is in
-    omega (arith, room c.args.self.now c.args.index c.args.place c.args.offset c.requires.fits c.requires.below, ap (λ n. c.args.place * n) size)
-
 pub bounds-as_slice-index : goal.bounds-as_slice-index
 bounds-as_slice-index c =
     omega (arith, c.requires.there, words_many _ _ _ _ c.self.invariant.nodes_fit, ap length c.as_slice.ensures.value, ap (λ (s : StoreWords). length s.shape.nodes) c.self.view_is)
@@ -30,6 +18,16 @@ onward-requires-clause-sized c =
     c.as_slice-nodes.ensures ∙ ap (λ (s : Shape). s.nodes) c.shape.ensures.value ∙ ap (λ (s : StoreWords). s.shape.nodes) c.self.view_is in
     let at = read_there c.as_slice-nodes.result.now c.args.self.now.shape.nodes c.args.index c.index-nodes-index.result shapes c.requires.there c.index-nodes-index.is in
     c.size-size.ensures.value ∙ ap (λ (s : StoreWords). slice_index (sizes_of s.shape.nodes) c.args.index) c.self.view_is ∙ size_at c.args.self.now.shape.nodes c.args.index c.index-nodes-index.result at
+
+pub onward-requires-clause-below : goal.onward-requires-clause-below
+onward-requires-clause-below c =
+    omega (arith, c.requires.below, c.size-size.ensures.value, ap (λ (s : StoreWords). slice_index (sizes_of s.shape.nodes) c.args.index) c.self.view_is)
+
+pub onward-requires-clause-room : goal.onward-requires-clause-room
+onward-requires-clause-room c =
+    let size : c.size-size.result ≡ slice_index (sizes_of c.args.self.now.shape.nodes) c.args.index =
+    c.size-size.ensures.value ∙ ap (λ (s : StoreWords). slice_index (sizes_of s.shape.nodes) c.args.index) c.self.view_is in
+    omega (arith, room c.args.self.now c.args.index c.args.place c.args.offset c.requires.fits c.requires.below, ap (λ n. c.args.place * n) size)
 
 pub onward-requires-clause-find : goal.onward-requires-clause-find
 onward-requires-clause-find c =
