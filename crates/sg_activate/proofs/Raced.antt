@@ -1,11 +1,13 @@
 -- What seats have asked for, coordinate after coordinate, piece after piece, and half after half.
-use Rattle.std.proofs.Common.{◌≡◌, ℕ, zero, suc, ◌+◌, ◌<◌, ◌≤◌, inl, inr, List, [], ◌++◌, length, get_or, take, refl, sym, ap, ◌∙◌, subst, arith}
-use Rattle.std.specs.Prelude.{Result, Ok, Err, OnOk}
+use Rattle.std.proofs.Common.{◌≡◌, ℕ, zero, suc, ◌+◌, ◌*◌, ◌%◌, ◌<◌, ◌≤◌, inl, inr, List, [], ◌++◌, length, get_or, take, refl, sym, ap, ◌∙◌, subst, arith}
+use Rattle.std.specs.Prelude.{Result, Ok, Err, OnOk, min}
 use Rattle.std.specs.List.{Contains}
+use Rattle.std.proofs.Math.Nat.{div-eq_of_lt, mod-eq_of_lt}
 use Rattle.std.proofs.lemmas.Bool.{cases_lt}
 use Rattle.std.proofs.lemmas.List.{take_more, take_all}
 use Rattle.std.proofs.lemmas.List.Elements.{Contains-push_cases, Contains-append_left, Contains-append_right, Contains-append_cases}
 use Rattle.sg_coord.specs.declared.coord.Coord.{Coord}
+use Rattle.sg_coord.specs.Slices.{slice_start}
 use Rattle.sg_activate.specs.Activating.{wanted_below}
 use Rattle.sg_activate.specs.steps.Racing.{HasAsked, HasMetAll}
 
@@ -78,6 +80,19 @@ met_halves IsMet Means from mid to left right both mine theirs (Ok u) same same'
 
     second : HasMetAll IsMet Means mid to right
     second = subst (λ r. OnOk r (HasMetAll IsMet Means mid to right)) same' met'
+
+-- from a worker on whose number isn't below that of the pieces the slices are empty
+pub starts_past : (len workers v w : ℕ) → len ≤ v → v < workers → v ≤ w → slice_start len workers v ≡ slice_start len workers w
+starts_past len workers v w few below more = at_end v few ∙ sym (at_end w (let past : len ≤ w = omega arith in past))
+  where
+    less : len < workers
+    less = omega arith
+
+    at_end : (x : ℕ) → len ≤ x → slice_start len workers x ≡ len
+    at_end x past =
+        ap (λ (q : ℕ). x * q + min x (len % workers)) (div-eq_of_lt less)
+        ∙ ap (λ (r : ℕ). x * 0 + min x r) (mod-eq_of_lt less)
+        ∙ (let end : x * 0 + min x len ≡ len = omega arith in end)
 
 -- what is wanted below a number is wanted by a piece
 pub from_below : (list : ℕ → List Coord) (count : ℕ) (at : Coord) → Contains (wanted_below list count) at → (piece : ℕ) × (piece < count) × Contains (list piece) at

@@ -96,7 +96,7 @@ pub fn activated<R: Threads + Sync, W: Wanted + Sync, G: Gate + Sync>(
         gated: false,
     };
     if is_active(rt, alloc, store, &work)? {
-        pass_gate(rt, &work, 0, workers);
+        pass_gate(rt, want.pieces(), workers, gate);
         return Ok(None);
     }
     let mut next = store.copy(alloc)?;

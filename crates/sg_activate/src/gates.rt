@@ -1,45 +1,59 @@
 ghost use Rattle.std.specs.Prelude.{◌≡◌, ◌+◌, ◌-◌, ◌<◌, ◌≤◌};
-ghost use Rattle.std.specs.Thread.{IsSync, IsSend};
+ghost use Rattle.std.specs.Thread.{IsSync};
 
-use crate::race::Work;
-use crate::wanted::Wanted;
 use sg_coord::slice_of;
 use sg_outside::{Gate, Phase};
 use std::thread::{Threads, join};
 
-/// Workers from one number on pass the gate before each piece of their slices, where nothing is left to do; halves of them in
-/// threads.
-pub(crate) fn pass_gate<R: Threads + Sync, W: Wanted + Sync, G: Gate + Sync>(
+/// So many workers pass the gate before each of so many pieces, each before those of its slice in order, as in an activation in which
+/// nothing is new. It waits for its workers.
+pub fn pass_gate<R: Threads + Sync, G: Gate + Sync>(rt: &R, pieces: u32, workers: u32, gate: &G)
+    requires some { 1 ≤ workers }
+    requires few { workers ≤ 16 }
+{
+    pass_slices(rt, pieces, workers, gate, 0, workers);
+}
+
+/// Workers from one number on pass the gate before each piece of their slices; halves of them in threads, where both have pieces.
+fn pass_slices<R: Threads + Sync, G: Gate + Sync>(
     rt: &R,
-    work: &Work<W, G>,
+    pieces: u32,
+    workers: u32,
+    gate: &G,
     from: u32,
     count: u32,
 )
+    requires few { workers ≤ 16 }
     requires some { 1 ≤ count }
-    requires within { from + count ≤ work.now.workers }
+    requires within { from + count ≤ workers }
 {
     if count < 2 {
-        pass_slice(work, from);
+        pass_slice(pieces, workers, gate, from);
         return;
     }
     let half = count / 2;
+    if pieces <= from + (count - half) {
+        pass_slices(rt, pieces, workers, gate, from, count - half);
+        return;
+    }
     join(
         rt,
         move || -> ()
-            requires { IsSync R.row × IsSync W.row × IsSync G.row × IsSend W.Hand.row × (1 ≤ count - half) × (half ≤ count) × (from + count ≤ work.now.workers) }
-        { pass_gate(rt, work, from, count - half) },
+            requires { IsSync R.row × IsSync G.row × (workers ≤ 16) × (1 ≤ count - half) × (half ≤ count) × (from + count ≤ workers) }
+        { pass_slices(rt, pieces, workers, gate, from, count - half) },
         move || -> ()
-            requires { IsSync R.row × IsSync W.row × IsSync G.row × IsSend W.Hand.row × (1 ≤ half) × (half ≤ count) × (from + count ≤ work.now.workers) }
-        { pass_gate(rt, work, from + (count - half), half) },
+            requires { IsSync R.row × IsSync G.row × (workers ≤ 16) × (1 ≤ half) × (half ≤ count) × (from + count ≤ workers) }
+        { pass_slices(rt, pieces, workers, gate, from + (count - half), half) },
     );
 }
 
 /// One worker passes the gate before each piece of its slice.
-fn pass_slice<W: Wanted, G: Gate>(work: &Work<W, G>, worker: u32)
-    requires within { worker < work.now.workers }
+fn pass_slice<G: Gate>(pieces: u32, workers: u32, gate: &G, worker: u32)
+    requires few { workers ≤ 16 }
+    requires within { worker < workers }
 {
-    let (from, to) = slice_of(work.want.pieces() as usize, work.workers, worker);
+    let (from, to) = slice_of(pieces as usize, workers, worker);
     for turn in 0..to - from {
-        work.gate.before(Phase::Activate, worker, turn as u32);
+        gate.before(Phase::Activate, worker, turn as u32);
     }
 }

@@ -3,7 +3,7 @@
 
 pub mod activation;
 pub mod fault;
-mod gates;
+pub mod gates;
 mod keys;
 mod lengths;
 mod links;
@@ -15,6 +15,7 @@ pub mod wanted;
 
 pub use activation::{activate, activated};
 pub use fault::ActFault;
+pub use gates::pass_gate;
 pub use wanted::Wanted;
 
 #[cfg(test)]

@@ -66,7 +66,8 @@ pub(crate) fn race_all<R: Threads + Sync, W: Wanted + Sync, G: Gate + Sync, P: P
     race(rt, alloc, work, pass, seat, 0, work.workers)
 }
 
-/// Workers from one number on ask for what their pieces want, each in its slice; halves of them in threads.
+/// Workers from one number on ask for what their pieces want, each in its slice; halves of them in threads, where both have pieces: with
+/// fewer pieces than workers the last workers have none.
 fn race<R: Threads + Sync, W: Wanted + Sync, G: Gate + Sync, P: Pass + Sync>(
     rt: &R,
     alloc: Global,
@@ -92,6 +93,9 @@ fn race<R: Threads + Sync, W: Wanted + Sync, G: Gate + Sync, P: Pass + Sync>(
         return ask_slice(alloc, work, pass, seat, from);
     }
     let half = count / 2;
+    if work.want.pieces() <= from + (count - half) {
+        return race(rt, alloc, work, pass, seat, from, count - half);
+    }
     let other = pass.split(&mut seat);
     let (mine, theirs) = join(
         rt,

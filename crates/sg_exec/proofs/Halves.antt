@@ -1,8 +1,8 @@
 -- What hands of workers have, put together.
-use Rattle.std.proofs.Common.{◌≡◌, ℕ, zero, suc, ◌+◌, ◌-◌, ◌/◌, ◌<◌, ◌≤◌, List, [], ◌∷◌, ◌++◌, length, map, take, drop, Result, Ok, Err, refl, sym, ap, ◌∙◌, subst, arith, append_assoc}
-use Rattle.std.specs.Prelude.{IfOk, IfSome}
+use Rattle.std.proofs.Common.{◌≡◌, ℕ, zero, suc, ◌+◌, ◌-◌, ◌*◌, ◌/◌, ◌%◌, ◌<◌, ◌≤◌, List, [], ◌∷◌, ◌++◌, length, map, take, drop, Result, Ok, Err, refl, sym, ap, ◌∙◌, subst, arith, append_assoc}
+use Rattle.std.specs.Prelude.{IfOk, IfSome, min}
 use Rattle.std.specs.List.{flat_map}
-use Rattle.std.proofs.Math.Nat.{mul-le-mul_right}
+use Rattle.std.proofs.Math.Nat.{mul-le-mul_right, div-eq_of_lt, mod-eq_of_lt}
 use Rattle.std.proofs.lemmas.List.{append-nil, drop-drop, map-append}
 use Rattle.std.proofs.lemmas.List.Elements.{All-append}
 use Rattle.std.proofs.lemmas.Option.{slice_get_within}
@@ -180,6 +180,19 @@ joined_run P accumulated owned stores old now other xs ys zs left right (Ok afte
 
 starts_rise : (len workers v w : ℕ) → v ≤ w → slice_start len workers v ≤ slice_start len workers w
 starts_rise len workers v w below = omega (arith, mul-le-mul_right (len / workers) below)
+
+-- from a worker on whose number isn't below that of the points the slices are empty
+pub starts_past : (len workers v w : ℕ) → len ≤ v → v < workers → v ≤ w → slice_start len workers v ≡ slice_start len workers w
+starts_past len workers v w few below more = at_end v few ∙ sym (at_end w (let past : len ≤ w = omega arith in past))
+  where
+    less : len < workers
+    less = omega arith
+
+    at_end : (x : ℕ) → len ≤ x → slice_start len workers x ≡ len
+    at_end x past =
+        ap (λ (q : ℕ). x * q + min x (len % workers)) (div-eq_of_lt less)
+        ∙ ap (λ (r : ℕ). x * 0 + min x r) (mod-eq_of_lt less)
+        ∙ (let end : x * 0 + min x len ≡ len = omega arith in end)
 
 -- the points of two ranges of workers are those of both
 pub workers_points : {X : Type 0} (f : Coord → X) (points : List Coord) (workers first mid more : ℕ) {last : ℕ} → mid + more ≡ last → first ≤ mid

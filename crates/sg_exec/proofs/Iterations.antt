@@ -1,7 +1,8 @@
 -- One iteration more of a worker.
-use Rattle.std.proofs.Common.{◌≡◌, ℕ, ◌+◌, ◌-◌, ◌<◌, ◌∙◌, List, [], ◌∷◌, ◌++◌, length, map, take, drop, get_or, refl, sym, ap, subst, arith}
-use Rattle.std.specs.Prelude.{Contains, IfSome}
-use Rattle.std.proofs.lemmas.List.{append-nil, take_more, map-append, get_or-take, get_or-drop, length-take, length-drop}
+use Rattle.std.proofs.Common.{◌≡◌, ℕ, zero, suc, ◌+◌, ◌-◌, ◌*◌, ◌<◌, ◌≤◌, ◌∙◌, inl, inr, List, [], ◌∷◌, ◌++◌, length, map, take, drop, get_or, Some, refl, sym, ap, subst, arith}
+use Rattle.std.specs.Prelude.{◌⊎◌, slice_get, Contains, IfSome}
+use Rattle.std.proofs.lemmas.Option.{slice_get-get_or}
+use Rattle.std.proofs.lemmas.List.{append-nil, take_all, take_more, map-append, get_or-take, get_or-drop, length-take, length-drop}
 use Rattle.std.proofs.lemmas.List.Elements.{Contains-get_or, All-nil}
 use Rattle.sg_coord.specs.declared.coord.Coord.{Coord}
 use Rattle.sg_coord.specs.Slices.{slice_start}
@@ -54,3 +55,25 @@ in_points points from size i d below =
 pub points_are : (points : List Coord) (workers worker : ℕ) {pair : ℕ × ℕ} → pair ≡ (slice_start (length points) workers worker, slice_start (length points) workers (worker + 1))
     → take (pair.1 - pair.0) (drop pair.0 points) ≡ between (slice_start (length points) workers worker) (slice_start (length points) workers (worker + 1)) points
 points_are points workers worker is = ap (λ (p : ℕ × ℕ). take (p.1 - p.0) (drop p.0 points)) is
+
+pub point_in : (mine : List Coord) (first count k : ℕ) (d : Coord) → k < count → first + k < length mine → slice_get (take count (drop first mine)) k ≡ Some (get_or mine (first + k) d)
+point_in mine first count k d low below =
+    let long : length (take count (drop first mine)) ≡ _ = length-take count (drop first mine) in
+    let rest : length (drop first mine) ≡ length mine - first = length-drop first mine in
+    slice_get-get_or (take count (drop first mine)) k d (omega arith) ∙ ap Some (get_or-take count (drop first mine) k d low ∙ get_or-drop first mine k d)
+
+nat_split : (n m : ℕ) → (n < m) ⊎ (m ≤ n)
+nat_split zero zero = inr (omega arith)
+nat_split zero (suc m) = inl (omega arith)
+nat_split (suc n) zero = inr (omega arith)
+nat_split (suc n) (suc m) = elim (nat_split n m) [
+  | inl low ↦ inl (omega (arith, low))
+  | inr high ↦ inr (omega (arith, high))
+]
+
+-- a batch takes the points up to the next multiple, or the rest
+pub batch_taken : (mine : List Coord) (number count : ℕ) → count ≤ 16 → number * 16 + count ≤ length mine → ((count < 16) → length mine ≤ number * 16 + count) → take (number * 16 + count) mine ≡ take ((number + 1) * 16) mine
+batch_taken mine number count few within rest = elim (nat_split count 16) [
+  | inl short ↦ take_all (number * 16 + count) mine (rest short) ∙ sym (take_all ((number + 1) * 16) mine (omega (arith, rest short, few)))
+  | inr whole ↦ ap (λ (n : ℕ). take n mine) (omega (arith, whole, few))
+]

@@ -18,9 +18,9 @@ pub mod Reaching
 pub mod Ending
 pub mod Following
 pub mod Turning
+pub mod Batches
 pub mod Unwanted
 pub mod Unsought
-pub mod Over
 pub mod Activating
 pub mod Located
 pub mod Sliced
@@ -28,9 +28,12 @@ pub mod Walked
 pub mod Kernels
 pub mod Settling
 pub mod Uncapped
+pub mod AllActive
 pub mod Answering
 pub mod Uses
 pub mod Giving
+pub mod SideBySide
+pub mod Starting
 pub mod Halves
 pub mod Splitting
 pub mod Putting

@@ -1,6 +1,6 @@
 -- What turns want in each layout, and the first write outside of turns.
 use Rattle.std.proofs.Common.{◌≡◌, ◌⊎◌, ℕ, zero, suc, ◌+◌, ◌<◌, ◌≤◌, Bool, true, false, ◌&&◌, ◌==◌, List, [], ◌∷◌, ◌++◌, map, length, take, drop, get_or, cond, Option, Some, None, Result, Ok, Err, refl, inl, inr, sym, ap, ◌∙◌, subst, arith, append_assoc, append-nil, Bor}
-use Rattle.std.specs.Prelude.{filter, slice_get, All, Contains, OnOk}
+use Rattle.std.specs.Prelude.{filter, slice_get, All, Contains, IsTrue, OnOk}
 use Rattle.std.specs.Option.{option_or}
 use Rattle.std.specs.List.{AllZip}
 use Rattle.std.specs.Result.{IsErrAnd}
@@ -33,10 +33,10 @@ use Rattle.sg_exec.specs.Running.{turn_of}
 use Rattle.sg_exec.specs.Standing.{shapes_of}
 use Rattle.sg_exec.specs.steps.Machines.{Sees}
 use Rattle.sg_exec.specs.steps.Moments.{AreNamedAt, slice_turn}
-use Rattle.sg_exec.specs.steps.Turning.{count_of, turns_in, AreNamedIn, wanted_of, writes_at, Means, IsMeant, AreMeant, TellsOutside, wants_from, ReachesAll, TurnsActivated}
+use Rattle.sg_exec.specs.steps.Turning.{count_of, turns_in, AreNamedIn, wanted_of, writes_at, Means, IsMeant, AreMeant, IsActive, TellsOutside, in_both, wants_from, ReachesAll, TurnsActivated}
 use Rattle.sg_exec.specs.steps.Wants.{coords_in, AreWants}
 use Rattle.sg_exec.proofs.Wanting.{equal_members, coords_more}
-use Rattle.sg_exec.proofs.Following.{inside_head}
+use Rattle.sg_exec.proofs.Following.{inside_head, writes_next}
 
 -- ---- the first write outside
 
@@ -50,31 +50,45 @@ outside_append shapes (x ∷ xs) ys =
     ap (λ (o : Option RunFault). option_or (outside_among shapes x.at x.writes) o) (outside_append shapes xs ys)
     ∙ or_assoc (outside_among shapes x.at x.writes) (first_outside shapes xs) (first_outside shapes ys)
 
-right_told : (shapes : List Shape) (xs ys : List Turn) (r : Result Unit (Stop RunFault)) → first_outside shapes xs ≡ None → TellsOutside shapes ys r → TellsOutside shapes (xs ++ ys) r
-right_told shapes xs ys (Ok done) none told = outside_append shapes xs ys ∙ ap (λ (o : Option RunFault). option_or o (first_outside shapes ys)) none ∙ told
-right_told shapes xs ys (Err stop.Memory) none told = tt
-right_told shapes xs ys (Err (stop.Refused fault)) none told = outside_append shapes xs ys ∙ ap (λ (o : Option RunFault). option_or o (first_outside shapes ys)) none ∙ told
+writes_append : (xs ys : List Turn) → writes_of (xs ++ ys) ≡ writes_of xs ++ writes_of ys
+writes_append [] ys = refl
+writes_append (x ∷ xs) ys =
+    ap (λ (ws : List Write). x.writes ++ ws) (writes_append xs ys) ∙ sym (append_assoc x.writes (writes_of xs) (writes_of ys))
 
-left_told : (shapes : List Shape) (xs ys : List Turn) (why : Stop RunFault) → TellsOutside shapes xs (Err why) → TellsOutside shapes (xs ++ ys) (Err why)
-left_told shapes xs ys stop.Memory told = tt
-left_told shapes xs ys (stop.Refused fault) told = outside_append shapes xs ys ∙ ap (λ (o : Option RunFault). option_or o (first_outside shapes ys)) told
+both_true : (a b : Bool) → IsTrue (a && b) → IsTrue a × IsTrue b
+both_true true true is = (refl, refl)
+both_true true false is = absurd (cc)
+both_true false b is = absurd (cc)
+
+pub right_told : (stores : List StoreWords) (xs ys : List Turn) (active : Bool) (r : Result Bool (Stop RunFault)) → TellsOutside stores xs (Ok active) → TellsOutside stores ys r → TellsOutside stores (xs ++ ys) (in_both active r)
+right_told stores xs ys active (Ok others) first told = (
+  outside_append (shapes_of stores) xs ys ∙ ap (λ (o : Option RunFault). option_or o (first_outside (shapes_of stores) ys)) first.0 ∙ told.0,
+  λ all. let both = both_true active others all in
+      subst (λ (ws : List Write). All (IsActive stores) ws) (sym (writes_append xs ys)) (All-append (IsActive stores) (writes_of xs) (writes_of ys) (first.1 both.0) (told.1 both.1)),
+)
+right_told stores xs ys active (Err stop.Memory) first told = tt
+right_told stores xs ys active (Err (stop.Refused fault)) first told = outside_append (shapes_of stores) xs ys ∙ ap (λ (o : Option RunFault). option_or o (first_outside (shapes_of stores) ys)) first.0 ∙ told
+
+left_told : (stores : List StoreWords) (xs ys : List Turn) (why : Stop RunFault) → TellsOutside stores xs (Err why) → TellsOutside stores (xs ++ ys) (Err why)
+left_told stores xs ys stop.Memory told = tt
+left_told stores xs ys (stop.Refused fault) told = outside_append (shapes_of stores) xs ys ∙ ap (λ (o : Option RunFault). option_or o (first_outside (shapes_of stores) ys)) told
 
 in_halves : (f : Coord → Turn) (points : List Coord) (n : ℕ) → map f (take n points) ++ map f (drop n points) ≡ map f points
 in_halves f points n = sym (map-append f (take n points) (drop n points)) ∙ ap (map f) (take-append-drop n points)
 
 -- the left half has none outside: the right half tells
-pub told_right : (shapes : List Shape) (f : Coord → Turn) (points left right : List Coord) (n : ℕ) (r : Result Unit (Stop RunFault)) → left ≡ take n points → right ≡ drop n points
-    → first_outside shapes (map f left) ≡ None → TellsOutside shapes (map f right) r → TellsOutside shapes (map f points) r
-told_right shapes f points left right n r is_left is_right none told =
-    subst (λ (ts : List Turn). TellsOutside shapes ts r) (ap (λ (l : List Coord). map f l ++ map f right) is_left ∙ ap (λ (l : List Coord). map f (take n points) ++ map f l) is_right ∙ in_halves f points n)
-    (right_told shapes (map f left) (map f right) r none told)
+pub told_right : (stores : List StoreWords) (f : Coord → Turn) (points left right : List Coord) (n : ℕ) (active : Bool) (r : Result Bool (Stop RunFault)) → left ≡ take n points → right ≡ drop n points
+    → TellsOutside stores (map f left) (Ok active) → TellsOutside stores (map f right) r → TellsOutside stores (map f points) (in_both active r)
+told_right stores f points left right n active r is_left is_right first told =
+    subst (λ (ts : List Turn). TellsOutside stores ts (in_both active r)) (ap (λ (l : List Coord). map f l ++ map f right) is_left ∙ ap (λ (l : List Coord). map f (take n points) ++ map f l) is_right ∙ in_halves f points n)
+    (right_told stores (map f left) (map f right) active r first told)
 
 -- the left half tells of a fault, or wants memory
-pub told_left : (shapes : List Shape) (f : Coord → Turn) (points left right : List Coord) (n : ℕ) (why : Stop RunFault) → left ≡ take n points → right ≡ drop n points
-    → TellsOutside shapes (map f left) (Err why) → TellsOutside shapes (map f points) (Err why)
-told_left shapes f points left right n why is_left is_right told =
-    subst (λ (ts : List Turn). TellsOutside shapes ts (Err why)) (ap (λ (l : List Coord). map f l ++ map f right) is_left ∙ ap (λ (l : List Coord). map f (take n points) ++ map f l) is_right ∙ in_halves f points n)
-    (left_told shapes (map f left) (map f right) why told)
+pub told_left : (stores : List StoreWords) (f : Coord → Turn) (points left right : List Coord) (n : ℕ) (why : Stop RunFault) → left ≡ take n points → right ≡ drop n points
+    → TellsOutside stores (map f left) (Err why) → TellsOutside stores (map f points) (Err why)
+told_left stores f points left right n why is_left is_right told =
+    subst (λ (ts : List Turn). TellsOutside stores ts (Err why)) (ap (λ (l : List Coord). map f l ++ map f right) is_left ∙ ap (λ (l : List Coord). map f (take n points) ++ map f l) is_right ∙ in_halves f points n)
+    (left_told stores (map f left) (map f right) why told)
 
 pub named_left : (stores : List StoreWords) (state : FlatState) (block : List Inst) (points left : List Coord) (n : ℕ) → left ≡ take n points → AreNamedAt stores state block points → AreNamedAt stores state block left
 named_left stores state block points left n is named = λ at has.
@@ -83,6 +97,28 @@ named_left stores state block points left n is named = λ at has.
 pub named_right : (stores : List StoreWords) (state : FlatState) (block : List Inst) (points right : List Coord) (n : ℕ) → right ≡ drop n points → AreNamedAt stores state block points → AreNamedAt stores state block right
 named_right stores state block points right n is named = λ at has.
     named at (subst (λ (l : List Coord). Contains l at) (take-append-drop n points) (Contains-append_right (take n points) (drop n points) at (subst (λ (l : List Coord). Contains l at) is has)))
+
+-- one write more at an active coordinate
+pub active_more : (stores : List StoreWords) (writes : List Write) (i : ℕ) (d : Write) → i < length writes → All (IsActive stores) (take i writes) → IsActive stores (get_or writes i d)
+    → All (IsActive stores) (take (i + 1) writes)
+active_more stores writes i d below so_far here =
+    subst (λ (ws : List Write). All (IsActive stores) ws) (sym (take_more writes i d below))
+    (All-append (IsActive stores) (take i writes) (get_or writes i d ∷ []) so_far (All-cons (IsActive stores) (get_or writes i d) [] here (All-nil (IsActive stores))))
+
+pub active_all : (stores : List StoreWords) (writes : List Write) (i : ℕ) → length writes ≤ i → All (IsActive stores) (take i writes) → All (IsActive stores) writes
+active_all stores writes i past all = subst (λ (ws : List Write). All (IsActive stores) ws) (take_all i writes past) all
+
+-- one turn more, whose writes are at active coordinates
+pub active_next : (f : Coord → Turn) (stores : List StoreWords) (xs : List Coord) (i : ℕ) (d : Coord) (writes : List Write) → i < length xs
+    → All (IsActive stores) (writes_of (map f (take i xs))) → All (IsActive stores) writes → writes ≡ (f (get_or xs i d)).writes
+    → All (IsActive stores) (writes_of (map f (take (i + 1) xs)))
+active_next f stores xs i d writes below so_far all is =
+    subst (λ (ws : List Write). All (IsActive stores) ws)
+    (ap (λ (ws : List Write). writes_of (map f (take i xs)) ++ ws) is ∙ sym (writes_next f xs i d below))
+    (All-append (IsActive stores) (writes_of (map f (take i xs))) writes so_far all)
+
+pub active_at_end : (f : Coord → Turn) (stores : List StoreWords) (xs : List Coord) (i : ℕ) → length xs ≤ i → All (IsActive stores) (writes_of (map f (take i xs))) → All (IsActive stores) (writes_of (map f xs))
+active_at_end f stores xs i past all = subst (λ (ys : List Coord). All (IsActive stores) (writes_of (map f ys))) (take_all i xs past) all
 
 -- ---- the wanted coordinates of a list of writes
 
@@ -311,11 +347,11 @@ if_ok (Err e) f holds = tt
 
 -- ---- from what was found to what is told
 
-pub outside_stops : {A : Type 0} (view : A → List StoreWords) (stores : List StoreWords) (turns : List Turn) (r : Result A (Stop RunFault)) (e : Stop RunFault) → IsErrAnd r (λ x. x ≡ e) → TellsOutside (shapes_of stores) turns (Err e)
+pub outside_stops : {A : Type 0} (view : A → List StoreWords) (stores : List StoreWords) (turns : List Turn) (r : Result A (Stop RunFault)) (e : Stop RunFault) → IsErrAnd r (λ x. x ≡ e) → TellsOutside stores turns (Err e)
     → TurnsActivated view stores turns r
 outside_stops view stores turns (Ok x) e is told = absurd is
 outside_stops view stores turns (Err stop.Memory) e is told = tt
-outside_stops view stores turns (Err (stop.Refused fault)) e is told = inl (subst (λ (x : Stop RunFault). TellsOutside (shapes_of stores) turns (Err x)) (sym is) told)
+outside_stops view stores turns (Err (stop.Refused fault)) e is told = inl (subst (λ (x : Stop RunFault). TellsOutside stores turns (Err x)) (sym is) told)
 
 pub all_told : {A : Type 0} (view : A → List StoreWords) (stores : List StoreWords) (turns : List Turn) (r : Result A (Stop RunFault)) → first_outside (shapes_of stores) turns ≡ None
     → ReachesAll view stores (wants_from 0 stores turns) r → TurnsActivated view stores turns r

@@ -1,6 +1,6 @@
 //! The stores with what turns want active in them.
 
-ghost use Rattle.std.specs.Prelude.{◌≡◌, ◌≤◌, ◌++◌, ◌∷◌, [], List, map, length, IfOk, OnOk, unwrap_or};
+ghost use Rattle.std.specs.Prelude.{◌≡◌, ◌≤◌, ◌++◌, ◌∷◌, [], List, map, length, IfOk, IsTrue, OnOk, unwrap_or};
 ghost use Rattle.std.specs.List.{AllZip};
 ghost use Rattle.sg_coord.specs.declared.coord.Coord.{Coord};
 ghost use Rattle.sg_flat.specs.declared.effects.Turn.{Turn};
@@ -12,20 +12,20 @@ ghost use Rattle.sg_exec.specs.Running.{turn_of};
 ghost use Rattle.sg_exec.specs.Standing.{shapes_of};
 ghost use Rattle.sg_exec.specs.steps.Landing.{current};
 ghost use Rattle.sg_exec.specs.steps.Moments.{AreNamedAt, slice_turn};
-ghost use Rattle.sg_exec.specs.steps.Turning.{AreMeant, IsMeant, TurnsActivated, full_layout};
+ghost use Rattle.sg_exec.specs.steps.Turning.{AreActive, IsActiveStore, AreMeant, IsMeant, TurnsActivated, full_layout};
 ghost use Rattle.sg_exec.specs.steps.Wants.{AreWants, StoreReached, AllReached};
 
 use crate::layout_wants::LayoutWants;
 use crate::outside::{first_outside, first_pass};
 use crate::turns::{Turns, count_of, turns_want};
 use crate::values::ONE_POINT;
-use sg_activate::{ActFault, activated};
+use sg_activate::{ActFault, activated, pass_gate};
 use sg_coord::{Coord, numbering};
 use sg_flat::{RunFault, Write};
 use sg_ir::Inst;
 use sg_layout::{closure_members, need_grows};
 use sg_outside::{FreeGate, Gate};
-use sg_store::laws::live_is_need;
+use sg_store::laws::{cells_are_active, live_is_need};
 use sg_store::{Store, Stores};
 use sg_words::{Memory, Stop};
 use std::alloc::Global;
@@ -51,9 +51,9 @@ pub(crate) fn activated_for_slice<R: Threads + Sync, G: Gate + Sync>(
     ensures shapes { IfOk result (λ copies. shapes_of (current copies.items stores.now.list) ≡ shapes_of stores.now.list) }
     ensures room { IfOk result (λ copies. length copies.items ≡ length stores.now.list) }
 {
-    first_pass(rt, alloc, stores, points, block, workers)?;
+    let active = first_pass(rt, alloc, stores, points, block, workers)?;
     let turns = Turns::Slice { points, block };
-    activated_copies(rt, alloc, stores, turns, workers, gate)
+    activated_copies(rt, alloc, stores, turns, active, workers, gate)
 }
 
 /// The same of listed writes, each a turn at its own coordinate, on one worker.
@@ -71,21 +71,24 @@ pub(crate) fn activated_for_rows<R: Threads + Sync>(
     if let Some(fault) = first_outside(stores, rows) {
         return Err(Stop::Refused(fault));
     }
-    activated_copies(rt, alloc, stores, Turns::Rows(rows), 1, &FreeGate)
+    activated_copies(rt, alloc, stores, Turns::Rows(rows), false, 1, &FreeGate)
 }
 
 /// Copies of the stores in which turns want what isn't active, with it active, or the first layout that is too full. The layouts
-/// into which a turn may want to write are activated in order, each by so many workers, which pass the gate.
+/// into which a turn may want to write are activated in order, each by so many workers, which pass the gate. Where it is said that all
+/// that the turns want is active, the workers pass the gate alone.
 fn activated_copies<R: Threads + Sync, G: Gate + Sync>(
     rt: &R,
     alloc: Global,
     stores: &Stores,
     turns: Turns,
+    active: bool,
     workers: u32,
     gate: &G,
 ) -> Result<Vec<Option<Store>>, Stop<RunFault>>
     requires some { 1 ≤ workers }
     requires few { workers ≤ 16 }
+    requires active { IsTrue active → AreActive stores.now.list turns }
     ensures reached { (wants : List (List Coord)) → AreMeant stores.now.list turns.entry wants →
         (flats : List FlatLayout) (made : List Turn) → AllZip StandsFor stores.now.list flats →
         AreWants flats wants (writes_of made) →
@@ -106,6 +109,7 @@ fn activated_copies<R: Threads + Sync, G: Gate + Sync>(
             stores,
             &list[number],
             turns,
+            active,
             workers,
             gate,
         )?;
@@ -121,7 +125,7 @@ fn add_copy(copies: &mut Vec<Option<Store>>, copy: Option<Store>) -> Result<(), 
     Ok(())
 }
 
-/// A copy of the store with a number with what turns want active; none where all of it is active already.
+/// A copy of the store with a number with what turns want active; none where all of it is active already, as may be said.
 fn store_activated<R: Threads + Sync, G: Gate + Sync>(
     rt: &R,
     alloc: Global,
@@ -129,22 +133,31 @@ fn store_activated<R: Threads + Sync, G: Gate + Sync>(
     stores: &Stores,
     store: &Store,
     turns: Turns,
+    active: bool,
     workers: u32,
     gate: &G,
 ) -> Result<Option<Store>, Stop<RunFault>>
     requires some { 1 ≤ workers }
     requires few { workers ≤ 16 }
+    requires active { IsTrue active → IsActiveStore stores.now.list turns number store.now }
     ensures reached { (wanted : List Coord) → IsMeant stores.now.list turns.entry number store.now wanted → (flat : FlatLayout) → StandsFor store.now flat →
         StoreReached (λ copy. unwrap_or copy store.now) number store.now.shape flat wanted result }
     ensures shape { IfOk result (λ copy. (unwrap_or copy store.now).shape ≡ store.now.shape) }
 {
     // for the laws that they ensure
     live_is_need();
+    cells_are_active();
+    closure_members();
+    need_grows();
     numbering(&ONE_POINT);
     store.layout();
     let layout = word(number)?;
     let count = word(count_of(turns))?;
     if !turns_want(turns, layout) {
+        return Ok(None);
+    }
+    if active {
+        pass_gate(rt, count, workers, gate);
         return Ok(None);
     }
     let want = LayoutWants {

@@ -5,6 +5,7 @@ ghost use Rattle.sg_coord.specs.Bounds.{bounds_of};
 ghost use Rattle.sg_coord.specs.Coord.{Inside};
 ghost use Rattle.sg_exec.specs.steps.Turning.{count_of, wanted_of};
 
+use crate::batch::{iterate_all, rows_for};
 use crate::moment::Moment;
 use crate::turns::Turns;
 use crate::values::ONE_POINT;
@@ -15,7 +16,7 @@ use sg_store::Stores;
 use sg_words::Memory;
 use std::alloc::Global;
 
-/// What turns want in a layout with these extents; each turn is a piece. A worker runs the slice on rows of its own.
+/// What turns want in a layout with these extents; each turn is a piece. A worker runs the slice on one row of its own.
 #[derive(Drop)]
 pub struct LayoutWants<'a> {
     pub stores: &'a Stores,
@@ -27,7 +28,7 @@ pub struct LayoutWants<'a> {
 }
 
 impl<'a> Wanted for LayoutWants<'a> {
-    type Hand = Moment<'a>;
+    type Hand = Vec<Moment<'a>>;
 
     ghost use Rattle.sg_coord.specs.Bounds.{bounds_of};
     ghost use Rattle.sg_exec.specs.steps.Turning.{Means, MayRun};
@@ -38,26 +39,28 @@ impl<'a> Wanted for LayoutWants<'a> {
 
     ghost Means = { λ want list. Means want.stores.now.list want.turns (bounds_of want.extents) want.layout list };
 
-    ghost IsHand = { λ want hand. MayRun want.stores.now.list want.turns hand };
+    ghost IsHand = { λ want hand. MayRun want.stores.now.list hand.items };
 
     fn pieces(&self) -> u32 {
         self.count
     }
 
-    fn hand(&self, alloc: Global) -> Result<Moment<'a>, Memory> {
-        Ok(Moment::new(alloc, self.stores, &[]))
+    fn hand(&self, alloc: Global) -> Result<Vec<Moment<'a>>, Memory> {
+        rows_for(alloc, self.stores, &[], 1)
     }
 
     fn wanted(
         &self,
-        hand: &mut Moment<'a>,
+        hand: &mut Vec<Moment<'a>>,
         piece: u32,
         into: &mut Vec<Coord>,
     ) -> Result<(), Memory> {
         match self.turns {
             Turns::Slice { points, block } => {
-                hand.iterate(points[piece as usize], block)?;
-                add_wants(hand.wants.as_slice(), self.layout, &self.extents, into)
+                let rows = hand.as_mut_slice();
+                iterate_all(self.stores, &[], rows, &[points[piece as usize]], block)?;
+                let ran = &*rows;
+                add_wants(ran[0].wants.as_slice(), self.layout, &self.extents, into)
             }
             Turns::Rows(rows) => {
                 let row = rows[piece as usize];

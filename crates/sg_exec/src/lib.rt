@@ -3,6 +3,7 @@
 
 mod accesses;
 mod activated;
+mod batch;
 mod cell_write;
 mod contributions;
 mod fields;
@@ -11,6 +12,7 @@ mod held;
 mod instructions;
 mod iteration;
 mod landing;
+mod lanes;
 mod layout_wants;
 mod moment;
 mod outside;

@@ -5,7 +5,6 @@ use crate::places::Places;
 use crate::row::{put, reset};
 use sg_coord::Coord;
 use sg_flat::Write;
-use sg_ir::Inst;
 use sg_store::{Store, Stores};
 use sg_words::{Memory, word_of};
 use std::alloc::Global;
@@ -29,7 +28,7 @@ impl<'a> Moment<'a> {
     ghost use Rattle.sg_ir.specs.Runs.{iteration_start, set_reg, set_var};
     ghost use Rattle.sg_exec.specs.steps.Machines.{seen_in, Sees};
     ghost use Rattle.sg_exec.specs.steps.Landing.{current};
-    ghost use Rattle.sg_exec.specs.steps.Moments.{Follows, Iterated, Moves};
+    ghost use Rattle.sg_exec.specs.steps.Moments.{Follows, Moves};
 
     /// The rows of a run over the stores, with each copy in the place of the store that it was made of.
     pub fn new(alloc: Global, stores: &'a Stores, copies: &'a [Option<Store>]) -> Moment<'a>
@@ -44,23 +43,9 @@ impl<'a> Moment<'a> {
         }
     }
 
-    /// Runs a block from the start of the iteration at a coordinate.
-    pub fn iterate(&mut self, at: Coord, block: &[Inst]) -> Result<(), Memory>
-        ensures stores { self.new.places.stores ≡ self.old.places.stores }
-        ensures ran { OnOk result ((stores : List StoreWords) (state : FlatState) → Sees stores state → self.old.places.stores ≡ stores →
-            Iterated stores state at block.now self.new) }
-    {
-        self.start(at);
-        self.run_all(block);
-        if self.lacks {
-            return Err(Memory);
-        }
-        Ok(())
-    }
-
     /// The start of the iteration at a coordinate.
     #[inline(always)]
-    fn start(&mut self, at: Coord)
+    pub fn start(&mut self, at: Coord)
         ensures stores { self.new.places.stores ≡ self.old.places.stores }
         ensures start { (stores : List StoreWords) (state : FlatState) → self.old.places.stores ≡ stores →
             Follows stores at self.new (iteration_start (seen_in stores state at)) }

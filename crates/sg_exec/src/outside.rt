@@ -1,12 +1,14 @@
-//! The first write outside the extents of its layout.
+//! The first write outside the extents of its layout, and whether all that is wanted is active.
 
-ghost use Rattle.std.specs.Prelude.{◌≡◌, ◌-◌, ◌≤◌, map, slice_get};
+ghost use Rattle.std.specs.Prelude.{◌≡◌, ◌-◌, ◌≤◌, All, IfOk, IfSome, IsTrue, Some, length, map, slice_get};
 ghost use Rattle.std.specs.Thread.{IsSync};
 ghost use Rattle.sg_flat.specs.Kernel.{is_inside_of, outside_among, first_outside};
 ghost use Rattle.sg_exec.specs.Running.{turn_of};
 ghost use Rattle.sg_exec.specs.Standing.{shapes_of};
-ghost use Rattle.sg_exec.specs.steps.Turning.{SliceTells};
+ghost use Rattle.sg_exec.specs.steps.Moments.{AreOver};
+ghost use Rattle.sg_exec.specs.steps.Turning.{SliceTells, IsActive, IsActiveAt, in_both};
 
+use crate::batch::{iterate_all, rows_for};
 use crate::moment::Moment;
 use crate::turns::block_seeks;
 use sg_coord::{Coord, inside};
@@ -17,8 +19,11 @@ use sg_words::Stop;
 use std::alloc::Global;
 use std::thread::{Threads, join};
 
-/// Refuses where a slice wants a coordinate outside at one of these points, with the fault of the first. A slice in which no instruction
-/// wants isn't run; any other by so many workers.
+/// At how many points a worker runs a slice side by side.
+const SIDE_BY_SIDE: usize = 16;
+
+/// Refuses where a slice wants a coordinate outside at one of these points, with the fault of the first. Else it tells whether all that the
+/// slice wants there is active. A slice in which no instruction wants isn't run; any other by so many workers.
 pub(crate) fn first_pass<R: Threads + Sync>(
     rt: &R,
     alloc: Global,
@@ -26,14 +31,14 @@ pub(crate) fn first_pass<R: Threads + Sync>(
     points: &[Coord],
     block: &[Inst],
     workers: u32,
-) -> Result<(), Stop<RunFault>>
+) -> Result<bool, Stop<RunFault>>
     requires some { 1 ≤ workers }
     ensures { SliceTells stores.now.list block.now points.now result }
 {
     if block_seeks(block) {
         return no_want_outside(rt, alloc, stores, points, block, workers);
     }
-    Ok(())
+    Ok(true)
 }
 
 /// The same of any slice. The workers run it each at a part of the points; what the left half finds stands before what the right half
@@ -45,49 +50,157 @@ fn no_want_outside<R: Threads + Sync>(
     points: &[Coord],
     block: &[Inst],
     workers: u32,
-) -> Result<(), Stop<RunFault>>
+) -> Result<bool, Stop<RunFault>>
     requires some { 1 ≤ workers }
     ensures { SliceTells stores.now.list block.now points.now result }
 {
-    if workers < 2 {
+    if workers < 2 || points.len() < 2 {
         return no_want_outside_here(alloc, stores, points, block);
     }
     let half = workers / 2;
     let (left, right) = points.split_at(points.len() / 2);
     let (first, second) = join(
         rt,
-        move || -> Result<(), Stop<RunFault>>
+        move || -> Result<bool, Stop<RunFault>>
             requires { IsSync R.row × (1 ≤ workers - half) }
             ensures { SliceTells stores.entry.now.list block.entry.now left.entry.now result }
         { no_want_outside(rt, alloc, stores, left, block, workers - half) },
-        move || -> Result<(), Stop<RunFault>>
+        move || -> Result<bool, Stop<RunFault>>
             requires { IsSync R.row × (1 ≤ half) }
             ensures { SliceTells stores.entry.now.list block.entry.now right.entry.now result }
         { no_want_outside(rt, alloc, stores, right, block, half) },
     );
     match first {
-        Ok(()) => second,
+        Ok(active) => in_both(active, second),
         Err(why) => Err(why),
     }
 }
 
-/// The same by one worker.
+/// What is told where the left half has no want outside: the fault of the right half, or whether all is active in both.
+fn in_both(active: bool, second: Result<bool, Stop<RunFault>>) -> Result<bool, Stop<RunFault>>
+    ensures { result ≡ in_both active second }
+{
+    match second {
+        Ok(others) => Ok(active && others),
+        Err(why) => Err(why),
+    }
+}
+
+/// The same by one worker, which runs the slice at several points side by side.
 fn no_want_outside_here(
     alloc: Global,
     stores: &Stores,
     points: &[Coord],
     block: &[Inst],
-) -> Result<(), Stop<RunFault>>
+) -> Result<bool, Stop<RunFault>>
     ensures { SliceTells stores.now.list block.now points.now result }
 {
-    let mut moment = Moment::new(alloc, stores, &[]);
-    for at in points {
-        moment.iterate(*at, block)?;
-        if let Some(fault) = outside_among(stores, *at, moment.wants.as_slice()) {
+    let mut list = rows_for(alloc, stores, &[], points.len().min(SIDE_BY_SIDE))?;
+    let rows = list.as_mut_slice();
+    let mut active = true;
+    let mut last = None;
+    for number in 0..points.len() / SIDE_BY_SIDE + 1 {
+        let first = number * SIDE_BY_SIDE;
+        let count = (points.len() - first).min(SIDE_BY_SIDE);
+        let these = &mut rows[..count];
+        let some = &points[first..first + count];
+        active = no_want_outside_among(stores, these, some, block, active, &mut last)?;
+    }
+    Ok(active)
+}
+
+/// The same of as many points as there are rows, and of whether all was active so far.
+fn no_want_outside_among(
+    stores: &Stores,
+    rows: &mut [Moment],
+    points: &[Coord],
+    block: &[Inst],
+    active: bool,
+    last: &mut Option<(u32, Coord)>,
+) -> Result<bool, Stop<RunFault>>
+    requires room { length points.now ≡ length rows.old }
+    requires over { AreOver stores.now.list rows.old }
+    requires last { IfSome last.old (λ it. IsActiveAt stores.now.list it.0 it.1) }
+    ensures over { AreOver stores.now.list rows.new }
+    ensures long { length rows.new ≡ length rows.old }
+    ensures last { IfSome last.new (λ it. IsActiveAt stores.now.list it.0 it.1) }
+    ensures so_far { IfOk result (λ all. IsTrue all → IsTrue active) }
+    ensures told { SliceTells stores.now.list block.now points.now result }
+{
+    iterate_all(stores, &[], rows, points, block)?;
+    let mut all = active;
+    for k in 0..points.len() {
+        let wants = rows[k].wants.as_slice();
+        if let Some(fault) = outside_among(stores, points[k], wants) {
             return Err(Stop::Refused(fault));
         }
+        all = are_active(stores, wants, all, last);
     }
-    Ok(())
+    Ok(all)
+}
+
+/// Whether all was active so far, and each of these writes is at a coordinate that is active in its layout's store. The coordinate that was
+/// looked for last, with its layout, isn't looked for again.
+#[inline(always)]
+fn are_active(
+    stores: &Stores,
+    writes: &[Write],
+    active: bool,
+    last: &mut Option<(u32, Coord)>,
+) -> bool
+    requires last { IfSome last.old (λ it. IsActiveAt stores.now.list it.0 it.1) }
+    ensures last { IfSome last.new (λ it. IsActiveAt stores.now.list it.0 it.1) }
+    ensures so_far { IsTrue result → IsTrue active }
+    ensures active { IsTrue result → All (IsActive stores.now.list) writes.now }
+{
+    if !active {
+        return false;
+    }
+    for write in writes {
+        if !is_active(stores, write.layout, write.at, last) {
+            return false;
+        }
+    }
+    true
+}
+
+/// Whether a coordinate is active in a layout's store.
+#[inline(always)]
+fn is_active(stores: &Stores, layout: u32, at: Coord, last: &mut Option<(u32, Coord)>) -> bool
+    requires last { IfSome last.old (λ it. IsActiveAt stores.now.list it.0 it.1) }
+    ensures last { IfSome last.new (λ it. IsActiveAt stores.now.list it.0 it.1) }
+    ensures active { IsTrue result → IsActiveAt stores.now.list layout at }
+{
+    if is_last(last, layout, at) {
+        return true;
+    }
+    if !has_cell(stores, layout, at) {
+        return false;
+    }
+    *last = Some((layout, at));
+    true
+}
+
+/// Whether this coordinate of this layout is the one that was looked for last.
+#[inline(always)]
+fn is_last(last: &Option<(u32, Coord)>, layout: u32, at: Coord) -> bool
+    ensures { IsTrue result → last.now ≡ Some (layout, at) }
+{
+    match last {
+        Some(other) => *other == (layout, at),
+        None => false,
+    }
+}
+
+/// Whether a coordinate has a cell in a layout's store.
+#[inline(always)]
+fn has_cell(stores: &Stores, layout: u32, at: Coord) -> bool
+    ensures { IsTrue result → IsActiveAt stores.now.list layout at }
+{
+    match stores.list.get(layout as usize) {
+        Some(store) => store.cell_of(at).is_some(),
+        None => false,
+    }
 }
 
 /// The fault of the first of listed writes that is outside, each a turn of its own.

@@ -1,4 +1,7 @@
-ghost use Rattle.std.specs.Prelude.{◌≡◌, ◌++◌, ◌+◌, ◌-◌, ◌/◌, ◌≤◌, ◌<◌, ℕ, length, IfOk, OnOk, Some, slice_get};
+ghost use Rattle.std.specs.Prelude.{◌≡◌, ◌++◌, ◌+◌, ◌-◌, ◌/◌, ◌≤◌, ◌<◌, ℕ, length, take, Contains, IfOk, OnOk, Some, slice_get};
+ghost use Rattle.sg_coord.specs.declared.coord.Coord.{Coord};
+ghost use Rattle.sg_exec.specs.declared.hand.Hand.{Hand};
+ghost use Rattle.sg_exec.specs.steps.Moments.{AreOver};
 ghost use Rattle.std.specs.Thread.{IsSync};
 ghost use Rattle.sg_coord.specs.Slices.{slice_start};
 ghost use Rattle.sg_words.specs.RaceMachine.{after_split, other_half, after_join};
@@ -13,6 +16,7 @@ ghost use Rattle.sg_exec.specs.steps.Landing.{current};
 ghost use Rattle.sg_exec.specs.steps.Racing.{wrote, between, ArePasses, AreSeats, HaveShares, AreSplit, AreJoined, IsDivided, IsOfBoth};
 ghost use Rattle.sg_exec.specs.steps.Working.{HasRunAt};
 
+use crate::batch::{iterate_all, rows_for};
 use crate::contributions::{give_all, put_all};
 use crate::hand::Hand;
 use crate::moment::Moment;
@@ -26,7 +30,11 @@ use sg_words::Memory;
 use std::alloc::Global;
 use std::thread::{Threads, join};
 
-/// Runs the iterations of workers, from this one on, each worker in a thread of its own, side by side.
+/// How many iterations a worker runs side by side.
+const SIDE_BY_SIDE: usize = 16;
+
+/// Runs the iterations of workers, from this one on, each worker in a thread of its own, side by side. With fewer points than workers the
+/// last workers have none, and no thread.
 #[cycle(racing)]
 pub(crate) fn race<R: Threads + Sync, G: Gate + Sync>(
     rt: &R,
@@ -72,6 +80,23 @@ pub(crate) fn race<R: Threads + Sync, G: Gate + Sync>(
         );
     }
     let half = workers / 2;
+    if points.len() <= (first + (workers - half)) as usize {
+        return race(
+            rt,
+            alloc,
+            stores,
+            reached,
+            points,
+            code,
+            accumulated,
+            owned,
+            all,
+            gate,
+            first,
+            workers - half,
+            hand,
+        );
+    }
     let (hand, other) = divided(alloc, stores, reached, accumulated, workers, hand)?;
     let (left, right) = join(
         rt,
@@ -157,44 +182,111 @@ fn work<G: Gate>(
         (slice_start (length points.now) all worker) (slice_start (length points.now) all (worker + 1)) points.now)
         accumulated.now owned.now hand) }
 {
-    let mut hand = hand;
     let (from, to) = slice_of(points.len(), all, worker);
-    let mut moment = Moment::new(alloc, stores, reached);
     let mine = &points[from..to];
-    let mut turn = 0_u32;
-    for at in mine {
-        gate.before(Phase::Values, worker, turn);
-        turn = turn.wrapping_add(1);
-        iterate(stores, reached, code, &mut moment, *at)?;
-        give_all(
+    let mut moments = rows_for(alloc, stores, reached, mine.len().min(SIDE_BY_SIDE))?;
+    let rows = moments.as_mut_slice();
+    work_all(
+        stores,
+        reached,
+        points,
+        code,
+        accumulated,
+        owned,
+        gate,
+        worker,
+        mine,
+        rows,
+        hand,
+    )
+}
+
+/// The iterations at all these points, as many side by side as there are rows.
+fn work_all<G: Gate>(
+    stores: &Stores,
+    reached: &[Option<Store>],
+    points: &[Coord],
+    code: &[Inst],
+    accumulated: &[Accumulated],
+    owned: &[Owned],
+    gate: &G,
+    worker: u32,
+    mine: &[Coord],
+    moments: &mut [Moment],
+    hand: Hand,
+) -> Result<Hand, Memory>
+    requires rows { (count : ℕ) → count ≤ length mine.now → count ≤ 16 → count ≤ length moments.old }
+    requires among { (at : Coord) → Contains mine.now at → Contains points.now at }
+    requires over { AreOver (current reached.now stores.now.list) moments.old }
+    requires passes { ArePasses (current reached.now stores.now.list) accumulated.now }
+    requires seats { AreSeats accumulated.now hand.seats.items }
+    requires cells { AreCells (current reached.now stores.now.list) hand.puts.items }
+    ensures seats { IfOk result (λ after. AreSeats accumulated.now after.seats.items) }
+    ensures cells { IfOk result (λ after. AreCells (current reached.now stores.now.list) after.puts.items) }
+    ensures ran { IfOk result (HasRunAt (current reached.now stores.now.list) code.now points.now mine.now accumulated.now owned.now hand) }
+{
+    let mut hand = hand;
+    for number in 0..mine.len() / SIDE_BY_SIDE + 1 {
+        let first = number * SIDE_BY_SIDE;
+        let count = (mine.len() - first).min(SIDE_BY_SIDE);
+        work_some(
             stores,
             reached,
+            points,
+            code,
             accumulated,
-            moment.places.writes(),
-            &mut hand.seats,
-        );
-        put_all(owned, &moment.places, &mut hand.puts)?;
+            owned,
+            gate,
+            worker,
+            mine,
+            first,
+            &mut moments[..count],
+            &mut hand,
+        )?;
     }
     Ok(hand)
 }
 
-/// One iteration.
-#[inline(always)]
-fn iterate(
+/// The iterations at the points from one number on, side by side, as many as there are rows. Before each one's contributions the worker
+/// passes the gate.
+fn work_some<G: Gate>(
     stores: &Stores,
     reached: &[Option<Store>],
+    points: &[Coord],
     code: &[Inst],
-    moment: &mut Moment,
-    at: Coord,
+    accumulated: &[Accumulated],
+    owned: &[Owned],
+    gate: &G,
+    worker: u32,
+    mine: &[Coord],
+    first: usize,
+    moments: &mut [Moment],
+    hand: &mut Hand,
 ) -> Result<(), Memory>
-    requires over { moment.old.places.stores ≡ (current reached.now stores.now.list) }
-    ensures over { moment.new.places.stores ≡ moment.old.places.stores }
-    ensures wrote { OnOk result ((state : FlatState) → Sees (current reached.now stores.now.list) state →
-        AreNamed (shapes_of (current reached.now stores.now.list)) (iteration (seen_in (current reached.now stores.now.list) state at) code.now).accesses →
-        moment.new.places.writes ≡ wrote (current reached.now stores.now.list) state code.now at) }
+    requires room { first + length moments.old ≤ length mine.now }
+    requires among { (at : Coord) → Contains mine.now at → Contains points.now at }
+    requires over { AreOver (current reached.now stores.now.list) moments.old }
+    requires passes { ArePasses (current reached.now stores.now.list) accumulated.now }
+    requires seats { AreSeats accumulated.now hand.old.seats.items }
+    requires cells { AreCells (current reached.now stores.now.list) hand.old.puts.items }
+    ensures over { AreOver (current reached.now stores.now.list) moments.new }
+    ensures seats { OnOk result (AreSeats accumulated.now hand.new.seats.items) }
+    ensures cells { OnOk result (AreCells (current reached.now stores.now.list) hand.new.puts.items) }
+    ensures ran { OnOk result ((start : Hand) →
+        HasRunAt (current reached.now stores.now.list) code.now points.now (take first mine.now) accumulated.now owned.now start hand.old →
+        HasRunAt (current reached.now stores.now.list) code.now points.now (take (first + length moments.old) mine.now) accumulated.now owned.now start hand.new) }
 {
-    let (_stores, _reached) = (stores, reached);
-    moment.iterate(at, code)
+    let (_points, count) = (points, moments.len());
+    iterate_all(stores, reached, moments, &mine[first..first + count], code)?;
+    for k in 0..count {
+        let turn = u32::try_from(first + k).unwrap_or(u32::MAX);
+        gate.before(Phase::Values, worker, turn);
+        let moment = &moments[k];
+        let writes = moment.places.writes();
+        give_all(stores, reached, accumulated, writes, &mut hand.seats);
+        put_all(owned, &moment.places, &mut hand.puts)?;
+    }
+    Ok(())
 }
 
 /// For each seat another one, with half of its share.

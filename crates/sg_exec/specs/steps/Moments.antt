@@ -1,12 +1,12 @@
 -- How the executor's rows are those of how far a run of code has come.
-use Rattle.std.specs.Prelude.{◌≡◌, ℕ, ℤ, false, List, map, fold, All, Contains}
+use Rattle.std.specs.Prelude.{◌≡◌, ℕ, ℤ, false, List, map, fold, length, slice_get, Some, All, Contains}
 use Rattle.sg_words.specs.Words.{word_of}
 use Rattle.sg_coord.specs.declared.coord.Coord.{Coord}
 use Rattle.sg_flat.specs.declared.effects.Turn.{Turn}
 use Rattle.sg_flat.specs.declared.state.FlatState.{FlatState}
 use Rattle.sg_store.specs.StoreWords.{StoreWords}
 use Rattle.sg_ir.specs.declared.code.Inst.{Inst}
-use Rattle.sg_ir.specs.Runs.{Seen, Moved, set_var, runs, iteration}
+use Rattle.sg_ir.specs.Runs.{Seen, Moved, set_var, runs, iteration, iteration_start}
 use Rattle.sg_ir.specs.Named.{AreNamed}
 use Rattle.sg_exec.specs.declared.moment.Moment.{Moment}
 use Rattle.sg_exec.specs.Standing.{shapes_of}
@@ -50,3 +50,28 @@ slice_turn stores state block at =
 -- the turns of an inner loop, one after the other: its variable gets the turn's number, and the body runs
 abbrev pub run_turns : Seen → ℕ → List Inst → Moved → List ℤ → Moved
 run_turns seen var body now turns = fold (λ reached turn. runs seen body (set_var var (word_of turn) reached)) now turns
+
+-- ---- several moments side by side
+
+-- each of the moments before has become the one with its number afterwards
+pub record EachOf (Becomes : Moment → Moment → Type 0) (old new : List Moment) : Type 0 where
+  pub long : length new ≡ length old
+  pub each : (k : ℕ) (before after : Moment) → slice_get old k ≡ Some before → slice_get new k ≡ Some after → Becomes before after
+
+-- each has moved as an action says
+abbrev pub AllMove : (Seen → Moved → Moved) → List Moment → List Moment → Type 0
+AllMove act = EachOf (Moves act)
+
+-- all go over these stores
+abbrev pub AreOver : List StoreWords → List Moment → Type 0
+AreOver stores moments = All (λ (moment : Moment). moment.places.stores ≡ stores) moments
+
+-- a moment is that of the start of the iteration at a coordinate
+pub record IsStarted (at : Coord) (old new : Moment) : Type 0 where
+  pub stores : new.places.stores ≡ old.places.stores
+  pub start : (stores : List StoreWords) (state : FlatState) → old.places.stores ≡ stores → Follows stores at new (iteration_start (seen_in stores state at))
+
+-- each is, at the point with its number
+pub record AreStarted (points : List Coord) (old new : List Moment) : Type 0 where
+  pub long : length new ≡ length old
+  pub each : (k : ℕ) (at : Coord) (before after : Moment) → slice_get points k ≡ Some at → slice_get old k ≡ Some before → slice_get new k ≡ Some after → IsStarted at before after

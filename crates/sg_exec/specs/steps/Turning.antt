@@ -1,12 +1,11 @@
 -- The turns of a run, and what they want in each layout.
-use Rattle.std.specs.Prelude.{◌≡◌, ◌⊎◌, ℕ, suc, ◌<◌, ◌&&◌, List, [], ◌∷◌, map, filter, ◌==◌, length, Some, Option, None, Result, Ok, Err, slice_get}
+use Rattle.std.specs.Prelude.{◌≡◌, ◌⊎◌, ℕ, suc, ◌<◌, Bool, ◌&&◌, List, [], ◌∷◌, map, filter, ◌==◌, length, All, Some, Option, None, IsSome, IsTrue, Result, Ok, Err, slice_get}
 use Rattle.std.specs.List.{AllZip}
 use Rattle.sg_words.specs.declared.memory.Stop.{Stop}
 use Rattle.sg_words.specs.declared.memory.Stop.TheVariants as stop
 use Rattle.sg_coord.specs.declared.coord.Coord.{Coord}
 use Rattle.sg_coord.specs.Bounds.{Bounds}
 use Rattle.sg_coord.specs.Coord.{is_inside}
-use Rattle.sg_layout.specs.declared.shape.Shape.{Shape}
 use Rattle.sg_layout.specs.Axes.{bounds_of_shape}
 use Rattle.sg_flat.specs.declared.effects.Write.{Write}
 use Rattle.sg_flat.specs.declared.effects.Turn.{Turn}
@@ -27,8 +26,8 @@ use Rattle.sg_exec.specs.declared.turns.Turns.{Turns}
 use Rattle.sg_exec.specs.declared.turns.Turns.TheVariants.{Slice, Rows}
 use Rattle.sg_exec.specs.Running.{turn_of}
 use Rattle.sg_exec.specs.Standing.{shapes_of}
-use Rattle.sg_exec.specs.steps.Machines.{Sees}
-use Rattle.sg_exec.specs.steps.Moments.{AreNamedAt, slice_turn}
+use Rattle.sg_exec.specs.steps.Machines.{Sees, cell_there}
+use Rattle.sg_exec.specs.steps.Moments.{AreNamedAt, AreOver, slice_turn}
 use Rattle.sg_exec.specs.steps.Wants.{AreWants, AllReached}
 
 -- how many turns there are
@@ -92,9 +91,9 @@ pub record Means (stores : List StoreWords) (turns : Turns) (bounds : Bounds) (l
   pub named : AreNamedIn stores state turns
   pub lists : (number : ℕ) → number < count_of turns → list number ≡ wanted_of bounds layout (writes_at (turns_in stores state turns) number)
 
--- a moment on which the turns may be run
-abbrev pub MayRun : List StoreWords → Turns → Moment → Type 0
-MayRun stores turns moment = (state : FlatState) → Sees stores state → AreNamedIn stores state turns → moment.places.stores ≡ stores
+-- one row, on which turns may be run
+abbrev pub MayRun : List StoreWords → List Moment → Type 0
+MayRun stores rows = (length rows ≡ 1) × AreOver stores rows
 
 -- these are the coordinates that the turns want in the layout of a store, by its number
 pub record IsMeant (stores : List StoreWords) (turns : Turns) (number : ℕ) (store : StoreWords) (wanted : List Coord) : Type 0 where
@@ -109,16 +108,39 @@ pub record AreMeant (stores : List StoreWords) (turns : Turns) (wants : List (Li
   pub each : (number : ℕ) (store : StoreWords) (wanted : List Coord) → slice_get stores number ≡ Some store →
       slice_get wants number ≡ Some wanted → IsMeant stores turns number store wanted
 
--- what is told of the first write outside of turns
-abbrev pub TellsOutside : List Shape → List Turn → Result Unit (Stop RunFault) → Type 0
-TellsOutside shapes turns (Ok done) = first_outside shapes turns ≡ None
-TellsOutside shapes turns (Err stop.Memory) = Unit {0}
-TellsOutside shapes turns (Err (stop.Refused fault)) = first_outside shapes turns ≡ Some fault
+-- a coordinate has a cell in a layout's store
+abbrev pub IsActiveAt : List StoreWords → ℕ → Coord → Type 0
+IsActiveAt stores layout at = IsSome (cell_there stores layout (Some at))
+
+-- so has that of a write
+abbrev pub IsActive : List StoreWords → Write → Type 0
+IsActive stores write = IsActiveAt stores write.layout write.at
+
+-- all that turns want is active
+abbrev pub AreActive : List StoreWords → Turns → Type 0
+AreActive stores turns = (state : FlatState) → Sees stores state → AreNamedIn stores state turns →
+    All (IsActive stores) (writes_of (turns_in stores state turns))
+
+-- the store with this number is one in which all that turns want is active
+abbrev pub IsActiveStore : List StoreWords → Turns → ℕ → StoreWords → Type 0
+IsActiveStore stores turns number store = (slice_get stores number ≡ Some store) × AreActive stores turns
+
+-- what is told of the first write outside of turns, and where none is, of whether all writes are at active coordinates
+abbrev pub TellsOutside : List StoreWords → List Turn → Result Bool (Stop RunFault) → Type 0
+TellsOutside stores turns (Ok active) = (first_outside (shapes_of stores) turns ≡ None)
+    × (IsTrue active → All (IsActive stores) (writes_of turns))
+TellsOutside stores turns (Err stop.Memory) = Unit {0}
+TellsOutside stores turns (Err (stop.Refused fault)) = first_outside (shapes_of stores) turns ≡ Some fault
+
+-- what is told of two halves, of which the first has no write outside
+abbrev pub in_both : Bool → Result Bool (Stop RunFault) → Result Bool (Stop RunFault)
+in_both active (Ok others) = Ok (active && others)
+in_both active (Err why) = Err why
 
 -- the same of a slice at points, over stores that see any state
-abbrev pub SliceTells : List StoreWords → List Inst → List Coord → Result Unit (Stop RunFault) → Type 0
+abbrev pub SliceTells : List StoreWords → List Inst → List Coord → Result Bool (Stop RunFault) → Type 0
 SliceTells stores block points result = (state : FlatState) → Sees stores state → AreNamedAt stores state block points →
-    TellsOutside (shapes_of stores) (map (slice_turn stores state block) points) result
+    TellsOutside stores (map (slice_turn stores state block) points) result
 
 -- the fault of a layout whose activation was refused
 abbrev pub full_layout : ℕ → ActFault → RunFault

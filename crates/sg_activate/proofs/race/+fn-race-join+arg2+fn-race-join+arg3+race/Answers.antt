@@ -2,13 +2,23 @@ use Rattle.std.proofs.Common.{◌≡◌, ℕ, ◌+◌, ◌-◌, ◌/◌, subst, 
 use Rattle.std.specs.Prelude.{OnOk}
 use Rattle.sg_coord.specs.Slices.{slice_start}
 use Rattle.sg_activate.specs.steps.Racing.{HasMetAll}
-use Rattle.sg_activate.proofs.Raced.{met_halves}
+use Rattle.sg_activate.proofs.Raced.{met_halves, starts_past}
 use Rattle.sg_activate.proofs.race.+fn-race-join+arg2+fn-race-join+arg3+race.Goals as goal
 
 pub returns-then-count-lt2-clause-met : goal.returns-then-count-lt2-clause-met
 returns-then-count-lt2-clause-met g t c =
     let one : c.args.from + 1 ≡ c.args.from + c.args.count = omega arith in
     subst (λ (to : ℕ). OnOk c.ask_slice.result.done (HasMetAll (g.P.Pass.IsMet c.args.pass.now) (g.W.Wanted.Means c.args.work.now.want.now) (slice_start (g.W.Wanted.count c.args.work.now.want.now) c.args.work.now.workers c.args.from) (slice_start (g.W.Wanted.count c.args.work.now.want.now) c.args.work.now.workers to) c.ask_slice.result.seat)) one c.ask_slice.ensures.met
+
+pub returns-then-pieces-from-clause-met : goal.returns-then-pieces-from-clause-met
+returns-then-pieces-from-clause-met g t c =
+    let count = g.W.Wanted.count c.args.work.now.want.now in
+    let workers = c.args.work.now.workers in
+    let pieces : c.pieces.result ≡ count = c.pieces.ensures in
+    let mid = c.args.from + (c.args.count - c.args.count / 2) in
+    subst (λ (to : ℕ). OnOk c.race.result.done (HasMetAll (g.P.Pass.IsMet c.args.pass.now) (g.W.Wanted.Means c.args.work.now.want.now) (slice_start count workers c.args.from) to c.race.result.seat))
+    (starts_past count workers mid (c.args.from + c.args.count) (omega arith) (omega arith) (omega arith))
+    c.race.ensures.met
 
 pub returns-clause-met : goal.returns-clause-met
 returns-clause-met g t c =

@@ -32,6 +32,14 @@ loop-number-preserved g c =
           shapes_more stores copies number store c.in_ok-copy.copy c.loop-number.invariant.shapes count is c.in_ok-copy.ensures.shape j s cp is_s (ap (λ (cs : List (Option StoreWords)). slice_get cs j) (sym c.in_ok-add_copy.ensures) ∙ is_c);
     }
 
+pub store_activated-requires-clause-active : goal.store_activated-requires-clause-active
+store_activated-requires-clause-active g c κs within = λ all.
+    let stores = c.args.stores.now.list in
+    let number = c.loop-number.number in
+    let items = ap length c.as_slice-list.ensures in
+    let store = c.index-list-number.result in
+    (slice_get_read stores (length stores) number store refl (omega arith) (c.index-list-number.is ∙ ap (λ (xs : List StoreWords). get_or xs number store) c.as_slice-list.ensures), c.requires.active all)
+
 pub returns-in_err-copy-clause-reached : goal.returns-in_err-copy-clause-reached
 returns-in_err-copy-clause-reached g c = λ wants meant flats made all are.
     let stores = c.args.stores.now.list in

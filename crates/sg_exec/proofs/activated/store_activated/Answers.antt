@@ -4,6 +4,7 @@ use Rattle.sg_coord.specs.Bounds.{bounds_of}
 use Rattle.sg_layout.specs.Axes.{bounds_of_shape}
 use Rattle.sg_exec.specs.steps.Turning.{WantsNone}
 use Rattle.sg_exec.proofs.Uncapped.{empty_wanted}
+use Rattle.sg_exec.proofs.AllActive.{meant_active, active_wanted}
 use Rattle.sg_exec.proofs.Turning.{means_lists, below_all, means_inside}
 use Rattle.sg_exec.proofs.Activating.{none_wanted, room_for, stands_with, no_room_for}
 use Rattle.sg_exec.proofs.activated.store_activated.Goals as goal
@@ -13,6 +14,12 @@ returns-then-not-turns_want-clause-reached g c = λ wanted meant flat stands.
     empty_wanted c.args.store.now flat wanted (c.live_is_need.ensures c.args.store.now) c.layout.ensures.well_formed
     (none_wanted c.args.stores.now.list c.args.turns c.args.number c.args.store.now wanted
     (subst (λ (n : ℕ). WantsNone c.args.turns n) c.in_ok-layout.ensures (c.turns_want.ensures c.if-not-turns_want.true)) meant) stands
+
+pub returns-then-active-clause-reached : goal.returns-then-active-clause-reached
+returns-then-active-clause-reached g c = λ wanted meant flat stands.
+    let store = c.args.store.now in
+    active_wanted store flat wanted (c.live_is_need.ensures store) (c.need_grows.ensures.full store.shape) (c.closure_members.ensures.of_members store.shape) c.layout.ensures.well_formed
+    (meant_active c.args.stores.now.list c.args.turns c.args.number store wanted (c.cells_are_active.ensures.active store) c.layout.ensures.well_formed (c.requires.active c.if-active.true) meant flat stands) stands
 
 pub returns-in-Ok-clause-reached : goal.returns-in-Ok-clause-reached
 returns-in-Ok-clause-reached g c = λ wanted meant flat stands.

@@ -1,26 +1,28 @@
-use Rattle.std.proofs.Common.{sym, ◌∙◌, refl, arith}
-use Rattle.std.proofs.lemmas.List.Elements.{Contains-get_or}
-use Rattle.sg_exec.specs.Standing.{shapes_of}
+use Rattle.std.proofs.Common.{◌*◌, rules, refl, arith}
 use Rattle.sg_exec.specs.steps.Moments.{slice_turn}
-use Rattle.sg_exec.proofs.Following.{none_next, fault_here}
-use Rattle.sg_exec.proofs.Over.{over_after}
+use Rattle.sg_exec.proofs.Batches.{named_batch, told_more, told_stop, told_end, over_rest}
 use Rattle.sg_exec.proofs.outside.no_want_outside_here.Goals as goal
 
-pub loop-at-preserved : goal.loop-at-preserved
-loop-at-preserved c = record {
-  held = λ state sees named.
-      over_after c.args.stores.now.list _ _ _ (c.in_ok-iterate.ensures.ran c.args.stores.now.list state sees (c.loop-at.invariant.held state sees named)
-      (named _ (Contains-get_or c.args.points.now c.loop-at.at-index _ (omega arith))));
-  none = λ state sees named.
-      none_next (slice_turn c.args.stores.now.list state c.args.block.now) (shapes_of c.args.stores.now.list) c.args.points.now c.loop-at.at-index _ c.as_slice.result.now _ _ (omega arith) (c.loop-at.invariant.none state sees named)
-      (sym c.outside_among.ensures ∙ c.in_default.is) refl
-      (c.as_slice.ensures.value ∙ (c.in_ok-iterate.ensures.ran c.args.stores.now.list state sees (c.loop-at.invariant.held state sees named)
-      (named _ (Contains-get_or c.args.points.now c.loop-at.at-index _ (omega arith)))).wants_are);
+pub loop-number-preserved : goal.loop-number-preserved
+loop-number-preserved c = record {
+  over = over_rest _ _ _ _ c.loop-number.invariant.over c.no_want_outside_among.ensures.over;
+  long = search rules;
+  found = c.no_want_outside_among.ensures.last;
+  told = λ state sees named.
+      let view = c.args.stores.now.list in
+      let block = c.args.block.now in
+      told_more view (slice_turn view state block) c.args.points.now _ c.loop-number.number _ c.loop-number.active c.in_ok-active.active refl (omega arith) (λ less. omega (arith, less)) c.in_ok-active.ensures.so_far
+      (c.loop-number.invariant.told state sees named) (c.in_ok-active.ensures.told state sees (named_batch view state block c.args.points.now _ _ _ refl named));
 }
 
-pub returns-in-Some : goal.returns-in-Some
-returns-in-Some c = λ state sees named.
-    fault_here (slice_turn c.args.stores.now.list state c.args.block.now) (shapes_of c.args.stores.now.list) c.args.points.now c.loop-at.at-index _ c.as_slice.result.now _ _ c.in-Some.fault (omega arith) (c.loop-at.invariant.none state sees named)
-    (sym c.in-Some.ensures) refl
-    (c.as_slice.ensures.value ∙ (c.in_ok-iterate.ensures.ran c.args.stores.now.list state sees (c.loop-at.invariant.held state sees named)
-    (named _ (Contains-get_or c.args.points.now c.loop-at.at-index _ (omega arith)))).wants_are)
+pub returns-in_err-active : goal.returns-in_err-active
+returns-in_err-active c = λ state sees named.
+    let view = c.args.stores.now.list in
+    let block = c.args.block.now in
+    told_stop view (slice_turn view state block) c.args.points.now _ (c.loop-number.number * 16) _ c.loop-number.active c.in_err-active.field-0.0 c.from_residual-in_err-active.result c.from_residual-in_err-active.ensures.1 refl
+    (c.loop-number.invariant.told state sees named) (c.in_err-active.ensures.told state sees (named_batch view state block c.args.points.now _ _ _ refl named))
+
+pub returns : goal.returns
+returns c = λ state sees named.
+    told_end c.args.stores.now.list (slice_turn c.args.stores.now.list state c.args.block.now) c.args.points.now (c.loop-number.number * 16) c.loop-number.active (omega arith)
+    (c.loop-number.invariant.told state sees named)

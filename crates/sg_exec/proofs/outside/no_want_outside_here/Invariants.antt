@@ -1,15 +1,15 @@
-use Rattle.std.specs.Prelude.{◌≡◌, map, drop}
+use Rattle.std.specs.Prelude.{◌≡◌, ◌*◌, IfSome, map, take, length, Ok}
 use Rattle.sg_flat.specs.declared.state.FlatState.{FlatState}
-use Rattle.sg_flat.specs.Kernel.{first_outside}
-use Rattle.sg_exec.specs.Standing.{shapes_of}
 use Rattle.sg_exec.specs.steps.Machines.{Sees}
-use Rattle.sg_exec.specs.steps.Moments.{AreNamedAt, slice_turn}
+use Rattle.sg_exec.specs.steps.Moments.{AreOver, AreNamedAt, slice_turn}
+use Rattle.sg_exec.specs.steps.Turning.{IsActiveAt, TellsOutside}
 use Rattle.sg_exec.proofs.outside.no_want_outside_here.Given as goal
 
-abbrev pub invariant-loop-at : goal.invariant-loop-at
-invariant-loop-at l = record {
-  held : (state : FlatState) → Sees l.stores.list state → AreNamedAt l.stores.list state l.block l.points → l.moment.places.stores ≡ l.stores.list;
-  none : (state : FlatState) → Sees l.stores.list state → AreNamedAt l.stores.list state l.block l.points
-      → first_outside (shapes_of l.stores.list) (map (slice_turn l.stores.list state l.block) (drop l.at-index l.points))
-      ≡ first_outside (shapes_of l.stores.list) (map (slice_turn l.stores.list state l.block) l.points);
+abbrev pub invariant-loop-number : goal.invariant-loop-number
+invariant-loop-number l = record {
+  over : AreOver l.stores.list l.rows;
+  long : length l.rows ≡ length l.initial.rows;
+  found : IfSome l.last (λ it. IsActiveAt l.stores.list it.0 it.1);
+  told : (state : FlatState) → Sees l.stores.list state → AreNamedAt l.stores.list state l.block l.points
+      → TellsOutside l.stores.list (map (slice_turn l.stores.list state l.block) (take (l.number * 16) l.points)) (Ok l.active);
 }

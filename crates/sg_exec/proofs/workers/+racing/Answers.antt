@@ -1,11 +1,12 @@
-use Rattle.std.proofs.Common.{◌≡◌, ℕ, ◌+◌, ◌-◌, ◌/◌, ◌≤◌, map, length, arith}
+use Rattle.std.proofs.Common.{◌≡◌, ℕ, ◌+◌, ◌-◌, ◌/◌, ◌≤◌, map, length, subst, arith}
+use Rattle.std.specs.Prelude.{IfOk}
 use Rattle.sg_coord.specs.Slices.{slice_start}
 use Rattle.sg_flat.specs.declared.state.FlatState.{FlatState}
 use Rattle.sg_exec.specs.declared.hand.Hand.{Hand}
 use Rattle.sg_exec.specs.steps.Landing.{current}
 use Rattle.sg_exec.specs.steps.Racing.{wrote, between}
 use Rattle.sg_exec.specs.steps.Working.{RunsAt, HasRunAt}
-use Rattle.sg_exec.proofs.Halves.{if_first_two, one_worker, joined_run, workers_points}
+use Rattle.sg_exec.proofs.Halves.{if_first_two, one_worker, joined_run, starts_past, workers_points}
 use Rattle.sg_exec.proofs.workers.+racing.Goals as goal
 
 pub returns-then-workers-lt2-clause-ran : goal.returns-then-workers-lt2-clause-ran
@@ -15,6 +16,14 @@ returns-then-workers-lt2-clause-ran g t c =
     one_worker (λ (n : ℕ) (after : Hand). HasRunAt stores c.args.code.now points (between (slice_start (length points) c.args.all c.args.first) (slice_start (length points) c.args.all (c.args.first + n)) points)
     c.args.accumulated.now c.args.owned.now c.args.hand after)
     c.args.workers c.work.result c.requires.some c.if-workers-lt2.true c.work.ensures.ran
+
+pub returns-then-points-first-clause-ran : goal.returns-then-points-first-clause-ran
+returns-then-points-first-clause-ran g t c =
+    let stores = current c.args.reached.now c.args.stores.now.list in
+    let points = c.args.points.now in
+    let mid = c.args.first + (c.args.workers - c.args.workers / 2) in
+    subst (λ (to : ℕ). IfOk c.race.result (HasRunAt stores c.args.code.now points (between (slice_start (length points) c.args.all c.args.first) to points) c.args.accumulated.now c.args.owned.now c.args.hand))
+    (starts_past (length points) c.args.all mid (c.args.first + c.args.workers) (omega arith) (omega arith) (omega arith)) c.race.ensures.ran
 
 pub both-requires-clause-left : goal.both-requires-clause-left
 both-requires-clause-left g t c = if_first_two c.args.accumulated.now (current c.args.reached.now c.args.stores.now.list) _ c.join-left.result.0 c.join-left.ensures.first

@@ -1,29 +1,20 @@
-use Rattle.std.proofs.Common.{ap, ◌∙◌, ◌++◌, List}
+use Rattle.std.proofs.Common.{ap, ◌∙◌, ◌++◌, List, refl, arith}
 use Rattle.std.proofs.lemmas.List.Elements.{Contains-get_or}
+use Rattle.std.proofs.lemmas.Option.{slice_get-get_or}
 use Rattle.sg_coord.specs.declared.coord.Coord.{Coord}
 use Rattle.sg_coord.specs.Bounds.{bounds_of}
-use Rattle.sg_exec.proofs.Over.{over_after}
-use Rattle.sg_exec.proofs.Turning.{slice_piece, row_piece, slice_named, low_point, if_ok, ok_anyhow}
+use Rattle.sg_exec.proofs.Turning.{slice_piece, row_piece, slice_named, low_point, if_ok}
 use Rattle.sg_exec.proofs.layout_wants.LayoutWantsWanted.wanted.Goals as goal
 
-pub returns-in_ok-iterate-in-Slice-clause-own : goal.returns-in_ok-iterate-in-Slice-clause-own
-returns-in_ok-iterate-in-Slice-clause-own c =
-    let self = c.args.self.now in
-    let points = c.in-Slice.points in
-    let low = low_point self.turns points c.in-Slice.block self.count c.args.piece c.in-Slice.is self.counted c.requires.below in
-    ok_anyhow c.add_wants.result (λ state sees named.
-    over_after self.stores.now.list _ _ _ (c.in_ok-iterate-in-Slice.ensures.ran self.stores.now.list state sees (c.requires.own state sees named)
-    (slice_named self.stores.now.list state self.turns points c.in-Slice.block c.in-Slice.is named _ (Contains-get_or points.now c.args.piece _ low))))
-
-pub returns-in_ok-iterate-in-Slice-clause-list : goal.returns-in_ok-iterate-in-Slice-clause-list
-returns-in_ok-iterate-in-Slice-clause-list c =
+pub returns-in_ok-iterate_all-in-Slice-clause-list : goal.returns-in_ok-iterate_all-in-Slice-clause-list
+returns-in_ok-iterate_all-in-Slice-clause-list c =
     let self = c.args.self.now in
     let points = c.in-Slice.points in
     let low = low_point self.turns points c.in-Slice.block self.count c.args.piece c.in-Slice.is self.counted c.requires.below in
     if_ok c.add_wants.result (λ added list means.
     added ∙ ap (λ (l : List Coord). c.args.into.now.items ++ l)
     (slice_piece self.stores.now.list self.turns points c.in-Slice.block (bounds_of self.extents) self.layout self.count c.args.piece list _ c.as_slice.result.now c.in-Slice.is self.counted c.requires.below means
-    (c.as_slice.ensures.value ∙ (c.in_ok-iterate-in-Slice.ensures.ran self.stores.now.list means.state means.sees (c.requires.own means.state means.sees means.named)
+    (c.as_slice.ensures.value ∙ (c.in_ok-iterate_all-in-Slice.ensures.ran means.state means.sees 0 _ _ refl (slice_get-get_or _ 0 _ (omega arith))
     (slice_named self.stores.now.list means.state self.turns points c.in-Slice.block c.in-Slice.is means.named _ (Contains-get_or points.now c.args.piece _ low))).wants_are)))
     c.add_wants.ensures.list
 
