@@ -1,5 +1,7 @@
 use crate::Store;
-use crate::tests::{BLOCKS, HASHED, POINTS, ROWS, at, put, reached, store_of, value_at};
+use crate::tests::{
+    BLOCKS, HASHED, Node, POINTS, ROWS, are_inside, at, put, reached, store_of, value_at,
+};
 use sg_coord::Coord;
 use sg_layout::Kind::{Bitmasked, Dynamic, Hash, Pointer};
 use std::alloc::Global;
@@ -96,6 +98,66 @@ fn key_words_are_read(rt: HostRuntime) -> Result<(), Fail> {
         "8 "
     );
     assert_eq!(rt; keyed(&store, alloc)?.as_str(), "0101 0101");
+    Ok(())
+}
+
+static WIDE: [Node; 1] = [(Hash, [32768, 32768, 0], 256)];
+
+/// 256 coordinates, each before those that came before it.
+fn falling(alloc: Global) -> Result<Vec<Coord>, Fail> {
+    let mut coords = Vec::new(alloc);
+    for number in 0..256_i32 {
+        coords.push(Coord {
+            n: 2,
+            a: 32767_i32.wrapping_sub(number.wrapping_mul(128)),
+            b: number.wrapping_mul(127),
+            c: 0,
+        })?;
+    }
+    Ok(coords)
+}
+
+/// How many keys a hash node, the first one, has, and the least and the greatest of them.
+fn listed(store: &Store, alloc: Global) -> Result<String, Fail> {
+    match store.layout().shape().nodes.as_slice().get(0) {
+        Some(node) => match node.kind {
+            Hash => {
+                let keys = store.sorted_keys(alloc)?;
+                let keys = keys.as_slice();
+                let rise = keys.windows(2).all(|pair| pair.first() < pair.last());
+                Ok(format!(in alloc;
+                    "{} {} {} {}",
+                    keys.len(),
+                    rise,
+                    keys.first().copied().unwrap_or(0),
+                    keys.last().copied().unwrap_or(0)
+                )?)
+            }
+            _ => Err(Fail::from("no keys")),
+        },
+        None => Err(Fail::from("no node")),
+    }
+}
+
+/// Keys are listed in order, in whatever order they came, over extents of 2^30 points.
+#[test]
+fn keys_are_listed_in_order(rt: HostRuntime) -> Result<(), Fail> {
+    let alloc = rt.alloc();
+    let mut store = store_of(&rt, alloc, 2, &WIDE)?;
+    assert_eq!(rt; listed(&store, alloc)?.as_str(), "0 true 0 0");
+    let wanted = falling(alloc)?;
+    assert!(rt; are_inside(&store.layout().extents(), &wanted));
+    assert!(rt; store.reach(alloc, &wanted).is_ok());
+    assert_eq!(rt;
+        listed(&store, alloc)?.as_str(),
+        "256 true 4193921 1073709056"
+    );
+    let mut store = store_of(&rt, alloc, 1, &HASHED)?;
+    assert_eq!(rt;
+        reached(&rt, alloc, &mut store, &[at(13), at(5)])?.as_str(),
+        "8 "
+    );
+    assert_eq!(rt; listed(&store, alloc)?.as_str(), "2 true 1 3");
     Ok(())
 }
 

@@ -91,7 +91,7 @@ fn coords_of(
     Ok(coords)
 }
 
-fn are_inside(extents: &Extents, coords: &[Coord]) -> bool
+pub(crate) fn are_inside(extents: &Extents, coords: &[Coord]) -> bool
     ensures { IsTrue result ↔ All (Inside (bounds_of extents.now)) coords.now }
 {
     coords.iter().all(|at| inside(extents, *at))
