@@ -11,7 +11,7 @@ use Rattle.sg_words.specs.declared.race.Worker.{Worker}
 use Rattle.sg_words.specs.Words.{unrank_of, folded}
 use Rattle.sg_words.specs.Counts.{total}
 use Rattle.sg_words.specs.RaceMachine.{nobody, after_split, other_half, after_join, after_add}
-use Rattle.sg_words.specs.RaceInvariant.{weight, fold_in, fold_all, MeetsRaceInvariant}
+use Rattle.sg_words.specs.RaceInvariant.{handed_share, fold_in, fold_all, MeetsRaceInvariant}
 use Rattle.sg_words.proofs.Uses.{kept-add, kept-enrol, kept-join, stands, set_other_at, alone}
 use Rattle.sg_accum.specs.declared.begin.Start.{Start}
 use Rattle.sg_accum.specs.AccRace.{cell_of, IsEntry, setting_of, race_of, Racing, gives}
@@ -104,7 +104,7 @@ all-one into c a (w ∷ ws) (suc id) v at e =
     part f (x ∷ xs) (suc id) v at = let r = part f xs id v at in omega arith
 
 pub are_folded : (key start : Start) (words : List ℕ) (views : List Worker) (id : ℕ) (v : Worker) (values : List ℕ) → key ≡ start → Racing key words views → get_elem? views id ≡ some v
-    → weight v ≡ 16 → values ≡ map (cell_of start.op start.ty) words → AreFolded start.op start.ty start.values v.given values
+    → handed_share v ≡ 16 → values ≡ map (cell_of start.op start.ty) words → AreFolded start.op start.ty start.values v.given values
 are_folded key start words views id v values told racing at all is =
     let r : Racing start words views = subst (λ k. Racing k words views) told racing in
     let into = folded start.op start.ty in

@@ -3,7 +3,7 @@ ghost use Rattle.std.specs.Prelude.{◌≡◌, ℕ, ◌^◌, ◌<◌, ◌≤◌,
 ghost use Rattle.std.specs.Mem.Slots.{slots_items, slots_len, IsFull};
 ghost use Rattle.sg_words.specs.declared.operators.AccOp.TheVariants as acc;
 ghost use Rattle.sg_words.specs.RaceMachine.{newcomer, after_split, other_half, after_join, after_add};
-ghost use Rattle.sg_words.specs.RaceInvariant.{weight};
+ghost use Rattle.sg_words.specs.RaceInvariant.{handed_share};
 ghost use Rattle.sg_accum.specs.AccRace.{cell_of, IsEntry, AreEntries};
 ghost use Rattle.sg_accum.specs.Folding.{old_values, operator_of, type_of, worker_of, IsSeatOf, AreFolded};
 ghost use Rattle.sg_accum.specs.steps.Signs.{is_signed};
@@ -116,7 +116,7 @@ impl AccPass {
     /// Ends the pass by a seat into which all others were joined: each cell's old value and all contributions to it, folded.
     pub fn finish(self, seat: AccSeat) -> Result<Items<u32>, Memory>
         requires own { IsSeatOf self seat }
-        requires all { weight (worker_of seat) ≡ 16 }
+        requires all { handed_share (worker_of seat) ≡ 16 }
         ensures { IfOk result (λ values. AreFolded (operator_of self) (type_of self) (old_values self) (worker_of seat).given values) }
     {
         let AccPass { table, start } = self;

@@ -29,7 +29,7 @@ use Rattle.sg_store.specs.Opening.{OpensNode}
 use Rattle.sg_store.specs.OpeningLaws.{DenseOpens, OpenHasRoom}
 use Rattle.sg_activate.specs.declared.fault.ActFault.{ActFault}
 use Rattle.sg_activate.specs.Activating.{wanted_below, unless_full}
-use Rattle.sg_activate.specs.steps.Levels.{OpensIndex, IsFirstFull, IfRefused}
+use Rattle.sg_activate.specs.steps.Levels.{OpensIndex, IsFirstFull, IfActRefused}
 use Rattle.sg_activate.proofs.Raced.{from_below}
 
 -- ---- one node, by its number from 1 and its index from 0
@@ -53,11 +53,11 @@ kind_read nodes read index d kind same below is =
 
 -- a refusal of the first node
 pub first_full_one : {A : Type 0} (r : Result A (Stop ActFault)) (store : StoreWords) (index : ℕ) (Means : (ℕ → List Coord) → Type 0) (count : ℕ) → index + 1 ≡ 1
-    → IfRefused r (λ fault. (list : ℕ → List Coord) → Means list → IsFirstFull store 0 (wanted_below list count) fault)
-    → IfRefused r (λ fault. (list : ℕ → List Coord) → Means list → IsFirstFull store index (wanted_below list count) fault)
+    → IfActRefused r (λ fault. (list : ℕ → List Coord) → Means list → IsFirstFull store 0 (wanted_below list count) fault)
+    → IfActRefused r (λ fault. (list : ℕ → List Coord) → Means list → IsFirstFull store index (wanted_below list count) fault)
 first_full_one r store index Means count one full =
     let e : 0 ≡ index = omega arith in
-    subst (λ (n : ℕ). IfRefused r (λ fault. (list : ℕ → List Coord) → Means list → IsFirstFull store n (wanted_below list count) fault)) e full
+    subst (λ (n : ℕ). IfActRefused r (λ fault. (list : ℕ → List Coord) → Means list → IsFirstFull store n (wanted_below list count) fault)) e full
 
 -- ---- keeping
 pub keeps_same : (store : StoreWords) → KeepsCells store store
@@ -104,6 +104,6 @@ pub first_full_of : (store now : StoreWords) (index : ℕ) (wanted : List Coord)
 first_full_of store now index wanted fault old same full opens = ap (λ (s : Shape). unless_full (first_full s (old ++ wanted))) (sym same) ∙ full old opens
 
 -- a refusal, whatever would have been answered else
-pub refused_as : (A B : Type 0) (e : Stop ActFault) (Says : ActFault → Type 0) → IfRefused {A = A} (Err e) Says → IfRefused {A = B} (Err e) Says
+pub refused_as : (A B : Type 0) (e : Stop ActFault) (Says : ActFault → Type 0) → IfActRefused {A = A} (Err e) Says → IfActRefused {A = B} (Err e) Says
 refused_as A B stop.Memory Says h = tt
 refused_as A B (stop.Refused fault) Says h = h

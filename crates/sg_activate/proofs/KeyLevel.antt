@@ -12,7 +12,7 @@ use Rattle.sg_layout.specs.declared.shape.Kind.TheVariants.{Hash}
 use Rattle.sg_layout.specs.declared.shape.NodeShape.{NodeShape}
 use Rattle.sg_layout.specs.Axes.{count_of}
 use Rattle.sg_layout.specs.Need.{first_full}
-use Rattle.sg_layout.specs.NeedLaws.{IsNode}
+use Rattle.sg_layout.specs.NeedLaws.{IsNumberedNode}
 use Rattle.sg_pool.specs.Numbers.{PoolNumbers, live_count, IsFree, IsStock}
 use Rattle.sg_pointer.specs.Finishing.{taken_of as pointer_taken_of}
 use Rattle.sg_hash.specs.Asking.{IsFreshStock, is_dry}
@@ -182,7 +182,7 @@ module _ (store : StoreWords) (stock : List ℕ) (v : Worker) (keys links taken 
       let there : slice_index keys linked.place ≡ key + 1 = o.key_words.found linked.place key linked.found in
       contains_word keys linked.place key (let e : slice_index keys linked.place ≡ suc key = omega arith in e)
 
-  pub words_past : (cap : ℕ) (words : List ℕ) → KeysFillFirst store → IsWellFormed store → (node : NodeShape) → IsNode store.shape 1 node → node.kind ≡ Hash → cap ≡ count_of node.cap
+  pub words_past : (cap : ℕ) (words : List ℕ) → KeysFillFirst store → IsWellFormed store → (node : NodeShape) → IsNumberedNode store.shape 1 node → node.kind ≡ Hash → cap ≡ count_of node.cap
       → ((place : ℕ) → slice_index words place ≢ 0 → slice_index keys place ≢ 0) → count_of node.cap < filled_count words → (wanted : List Coord) → HasPutFor store wanted v
       → (old : List Coord) → IsOpenThrough store old (old ++ wanted) 0 → unless_full (first_full store.shape (old ++ wanted)) ≡ Err (PoolFull 1 cap)
   words_past cap words law well node there kind is beside past wanted made old open_before =
@@ -190,7 +190,7 @@ module _ (store : StoreWords) (stock : List ℕ) (v : Worker) (keys links taken 
       ∙ ap (λ c. Err (PoolFull 1 c)) (sym is)
 
   -- more keys or links than the cap are there where it ran dry, or more were taken than the cap leaves
-  pub keys_are_full : (cap : ℕ) → KeysFillFirst store → IsWellFormed store → (node : NodeShape) → IsNode store.shape 1 node → node.kind ≡ Hash → cap ≡ count_of node.cap
+  pub keys_are_full : (cap : ℕ) → KeysFillFirst store → IsWellFormed store → (node : NodeShape) → IsNumberedNode store.shape 1 node → node.kind ≡ Hash → cap ≡ count_of node.cap
       → length stock + live_count (pool_of store 1) ≡ count_of node.cap + 17 → count_of node.cap < length (keys_of store 1) → (dry ≡ true) ⊎ (length stock < length taken + 17)
       → (wanted : List Coord) → HasPutFor store wanted v
       → (old : List Coord) → IsOpenThrough store old (old ++ wanted) 0 → unless_full (first_full store.shape (old ++ wanted)) ≡ Err (PoolFull 1 cap)

@@ -15,7 +15,7 @@ use Rattle.sg_layout.specs.declared.shape.Kind.TheVariants.{Dense, Bitmasked, Po
 use Rattle.sg_layout.specs.declared.shape.NodeShape.{NodeShape}
 use Rattle.sg_layout.specs.Axes.{count_of, size_of, sizes_of}
 use Rattle.sg_layout.specs.Need.{first_full}
-use Rattle.sg_layout.specs.NeedLaws.{IsNode}
+use Rattle.sg_layout.specs.NeedLaws.{IsNumberedNode}
 use Rattle.sg_dynamic.specs.declared.chunks.ChunkFull.{ChunkFull}
 use Rattle.sg_dynamic.specs.Chunks.{fit}
 use Rattle.sg_dynamic.specs.Raising.{reach, AreRaised}
@@ -194,7 +194,7 @@ module _ (store : StoreWords) (number : ℕ) (v : Worker) (new : List ℕ) (are 
       let index = made parent r.0 r.1 in
       record { at = index.at; is_of = index.is_of; has_place = index.has_place; reaches = (let o : r.0 ≡ offset_in store number index.at = index.has_offset in omega (arith, r.2)) }
 
-  pub lengths_are_full : LengthsFillFirst store → IsWellFormed store → (node : NodeShape) → IsNode store.shape number node → node.kind ≡ Dynamic → (cap : ℕ) → cap ≡ count_of node.cap
+  pub lengths_are_full : LengthsFillFirst store → IsWellFormed store → (node : NodeShape) → IsNumberedNode store.shape number node → node.kind ≡ Dynamic → (cap : ℕ) → cap ≡ count_of node.cap
       → AreShortInLive store number v → (wanted : List Coord) → ((at : Coord) → Contains wanted at → HasRaised store number at v) → HasRaisedFor store number wanted v
       → (full : ChunkFull) → fit (count_of node.chunk) new (count_of node.cap) ≡ Err full
       → (old : List Coord) → IsOpenThrough store old (old ++ wanted) (number - 1) → unless_full (first_full store.shape (old ++ wanted)) ≡ Err (PoolFull number cap)

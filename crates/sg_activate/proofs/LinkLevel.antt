@@ -15,7 +15,7 @@ use Rattle.sg_layout.specs.declared.shape.NodeShape.{NodeShape}
 use Rattle.sg_layout.specs.Axes.{count_of}
 use Rattle.sg_layout.specs.Live.{kind_or, kind_at}
 use Rattle.sg_layout.specs.Need.{first_full}
-use Rattle.sg_layout.specs.NeedLaws.{IsNode}
+use Rattle.sg_layout.specs.NeedLaws.{IsNumberedNode}
 use Rattle.sg_pool.specs.Numbers.{PoolNumbers, live_count, IsFree, IsStock}
 use Rattle.sg_pointer.specs.Asking.{IsFreshStock, is_dry}
 use Rattle.sg_pointer.specs.Finishing.{full_words, taken_of, Settled}
@@ -126,7 +126,7 @@ module _ (store : StoreWords) (node : ℕ) (stock : List ℕ) (v : Worker) (link
       let e : length taken ≡ length (taken_of (links_of store node) links) = ap length o.taken_are in
       omega arith
 
-  pub past_is_full : FullIsFirst store → IsWellFormed store → (shape : NodeShape) → IsNode store.shape node shape → shape.kind ≡ Pointer → (cap : ℕ) → cap ≡ count_of shape.cap
+  pub past_is_full : FullIsFirst store → IsWellFormed store → (shape : NodeShape) → IsNumberedNode store.shape node shape → shape.kind ≡ Pointer → (cap : ℕ) → cap ≡ count_of shape.cap
       → count_of shape.cap < live_count (pool_of store node) + length taken → (wanted : List Coord) → HasMadeFor store node wanted v
       → (old : List Coord) → IsOpenThrough store old (old ++ wanted) (node - 1) → unless_full (first_full store.shape (old ++ wanted)) ≡ Err (PoolFull node cap)
   past_is_full full well shape there kind cap is past wanted made old open_before =

@@ -14,7 +14,7 @@ use Rattle.sg_store.specs.StoreWords.{StoreWords}
 use Rattle.sg_store.specs.Slots.{mask_bit}
 use Rattle.sg_store.specs.Walks.{place_in}
 use Rattle.sg_store.specs.Opening.{masks_of, CanSettleBits, WantedHaveBits, NewBitsAreWanted}
-use Rattle.sg_activate.specs.steps.Masks.{HasMarked, HasMarkedFor, AreInLive}
+use Rattle.sg_activate.specs.steps.Masks.{HasMarked, HasMarkedFor, MarksAreInLive}
 
 times-append : (a : ℕ) (xs ys : List ℕ) → times_in a (xs ++ ys) ≡ times_in a xs + times_in a ys
 times-append a xs ys = total-append (λ (x : ℕ). one (x == a)) xs ys
@@ -104,7 +104,7 @@ set_stays old marked new slot are set =
 pub marked_here_are : (old given marked masks new : List ℕ) → given ≡ masks → masks ≡ old → AreMarked given marked new → AreMarked old marked new
 marked_here_are old given marked masks new is is' are = subst (λ l. AreMarked l marked new) (is ∙ is') are
 
-pub can_settle_bits : (store : StoreWords) (node : ℕ) (v : Worker) (new : List ℕ) → AreMarked (masks_of store node) v.marked new → AreInLive store node v → CanSettleBits store node new
+pub can_settle_bits : (store : StoreWords) (node : ℕ) (v : Worker) (new : List ℕ) → AreMarked (masks_of store node) v.marked new → MarksAreInLive store node v → CanSettleBits store node new
 can_settle_bits store node v new are live = record {
   as_many = are.long;
   stays = λ slot. set_stays (masks_of store node) v.marked new slot are;

@@ -9,7 +9,7 @@ ghost use Rattle.sg_flat.specs.declared.state.FlatLayout.{FlatLayout};
 ghost use Rattle.sg_store.specs.StandsFor.{StandsFor};
 ghost use Rattle.sg_store.specs.Reaching.{KeepsCells};
 ghost use Rattle.sg_activate.specs.Activating.{wanted_below, unless_full};
-ghost use Rattle.sg_activate.specs.steps.Levels.{OpensIndex, IfRefused, IsFirstFull};
+ghost use Rattle.sg_activate.specs.steps.Levels.{OpensIndex, IfActRefused, IsFirstFull};
 
 use crate::fault::ActFault;
 use crate::gates::pass_gate;
@@ -131,7 +131,7 @@ fn open_node<R: Threads + Sync, W: Wanted + Sync, G: Gate + Sync>(
     ensures opened { OnOk result ((list : ℕ → List Coord) → W.Means work.now.want.now list →
         OpensIndex store.old store.new index (wanted_below list (W.count work.now.want.now))) }
     ensures keeps { OnOk result (KeepsCells store.old store.new) }
-    ensures full { IfRefused result (λ fault. (list : ℕ → List Coord) → W.Means work.now.want.now list →
+    ensures full { IfActRefused result (λ fault. (list : ℕ → List Coord) → W.Means work.now.want.now list →
         IsFirstFull store.old index (wanted_below list (W.count work.now.want.now)) fault) }
 {
     // for the laws that they ensure, and the invariant

@@ -6,7 +6,7 @@ ghost use Rattle.sg_layout.specs.Live.{kind_at};
 ghost use Rattle.sg_store.specs.Reaching.{KeepsCells};
 ghost use Rattle.sg_store.specs.Opening.{OpensNode};
 ghost use Rattle.sg_activate.specs.Activating.{wanted_below};
-ghost use Rattle.sg_activate.specs.steps.Levels.{IfRefused, IsFirstFull};
+ghost use Rattle.sg_activate.specs.steps.Levels.{IfActRefused, IsFirstFull};
 
 use crate::fault::ActFault;
 use crate::links::{SPARES, cap_of};
@@ -33,7 +33,7 @@ impl<'a> Pass for KeyRace<'a> {
     type Seat = HashSeat;
 
     ghost use Rattle.sg_hash.specs.Seats.{worker_of, is_full, IsSeatOf};
-    ghost use Rattle.sg_words.specs.RaceInvariant.{weight};
+    ghost use Rattle.sg_words.specs.RaceInvariant.{handed_share};
     ghost use Rattle.sg_activate.specs.steps.Keys.{HasFound, HasPutFor, AreKeyed};
 
     ghost bounds = { λ race. bounds_of_shape race.store.now.shape };
@@ -42,7 +42,7 @@ impl<'a> Pass for KeyRace<'a> {
 
     ghost share = { λ seat. (worker_of seat).share };
 
-    ghost weight = { λ seat. weight (worker_of seat) };
+    ghost weight = { λ seat. handed_share (worker_of seat) };
 
     ghost IsMet = { λ race at seat. HasFound race.store.now at (worker_of seat) (is_full seat) };
 
@@ -79,7 +79,7 @@ pub(crate) fn open_keys<R: Threads + Sync, W: Wanted + Sync, G: Gate + Sync>(
     ensures opened { OnOk result ((list : ℕ → List Coord) → W.Means work.now.want.now list →
         OpensNode store.old store.new 1 (wanted_below list (W.count work.now.want.now))) }
     ensures keeps { OnOk result (KeepsCells store.old store.new) }
-    ensures full { IfRefused result (λ fault. (list : ℕ → List Coord) → W.Means work.now.want.now list →
+    ensures full { IfActRefused result (λ fault. (list : ℕ → List Coord) → W.Means work.now.want.now list →
         IsFirstFull store.old 0 (wanted_below list (W.count work.now.want.now)) fault) }
 {
     // for the laws that they ensure

@@ -7,7 +7,7 @@ ghost use Rattle.sg_dynamic.specs.Raising.{old_lengths};
 ghost use Rattle.sg_store.specs.Reaching.{KeepsCells};
 ghost use Rattle.sg_store.specs.Opening.{lengths_of, OpensNode};
 ghost use Rattle.sg_activate.specs.Activating.{wanted_below};
-ghost use Rattle.sg_activate.specs.steps.Levels.{IfRefused, IsFirstFull};
+ghost use Rattle.sg_activate.specs.steps.Levels.{IfActRefused, IsFirstFull};
 
 use crate::fault::ActFault;
 use crate::links::cap_of;
@@ -38,7 +38,7 @@ impl<'a> Pass for LengthRace<'a> {
     type Seat = RaiseSeat;
 
     ghost use Rattle.sg_dynamic.specs.Raising.{worker_of, IsSeatOf};
-    ghost use Rattle.sg_words.specs.RaceInvariant.{weight};
+    ghost use Rattle.sg_words.specs.RaceInvariant.{handed_share};
     ghost use Rattle.sg_activate.specs.steps.Lengths.{HasRaised, HasRaisedFor, AreShortInLive};
 
     ghost bounds = { λ race. bounds_of_shape race.store.now.shape };
@@ -47,7 +47,7 @@ impl<'a> Pass for LengthRace<'a> {
 
     ghost share = { λ seat. (worker_of seat).share };
 
-    ghost weight = { λ seat. weight (worker_of seat) };
+    ghost weight = { λ seat. handed_share (worker_of seat) };
 
     ghost IsMet = { λ race at seat. HasRaised race.store.now race.node at (worker_of seat) };
 
@@ -88,7 +88,7 @@ pub(crate) fn open_lengths<R: Threads + Sync, W: Wanted + Sync, G: Gate + Sync>(
     ensures opened { OnOk result ((list : ℕ → List Coord) → W.Means work.now.want.now list →
         OpensNode store.old store.new node (wanted_below list (W.count work.now.want.now))) }
     ensures keeps { OnOk result (KeepsCells store.old store.new) }
-    ensures full { IfRefused result (λ fault. (list : ℕ → List Coord) → W.Means work.now.want.now list →
+    ensures full { IfActRefused result (λ fault. (list : ℕ → List Coord) → W.Means work.now.want.now list →
         IsFirstFull store.old (node - 1) (wanted_below list (W.count work.now.want.now)) fault) }
 {
     // for the laws that they ensure

@@ -4,12 +4,12 @@ ghost use Rattle.sg_layout.specs.Axes.{bounds_of_shape, count_of};
 ghost use Rattle.sg_layout.specs.declared.shape.NodeShape.{NodeShape};
 ghost use Rattle.sg_layout.specs.declared.shape.Kind.TheVariants.{Pointer};
 ghost use Rattle.sg_layout.specs.Live.{kind_at};
-ghost use Rattle.sg_layout.specs.NeedLaws.{IsNode};
+ghost use Rattle.sg_layout.specs.NeedLaws.{IsNumberedNode};
 ghost use Rattle.sg_pointer.specs.Seats.{old_links};
 ghost use Rattle.sg_store.specs.Reaching.{KeepsCells};
 ghost use Rattle.sg_store.specs.Opening.{links_of, OpensNode};
 ghost use Rattle.sg_activate.specs.Activating.{wanted_below};
-ghost use Rattle.sg_activate.specs.steps.Levels.{IfRefused, IsFirstFull};
+ghost use Rattle.sg_activate.specs.steps.Levels.{IfActRefused, IsFirstFull};
 
 use crate::fault::ActFault;
 use crate::pass::Pass;
@@ -41,7 +41,7 @@ impl<'a> Pass for LinkRace<'a> {
     type Seat = AskSeat;
 
     ghost use Rattle.sg_pointer.specs.Seats.{worker_of, IsSeatOf};
-    ghost use Rattle.sg_words.specs.RaceInvariant.{weight};
+    ghost use Rattle.sg_words.specs.RaceInvariant.{handed_share};
     ghost use Rattle.sg_activate.specs.steps.Links.{HasMet, HasMadeFor, AreInLive};
 
     ghost bounds = { λ race. bounds_of_shape race.store.now.shape };
@@ -50,7 +50,7 @@ impl<'a> Pass for LinkRace<'a> {
 
     ghost share = { λ seat. (worker_of seat).share };
 
-    ghost weight = { λ seat. weight (worker_of seat) };
+    ghost weight = { λ seat. handed_share (worker_of seat) };
 
     ghost IsMet = { λ race at seat. HasMet race.store.now race.node at (worker_of seat) };
 
@@ -89,7 +89,7 @@ pub(crate) fn open_links<R: Threads + Sync, W: Wanted + Sync, G: Gate + Sync>(
     ensures opened { OnOk result ((list : ℕ → List Coord) → W.Means work.now.want.now list →
         OpensNode store.old store.new node (wanted_below list (W.count work.now.want.now))) }
     ensures keeps { OnOk result (KeepsCells store.old store.new) }
-    ensures full { IfRefused result (λ fault. (list : ℕ → List Coord) → W.Means work.now.want.now list →
+    ensures full { IfActRefused result (λ fault. (list : ℕ → List Coord) → W.Means work.now.want.now list →
         IsFirstFull store.old (node - 1) (wanted_below list (W.count work.now.want.now)) fault) }
 {
     // for the laws that they ensure
@@ -124,7 +124,7 @@ pub(crate) fn open_links<R: Threads + Sync, W: Wanted + Sync, G: Gate + Sync>(
 pub(crate) fn cap_of(store: &Store, node: u32) -> u32
     requires first { 1 ≤ node }
     requires there { node ≤ length store.now.shape.nodes }
-    ensures { (shape : NodeShape) → IsNode store.now.shape node shape → result ≡ count_of shape.cap }
+    ensures { (shape : NodeShape) → IsNumberedNode store.now.shape node shape → result ≡ count_of shape.cap }
 {
     let cap = store.layout().shape().nodes.as_slice()[node as usize - 1].cap;
     if cap < 0 { 0 } else { sg_coord::count(cap) }

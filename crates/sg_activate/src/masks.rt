@@ -34,16 +34,16 @@ impl<'a> Pass for MaskRace<'a> {
     type Seat = MarkSeat;
 
     ghost use Rattle.sg_mask.specs.Marking.{worker_of, IsSeatOf};
-    ghost use Rattle.sg_words.specs.RaceInvariant.{weight};
-    ghost use Rattle.sg_activate.specs.steps.Masks.{HasMarked, HasMarkedFor, AreInLive};
+    ghost use Rattle.sg_words.specs.RaceInvariant.{handed_share};
+    ghost use Rattle.sg_activate.specs.steps.Masks.{HasMarked, HasMarkedFor, MarksAreInLive};
 
     ghost bounds = { λ race. bounds_of_shape race.store.now.shape };
 
-    ghost IsSeatOf = { λ race seat. IsSeatOf race.pass seat × AreInLive race.store.now race.node (worker_of seat) };
+    ghost IsSeatOf = { λ race seat. IsSeatOf race.pass seat × MarksAreInLive race.store.now race.node (worker_of seat) };
 
     ghost share = { λ seat. (worker_of seat).share };
 
-    ghost weight = { λ seat. weight (worker_of seat) };
+    ghost weight = { λ seat. handed_share (worker_of seat) };
 
     ghost IsMet = { λ race at seat. HasMarked race.store.now race.node at (worker_of seat) };
 

@@ -18,7 +18,7 @@ use Rattle.sg_admit.specs.Slices.{walked_by, block_slice}
 use Rattle.sg_admit.specs.Bounds.{constant_domain, box_size}
 use Rattle.sg_admit.specs.Rules.{Facts, ways_in, first_way, has_own, has_acc, facts_of}
 use Rattle.sg_admit.specs.Admission.{first_fault, turns_var, clean_vars, kept_of, box_answer, admission}
-use Rattle.sg_admit.specs.steps.Spread.{is_marked}
+use Rattle.sg_admit.specs.steps.Spread.{bears_mark}
 use Rattle.sg_admit.specs.steps.Hanging.{IsLeastGiven}
 use Rattle.sg_admit.specs.steps.Noting.{AreAlike, loops_in}
 use Rattle.sg_admit.specs.steps.Marked.{unclean_of, marked_facts}
@@ -55,7 +55,7 @@ module _ (kernel : TypedKernel) (marks : Marks) (are : marked_facts marks ≡ fa
       ∙ ap (λ (b : Bool). if b then Err BoxTooLarge else Ok (kept_of kernel)) (lt-ltb most_box_points size (leb-false size most_box_points large)))
 
   pub accepted : None ≡ first_fault (marked_facts marks) (kernel_lines kernel) → nat_le (box_size (constant_domain kernel)) most_box_points ≡ true → (loops : List ℕ) → loops ≡ loops_in (kernel_lines kernel)
-      → (clean : List Bool) → clean ≡ map (λ var. not (is_marked marks.dirty var) || list_any (λ it. it == var) loops) (range_with_len 0 (length kernel.types))
+      → (clean : List Bool) → clean ≡ map (λ var. not (bears_mark marks.dirty var) || list_any (λ it. it == var) loops) (range_with_len 0 (length kernel.types))
       → (slice : List TypedStmt) → slice ≡ block_slice marks.walked (unclean_of marks) kernel.body → (domain : Domain) → domain ≡ constant_domain kernel
       → admission kernel ≡ Ok (record { kernel = kernel; clean = clean; slice = slice; domain = domain })
   accepted h small loops l clean c slice s domain d =

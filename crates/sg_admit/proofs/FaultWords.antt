@@ -22,7 +22,7 @@ use Rattle.sg_admit.specs.Clean.{is_clean}
 use Rattle.sg_admit.specs.Slices.{stmt_of, may_activate}
 use Rattle.sg_admit.specs.Bounds.{is_constant_range, turns_of, turns_over}
 use Rattle.sg_admit.specs.Limits.{most_loops, most_loop_turns}
-use Rattle.sg_admit.specs.Rules.{Facts, name_step, name_of, are_names, Seen, seen_step, reads_in, has_good_reads, range_exprs, is_first, is_own_read, is_unaccumulated, is_bounded}
+use Rattle.sg_admit.specs.Rules.{Facts, name_step, name_of, are_names, SeenPart, seen_step, reads_in, has_good_reads, range_exprs, is_first, is_own_read, is_unaccumulated, is_bounded}
 use Rattle.sg_admit.specs.Admission.{first_broken, line_fault, first_fault}
 use Rattle.sg_admit.specs.steps.Reading.{turns_if_constant, turns_if_few, IsRound, is_good_range}
 use Rattle.sg_admit.specs.steps.Marked.{unclean_of}
@@ -45,7 +45,7 @@ or_assoc (Some fault) b c = refl
 
 -- ---- reads
 
-abbrev its_reads : TypedExpr-F Seen Seen → Seen
+abbrev its_reads : TypedExpr-F SeenPart SeenPart → SeenPart
 its_reads expr = expr.form
 
 abbrev its_name : TypedExpr-F (Option ℕ) (Option ℕ) → Option ℕ
@@ -72,18 +72,18 @@ module _ (vars : ℕ) (good : ℕ → ℕ → Bool → Bool) where
       (λ ty a b shift h k l. name (folds.fold-Mulq (seen_step vars good) its_reads ty a b shift) ∙ sym (folds.fold-Mulq name_step its_name ty a b shift))
       (λ ty inner h. name (folds.fold-Convert (seen_step vars good) its_reads ty inner) ∙ sym (folds.fold-Convert name_step its_name ty inner))
     where
-      name : {x y : Seen} → x ≡ y → x.0 ≡ y.0
-      name e = ap (λ (seen : Seen). seen.0) e
+      name : {x y : SeenPart} → x ≡ y → x.0 ≡ y.0
+      name e = ap (λ (seen : SeenPart). seen.0) e
 
   -- a read is good by its field and its indices, and those in it are
   pub read_good : (expr : TypedExpr) (layout place : ℕ) (index : List TypedExpr) → expr.form ≡ form.Read layout place index
       → has_good_reads vars good expr ≡ (good layout place (are_names vars 0 (map name_of index)) && list_all (has_good_reads vars good) index)
   read_good expr layout place index is =
       ap (λ (it : Form). has_good_reads vars good (record { ty = expr.ty; form = it })) is
-      ∙ (ap (λ (seen : Seen). seen.1) (folds.fold-Read (seen_step vars good) its_reads expr.ty layout place index)
-      ∙ (ap (λ (names : List (Option ℕ)). good layout place (are_names vars 0 names) && list_all (λ (part : Seen). part.1) (map (reads_in vars good) index))
-      (map_twice (λ (part : Seen). part.0) (reads_in vars good) index ∙ each_same (λ (x : TypedExpr). (reads_in vars good x).0) name_of reads_name index)
-      ∙ ap (λ (b : Bool). good layout place (are_names vars 0 (map name_of index)) && b) (list_all-map (λ (part : Seen). part.1) (reads_in vars good) index)))
+      ∙ (ap (λ (seen : SeenPart). seen.1) (folds.fold-Read (seen_step vars good) its_reads expr.ty layout place index)
+      ∙ (ap (λ (names : List (Option ℕ)). good layout place (are_names vars 0 names) && list_all (λ (part : SeenPart). part.1) (map (reads_in vars good) index))
+      (map_twice (λ (part : SeenPart). part.0) (reads_in vars good) index ∙ each_same (λ (x : TypedExpr). (reads_in vars good x).0) name_of reads_name index)
+      ∙ ap (λ (b : Bool). good layout place (are_names vars 0 (map name_of index)) && b) (list_all-map (λ (part : SeenPart). part.1) (reads_in vars good) index)))
 
   pub ranges_good : (ranges : List TypedRange) → list_all (has_good_reads vars good) (flat_map range_exprs ranges) ≡ list_all (is_good_range vars good) ranges
   ranges_good [] = refl

@@ -14,7 +14,7 @@ use Rattle.sg_types.specs.declared.typed.TypedRange.{TypedRange}
 use Rattle.sg_types.specs.declared.typed.TypedKind.TheVariants as kind
 use Rattle.sg_types.specs.declared.typed.TypedStmt.{TypedStmt}
 use Rattle.sg_types.specs.Values.{World, Moment, coord_of, expr_word}
-use Rattle.sg_types.specs.Iterations.{Action, set_var, add_write, run_all, range_numbers, action_of}
+use Rattle.sg_types.specs.Iterations.{StmtAction, set_var, add_write, run_all, range_numbers, action_of}
 use Rattle.sg_types.proofs.Uses.{value-Literal, action-Let, action-Assign, action-Write, action-If, action-For}
 use Rattle.sg_admit.specs.Lines.{Deed, Sets, Writes, Tests, Turns, Opens, Around, Line, line_of, within_if, within_loop, stmt_lines, block_lines}
 use Rattle.sg_admit.specs.Clean.{Unclean, is_clean}
@@ -35,8 +35,8 @@ all_back P (x ∷ xs) ys h = all_back P xs ys h.1
 pub run_parts : (world : World) (front back : List TypedStmt) (now : Moment)
     → run_all (map (action_of world) (front ++ back)) now ≡ run_all (map (action_of world) back) (run_all (map (action_of world) front) now)
 run_parts world front back now =
-    ap (λ (actions : List Action). run_all actions now) (map-append (action_of world) front back)
-    ∙ fold-append (λ (reached : Moment) (action : Action). action reached) now (map (action_of world) front) (map (action_of world) back)
+    ap (λ (actions : List StmtAction). run_all actions now) (map-append (action_of world) front back)
+    ∙ fold-append (λ (reached : Moment) (action : StmtAction). action reached) now (map (action_of world) front) (map (action_of world) back)
 
 module _ (walked : Option ℕ) (unclean : Unclean) where
   abbrev all_clean : List TypedExpr → Bool
@@ -60,7 +60,7 @@ module _ (walked : Option ℕ) (unclean : Unclean) where
   kept_if clean stmts = if clean then stmts else []
 
   module _ (world : World) where
-    abbrev acts : List TypedStmt → Action
+    abbrev acts : List TypedStmt → StmtAction
     acts stmts = run_all (map (action_of world) stmts)
 
     abbrev Both : Moment → Moment → Type 0
@@ -167,7 +167,7 @@ module _ (walked : Option ℕ) (unclean : Unclean) where
             let other = action-If world number condition (block_slice walked unclean block) (block_slice walked unclean otherwise) has_else beside in
             let same = same_word walked unclean world now beside agree condition h in
             subst (λ (m : Moment). Both (run_all (if expr_word world now condition == 0 then map (action_of world) otherwise else map (action_of world) block) now) m)
-            (ap (λ (actions : List Action). run_all actions beside) (chosen (expr_word world now condition == 0))
+            (ap (λ (actions : List StmtAction). run_all actions beside) (chosen (expr_word world now condition == 0))
             ∙ (ap (λ (word : ℕ). run_all (if word == 0 then map (action_of world) (block_slice walked unclean otherwise) else map (action_of world) (block_slice walked unclean block)) beside) same ∙ sym other))
             (branch true true h e (expr_word world now condition == 0))
 

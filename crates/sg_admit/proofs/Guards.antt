@@ -4,7 +4,7 @@ use Rattle.sg_types.specs.declared.typed.TypedExpr.{TypedExpr}
 use Rattle.sg_types.specs.declared.typed.Form.{Form}
 use Rattle.sg_types.specs.declared.typed.Form.TheVariants as form
 use Rattle.sg_types.specs.declared.typed.Form.TheOpen.{TypedExpr-F}
-use Rattle.sg_admit.specs.Rules.{name_step, name_of, are_names, Seen}
+use Rattle.sg_admit.specs.Rules.{name_step, name_of, are_names, SeenPart}
 use Rattle.sg_admit.specs.Neutral.{Guard, guard_step, guard_of}
 use Rattle.sg_types.proofs.Uses as folds
 use Rattle.sg_types.proofs.Uses.{by_exprs}
@@ -15,7 +15,7 @@ its_name expr = expr.form
 abbrev its_guard : TypedExpr-F Guard Guard → Guard
 its_guard expr = expr.form
 
-abbrev its_reads : TypedExpr-F Seen Seen → Seen
+abbrev its_reads : TypedExpr-F SeenPart SeenPart → SeenPart
 its_reads expr = expr.form
 
 pub each_same : {X Y : Type 0} (f g : X → Y) → ((x : X) → f x ≡ g x) → (xs : List X) → map f xs ≡ map g xs

@@ -9,13 +9,13 @@ use Rattle.sg_admit.specs.declared.hangs.Hangs.{Hangs}
 use Rattle.sg_admit.specs.Lines.{Around, Line, nothing_round}
 use Rattle.sg_admit.specs.Clean.{is_clean, givings}
 use Rattle.sg_admit.specs.steps.Noting.{tests_in}
-use Rattle.sg_admit.specs.steps.Spread.{is_marked, IsLeastSpread}
-use Rattle.sg_admit.specs.steps.Hanging.{Vars, beside, is_noted_in, vars_in, has_givings, AreSettled, IsSpread, AreLinked, IsLeastGiven}
+use Rattle.sg_admit.specs.steps.Spread.{bears_mark, IsLeastSpread}
+use Rattle.sg_admit.specs.steps.Hanging.{Vars, unclean_beside, is_noted_in, vars_in, has_givings, AreSettled, IsSpread, AddsLinks, IsLeastGiven}
 
 -- the set of places that goes with a set of variables: each `if` that isn't clean beside them or stands in one that isn't, and they
 module _ (text : Text) (tests : List (List TypedExpr)) (counted : text.ifs ≡ 1 + length tests) (vars : Vars) where
   abbrev is_unclean : List TypedExpr → Bool
-  is_unclean conditions = not (list_all (is_clean (beside (is_noted_in text.writes) vars)) conditions)
+  is_unclean conditions = not (list_all (is_clean (unclean_beside (is_noted_in text.writes) vars)) conditions)
 
   abbrev if_at : ℕ → Bool
   if_at zero = false
@@ -41,18 +41,18 @@ module _ (text : Text) (tests : List (List TypedExpr)) (counted : text.ifs ≡ 1
   settled_from : (at : ℕ) (some : List (List TypedExpr)) → ((place : ℕ) → place < length some → place_with (at + place) ≡ is_unclean (get_or some place [])) → AreSettled text place_with at some
   settled_from at [] h = tt
   settled_from at (conditions ∷ some) h = (
-    ap place_with (let e : at ≡ at + 0 = omega arith in e) ∙ (h 0 (omega arith) ∙ ap (λ (v : Vars). not (list_all (is_clean (beside (is_noted_in text.writes) v)) conditions)) (sym same_vars)),
+    ap place_with (let e : at ≡ at + 0 = omega arith in e) ∙ (h 0 (omega arith) ∙ ap (λ (v : Vars). not (list_all (is_clean (unclean_beside (is_noted_in text.writes) v)) conditions)) (sym same_vars)),
     settled_from (at + 1) some (λ place l. ap place_with (let e : at + 1 + place ≡ at + suc place = omega arith in e) ∙ h (suc place) (omega (arith, l))),
   )
 
   settled : AreSettled text place_with 1 tests
   settled = settled_from 1 tests (λ place l. ap place_with (let e : 1 + place ≡ suc place = omega arith in e) ∙ if_is place l)
 
-pub least_given : (text : Text) (lines : Around → List Line) (before after : Hangs) (marks dirty : List Bool) → AreLinked text 0 lines before after
+pub least_given : (text : Text) (lines : Around → List Line) (before after : Hangs) (marks dirty : List Bool) → AddsLinks text 0 lines before after
     → before ≡ record { links = record { links = []; start = [] }; ifs = 1 } → text.ifs ≡ 1 + length (tests_in (lines nothing_round))
-    → IsLeastSpread after.links.links after.links.start marks → ((var : ℕ) → is_marked dirty var ≡ is_marked marks (text.ifs + var)) → IsLeastGiven text.writes (lines nothing_round) dirty
+    → IsLeastSpread after.links.links after.links.start marks → ((var : ℕ) → bears_mark dirty var ≡ bears_mark marks (text.ifs + var)) → IsLeastGiven text.writes (lines nothing_round) dirty
 least_given text lines before after marks dirty linked begun counted least same = record {
-  given = ap (has_givings (is_noted_in text.writes) (givings (lines nothing_round))) (fun_ext same) ∙ linked.sound (is_marked marks) nothing_round (λ e. refl) least.spread;
+  given = ap (has_givings (is_noted_in text.writes) (givings (lines nothing_round))) (fun_ext same) ∙ linked.sound (bears_mark marks) nothing_round (λ e. refl) least.spread;
   least = λ vars h var m.
       let places = place_with text (tests_in (lines nothing_round)) counted vars in
       let are = same_vars text (tests_in (lines nothing_round)) counted vars in

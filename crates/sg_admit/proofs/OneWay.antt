@@ -12,7 +12,7 @@ use Rattle.sg_flat.specs.declared.effects.Way.TheVariants.{Own, Acc}
 use Rattle.sg_flat.specs.declared.effects.Write.{Write}
 use Rattle.sg_types.specs.declared.typed.TypedStmt.{TypedStmt}
 use Rattle.sg_types.specs.Values.{World, Moment, expr_word}
-use Rattle.sg_types.specs.Iterations.{Action, set_var, run_all, range_numbers, action_of, first_moment}
+use Rattle.sg_types.specs.Iterations.{StmtAction, set_var, run_all, range_numbers, action_of, first_moment}
 use Rattle.sg_types.specs.Written.{same_way}
 use Rattle.sg_types.proofs.Uses.{action-Let, action-Assign, action-Write, action-If, action-For}
 use Rattle.sg_admit.specs.declared.ways.FieldWay.{FieldWay}
@@ -103,7 +103,7 @@ module _ (world : World) (first : ℕ → ℕ → Option Way) where
   abbrev InFirstWays : List Write → Type 0
   InFirstWays writes = AllByRecursion (λ write. first write.layout write.place ≡ Some write.way) writes
 
-  abbrev Keeps : Action → Type 0
+  abbrev Keeps : StmtAction → Type 0
   Keeps action = (now : Moment) → InFirstWays now.writes → InFirstWays (action now).writes
 
   abbrev AreFirst : List Line → Type 0

@@ -16,7 +16,7 @@ use Rattle.sg_types.specs.declared.typed.TypedKind.TheVariants as kind
 use Rattle.sg_types.specs.declared.typed.TypedKind.TheOpen.{TypedStmt-F}
 use Rattle.sg_types.specs.declared.typed.TypedStmt.{TypedStmt}
 use Rattle.sg_types.specs.Values.{World, Moment, is_own, coord_of, expr_word}
-use Rattle.sg_types.specs.Iterations.{Action, set_var, run_all, range_numbers, action_of, part_words}
+use Rattle.sg_types.specs.Iterations.{StmtAction, set_var, run_all, range_numbers, action_of, part_words}
 use Rattle.sg_types.specs.WellTyped.{Visible, is_local, Fitting, all_fit, kind_fits, fitting, loop_scope}
 use Rattle.sg_types.specs.Numbers.{var_step, stmt_vars, block_vars}
 use Rattle.sg_types.proofs.Uses.{value-Var, action-Let, action-Assign, action-Write, action-If, action-For}
@@ -96,7 +96,7 @@ module _ (world : World) (shapes : List Shape) (types : List Ty) (facts : Facts)
     pub here : (var : ℕ) → var < vars → now.words var ≡ get_or words var 0
     pub own : AllByRecursion (λ write. is_own write.way ≡ true → write.at ≡ at) now.writes
 
-  abbrev Keeps : Action → Type 0
+  abbrev Keeps : StmtAction → Type 0
   Keeps action = (now : Moment) → Good now → Good (action now)
 
   -- no local in scope is a variable of the loop

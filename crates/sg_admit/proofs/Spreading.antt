@@ -5,7 +5,7 @@ use Rattle.std.proofs.lemmas.Bool.{and_parts, and_from, or_cases, or_left, or_ri
 use Rattle.std.proofs.lemmas.List.{length-append}
 use Rattle.std.proofs.lemmas.List.Folds.{list_all-append, list_any-append}
 use Rattle.sg_admit.specs.declared.spreads.Link.{Link}
-use Rattle.sg_admit.specs.steps.Spread.{has_spread, is_marked, IsLeastSpread, targets_of, IsVisited, links_waiting}
+use Rattle.sg_admit.specs.steps.Spread.{has_spread, bears_mark, IsLeastSpread, targets_of, IsVisited, links_waiting}
 
 to_each : {X : Type 0} (p : X → Bool) (xs : List X) → list_all p xs ≡ true → AllByRecursion (λ x. p x ≡ true) xs
 to_each p [] h = tt
@@ -33,9 +33,9 @@ is_in places place = list_any (λ it. it == place) places
 -- each start, and each place where a link leads from a marked one, is marked or to be marked; and in each set that has spread are all that
 -- are marked or to be marked
 pub record IsSpreading (links : List Link) (start : List ℕ) (marks : List Bool) (work : List ℕ) : Type 0 where
-  pub along : list_all (λ link. not (is_marked marks link.from) || (is_marked marks link.to || is_in work link.to)) links ≡ true
-  pub begun : list_all (λ place. is_marked marks place || is_in work place) start ≡ true
-  pub least : (places : ℕ → Bool) → has_spread places links start ≡ true → ((place : ℕ) → is_marked marks place ≡ true → places place ≡ true) × (list_all places work ≡ true)
+  pub along : list_all (λ link. not (bears_mark marks link.from) || (bears_mark marks link.to || is_in work link.to)) links ≡ true
+  pub begun : list_all (λ place. bears_mark marks place || is_in work place) start ≡ true
+  pub least : (places : ℕ → Bool) → has_spread places links start ≡ true → ((place : ℕ) → bears_mark marks place ≡ true → places place ≡ true) × (list_all places work ≡ true)
 
 each_in : (places : List ℕ) → AllByRecursion (λ place. is_in places place ≡ true) places
 each_in [] = tt
@@ -46,8 +46,8 @@ each_in (place ∷ places) = (
 
 pub spreading_begun : (links : List Link) (start : List ℕ) → IsSpreading links start [] start
 spreading_begun links start = record {
-  along = from_each (λ link. not (is_marked [] link.from) || (is_marked [] link.to || is_in start link.to)) links (each_made (λ link. (not (is_marked [] link.from) || (is_marked [] link.to || is_in start link.to)) ≡ true) (λ link. refl) links);
-  begun = from_each (λ place. is_marked [] place || is_in start place) start (each_in start);
+  along = from_each (λ link. not (bears_mark [] link.from) || (bears_mark [] link.to || is_in start link.to)) links (each_made (λ link. (not (bears_mark [] link.from) || (bears_mark [] link.to || is_in start link.to)) ≡ true) (λ link. refl) links);
+  begun = from_each (λ place. bears_mark [] place || is_in start place) start (each_in start);
   least = λ places spread. (λ place h. absurd (both_ways false refl h), (and_parts (list_all (λ link. not (places link.from) || places link.to) links) (list_all places start) spread).1);
 }
 
@@ -84,81 +84,81 @@ targets_within places place has (link ∷ links) h =
 
 module _ (links : List Link) (start : List ℕ) (targets : List (List ℕ)) (each : (place : ℕ) → get_or targets place [] ≡ targets_of links place)
     (marks : List Bool) (work : List ℕ) (place : ℕ) (marks_after : List Bool) (work_after : List ℕ) (visit : IsVisited targets place marks work marks_after work_after) where
-  stays_marked : (other : ℕ) → is_marked marks other ≡ true → is_marked marks_after other ≡ true
+  stays_marked : (other : ℕ) → bears_mark marks other ≡ true → bears_mark marks_after other ≡ true
   stays_marked other h = visit.0 other ∙ (at (other == place))
     where
-      at : (same : Bool) → (if same then true else is_marked marks other) ≡ true
+      at : (same : Bool) → (if same then true else bears_mark marks other) ≡ true
       at true = refl
       at false = h
 
-  is_marked_now : is_marked marks_after place ≡ true
-  is_marked_now = visit.0 place ∙ ap (λ (same : Bool). if same then true else is_marked marks place) (eq-eqb place place refl)
+  is_marked_now : bears_mark marks_after place ≡ true
+  is_marked_now = visit.0 place ∙ ap (λ (same : Bool). if same then true else bears_mark marks place) (eq-eqb place place refl)
 
   stays_in : (other : ℕ) → is_in work other ≡ true → is_in work_after other ≡ true
   stays_in other h =
       ap (λ (places : List ℕ). is_in places other) visit.1
-      ∙ (list_any-append (λ it. it == other) work (if is_marked marks place then [] else get_or targets place [])
-      ∙ or_left (is_in work other) (is_in (if is_marked marks place then [] else get_or targets place []) other) h)
+      ∙ (list_any-append (λ it. it == other) work (if bears_mark marks place then [] else get_or targets place [])
+      ∙ or_left (is_in work other) (is_in (if bears_mark marks place then [] else get_or targets place []) other) h)
 
   -- what was marked or to be marked is so still
-  stays : (other : ℕ) → (is_marked marks other || is_in (work ++ place ∷ []) other) ≡ true → (is_marked marks_after other || is_in work_after other) ≡ true
+  stays : (other : ℕ) → (bears_mark marks other || is_in (work ++ place ∷ []) other) ≡ true → (bears_mark marks_after other || is_in work_after other) ≡ true
   stays other h =
-      ⊎_elim (λ m. or_left (is_marked marks_after other) (is_in work_after other) (stays_marked other m)) waiting_still (or_cases (is_marked marks other) (is_in (work ++ place ∷ []) other) h)
+      ⊎_elim (λ m. or_left (bears_mark marks_after other) (is_in work_after other) (stays_marked other m)) waiting_still (or_cases (bears_mark marks other) (is_in (work ++ place ∷ []) other) h)
     where
-      waiting_still : is_in (work ++ place ∷ []) other ≡ true → (is_marked marks_after other || is_in work_after other) ≡ true
+      waiting_still : is_in (work ++ place ∷ []) other ≡ true → (bears_mark marks_after other || is_in work_after other) ≡ true
       waiting_still w =
-          ⊎_elim (λ i. or_right (is_marked marks_after other) (is_in work_after other) (stays_in other i))
-          (λ i. or_left (is_marked marks_after other) (is_in work_after other)
-          (⊎_elim (λ e. ap (is_marked marks_after) (sym (eqb-true place other e)) ∙ is_marked_now) (λ f. absurd (both_ways false refl f)) (or_cases (place == other) false i)))
+          ⊎_elim (λ i. or_right (bears_mark marks_after other) (is_in work_after other) (stays_in other i))
+          (λ i. or_left (bears_mark marks_after other) (is_in work_after other)
+          (⊎_elim (λ e. ap (bears_mark marks_after) (sym (eqb-true place other e)) ∙ is_marked_now) (λ f. absurd (both_ways false refl f)) (or_cases (place == other) false i)))
           (or_cases (is_in work other) (is_in (place ∷ []) other) (sym (list_any-append (λ it. it == other) work (place ∷ [])) ∙ w))
 
-  one_link : (link : Link) → (not (is_marked marks link.from) || (is_marked marks link.to || is_in (work ++ place ∷ []) link.to)) ≡ true
-      → ((link.from == place) ≡ true → is_in (targets_of links place) link.to ≡ true) → (not (is_marked marks_after link.from) || (is_marked marks_after link.to || is_in work_after link.to)) ≡ true
+  one_link : (link : Link) → (not (bears_mark marks link.from) || (bears_mark marks link.to || is_in (work ++ place ∷ []) link.to)) ≡ true
+      → ((link.from == place) ≡ true → is_in (targets_of links place) link.to ≡ true) → (not (bears_mark marks_after link.from) || (bears_mark marks_after link.to || is_in work_after link.to)) ≡ true
   one_link link h lead =
-      ⊎_elim unmarked (λ w. or_right (not (is_marked marks_after link.from)) (is_marked marks_after link.to || is_in work_after link.to) (stays link.to w))
-      (or_cases (not (is_marked marks link.from)) (is_marked marks link.to || is_in (work ++ place ∷ []) link.to) h)
+      ⊎_elim unmarked (λ w. or_right (not (bears_mark marks_after link.from)) (bears_mark marks_after link.to || is_in work_after link.to) (stays link.to w))
+      (or_cases (not (bears_mark marks link.from)) (bears_mark marks link.to || is_in (work ++ place ∷ []) link.to) h)
     where
-      unmarked : not (is_marked marks link.from) ≡ true → (not (is_marked marks_after link.from) || (is_marked marks_after link.to || is_in work_after link.to)) ≡ true
+      unmarked : not (bears_mark marks link.from) ≡ true → (not (bears_mark marks_after link.from) || (bears_mark marks_after link.to || is_in work_after link.to)) ≡ true
       unmarked n = ⊎_elim same differs (cases_eq link.from place)
         where
-          same : link.from ≡ place → (not (is_marked marks_after link.from) || (is_marked marks_after link.to || is_in work_after link.to)) ≡ true
+          same : link.from ≡ place → (not (bears_mark marks_after link.from) || (bears_mark marks_after link.to || is_in work_after link.to)) ≡ true
           same e =
-              let m : is_marked marks place ≡ false = ap (is_marked marks) (sym e) ∙ not-true (is_marked marks link.from) n in
-              or_right (not (is_marked marks_after link.from)) (is_marked marks_after link.to || is_in work_after link.to)
-              (or_right (is_marked marks_after link.to) (is_in work_after link.to)
+              let m : bears_mark marks place ≡ false = ap (bears_mark marks) (sym e) ∙ not-true (bears_mark marks link.from) n in
+              or_right (not (bears_mark marks_after link.from)) (bears_mark marks_after link.to || is_in work_after link.to)
+              (or_right (bears_mark marks_after link.to) (is_in work_after link.to)
               (ap (λ (places : List ℕ). is_in places link.to) visit.1
-              ∙ (list_any-append (λ it. it == link.to) work (if is_marked marks place then [] else get_or targets place [])
-              ∙ or_right (is_in work link.to) (is_in (if is_marked marks place then [] else get_or targets place []) link.to)
+              ∙ (list_any-append (λ it. it == link.to) work (if bears_mark marks place then [] else get_or targets place [])
+              ∙ or_right (is_in work link.to) (is_in (if bears_mark marks place then [] else get_or targets place []) link.to)
               (ap (λ (b : Bool). is_in (if b then [] else get_or targets place []) link.to) m ∙ (ap (λ (places : List ℕ). is_in places link.to) (each place) ∙ lead (eq-eqb link.from place e))))))
 
-          differs : (link.from ≡ place → ⊥) → (not (is_marked marks_after link.from) || (is_marked marks_after link.to || is_in work_after link.to)) ≡ true
+          differs : (link.from ≡ place → ⊥) → (not (bears_mark marks_after link.from) || (bears_mark marks_after link.to || is_in work_after link.to)) ≡ true
           differs d =
-              or_left (not (is_marked marks_after link.from)) (is_marked marks_after link.to || is_in work_after link.to)
-              (ap not (visit.0 link.from ∙ ap (λ (b : Bool). if b then true else is_marked marks link.from) (ne_eqb link.from place d)) ∙ n)
+              or_left (not (bears_mark marks_after link.from)) (bears_mark marks_after link.to || is_in work_after link.to)
+              (ap not (visit.0 link.from ∙ ap (λ (b : Bool). if b then true else bears_mark marks link.from) (ne_eqb link.from place d)) ∙ n)
 
   pub spreading_visited : IsSpreading links start marks (work ++ place ∷ []) → IsSpreading links start marks_after work_after
   spreading_visited is = record {
-    along = from_each (λ link. not (is_marked marks_after link.from) || (is_marked marks_after link.to || is_in work_after link.to)) links
-        (each_both (λ link. (not (is_marked marks link.from) || (is_marked marks link.to || is_in (work ++ place ∷ []) link.to)) ≡ true)
+    along = from_each (λ link. not (bears_mark marks_after link.from) || (bears_mark marks_after link.to || is_in work_after link.to)) links
+        (each_both (λ link. (not (bears_mark marks link.from) || (bears_mark marks link.to || is_in (work ++ place ∷ []) link.to)) ≡ true)
         (λ link. (link.from == place) ≡ true → is_in (targets_of links place) link.to ≡ true)
-        (λ link. (not (is_marked marks_after link.from) || (is_marked marks_after link.to || is_in work_after link.to)) ≡ true) one_link links
-        (to_each (λ link. not (is_marked marks link.from) || (is_marked marks link.to || is_in (work ++ place ∷ []) link.to)) links is.along) (leads place links));
-    begun = from_each (λ other. is_marked marks_after other || is_in work_after other) start
-        (each_mapped (λ other. (is_marked marks other || is_in (work ++ place ∷ []) other) ≡ true) (λ other. (is_marked marks_after other || is_in work_after other) ≡ true) stays start
-        (to_each (λ other. is_marked marks other || is_in (work ++ place ∷ []) other) start is.begun));
+        (λ link. (not (bears_mark marks_after link.from) || (bears_mark marks_after link.to || is_in work_after link.to)) ≡ true) one_link links
+        (to_each (λ link. not (bears_mark marks link.from) || (bears_mark marks link.to || is_in (work ++ place ∷ []) link.to)) links is.along) (leads place links));
+    begun = from_each (λ other. bears_mark marks_after other || is_in work_after other) start
+        (each_mapped (λ other. (bears_mark marks other || is_in (work ++ place ∷ []) other) ≡ true) (λ other. (bears_mark marks_after other || is_in work_after other) ≡ true) stays start
+        (to_each (λ other. bears_mark marks other || is_in (work ++ place ∷ []) other) start is.begun));
     least = λ places spread.
         let old = is.least places spread in
         let parts = and_parts (list_all places work) (places place && true) (sym (list_all-append places work (place ∷ [])) ∙ old.1) in
         let here : places place ≡ true = (and_parts (places place) true parts.1).0 in
         let along = (and_parts (list_all (λ link. not (places link.from) || places link.to) links) (list_all places start) spread).0 in (
           within places old.0 here,
-          ap (list_all places) visit.1 ∙ (list_all-append places work (if is_marked marks place then [] else get_or targets place [])
-              ∙ and_from (list_all places work) (list_all places (if is_marked marks place then [] else get_or targets place [])) parts.0 (added places (targets_within places place here links along) (is_marked marks place))),
+          ap (list_all places) visit.1 ∙ (list_all-append places work (if bears_mark marks place then [] else get_or targets place [])
+              ∙ and_from (list_all places work) (list_all places (if bears_mark marks place then [] else get_or targets place [])) parts.0 (added places (targets_within places place here links along) (bears_mark marks place))),
         );
   }
     where
-      within : (places : ℕ → Bool) → ((other : ℕ) → is_marked marks other ≡ true → places other ≡ true) → places place ≡ true → (other : ℕ) → is_marked marks_after other ≡ true → places other ≡ true
-      within places old here other m = ⊎_elim (λ e. ap places e ∙ here) (λ d. old other (sym (visit.0 other ∙ ap (λ (b : Bool). if b then true else is_marked marks other) (ne_eqb other place d)) ∙ m)) (cases_eq other place)
+      within : (places : ℕ → Bool) → ((other : ℕ) → bears_mark marks other ≡ true → places other ≡ true) → places place ≡ true → (other : ℕ) → bears_mark marks_after other ≡ true → places other ≡ true
+      within places old here other m = ⊎_elim (λ e. ap places e ∙ here) (λ d. old other (sym (visit.0 other ∙ ap (λ (b : Bool). if b then true else bears_mark marks other) (ne_eqb other place d)) ∙ m)) (cases_eq other place)
 
       added : (places : ℕ → Bool) → list_all places (targets_of links place) ≡ true → (b : Bool) → list_all places (if b then [] else get_or targets place []) ≡ true
       added places h true = refl
@@ -166,14 +166,14 @@ module _ (links : List Link) (start : List ℕ) (targets : List (List ℕ)) (eac
 
 pub spreading_done : (links : List Link) (start : List ℕ) (marks : List Bool) → IsSpreading links start marks [] → IsLeastSpread links start marks
 spreading_done links start marks is = record {
-  spread = and_from (list_all (λ link. not (is_marked marks link.from) || is_marked marks link.to) links) (list_all (is_marked marks) start)
-      (from_each (λ link. not (is_marked marks link.from) || is_marked marks link.to) links
-      (each_mapped (λ link. (not (is_marked marks link.from) || (is_marked marks link.to || false)) ≡ true) (λ link. (not (is_marked marks link.from) || is_marked marks link.to) ≡ true)
-      (λ link h. ⊎_elim (λ n. or_left (not (is_marked marks link.from)) (is_marked marks link.to) n) (λ t. or_right (not (is_marked marks link.from)) (is_marked marks link.to) (no_more (is_marked marks link.to) t))
-      (or_cases (not (is_marked marks link.from)) (is_marked marks link.to || false) h)) links
-      (to_each (λ link. not (is_marked marks link.from) || (is_marked marks link.to || false)) links is.along)))
-      (from_each (is_marked marks) start (each_mapped (λ place. (is_marked marks place || false) ≡ true) (λ place. is_marked marks place ≡ true) (λ place h. no_more (is_marked marks place) h) start
-      (to_each (λ place. is_marked marks place || false) start is.begun)));
+  spread = and_from (list_all (λ link. not (bears_mark marks link.from) || bears_mark marks link.to) links) (list_all (bears_mark marks) start)
+      (from_each (λ link. not (bears_mark marks link.from) || bears_mark marks link.to) links
+      (each_mapped (λ link. (not (bears_mark marks link.from) || (bears_mark marks link.to || false)) ≡ true) (λ link. (not (bears_mark marks link.from) || bears_mark marks link.to) ≡ true)
+      (λ link h. ⊎_elim (λ n. or_left (not (bears_mark marks link.from)) (bears_mark marks link.to) n) (λ t. or_right (not (bears_mark marks link.from)) (bears_mark marks link.to) (no_more (bears_mark marks link.to) t))
+      (or_cases (not (bears_mark marks link.from)) (bears_mark marks link.to || false) h)) links
+      (to_each (λ link. not (bears_mark marks link.from) || (bears_mark marks link.to || false)) links is.along)))
+      (from_each (bears_mark marks) start (each_mapped (λ place. (bears_mark marks place || false) ≡ true) (λ place. bears_mark marks place ≡ true) (λ place h. no_more (bears_mark marks place) h) start
+      (to_each (λ place. bears_mark marks place || false) start is.begun)));
   least = λ places spread. (is.least places spread).0;
 }
   where
@@ -213,11 +213,11 @@ module _ (before after : ℕ → Bool) (place : ℕ) (set : (other : ℕ) → af
       omega (arith, one, rest)
 
 pub fewer_waiting : (targets : List (List ℕ)) (place : ℕ) (marks : List Bool) (work : List ℕ) (marks_after : List Bool) (work_after : List ℕ)
-    → IsVisited targets place marks work marks_after work_after → links_waiting (is_marked marks_after) 0 targets + length work_after ≡ links_waiting (is_marked marks) 0 targets + length work
+    → IsVisited targets place marks work marks_after work_after → links_waiting (bears_mark marks_after) 0 targets + length work_after ≡ links_waiting (bears_mark marks) 0 targets + length work
 fewer_waiting targets place marks work marks_after work_after visit =
-    let w = waiting_here (is_marked marks) (is_marked marks_after) place visit.0 0 place (omega arith) targets in
-    let l = ap length visit.1 ∙ length-append work (if is_marked marks place then [] else get_or targets place []) in
-    let s = sizes (is_marked marks place) in
+    let w = waiting_here (bears_mark marks) (bears_mark marks_after) place visit.0 0 place (omega arith) targets in
+    let l = ap length visit.1 ∙ length-append work (if bears_mark marks place then [] else get_or targets place []) in
+    let s = sizes (bears_mark marks place) in
     omega (arith, w, l, s)
   where
     sizes : (b : Bool) → length (if b then [] else get_or targets place []) ≡ (if b then 0 else length (get_or targets place []))

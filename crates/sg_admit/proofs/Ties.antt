@@ -11,8 +11,8 @@ use Rattle.sg_admit.specs.Admission.{turns_var}
 use Rattle.sg_admit.specs.steps.Noting.{AreAlike, deed_loops, loops_in}
 use Rattle.sg_admit.specs.Clean.{Unclean, Giving, givings, is_clean_giving, unclean_with, dirty_among, deed_writes, writes_field, unclean_in}
 use Rattle.sg_admit.specs.Laws.{IsClosed}
-use Rattle.sg_admit.specs.steps.Spread.{is_marked}
-use Rattle.sg_admit.specs.steps.Hanging.{Vars, beside, is_noted_in, has_givings, IsLeastGiven}
+use Rattle.sg_admit.specs.steps.Spread.{bears_mark}
+use Rattle.sg_admit.specs.steps.Hanging.{Vars, unclean_beside, is_noted_in, has_givings, IsLeastGiven}
 use Rattle.sg_admit.proofs.Dirty.{dirty_is_closed, dirty_is_least}
 
 module _ (fields : ℕ → ℕ → Bool) (vars : Vars) where
@@ -27,14 +27,14 @@ module _ (fields : ℕ → ℕ → Bool) (vars : Vars) where
   pub closed_from : (all : List Giving) → has_givings fields all vars ≡ true → IsClosed fields all vars
   closed_from [] h = tt
   closed_from (giving ∷ all) h =
-      let p = and_parts (is_clean_giving (beside fields vars) giving || vars giving.var) (has_givings fields all vars) h in
-      (one_closed (is_clean_giving (beside fields vars) giving) (vars giving.var) p.0, closed_from all p.1)
+      let p = and_parts (is_clean_giving (unclean_beside fields vars) giving || vars giving.var) (has_givings fields all vars) h in
+      (one_closed (is_clean_giving (unclean_beside fields vars) giving) (vars giving.var) p.0, closed_from all p.1)
 
   pub closed_into : (all : List Giving) → IsClosed fields all vars → has_givings fields all vars ≡ true
   closed_into [] h = refl
   closed_into (giving ∷ all) h =
-      and_from (is_clean_giving (beside fields vars) giving || vars giving.var) (has_givings fields all vars)
-      (closed_one (is_clean_giving (beside fields vars) giving) (vars giving.var) h.0) (closed_into all h.1)
+      and_from (is_clean_giving (unclean_beside fields vars) giving || vars giving.var) (has_givings fields all vars)
+      (closed_one (is_clean_giving (unclean_beside fields vars) giving) (vars giving.var) h.0) (closed_into all h.1)
 
 same_tests : (a b : Bool) → (a ≡ true → b ≡ true) → (b ≡ true → a ≡ true) → a ≡ b
 same_tests true b h g = sym (h refl)
@@ -42,16 +42,16 @@ same_tests false b h g = sym (false_from_ne_true b (λ e. both_ways false refl (
 
 -- what isn't clean in a kernel is told by a table of its written fields and by the marks
 pub unclean_is : (lines : List Line) (ways : List FieldWay) (marks : List Bool) → ((layout place : ℕ) → is_noted_in ways layout place ≡ writes_field lines layout place) → IsLeastGiven ways lines marks
-    → ◌≡◌ {A = Unclean} (record { fields = is_noted_in ways; vars = is_marked marks }) (unclean_in lines)
+    → ◌≡◌ {A = Unclean} (record { fields = is_noted_in ways; vars = bears_mark marks }) (unclean_in lines)
 unclean_is lines ways marks fields least =
     let dirty = (unclean_with (writes_field lines) (dirty_among (writes_field lines) (givings lines))).vars in
     let same_fields : is_noted_in ways ≡ writes_field lines = fun_ext (λ layout. fun_ext (λ place. fields layout place)) in
     let like : (vars : Vars) → has_givings (is_noted_in ways) (givings lines) vars ≡ has_givings (writes_field lines) (givings lines) vars =
     λ vars. ap (λ (f : ℕ → ℕ → Bool). has_givings f (givings lines) vars) same_fields in
-    let same : is_marked marks ≡ dirty = fun_ext (λ var. same_tests (is_marked marks var) (dirty var)
+    let same : bears_mark marks ≡ dirty = fun_ext (λ var. same_tests (bears_mark marks var) (dirty var)
     (least.least dirty (like dirty ∙ closed_into (writes_field lines) dirty (givings lines) (dirty_is_closed (writes_field lines) (givings lines))) var)
-    (dirty_is_least (writes_field lines) (givings lines) (is_marked marks) (closed_from (writes_field lines) (is_marked marks) (givings lines) (sym (like (is_marked marks)) ∙ least.given)) var)) in
-    ap (λ (f : ℕ → ℕ → Bool). record { fields = f; vars = is_marked marks }) same_fields ∙ ap (λ (v : ℕ → Bool). record { fields = writes_field lines; vars = v }) same
+    (dirty_is_least (writes_field lines) (givings lines) (bears_mark marks) (closed_from (writes_field lines) (bears_mark marks) (givings lines) (sym (like (bears_mark marks)) ∙ least.given)) var)) in
+    ap (λ (f : ℕ → ℕ → Bool). record { fields = f; vars = bears_mark marks }) same_fields ∙ ap (λ (v : ℕ → Bool). record { fields = writes_field lines; vars = v }) same
 
 -- a field is written where one of its ways is noted
 at_deed : (layout place : ℕ) (lines : List Line) → is_noted_in (ways_in lines) layout place ≡ writes_field lines layout place → (deed : Deed)

@@ -24,7 +24,7 @@ use Rattle.sg_admit.specs.Lines.{Deed, Sets, Writes, Tests, Turns, Opens, Line, 
 use Rattle.sg_admit.specs.Clean.{unclean_in}
 use Rattle.sg_admit.specs.Bounds.{nowhere}
 use Rattle.sg_admit.specs.Slices.{walked_by, block_slice, slice_of}
-use Rattle.sg_admit.specs.Rules.{Facts, name_of, are_names, Seen, seen_step, has_good_reads, ways_in, first_way, has_own, has_acc}
+use Rattle.sg_admit.specs.Rules.{Facts, name_of, are_names, SeenPart, seen_step, has_good_reads, ways_in, first_way, has_own, has_acc}
 use Rattle.sg_admit.specs.Admission.{first_fault, box_answer, admission}
 use Rattle.sg_admit.specs.Neutral.{guard_of}
 use Rattle.sg_types.proofs.Uses.{expr_folds, fold-Literal, fold-Var, fold-Bin, value-Literal}
@@ -69,19 +69,19 @@ loop over = line_of 0 nothing_round (Opens (domain_ranges over))
 
 -- ---- whether the reads of an expression are good, at the forms that stand here
 
-abbrev its_reads : TypedExpr-F Seen Seen → Seen
+abbrev its_reads : TypedExpr-F SeenPart SeenPart → SeenPart
 its_reads expr = expr.form
 
 module _ (vars : ℕ) (good : ℕ → ℕ → Bool → Bool) where
   good-Literal : (given : Ty) (word : ℕ) → has_good_reads vars good (record { ty = given; form = form.Literal word }) ≡ true
-  good-Literal given word = ap (λ (seen : Seen). seen.1) (fold-Literal (seen_step vars good) its_reads given word)
+  good-Literal given word = ap (λ (seen : SeenPart). seen.1) (fold-Literal (seen_step vars good) its_reads given word)
 
   good-Var : (given : Ty) (var : ℕ) → has_good_reads vars good (record { ty = given; form = form.Var var }) ≡ true
-  good-Var given var = ap (λ (seen : Seen). seen.1) (fold-Var (seen_step vars good) its_reads given var)
+  good-Var given var = ap (λ (seen : SeenPart). seen.1) (fold-Var (seen_step vars good) its_reads given var)
 
   good-Bin : (given : Ty) (op : BinOp) (left right : TypedExpr)
       → has_good_reads vars good (record { ty = given; form = form.Bin op left right }) ≡ (has_good_reads vars good left && has_good_reads vars good right)
-  good-Bin given op left right = ap (λ (seen : Seen). seen.1) (fold-Bin (seen_step vars good) its_reads given op left right)
+  good-Bin given op left right = ap (λ (seen : SeenPart). seen.1) (fold-Bin (seen_step vars good) its_reads given op left right)
 
   good-Read : (given : Ty) (layout place : ℕ) (index : List TypedExpr)
       → has_good_reads vars good (record { ty = given; form = form.Read layout place index }) ≡ (good layout place (are_names vars 0 (map name_of index)) && list_all (has_good_reads vars good) index)

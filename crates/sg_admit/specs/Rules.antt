@@ -91,11 +91,11 @@ are_names vars var [] = var == vars
 are_names vars var (name ∷ names) = is_name_of var name && are_names vars (var + 1) names
 
 -- a part of an expression: the variable that it is the name of, and whether each read in it is good
-abbrev pub Seen : Type 0
-Seen = Option ℕ × Bool
+abbrev pub SeenPart : Type 0
+SeenPart = Option ℕ × Bool
 
 -- one layer of an expression, where a read is good by its field and whether its indices are the loop's variables
-abbrev pub seen_step : ℕ → (ℕ → ℕ → Bool → Bool) → Form-F Seen Seen → Seen
+abbrev pub seen_step : ℕ → (ℕ → ℕ → Bool → Bool) → Form-F SeenPart SeenPart → SeenPart
 seen_step vars good (f.Literal word) = (None, true)
 seen_step vars good (f.Constant word) = (None, true)
 seen_step vars good (f.Var var) = (Some var, true)
@@ -107,8 +107,8 @@ seen_step vars good (f.Bin op left right) = (None, left.1 && right.1)
 seen_step vars good (f.Mulq a b s) = (None, a.1 && (b.1 && s.1))
 seen_step vars good (f.Convert inner) = (None, inner.1)
 
-abbrev pub reads_in : ℕ → (ℕ → ℕ → Bool → Bool) → TypedExpr → Seen
-reads_in vars good = fold-TypedExpr Seen Seen (seen_step vars good) (λ expr. expr.form)
+abbrev pub reads_in : ℕ → (ℕ → ℕ → Bool → Bool) → TypedExpr → SeenPart
+reads_in vars good = fold-TypedExpr SeenPart SeenPart (seen_step vars good) (λ expr. expr.form)
 
 abbrev pub has_good_reads : ℕ → (ℕ → ℕ → Bool → Bool) → TypedExpr → Bool
 has_good_reads vars good expr = (reads_in vars good expr).1

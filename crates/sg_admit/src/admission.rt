@@ -106,7 +106,7 @@ impl Known {
     /// For each variable whether it is a loop's or a clean local.
     fn clean_vars(&self, alloc: Global, types: &[Ty]) -> Result<Items<bool>, Memory>
         ensures { IfOk result (λ clean. clean
-            ≡ map (λ var. not (spread.is_marked self.now.marks.dirty var) || list_any (λ it. it == var) self.now.loops) (range_with_len 0 (length types.now))) }
+            ≡ map (λ var. not (spread.bears_mark self.now.marks.dirty var) || list_any (λ it. it == var) self.now.loops) (range_with_len 0 (length types.now))) }
     {
         let looped = self.looped(alloc)?;
         let mut clean = Items::new(alloc);
@@ -117,13 +117,13 @@ impl Known {
     }
 
     fn is_clean_var(&self, looped: &Items<bool>, var: usize) -> bool
-        ensures { result ≡ (not (spread.is_marked self.now.marks.dirty var) || spread.is_marked looped.now var) }
+        ensures { result ≡ (not (spread.bears_mark self.now.marks.dirty var) || spread.bears_mark looped.now var) }
     {
         !is_marked(&self.marks.dirty, var) || is_marked(looped, var)
     }
 
     fn looped(&self, alloc: Global) -> Result<Items<bool>, Memory>
-        ensures { IfOk result (λ looped. (var : ℕ) → spread.is_marked looped var ≡ list_any (λ it. it == var) self.now.loops) }
+        ensures { IfOk result (λ looped. (var : ℕ) → spread.bears_mark looped var ≡ list_any (λ it. it == var) self.now.loops) }
     {
         let mut looped = Items::new(alloc);
         for var in self.loops.as_slice() {

@@ -6,7 +6,7 @@ ghost use Rattle.std.specs.Prelude.{◌≡◌, ℕ, ◌+◌, not, ◌||◌, leng
 ghost use Rattle.sg_admit.specs.Lines.{block_lines, stmt_lines, nothing_round};
 ghost use Rattle.sg_admit.specs.steps.Hanging as spec;
 ghost use Rattle.sg_admit.specs.steps.Noting.{tests_in};
-ghost use Rattle.sg_admit.specs.steps.Spread.{is_marked};
+ghost use Rattle.sg_admit.specs.steps.Spread.{bears_mark};
 
 use crate::spreads::{Link, spread};
 use crate::text::{Text, next};
@@ -24,7 +24,7 @@ pub(crate) struct Links {
 impl Links {
     /// One place hangs on another.
     fn lead(&mut self, from: usize, to: usize) -> Result<(), Memory>
-        ensures { OnOk result (spec.AreGiven (λ places. not (places from) || places to) self.old self.new) }
+        ensures { OnOk result (spec.SpreadWhereTested (λ places. not (places from) || places to) self.old self.new) }
     {
         self.links.push(Link { from, to })?;
         Ok(())
@@ -32,7 +32,7 @@ impl Links {
 
     /// A place is marked by itself.
     fn begin(&mut self, place: usize) -> Result<(), Memory>
-        ensures { OnOk result (spec.AreGiven (λ places. places place) self.old self.new) }
+        ensures { OnOk result (spec.SpreadWhereTested (λ places. places place) self.old self.new) }
     {
         self.start.push(place)?;
         Ok(())
@@ -46,7 +46,7 @@ impl Links {
         layout: u32,
         place: u32,
     ) -> Result<(), Memory>
-        ensures { OnOk result (spec.AreGiven (λ places. not (spec.is_noted_in text.now.writes layout place) || places to) self.old self.new) }
+        ensures { OnOk result (spec.SpreadWhereTested (λ places. not (spec.is_noted_in text.now.writes layout place) || places to) self.old self.new) }
     {
         if text.writes_field(layout, place) {
             self.begin(to)
@@ -58,7 +58,7 @@ impl Links {
     /// A place hangs on what an expression reads.
     #[cycle(reads)]
     fn hang(&mut self, text: &Text, to: usize, expr: &TypedExpr) -> Result<(), Memory>
-        ensures { OnOk result (spec.AreGiven (λ places. spec.is_clean_by text.now places expr.now || places to) self.old self.new) }
+        ensures { OnOk result (spec.SpreadWhereTested (λ places. spec.is_clean_by text.now places expr.now || places to) self.old self.new) }
     {
         match &expr.form {
             Form::Literal(_word) => Ok(()),
@@ -93,7 +93,7 @@ impl Links {
 
     #[cycle(reads)]
     fn hang_all(&mut self, text: &Text, to: usize, exprs: &[TypedExpr]) -> Result<(), Memory>
-        ensures { OnOk result (spec.AreGiven (λ places. spec.are_clean_by text.now places exprs.now || places to) self.old self.new) }
+        ensures { OnOk result (spec.SpreadWhereTested (λ places. spec.are_clean_by text.now places exprs.now || places to) self.old self.new) }
     {
         for expr in exprs {
             self.hang(text, to, expr)?;
@@ -109,7 +109,7 @@ impl Links {
         to: usize,
         expr: &TypedExpr,
     ) -> Result<(), Memory>
-        ensures { OnOk result (spec.AreGiven (λ places. spec.is_within text.now places round to expr.now) self.old self.new) }
+        ensures { OnOk result (spec.SpreadWhereTested (λ places. spec.is_in_set text.now places round to expr.now) self.old self.new) }
     {
         self.hang(text, to, expr)?;
         self.lead(round, to)
@@ -127,7 +127,7 @@ impl Hangs {
     /// Adds the links of a block, where the innermost `if` round it has this place.
     #[cycle(hangs)]
     fn block(&mut self, text: &Text, round: usize, block: &[TypedStmt]) -> Result<(), Memory>
-        ensures { OnOk result (spec.AreLinked text.now round (block_lines block.now) self.old self.new) }
+        ensures { OnOk result (spec.AddsLinks text.now round (block_lines block.now) self.old self.new) }
     {
         for stmt in block {
             self.stmt(text, round, stmt)?;
@@ -137,7 +137,7 @@ impl Hangs {
 
     #[cycle(hangs)]
     fn stmt(&mut self, text: &Text, round: usize, stmt: &TypedStmt) -> Result<(), Memory>
-        ensures { OnOk result (spec.AreLinked text.now round (stmt_lines stmt.now) self.old self.new) }
+        ensures { OnOk result (spec.AddsLinks text.now round (stmt_lines stmt.now) self.old self.new) }
     {
         match &stmt.kind {
             TypedKind::Let { var, value } => {
@@ -206,7 +206,7 @@ pub(crate) fn dirty_vars(
 
 /// The marks of the places from the given one.
 fn marks_from(alloc: Global, marks: &Items<bool>, first: usize) -> Result<Items<bool>, Memory>
-    ensures { IfOk result (λ rest. (place : ℕ) → is_marked rest place ≡ is_marked marks.now (first + place)) }
+    ensures { IfOk result (λ rest. (place : ℕ) → bears_mark rest place ≡ bears_mark marks.now (first + place)) }
 {
     match marks.as_slice().get(first..) {
         Some(rest) => Ok(Items::from_slice(alloc, rest)?),

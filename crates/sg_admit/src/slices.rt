@@ -1,6 +1,6 @@
 ghost use Rattle.std.specs.Prelude.{◌≡◌, IfOk};
 ghost use Rattle.sg_admit.specs.Slices as spec;
-ghost use Rattle.sg_admit.specs.steps.Marked.{unclean_of, list_of};
+ghost use Rattle.sg_admit.specs.steps.Marked.{unclean_of, kept_list};
 
 use crate::copies::{copy_expr, copy_exprs, copy_range};
 use crate::marks::Marks;
@@ -29,7 +29,7 @@ impl Marks {
 
     #[cycle(slices)]
     fn slice_stmt(&self, alloc: Global, stmt: &TypedStmt) -> Result<Option<TypedStmt>, Memory>
-        ensures { IfOk result (λ kept. list_of kept ≡ spec.stmt_slice self.now.walked (unclean_of self.now) stmt.now) }
+        ensures { IfOk result (λ kept. kept_list kept ≡ spec.stmt_slice self.now.walked (unclean_of self.now) stmt.now) }
     {
         let number = stmt.number;
         let kind = match &stmt.kind {

@@ -55,7 +55,7 @@ fn add_all(work: &mut Items<usize>, more: &[usize]) -> Result<(), Memory>
 }
 
 pub(crate) fn is_marked(marks: &Items<bool>, place: usize) -> bool
-    ensures { result ≡ spec.is_marked marks.now place }
+    ensures { result ≡ spec.bears_mark marks.now place }
 {
     match marks.get(place) {
         Some(marked) => *marked,
@@ -64,8 +64,8 @@ pub(crate) fn is_marked(marks: &Items<bool>, place: usize) -> bool
 }
 
 pub(crate) fn mark(marks: &mut Items<bool>, place: usize) -> Result<(), Memory>
-    ensures { OnOk result ((other : ℕ) → spec.is_marked marks.new other
-        ≡ (if other == place then true else spec.is_marked marks.old other)) }
+    ensures { OnOk result ((other : ℕ) → spec.bears_mark marks.new other
+        ≡ (if other == place then true else spec.bears_mark marks.old other)) }
 {
     while marks.len() <= place {
         marks.push(false)?;

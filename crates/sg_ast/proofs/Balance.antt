@@ -20,7 +20,7 @@ use Rattle.sg_ast.specs.declared.stmt.WayDecl.TheVariants as way
 use Rattle.sg_ast.specs.declared.stmt.RangeDecl.{RangeDecl}
 use Rattle.sg_ast.specs.declared.stmt.Stmt.{Stmt}
 use Rattle.sg_ast.specs.Expr.{tokens_of, with_commas, each_more, op_token, un_token, callee_token, truth_token, access_tokens}
-use Rattle.sg_ast.specs.Stmt.{joined, in_braces, stmt_tokens, block_tokens, way_tokens, range_tokens, else_tokens}
+use Rattle.sg_ast.specs.Stmt.{joined_lists, in_braces, stmt_tokens, block_tokens, way_tokens, range_tokens, else_tokens}
 use Rattle.sg_ast.proofs.Uses.Exprs.{by_exprs, tokens_of-Number, tokens_of-Truth, tokens_of-Name, tokens_of-Read, tokens_of-Paren, tokens_of-Un, tokens_of-Bin, tokens_of-Call}
 use Rattle.sg_ast.proofs.Uses.Stmts.{AllInElse, by_statements, stmt_tokens-Let, stmt_tokens-Assign, stmt_tokens-Write, stmt_tokens-If, stmt_tokens-For}
 use Rattle.sg_ast.proofs.Cuts.{braces_after, braces_after-append}
@@ -140,16 +140,16 @@ braces_after-close n xs =
     let one_less : suc (suc n) - 1 ≡ suc n = omega arith in
     rw (inside, one_less) refl
 
-pub balanced-braced : (parts : List (List Token)) → IsBalanced (joined parts) → IsBalanced (in_braces parts)
+pub balanced-braced : (parts : List (List Token)) → IsBalanced (joined_lists parts) → IsBalanced (in_braces parts)
 balanced-braced parts p n =
-    rw add-one (braces_after-append (suc (suc n)) (suc (suc n)) (joined parts) (t.Sign s.CloseBrace ∷ []) (p (suc n)) ∙ braces_after-close n [])
+    rw add-one (braces_after-append (suc (suc n)) (suc (suc n)) (joined_lists parts) (t.Sign s.CloseBrace ∷ []) (p (suc n)) ∙ braces_after-close n [])
 
 abbrev pub AreBalanced : List (List Token) → Type 0
 AreBalanced = AllByRecursion IsBalanced
 
-pub balanced-joined : (parts : List (List Token)) → AreBalanced parts → IsBalanced (joined parts)
+pub balanced-joined : (parts : List (List Token)) → AreBalanced parts → IsBalanced (joined_lists parts)
 balanced-joined [] h n = refl
-balanced-joined (xs ∷ more) h n = balanced-append xs (joined more) h.0 (balanced-joined more h.1) n
+balanced-joined (xs ∷ more) h n = balanced-append xs (joined_lists more) h.0 (balanced-joined more h.1) n
 
 plain-way : (how : WayDecl) → IsPlain (way_tokens how)
 plain-way way.Own n = refl

@@ -6,7 +6,7 @@ use Rattle.std.proofs.lemmas.Option.{same_Some}
 use Rattle.sg_ast.specs.declared.token.Sign.TheVariants as s
 use Rattle.sg_ast.specs.declared.token.Token.{Token}
 use Rattle.sg_ast.specs.declared.token.Token.TheVariants as t
-use Rattle.sg_ast.specs.Stmt.{joined}
+use Rattle.sg_ast.specs.Stmt.{joined_lists}
 use Rattle.sg_ast.specs.Items.{ends_item, open_after, in_front, cut_by, are_left_from}
 
 -- how many braces are open after a list in which no item ends, where so many are open before it
@@ -73,12 +73,12 @@ are_left_from-whole left n (x ∷ xs) rest h = go (ends_item n x) refl xs h (are
   go true is (y ∷ ys) h more = absurd (cc)
   go false is ys h more = more h
 
-joined-in_front : (ends : Bool) (x : Token) (items : List (List Token)) → joined (in_front ends x items) ≡ x ∷ joined items
+joined-in_front : (ends : Bool) (x : Token) (items : List (List Token)) → joined_lists (in_front ends x items) ≡ x ∷ joined_lists items
 joined-in_front true x items = refl
 joined-in_front false x [] = refl
 joined-in_front false x (item ∷ items) = refl
 
 -- a cut list, put together again
-pub joined-cut_by : (n : ℕ) (xs : List Token) → joined (cut_by (λ x. x) n xs) ≡ xs
+pub joined-cut_by : (n : ℕ) (xs : List Token) → joined_lists (cut_by (λ x. x) n xs) ≡ xs
 joined-cut_by n [] = refl
 joined-cut_by n (x ∷ xs) = joined-in_front (ends_item n x) x (cut_by (λ x. x) (open_after n x) xs) ∙ ap (λ ys. x ∷ ys) (joined-cut_by (open_after n x) xs)

@@ -27,13 +27,13 @@ use Rattle.sg_ast.specs.declared.program.Item.{Item}
 use Rattle.sg_ast.specs.declared.program.Item.TheVariants as item
 use Rattle.sg_ast.specs.Token.{is_number}
 use Rattle.sg_ast.specs.Expr.{with_commas}
-use Rattle.sg_ast.specs.Stmt.{joined, range_tokens, block_tokens}
+use Rattle.sg_ast.specs.Stmt.{joined_lists, range_tokens, block_tokens}
 use Rattle.sg_ast.specs.Layout.{names_tokens, size_token, axis_tokens, kind_token, bound_by, node_tokens, ty_token, field_tokens, layout_tokens}
 use Rattle.sg_ast.specs.Kernel.{domain_tokens, kernel_tokens}
 use Rattle.sg_ast.specs.Command.{bound_tokens, named_tokens, command_tokens}
 use Rattle.sg_ast.specs.Program.{signed_tokens, item_tokens}
 use Rattle.sg_ast.specs.Grammar.{one_or_more, is_simple, is_command, is_item}
-use Rattle.sg_ast.specs.Items.{cut_by, cut, are_left}
+use Rattle.sg_ast.specs.Items.{cut_by, item_cuts, are_left}
 use Rattle.sg_ast.proofs.Uses.Commands.{by_command_variant, command_tokens-Load, command_tokens-Run, command_tokens-Times, command_tokens-Dump, command_tokens-Image, command_tokens-Stats, command_tokens-Prune, command_tokens-Clear, is_simple-Times, is_command-Times}
 use Rattle.sg_ast.proofs.Cuts.{is_whole, is_whole-append, cut_by-whole, are_left_from-whole}
 use Rattle.sg_ast.proofs.Balance.{IsPlain, ArePlain, each_mapped, plain-separated, plain_range, IsBalanced, AreBalanced, balanced-append, balanced_plain, balanced_ended, balanced_semicolon, balanced-joined, balanced_block_tokens}
@@ -81,8 +81,8 @@ balanced_field field = balanced_ty field.ty (t.Sign s.Semicolon ∷ []) balanced
 whole_layout : (layout : LayoutDecl) → is_whole 0 (layout_tokens layout) ≡ true
 whole_layout layout =
     is_whole-append 0 0 (names_tokens layout.axes) _ (plain-separated _ (plain_names layout.axes) 0)
-    ∙ is_whole-append 1 1 (joined (map node_tokens layout.nodes)) _ (balanced-joined (map node_tokens layout.nodes) (each_mapped IsBalanced node_tokens balanced_node layout.nodes) 0)
-    ∙ is_whole-append 1 1 (joined (map field_tokens layout.fields)) (t.Sign s.CloseBrace ∷ []) (balanced-joined (map field_tokens layout.fields) (each_mapped IsBalanced field_tokens balanced_field layout.fields) 0)
+    ∙ is_whole-append 1 1 (joined_lists (map node_tokens layout.nodes)) _ (balanced-joined (map node_tokens layout.nodes) (each_mapped IsBalanced node_tokens balanced_node layout.nodes) 0)
+    ∙ is_whole-append 1 1 (joined_lists (map field_tokens layout.fields)) (t.Sign s.CloseBrace ∷ []) (balanced-joined (map field_tokens layout.fields) (each_mapped IsBalanced field_tokens balanced_field layout.fields) 0)
 
 plain_domain : (domain : DomainDecl) → IsPlain (domain_tokens domain)
 plain_domain (domain.Layout name) n = refl
@@ -125,7 +125,7 @@ whole_command = by_command_variant (λ given. is_command given ≡ true → is_w
     (λ number body h.
     let p = and_parts (is_number number false) (one_or_more is_simple body) (sym (is_command-Times number body) ∙ h) in
     let q = and_parts _ (list_all is_simple body) p.1 in
-    rw (command_tokens-Times number body) (is_whole-append 1 1 (joined (map command_tokens body)) (t.Sign s.CloseBrace ∷ [])
+    rw (command_tokens-Times number body) (is_whole-append 1 1 (joined_lists (map command_tokens body)) (t.Sign s.CloseBrace ∷ [])
     (balanced-joined (map command_tokens body) (balanced_commands body q.1) 0)))
     (λ field h. rw (command_tokens-Dump field) refl)
     (λ field lo hi h. rw (command_tokens-Image field lo hi) (is_whole-append 0 0 (bound_tokens lo) (bound_tokens hi ++ t.Sign s.Semicolon ∷ []) (plain_bound_tokens lo 0)
@@ -155,14 +155,14 @@ map_same [] = refl
 map_same (x ∷ xs) = ap (λ ys. x ∷ ys) (map_same xs)
 
 -- the items of a program's tokens are the tokens of its items
-pub cut-items : (items : List Item) → list_all is_item items ≡ true → cut (joined (map item_tokens items)) ≡ map item_tokens items
+pub cut-items : (items : List Item) → list_all is_item items ≡ true → item_cuts (joined_lists (map item_tokens items)) ≡ map item_tokens items
 cut-items [] h = refl
 cut-items (given ∷ more) h = let p = and_parts (is_item given) (list_all is_item more) h in
-    cut_by-item (λ x. x) given (item_tokens given) (joined (map item_tokens more)) p.0 (map_same (item_tokens given))
+    cut_by-item (λ x. x) given (item_tokens given) (joined_lists (map item_tokens more)) p.0 (map_same (item_tokens given))
     ∙ ap (λ rest. item_tokens given ∷ rest) (cut-items more p.1)
 
 -- and nothing is left
-pub are_left-items : (items : List Item) → list_all is_item items ≡ true → are_left (joined (map item_tokens items)) ≡ false
+pub are_left-items : (items : List Item) → list_all is_item items ≡ true → are_left (joined_lists (map item_tokens items)) ≡ false
 are_left-items [] h = refl
 are_left-items (given ∷ more) h = let p = and_parts (is_item given) (list_all is_item more) h in
-    are_left_from-whole false 0 (item_tokens given) (joined (map item_tokens more)) (whole_item given p.0) ∙ are_left-items more p.1
+    are_left_from-whole false 0 (item_tokens given) (joined_lists (map item_tokens more)) (whole_item given p.0) ∙ are_left-items more p.1

@@ -31,8 +31,8 @@ cut_by token braces [] = []
 cut_by token braces (x ∷ xs) = in_front (ends_item braces (token x)) x (cut_by token (open_after braces (token x)) xs)
 
 -- The items of a token list, in order. Tokens left at the end are one more.
-abbrev pub cut : List Token → List (List Token)
-cut = cut_by (λ token. token) 0
+abbrev pub item_cuts : List Token → List (List Token)
+item_cuts = cut_by (λ token. token) 0
 
 -- tokens without their places
 abbrev pub kinds : List Spanned → List Token
@@ -74,17 +74,17 @@ closing = t.Sign s.CloseBrace
 abbrev word : Token
 word = t.Word w.Run
 
-none-cut : cut [] ≡ []
+none-cut : item_cuts [] ≡ []
 none-cut = refl
 
-two_commands-cut : cut (word ∷ semicolon ∷ word ∷ semicolon ∷ []) ≡ (word ∷ semicolon ∷ []) ∷ (word ∷ semicolon ∷ []) ∷ []
+two_commands-cut : item_cuts (word ∷ semicolon ∷ word ∷ semicolon ∷ []) ≡ (word ∷ semicolon ∷ []) ∷ (word ∷ semicolon ∷ []) ∷ []
 two_commands-cut = refl
 
-braces-cut : cut (word ∷ opening ∷ semicolon ∷ opening ∷ closing ∷ closing ∷ word ∷ semicolon ∷ [])
+braces-cut : item_cuts (word ∷ opening ∷ semicolon ∷ opening ∷ closing ∷ closing ∷ word ∷ semicolon ∷ [])
     ≡ (word ∷ opening ∷ semicolon ∷ opening ∷ closing ∷ closing ∷ []) ∷ (word ∷ semicolon ∷ []) ∷ []
 braces-cut = refl
 
-stray_brace-cut : cut (word ∷ closing ∷ closing ∷ word ∷ []) ≡ (word ∷ closing ∷ []) ∷ (closing ∷ []) ∷ (word ∷ []) ∷ []
+stray_brace-cut : item_cuts (word ∷ closing ∷ closing ∷ word ∷ []) ≡ (word ∷ closing ∷ []) ∷ (closing ∷ []) ∷ (word ∷ []) ∷ []
 stray_brace-cut = refl
 
 left_at_end : are_left (word ∷ semicolon ∷ word ∷ opening ∷ semicolon ∷ []) ≡ true

@@ -17,7 +17,7 @@ use Rattle.sg_ast.specs.declared.layout.NodeDecl.{NodeDecl}
 use Rattle.sg_ast.specs.declared.layout.FieldDecl.{FieldDecl}
 use Rattle.sg_ast.specs.declared.layout.LayoutDecl.{LayoutDecl}
 use Rattle.sg_ast.specs.Expr.{with_commas}
-use Rattle.sg_ast.specs.Stmt.{joined}
+use Rattle.sg_ast.specs.Stmt.{joined_lists}
 
 -- names, a comma between each two
 abbrev pub names_tokens : List Name → List Token
@@ -65,8 +65,8 @@ field_tokens field = t.Word w.Field ∷ t.Name field.name ∷ t.Sign s.Colon ∷
 abbrev pub layout_tokens : LayoutDecl → List Token
 layout_tokens layout =
     t.Word w.Layout ∷ t.Name layout.name ∷ t.Sign s.OpenParen ∷ (names_tokens layout.axes ++
-    (t.Sign s.CloseParen ∷ t.Sign s.OpenBrace ∷ (joined (map node_tokens layout.nodes) ++
-    (joined (map field_tokens layout.fields) ++ t.Sign s.CloseBrace ∷ []))))
+    (t.Sign s.CloseParen ∷ t.Sign s.OpenBrace ∷ (joined_lists (map node_tokens layout.nodes) ++
+    (joined_lists (map field_tokens layout.fields) ++ t.Sign s.CloseBrace ∷ []))))
 
 -- worked equations, over the axes `i: 4, j: N`
 abbrev first_axis : Name

@@ -8,7 +8,7 @@ use Rattle.sg_ast.specs.declared.program.ConstDecl.{ConstDecl}
 use Rattle.sg_ast.specs.declared.program.Item.{Item}
 use Rattle.sg_ast.specs.declared.program.Item.TheVariants as item
 use Rattle.sg_ast.specs.declared.program.Program.{Program}
-use Rattle.sg_ast.specs.Stmt.{joined}
+use Rattle.sg_ast.specs.Stmt.{joined_lists}
 use Rattle.sg_ast.specs.Layout.{layout_tokens}
 use Rattle.sg_ast.specs.Kernel.{kernel_tokens}
 use Rattle.sg_ast.specs.Command.{command_tokens}
@@ -32,7 +32,7 @@ item_tokens (item.Command command) = command_tokens command
 
 -- the tokens of a program: those of its items, one after the other
 abbrev pub program_tokens : Program → List Token
-program_tokens program = joined (map item_tokens program.items)
+program_tokens program = joined_lists (map item_tokens program.items)
 
 -- worked equations: `const S = -7;` and `const S = 7u;`
 minus_seven-tokens : const_tokens (record { name = record { text = codes "S" }; minus = true; value = 7; unsigned = false })

@@ -15,12 +15,12 @@ use Rattle.sg_ast.specs.declared.stmt.Stmt.TheOpen.{Stmt-F}
 use Rattle.sg_ast.specs.Expr.{tokens_of, access_tokens, largest}
 
 -- lists, one after the other
-abbrev pub joined : {A : Type 0} → List (List A) → List A
-joined lists = flat_map (λ list. list) lists
+abbrev pub joined_lists : {A : Type 0} → List (List A) → List A
+joined_lists lists = flat_map (λ list. list) lists
 
 -- a block, where the tokens of each statement are given
 abbrev pub in_braces : List (List Token) → List Token
-in_braces parts = t.Sign s.OpenBrace ∷ (joined parts ++ t.Sign s.CloseBrace ∷ [])
+in_braces parts = t.Sign s.OpenBrace ∷ (joined_lists parts ++ t.Sign s.CloseBrace ∷ [])
 
 -- `LO..HI`
 abbrev pub range_tokens : RangeDecl → List Token

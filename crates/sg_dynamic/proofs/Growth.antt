@@ -7,11 +7,11 @@ use Rattle.std.proofs.lemmas.Bool.Decides.{eqb_tells}
 use Rattle.std.proofs.lemmas.List.{length-set, length-append, length-take, length-replicate, get_or-set_same, get_or-set_other, set-set, set-get_or, take_at, take-append-le, take_all}
 use Rattle.std.proofs.lemmas.List.Sums.{sum_by-cons, sum_by-set}
 use Rattle.std.proofs.Math.Nat.{div-lt_iff_lt-mul, suc-mul, mul-le-mul_left}
-use Rattle.sg_links.specs.Lists.{Lists, list_of, with_list, times, times_in, AreDisjoint}
+use Rattle.sg_links.specs.Lists.{Lists, list_of, with_list, times, times_in_lists, AreDisjoint}
 use Rattle.sg_links.proofs.Uses.{times_in_set, times-append, times_same, times_other, one_if, sums, sums_all, sums_same, total_is_sum}
 use Rattle.sg_pool.specs.Numbers.{PoolNumbers, place_count, is_live_number, live_count, IsFree, IsSettled}
 use Rattle.sg_pool.proofs.Uses.{live_is_number, live_or_free, live_count_below}
-use Rattle.sg_dynamic.specs.Chunks.{chunks_of, need_of, IsExact, HaveRoom, AreFitted}
+use Rattle.sg_dynamic.specs.Chunks.{chunks_of, chunk_need, IsExact, HaveRoom, AreFitted}
 use Rattle.sg_dynamic.specs.steps.Growing.{Grew, FitSoFar}
 
 mul_le : (len : ℕ) {chunk : ℕ} → 1 ≤ chunk → len * 1 ≤ len * chunk
@@ -52,15 +52,15 @@ chunks_within chunk len some =
 -- ── Room for one chain ──
 
 -- chains that are each no longer than needed are together no longer than all need
-total_within : (chunk : ℕ) (lists : List (List ℕ)) (lengths : List ℕ) → length lists ≡ length lengths → ((i : ℕ) → i < length lengths → length (get_or lists i []) ≤ chunks_of chunk (get_or lengths i 0)) → sum_by length lists ≤ need_of chunk lengths
+total_within : (chunk : ℕ) (lists : List (List ℕ)) (lengths : List ℕ) → length lists ≡ length lengths → ((i : ℕ) → i < length lengths → length (get_or lists i []) ≤ chunks_of chunk (get_or lengths i 0)) → sum_by length lists ≤ chunk_need chunk lengths
 total_within chunk [] lengths many within = omega arith
 total_within chunk (list ∷ lists) [] many within = absurd (omega arith)
 total_within chunk (list ∷ lists) (len ∷ lengths) many within =
     let first : length list ≤ chunks_of chunk len = within 0 (omega arith) in
-    let rest : sum_by length lists ≤ need_of chunk lengths = total_within chunk lists lengths (omega arith) (λ i below. within (suc i) (omega arith)) in
+    let rest : sum_by length lists ≤ chunk_need chunk lengths = total_within chunk lists lengths (omega arith) (λ i below. within (suc i) (omega arith)) in
     omega (arith, sum_by-cons {X = List ℕ} length list lists, sum_by-cons (λ (k : ℕ). chunks_of chunk k) len lengths)
 
-pub room_for_one : (chunk : ℕ) (chains : Lists) (lengths : List ℕ) (head : ℕ) → HaveRoom chains lengths chunk → head < length lengths → need_of chunk lengths ≤ chains.numbers → sum_by length chains.lists + chunks_of chunk (get_or lengths head 0) ≤ chains.numbers + length (list_of chains head)
+pub room_for_one : (chunk : ℕ) (chains : Lists) (lengths : List ℕ) (head : ℕ) → HaveRoom chains lengths chunk → head < length lengths → chunk_need chunk lengths ≤ chains.numbers → sum_by length chains.lists + chunks_of chunk (get_or lengths head 0) ≤ chains.numbers + length (list_of chains head)
 room_for_one chunk chains lengths head room there enough =
     let wanted : ℕ = chunks_of chunk (get_or lengths head 0) in
     let ys : List ℕ = replicate wanted 0 in
@@ -68,7 +68,7 @@ room_for_one chunk chains lengths head room there enough =
     let here : head < length chains.lists = omega (arith, room.many) in
     let lists : List (List ℕ) = set chains.lists head ys in
     let count : sum_by length lists + length (get_or chains.lists head []) ≡ sum_by length chains.lists + length ys = sum_by-set {X = List ℕ} length chains.lists head ys [] here in
-    let all : sum_by length lists ≤ need_of chunk lengths = total_within chunk lists lengths (omega (arith, length-set chains.lists head ys, room.many)) (λ i below. elim (cases_eq i head) [
+    let all : sum_by length lists ≤ chunk_need chunk lengths = total_within chunk lists lengths (omega (arith, length-set chains.lists head ys, room.many)) (λ i below. elim (cases_eq i head) [
       | inl same ↦
           let new : get_or lists i [] ≡ ys = ap (λ k. get_or lists k []) same ∙ get_or-set_same chains.lists head ys [] here in
           let as_wanted : chunks_of chunk (get_or lengths i 0) ≡ wanted = ap (λ k. chunks_of chunk (get_or lengths k 0)) same in
@@ -84,7 +84,7 @@ room_for_one chunk chains lengths head room there enough =
 abbrev with_number : Lists → ℕ → ℕ → Lists
 with_number now head x = with_list now head (list_of now head ++ x ∷ [])
 
-pub free_below : (chains : Lists) (pool : PoolNumbers) (x : ℕ) → IsExact chains pool → IsFree pool x → (x < chains.numbers) × (times_in x chains.lists ≡ 0)
+pub free_below : (chains : Lists) (pool : PoolNumbers) (x : ℕ) → IsExact chains pool → IsFree pool x → (x < chains.numbers) × (times_in_lists x chains.lists ≡ 0)
 free_below chains pool x exact free = (omega (arith, exact.places, free.below), exact.live x ∙ ap one_if free.not_live)
 
 live_after : (old new : PoolNumbers) (x y : ℕ) → IsFree old x → IsSettled old new (x ∷ []) → cond (is_live_number old y) 1 0 + times y (x ∷ []) ≡ cond (is_live_number new y) 1 0
@@ -137,11 +137,11 @@ heads_stay old now head size grew there = omega (arith, ap (λ (l : Lists). leng
 -- where all numbers are live, the chains have them all
 pub full_total : (chains : Lists) (pool : PoolNumbers) → IsExact chains pool → ((x : ℕ) → x < place_count pool → IsTrue (is_live_number pool x)) → sum_by length chains.lists ≡ chains.numbers
 full_total chains pool exact all =
-    let below : (x : ℕ) → 0 < times_in x chains.lists → x < chains.numbers = λ x has. elim (cases_Bool (is_live_number pool x)) [
+    let below : (x : ℕ) → 0 < times_in_lists x chains.lists → x < chains.numbers = λ x has. elim (cases_Bool (is_live_number pool x)) [
       | inl live ↦ omega (arith, live_is_number pool x live, exact.places)
       | inr dead ↦ absurd (omega (arith, exact.live x, ap one_if dead))
     ] in
-    total_is_sum chains.numbers chains.lists below ∙ sums_all (λ x. times_in x chains.lists) chains.numbers (λ x short. exact.live x ∙ ap one_if (all x (omega (arith, exact.places))))
+    total_is_sum chains.numbers chains.lists below ∙ sums_all (λ x. times_in_lists x chains.lists) chains.numbers (λ x short. exact.live x ∙ ap one_if (all x (omega (arith, exact.places))))
 
 -- where as many are live as there are numbers, all are
 all_live : (pool : PoolNumbers) → live_count pool ≡ place_count pool → (x : ℕ) → x < place_count pool → IsTrue (is_live_number pool x)

@@ -6,7 +6,7 @@ use Rattle.atomic_table.specs.Table.{State, Me, step, keeps, Allows, Splits, Joi
 use Rattle.sg_words.specs.declared.race.Worker.{Worker}
 use Rattle.sg_words.specs.Counts.{total, greatest}
 use Rattle.sg_words.specs.RaceMachine.{nobody, after_split, other_half, after_join, after_raise}
-use Rattle.sg_words.specs.RaceInvariant.{weight, reach_of}
+use Rattle.sg_words.specs.RaceInvariant.{handed_share, raised_to}
 use Rattle.sg_words.proofs.Uses.{kept-raise, kept-enrol, kept-join, stands, set_other_at, alone}
 use Rattle.sg_dynamic.specs.LengthRace.{setting_of, race_of, Racing, raises}
 use Rattle.sg_dynamic.specs.Raising.{AreRaised}
@@ -76,14 +76,14 @@ le-greatest f (x ∷ xs) zero v at = let is : f x ≡ f v = ap f (some-injective
 le-greatest f (x ∷ xs) (suc id) v at = let r = le-greatest f xs id v at in omega arith
 
 pub are_raised : (key start : List ℕ) (words : List ℕ) (views : List Worker) (id : ℕ) (v : Worker) (lengths : List ℕ) → key ≡ start → Racing key words views → get_elem? views id ≡ some v
-    → weight v ≡ 16 → lengths ≡ words → AreRaised start v.raised lengths
+    → handed_share v ≡ 16 → lengths ≡ words → AreRaised start v.raised lengths
 are_raised key start words views id v lengths told racing at all is =
     let r : Racing start words views = subst (λ k. Racing k words views) told racing in
     subst (λ l. AreRaised start v.raised l) (sym is) (record {
       long = r.kept.lengths.0;
       lengths = λ q.
-          (let mine = alone (reach_of q) views id v at r.kept.team all refl in
-          let low = le-greatest (reach_of q) views id v at in
-          let high = greatest-le (reach_of q) views in
+          (let mine = alone (raised_to q) views id v at r.kept.team all refl in
+          let low = le-greatest (raised_to q) views id v at in
+          let high = greatest-le (raised_to q) views in
           let old = r.kept.lengths.1 q in omega arith);
     })

@@ -6,19 +6,19 @@ use Rattle.std.proofs.lemmas.List.{length-set, get_or-set_same, get_or-set_other
 use Rattle.std.proofs.lemmas.Option.{slice_get-get_or, slice_get_within, get_or_from_slice_get}
 use Rattle.std.proofs.lemmas.List.Sums.{sum_by-cons}
 use Rattle.std.proofs.Math.Nat.{le-div_iff_mul-le, div-mul-le_self}
-use Rattle.sg_links.specs.Lists.{Lists, list_of, times, times_in, empty_lists}
+use Rattle.sg_links.specs.Lists.{Lists, list_of, times, times_in_lists, empty_lists}
 use Rattle.sg_links.proofs.Uses.{times_in_set, times-append, times_same, stands, one_if}
 use Rattle.sg_pool.specs.Numbers.{PoolNumbers, place_count, is_live_number}
-use Rattle.sg_dynamic.specs.Chunks.{chunks_of, need_of, IsExact, HaveRoom, AreFitted}
+use Rattle.sg_dynamic.specs.Chunks.{chunks_of, chunk_need, IsExact, HaveRoom, AreFitted}
 pub use Rattle.sg_dynamic.proofs.Growth.{chunks_within, room_for_one}
 
 -- longer lists have a number at least as often
-times_more : (x : ℕ) (shorter longer : List (List ℕ)) → length shorter ≡ length longer → ((i : ℕ) → i < length shorter → times x (get_or shorter i []) ≤ times x (get_or longer i [])) → times_in x shorter ≤ times_in x longer
+times_more : (x : ℕ) (shorter longer : List (List ℕ)) → length shorter ≡ length longer → ((i : ℕ) → i < length shorter → times x (get_or shorter i []) ≤ times x (get_or longer i [])) → times_in_lists x shorter ≤ times_in_lists x longer
 times_more x [] longer many each = omega arith
 times_more x (list ∷ lists) [] many each = absurd (omega arith)
 times_more x (list ∷ lists) (more ∷ mores) many each =
     let first : times x list ≤ times x more = each 0 (omega arith) in
-    let rest : times_in x lists ≤ times_in x mores = times_more x lists mores (omega arith) (λ i below. each (suc i) (omega arith)) in
+    let rest : times_in_lists x lists ≤ times_in_lists x mores = times_more x lists mores (omega arith) (λ i below. each (suc i) (omega arith)) in
     omega (arith, sum_by-cons {X = List ℕ} (times x) list lists, sum_by-cons {X = List ℕ} (times x) more mores)
 
 -- a list is its front and the rest, so a number of the front stands in it
@@ -27,7 +27,7 @@ front_counts x xs ys front =
     let whole : ys ≡ xs ++ drop (length xs) ys = sym (take-append-drop (length xs) ys) ∙ ap (λ zs. zs ++ drop (length xs) ys) front in
     ap (times x) whole ∙ times-append x xs (drop (length xs) ys)
 
-pub kept_counts : (old new : Lists) (lengths : List ℕ) (chunk x : ℕ) → HaveRoom old lengths chunk → AreFitted old new lengths chunk → times_in x old.lists ≤ times_in x new.lists
+pub kept_counts : (old new : Lists) (lengths : List ℕ) (chunk x : ℕ) → HaveRoom old lengths chunk → AreFitted old new lengths chunk → times_in_lists x old.lists ≤ times_in_lists x new.lists
 kept_counts old new lengths chunk x room fitted =
     times_more x old.lists new.lists (sym fitted.many) (λ i below. omega (arith, front_counts x (list_of old i) (list_of new i) (fitted.front i (omega (arith, room.many)))))
 
@@ -37,14 +37,14 @@ stands_behind [] (suc n) k x past at = cc
 stands_behind (y ∷ ys) (suc n) zero x past at = absurd (omega arith)
 stands_behind (y ∷ ys) (suc n) (suc k) x past at = stands_behind ys n k x (omega arith) at
 
-pub added_counts : (old new : Lists) (lengths : List ℕ) (chunk head place x : ℕ) → HaveRoom old lengths chunk → AreFitted old new lengths chunk → head < length lengths → length (list_of old head) ≤ place → slice_get (list_of new head) place ≡ Some x → times_in x old.lists + 1 ≤ times_in x new.lists
+pub added_counts : (old new : Lists) (lengths : List ℕ) (chunk head place x : ℕ) → HaveRoom old lengths chunk → AreFitted old new lengths chunk → head < length lengths → length (list_of old head) ≤ place → slice_get (list_of new head) place ≡ Some x → times_in_lists x old.lists + 1 ≤ times_in_lists x new.lists
 added_counts old new lengths chunk head place x room fitted there past at =
     let list : List ℕ = list_of old head in
     let here : head < length old.lists = omega (arith, room.many) in
     let more : List (List ℕ) = set old.lists head (x ∷ list) in
-    let counted : times_in x more + times x list ≡ times_in x old.lists + times x (x ∷ list) = times_in_set x old.lists head (x ∷ list) here in
+    let counted : times_in_lists x more + times x list ≡ times_in_lists x old.lists + times x (x ∷ list) = times_in_set x old.lists head (x ∷ list) here in
     let behind : 0 < times x (drop (length list) (list_of new head)) = stands_behind (list_of new head) (length list) place x past at in
-    let within : times_in x more ≤ times_in x new.lists = times_more x more new.lists (omega (arith, length-set old.lists head (x ∷ list), fitted.many)) (λ i below. elim (cases_eq i head) [
+    let within : times_in_lists x more ≤ times_in_lists x new.lists = times_more x more new.lists (omega (arith, length-set old.lists head (x ∷ list), fitted.many)) (λ i below. elim (cases_eq i head) [
       | inl same ↦
           let mine : get_or more i [] ≡ x ∷ list = ap (λ k. get_or more k []) same ∙ get_or-set_same old.lists head (x ∷ list) [] here in
           let count : times x (get_or more i []) ≡ times x (x ∷ list) = ap (times x) mine in
@@ -57,7 +57,7 @@ added_counts old new lengths chunk head place x room fitted there past at =
     ]) in
     omega (arith, times_same x list)
 
-at_most_once : (chains : Lists) (pool : PoolNumbers) (x : ℕ) → IsExact chains pool → times_in x chains.lists ≤ 1
+at_most_once : (chains : Lists) (pool : PoolNumbers) (x : ℕ) → IsExact chains pool → times_in_lists x chains.lists ≤ 1
 at_most_once chains pool x exact = elim (cases_Bool (is_live_number pool x)) [
   | inl live ↦ omega (arith, exact.live x, ap one_if live)
   | inr dead ↦ omega (arith, exact.live x, ap one_if dead)
@@ -76,14 +76,14 @@ stay_live old new before after lengths chunk room was now fitted x live = elim (
 ]
 
 -- empty chains over a pool without live numbers
-none_in_empty : (x heads : ℕ) → times_in x (replicate heads []) ≡ 0
+none_in_empty : (x heads : ℕ) → times_in_lists x (replicate heads []) ≡ 0
 none_in_empty x zero = refl
 none_in_empty x (suc heads) = omega (arith, sum_by-cons {X = List ℕ} (times x) [] (replicate heads []), none_in_empty x heads)
 
 pub empty_exact : (chains : Lists) (pool : PoolNumbers) (numbers heads : ℕ) → chains ≡ empty_lists numbers heads → place_count pool ≡ numbers → ((x : ℕ) → is_live_number pool x ≡ false) → IsExact chains pool
 empty_exact chains pool numbers heads is places none = record {
   places = ap (λ (l : Lists). l.numbers) is ∙ sym places;
-  live = λ x. ap (λ (l : Lists). times_in x l.lists) is ∙ none_in_empty x heads ∙ sym (ap one_if (none x));
+  live = λ x. ap (λ (l : Lists). times_in_lists x l.lists) is ∙ none_in_empty x heads ∙ sym (ap one_if (none x));
 }
 
 pub empty_room : (chains : Lists) (lengths : List ℕ) (chunk numbers heads : ℕ) → chains ≡ empty_lists numbers heads → length lengths ≡ heads → HaveRoom chains lengths chunk

@@ -1,6 +1,6 @@
 -- Chains of chunks: how many chunks lengths need, and chains that fit them.
 use Rattle.std.specs.Prelude.{◌≡◌, ℕ, ◌+◌, ◌-◌, ◌<◌, ◌≤◌, ◌/◌, Bool, cond, nat_lt, if◌then◌else◌, Result, Ok, Err, List, length, take, sum_by, slice_index}
-use Rattle.sg_links.specs.Lists.{Lists, list_of, times_in}
+use Rattle.sg_links.specs.Lists.{Lists, list_of, times_in_lists}
 use Rattle.sg_pool.specs.Numbers.{PoolNumbers, place_count, is_live_number}
 use Rattle.sg_dynamic.specs.declared.chunks.ChunkFull.{ChunkFull}
 
@@ -9,18 +9,18 @@ abbrev pub chunks_of : ℕ → ℕ → ℕ
 chunks_of chunk len = (len + (chunk - 1)) / chunk
 
 -- how many chunks all lengths need together
-abbrev pub need_of : ℕ → List ℕ → ℕ
-need_of chunk lengths = sum_by (λ len. chunks_of chunk len) lengths
+abbrev pub chunk_need : ℕ → List ℕ → ℕ
+chunk_need chunk lengths = sum_by (λ len. chunks_of chunk len) lengths
 
 -- refused exactly where they need more chunks than there are places
 abbrev pub fit : ℕ → List ℕ → ℕ → Result Unit ChunkFull
 fit chunk lengths places =
-    if nat_lt places (need_of chunk lengths) then Err (record { need = need_of chunk lengths; cap = places }) else Ok tt
+    if nat_lt places (chunk_need chunk lengths) then Err (record { need = chunk_need chunk lengths; cap = places }) else Ok tt
 
 -- the chains are over the numbers of the pool, and what stands in them, once, is exactly what is live
 pub record IsExact (chains : Lists) (pool : PoolNumbers) : Type 0 where
   pub places : chains.numbers ≡ place_count pool
-  pub live : (x : ℕ) → times_in x chains.lists ≡ cond (is_live_number pool x) 1 0
+  pub live : (x : ℕ) → times_in_lists x chains.lists ≡ cond (is_live_number pool x) 1 0
 
 -- there is a chain for each length, and none is longer than its length needs
 pub record HaveRoom (chains : Lists) (lengths : List ℕ) (chunk : ℕ) : Type 0 where

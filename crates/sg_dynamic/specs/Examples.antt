@@ -1,6 +1,6 @@
 -- Worked equations: chunks of four elements.
 use Rattle.std.specs.Prelude.{◌≡◌, Ok, Err, [], ◌∷◌, refl}
-use Rattle.sg_dynamic.specs.Chunks.{chunks_of, need_of, fit}
+use Rattle.sg_dynamic.specs.Chunks.{chunks_of, chunk_need, fit}
 
 pub none_for_none : chunks_of 4 0 ≡ 0
 none_for_none = refl
@@ -11,7 +11,7 @@ one_for_four = refl
 pub two_for_five : chunks_of 4 5 ≡ 2
 two_for_five = refl
 
-pub three_together : need_of 4 (5 ∷ 0 ∷ 3 ∷ []) ≡ 3
+pub three_together : chunk_need 4 (5 ∷ 0 ∷ 3 ∷ []) ≡ 3
 three_together = refl
 
 pub three_fit : fit 4 (5 ∷ 0 ∷ 3 ∷ []) 3 ≡ Ok tt

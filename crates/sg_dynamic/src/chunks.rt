@@ -2,7 +2,7 @@ ghost use Rattle.std.specs.Prelude.{◌≡◌, ℕ, ◌+◌, ◌<◌, ◌≤◌,
 ghost use Rattle.std.specs.List.{All};
 ghost use Rattle.sg_links.specs.Lists.{list_of};
 ghost use Rattle.sg_pool.specs.Numbers.{place_count};
-ghost use Rattle.sg_dynamic.specs.Chunks.{chunks_of, need_of, fit, IsExact, HaveRoom, AreFitted};
+ghost use Rattle.sg_dynamic.specs.Chunks.{chunks_of, chunk_need, fit, IsExact, HaveRoom, AreFitted};
 ghost use Rattle.sg_dynamic.specs.steps.Growing.{Grew};
 
 use sg_links::Links;
@@ -62,7 +62,7 @@ fn chunks_needed(lengths: &[u64], chunk: u32) -> u64
     requires some { 1 ≤ chunk }
     requires short { All (λ len. len ≤ 2 ^ 15) lengths.now }
     requires few { length lengths.now < 2 ^ 32 }
-    ensures { result ≡ need_of chunk lengths.now }
+    ensures { result ≡ chunk_need chunk lengths.now }
 {
     let mut need = 0;
     for len in lengths {

@@ -2,7 +2,7 @@
 ghost use Rattle.std.specs.Prelude.{◌≡◌, ℕ, ◌<◌, ◌≤◌, [], length, take, IfOk};
 ghost use Rattle.std.specs.Mem.Slots.{slots_items, slots_len, IsFull};
 ghost use Rattle.sg_words.specs.RaceMachine.{newcomer, after_split, other_half, after_join, after_raise};
-ghost use Rattle.sg_words.specs.RaceInvariant.{weight};
+ghost use Rattle.sg_words.specs.RaceInvariant.{handed_share};
 ghost use Rattle.sg_dynamic.specs.Raising.{old_lengths, worker_of, IsSeatOf, AreRaised};
 
 use crate::rule::{Half, Raise};
@@ -63,7 +63,7 @@ impl LengthPass {
     /// Ends the pass by a seat into which all others were joined: each length is the greatest of the old one and those to which it was raised.
     pub fn finish(self, seat: RaiseSeat) -> Result<Items<u64>, Memory>
         requires own { IsSeatOf self seat }
-        requires all { weight (worker_of seat) ≡ 16 }
+        requires all { handed_share (worker_of seat) ≡ 16 }
         ensures { IfOk result (λ lengths. AreRaised (old_lengths self) (worker_of seat).raised lengths) }
     {
         let LengthPass { table, mut lengths } = self;

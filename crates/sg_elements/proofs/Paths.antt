@@ -14,7 +14,7 @@ use Rattle.sg_layout.specs.Slots.{IsSlot, share_on, number_on, coordinate_of, sh
 use Rattle.sg_store.specs.declared.node.NodeWords.{NodeWords}
 use Rattle.sg_store.specs.StoreWords.{StoreWords}
 use Rattle.sg_store.specs.Slots.{slot_under, active_below}
-use Rattle.sg_store.specs.Walks.{Step, place_after}
+use Rattle.sg_store.specs.Walks.{NodeStep, place_after}
 use Rattle.sg_elements.specs.steps.Levels.{is_led, row_along}
 
 -- ---- one more offset
@@ -55,7 +55,7 @@ led_then : (f g : ℕ → Option ℕ) → ((next : ℕ) → is_some (f next) ≡
 led_then f g on None led = led
 led_then f g on (Some next) led = on next led
 
-led_front_in : (step : Step) (nodes : List NodeShape) (words : List NodeWords) (place : ℕ) (xs ys : List ℕ) → is_some (place_after step nodes words place (xs ++ ys)) ≡ true → is_some (place_after step nodes words place xs) ≡ true
+led_front_in : (step : NodeStep) (nodes : List NodeShape) (words : List NodeWords) (place : ℕ) (xs ys : List ℕ) → is_some (place_after step nodes words place (xs ++ ys)) ≡ true → is_some (place_after step nodes words place xs) ≡ true
 led_front_in step nodes words place [] ys led = refl
 led_front_in step [] words place (x ∷ xs) ys led = led
 led_front_in step (node ∷ later) [] place (x ∷ xs) ys led = led

@@ -8,7 +8,7 @@ use Rattle.sg_ir.specs.declared.code.Inst.{Inst, fold-Inst, out-Inst, roll-Inst,
 use Rattle.sg_ir.specs.declared.code.Inst.TheVariants.{rolls-Const, rolls-Var, rolls-Set, rolls-Bin, rolls-Un, rolls-Mulq, rolls-Root, rolls-Check, rolls-Extract, rolls-Offset, rolls-Child, rolls-HashChild, rolls-MaskBit, rolls-DynCell, rolls-ReadCell, rolls-OwnRead, rolls-OwnWrite, rolls-Acc, rolls-Want, rolls-If, rolls-For}
 use Rattle.sg_ir.specs.declared.code.Inst.TheOpen as i
 use Rattle.sg_ir.specs.declared.code.Inst.TheOpen.{Inst-F}
-use Rattle.sg_ir.specs.Runs.{Seen, Moved, Action, set_var, in_turn, inst_step, does, named_by}
+use Rattle.sg_ir.specs.Runs.{Seen, Moved, InstAction, set_var_word, actions_in_turn, inst_step, does, named_by}
 use Rattle.sg_ir.specs.Named.{AreNamed}
 use Rattle.sg_ir.proofs.Uses.{fold-Const, fold-Var, fold-Set, fold-Bin, fold-Un, fold-Mulq, fold-Root, fold-Check, fold-Extract, fold-Offset, fold-Child, fold-HashChild, fold-MaskBit, fold-DynCell, fold-ReadCell, fold-OwnRead, fold-OwnWrite, fold-Acc, fold-Want, fold-If, fold-For}
 use Rattle.sg_exec.specs.Standing.{shapes_of}
@@ -29,17 +29,17 @@ depth = fold-Inst ℕ depth_step
 
 module _ (stores : List StoreWords) (seen : Seen) where
   -- where all is named behind an action, it was before
-  abbrev Kept : Action → Type 0
+  abbrev Kept : InstAction → Type 0
   Kept act = (now : Moved) → AreNamed (shapes_of stores) (act now).accesses → AreNamed (shapes_of stores) now.accesses
 
   abbrev Keeps : Inst → Type 0
   Keeps inst = Kept (does seen inst)
 
-  leaf : (inst : Inst) (act : Action) → does seen inst ≡ act → Kept act → Keeps inst
-  leaf inst act is kept now named = kept now (subst (λ (other : Action). AreNamed (shapes_of stores) (other now).accesses) is named)
+  leaf : (inst : Inst) (act : InstAction) → does seen inst ≡ act → Kept act → Keeps inst
+  leaf inst act is kept now named = kept now (subst (λ (other : InstAction). AreNamed (shapes_of stores) (other now).accesses) is named)
 
   abbrev Listed : List Inst → Type 0
-  Listed insts = Kept (in_turn (map (does seen) insts))
+  Listed insts = Kept (actions_in_turn (map (does seen) insts))
 
   by_list : (n : ℕ) → ((inst : Inst) → depth inst < n → Keeps inst) → (insts : List Inst) → largest (map depth insts) < n → Listed insts
   by_list n each [] below now named = named
@@ -49,16 +49,16 @@ module _ (stores : List StoreWords) (seen : Seen) where
   by_if : (cond : ℕ) (block otherwise : List Inst) → Listed block → Listed otherwise → Kept (inst_step seen (i.If cond (map (does seen) block) (map (does seen) otherwise)))
   by_if cond block otherwise first second now = by_test (now.regs cond == 0)
     where
-      by_test : (test : Bool) → AreNamed (shapes_of stores) (in_turn (if test then map (does seen) otherwise else map (does seen) block) now).accesses → AreNamed (shapes_of stores) now.accesses
+      by_test : (test : Bool) → AreNamed (shapes_of stores) (actions_in_turn (if test then map (does seen) otherwise else map (does seen) block) now).accesses → AreNamed (shapes_of stores) now.accesses
       by_test true = second now
       by_test false = first now
 
   by_for : (var : ℕ) (lo hi : ℤ) (body : List Inst) → Listed body → Kept (inst_step seen (i.For var lo hi (map (does seen) body)))
   by_for var lo hi body each now named = turns (numbers lo hi) now named
     where
-      turns : (zs : List ℤ) (from : Moved) → AreNamed (shapes_of stores) (fold (λ reached turn. in_turn (map (does seen) body) (set_var var (word_of turn) reached)) from zs).accesses → AreNamed (shapes_of stores) from.accesses
+      turns : (zs : List ℤ) (from : Moved) → AreNamed (shapes_of stores) (fold (λ reached turn. actions_in_turn (map (does seen) body) (set_var_word var (word_of turn) reached)) from zs).accesses → AreNamed (shapes_of stores) from.accesses
       turns [] from all = all
-      turns (z ∷ zs) from all = each (set_var var (word_of z) from) (turns zs (in_turn (map (does seen) body) (set_var var (word_of z) from)) all)
+      turns (z ∷ zs) from all = each (set_var_word var (word_of z) from) (turns zs (actions_in_turn (map (does seen) body) (set_var_word var (word_of z) from)) all)
 
   module _ (n : ℕ) (each : (insts : List Inst) → largest (map depth insts) < n → Listed insts) where
     abbrev Deep : Inst → Type 0

@@ -5,7 +5,7 @@ use Rattle.std.proofs.lemmas.Bool.{cases_eq, cond-true, cond-false, eqb-true, eq
 use Rattle.std.proofs.lemmas.List.{append-nil, take_more}
 use Rattle.std.proofs.lemmas.Option.{same_Some, slice_get_within}
 use Rattle.sg_words.specs.RaceMachine.{after_add}
-use Rattle.sg_words.specs.RaceInvariant.{weight}
+use Rattle.sg_words.specs.RaceInvariant.{handed_share}
 use Rattle.sg_flat.specs.declared.effects.Way.{Way}
 use Rattle.sg_flat.specs.declared.effects.Way.TheVariants.{Own, Acc}
 use Rattle.sg_accum.specs.declared.seat.AccSeat.{AccSeat}
@@ -164,7 +164,7 @@ gave_one accumulated write olds number cell op it old now apart is was way same 
     here_gave = record {
       given = ap (λ w. w.given) added
           ∙ ap (λ (g : List (ℕ × ℕ)). (worker_of old).given ++ (g ++ [])) (sym (given_here it.layout it.field cell op write way (sym same) (sym there) at));
-      weight_is = ap weight added;
+      weight_is = ap handed_share added;
     }
 
 -- ---- seats stay seats

@@ -9,7 +9,7 @@ use Rattle.sg_layout.specs.Axes.{count_of}
 use Rattle.sg_flat.specs.Domain.{numbers}
 use Rattle.sg_ir.specs.declared.code.Inst.{Inst}
 use Rattle.sg_ir.specs.declared.code.Inst.TheVariants as v
-use Rattle.sg_ir.specs.Runs.{Seen, Moved, Action, in_turn, does, runs, set_var}
+use Rattle.sg_ir.specs.Runs.{Seen, Moved, InstAction, actions_in_turn, does, runs, set_var_word}
 use Rattle.sg_ir.proofs.Uses.{does-If, does-For}
 use Rattle.sg_coord.specs.declared.coord.Coord.{Coord}
 use Rattle.sg_flat.specs.declared.state.FlatState.{FlatState}
@@ -20,20 +20,20 @@ use Rattle.sg_exec.specs.steps.Moments.{IsMoved, Follows, Moves, run_turns}
 use Rattle.sg_exec.proofs.EarlierAccesses.{named_earlier}
 
 -- something holds of how far a run has come from where the rest leads to the whole
-pub record Going (Holds : Moved → Type 0) (rest : Action) (whole : Moved) : Type 0 where
+pub record Going (Holds : Moved → Type 0) (rest : InstAction) (whole : Moved) : Type 0 where
   pub mid : Moved
   pub holds : Holds mid
   pub same : rest mid ≡ whole
 
-pub going_start : (Holds : Moved → Type 0) (rest : Action) (now : Moved) → Holds now → Going Holds rest (rest now)
+pub going_start : (Holds : Moved → Type 0) (rest : InstAction) (now : Moved) → Holds now → Going Holds rest (rest now)
 going_start Holds rest now holds = record { mid = now; holds = holds; same = refl }
 
-pub going_next : (Holds Next : Moved → Type 0) (act rest next : Action) (whole : Moved) → ((mid : Moved) → rest mid ≡ next (act mid)) → Going Holds rest whole
+pub going_next : (Holds Next : Moved → Type 0) (act rest next : InstAction) (whole : Moved) → ((mid : Moved) → rest mid ≡ next (act mid)) → Going Holds rest whole
     → ((mid : Moved) → Holds mid → Next (act mid)) → Going Next next whole
 going_next Holds Next act rest next whole split going step =
     record { mid = act going.mid; holds = step going.mid going.holds; same = sym (split going.mid) ∙ going.same }
 
-pub going_end : (Holds : Moved → Type 0) (rest : Action) (whole : Moved) → ((mid : Moved) → rest mid ≡ mid) → Going Holds rest whole → Holds whole
+pub going_end : (Holds : Moved → Type 0) (rest : InstAction) (whole : Moved) → ((mid : Moved) → rest mid ≡ mid) → Going Holds rest whole → Holds whole
 going_end Holds rest whole none going = subst Holds (sym (none going.mid) ∙ going.same) going.holds
 
 -- ---- the instructions of a block
@@ -60,7 +60,7 @@ numbers_end : (lo hi : ℤ) (k : ℕ) → count_of (hi -ℤ lo) ≤ k → drop k
 numbers_end lo hi k above = drop_all k (numbers lo hi) (omega (arith, length-map-range_with_len (λ j. lo +ℤ pos j) 0 (count_of (hi -ℤ lo))))
 
 pub turns_next : (seen : Seen) (var : ℕ) (body : List Inst) (lo hi : ℤ) (k : ℕ) → k < count_of (hi -ℤ lo) → (mid : Moved) → run_turns seen var body mid (drop k (numbers lo hi))
-    ≡ run_turns seen var body (runs seen body (set_var var (word_of (lo +ℤ pos k)) mid)) (drop (k + 1) (numbers lo hi))
+    ≡ run_turns seen var body (runs seen body (set_var_word var (word_of (lo +ℤ pos k)) mid)) (drop (k + 1) (numbers lo hi))
 turns_next seen var body lo hi k below mid = ap (run_turns seen var body mid) (numbers_next lo hi k below)
 
 pub turns_end : (seen : Seen) (var : ℕ) (body : List Inst) (lo hi : ℤ) (k : ℕ) → count_of (hi -ℤ lo) ≤ k → (mid : Moved) → run_turns seen var body mid (drop k (numbers lo hi)) ≡ mid
@@ -105,11 +105,11 @@ is_not word not = grind (arith, nat_tests, not)
 is_yes : (word : ℕ) → word ≡ 0 → (word == 0) ≡ true
 is_yes word is = grind (arith, nat_tests, is)
 
-branch_no : (seen : Seen) (block otherwise : List Inst) (now : Moved) (word : ℕ) → word ≡ 0 → in_turn (if word == 0 then map (does seen) otherwise else map (does seen) block) now ≡ runs seen otherwise now
-branch_no seen block otherwise now word is = ap (λ (test : Bool). in_turn (if test then map (does seen) otherwise else map (does seen) block) now) (is_yes word is)
+branch_no : (seen : Seen) (block otherwise : List Inst) (now : Moved) (word : ℕ) → word ≡ 0 → actions_in_turn (if word == 0 then map (does seen) otherwise else map (does seen) block) now ≡ runs seen otherwise now
+branch_no seen block otherwise now word is = ap (λ (test : Bool). actions_in_turn (if test then map (does seen) otherwise else map (does seen) block) now) (is_yes word is)
 
-branch_yes : (seen : Seen) (block otherwise : List Inst) (now : Moved) (word : ℕ) → (word ≡ 0 → ⊥) → in_turn (if word == 0 then map (does seen) otherwise else map (does seen) block) now ≡ runs seen block now
-branch_yes seen block otherwise now word not = ap (λ (test : Bool). in_turn (if test then map (does seen) otherwise else map (does seen) block) now) (is_not word not)
+branch_yes : (seen : Seen) (block otherwise : List Inst) (now : Moved) (word : ℕ) → (word ≡ 0 → ⊥) → actions_in_turn (if word == 0 then map (does seen) otherwise else map (does seen) block) now ≡ runs seen block now
+branch_yes seen block otherwise now word not = ap (λ (test : Bool). actions_in_turn (if test then map (does seen) otherwise else map (does seen) block) now) (is_not word not)
 
 pub goes_otherwise : (seen : Seen) (now : Moved) (inst : Inst) (cond : ℕ) (block otherwise : List Inst) → inst ≡ v.If cond block otherwise → now.regs cond ≡ 0 → runs seen otherwise now ≡ does seen inst now
 goes_otherwise seen now inst cond block otherwise is none =

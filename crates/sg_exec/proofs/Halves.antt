@@ -14,7 +14,7 @@ use Rattle.sg_exec.specs.steps.Machines.{AreCells, IsCellOf}
 use Rattle.sg_coord.specs.declared.coord.Coord.{Coord}
 use Rattle.sg_words.specs.declared.race.Worker.{Worker}
 use Rattle.sg_words.specs.RaceMachine.{after_split, other_half, after_join}
-use Rattle.sg_words.specs.RaceInvariant.{weight}
+use Rattle.sg_words.specs.RaceInvariant.{handed_share}
 use Rattle.sg_accum.specs.declared.seat.AccSeat.{AccSeat}
 use Rattle.sg_accum.specs.Folding.{worker_of}
 use Rattle.sg_exec.specs.declared.cell_write.CellWrite.{CellWrite}
@@ -70,7 +70,7 @@ two_shares workers seats more shares = λ k seat at. let h = shares k seat at in
 -- ---- what two halves gave
 
 -- the shares of a split come back at the join
-weight_back : (old left right : Worker) → weight left ≡ weight (after_split old) → weight right ≡ weight (other_half old) → weight (after_join left right) ≡ weight old
+weight_back : (old left right : Worker) → handed_share left ≡ handed_share (after_split old) → handed_share right ≡ handed_share (other_half old) → handed_share (after_join left right) ≡ handed_share old
 weight_back old left right l r =
     let first : left.share + left.back ≡ (old.share - old.share / 2) + old.back = l in
     let second : right.share + right.back ≡ old.share / 2 + 0 = r in
@@ -97,7 +97,7 @@ module _ (accumulated : List Accumulated) (olds nows others lefts rights afters 
             ∙ ap (λ (g : List (ℕ × ℕ)). ((worker_of old).given ++ contributions it.layout it.field xs) ++ g) (r.given ∙ ap (λ (w : Worker). w.given ++ contributions it.layout it.field ys) one.other_is)
             ∙ append_assoc (worker_of old).given (contributions it.layout it.field xs) (contributions it.layout it.field ys)
             ∙ ap (λ (g : List (ℕ × ℕ)). (worker_of old).given ++ g) (sym (contributions-append it.layout it.field xs ys));
-        weight_is = ap weight j ∙ weight_back (worker_of old) (worker_of left.0) (worker_of right.0) (l.weight_is ∙ ap weight one.now_is) (r.weight_is ∙ ap weight one.other_is);
+        weight_is = ap handed_share j ∙ weight_back (worker_of old) (worker_of left.0) (worker_of right.0) (l.weight_is ∙ ap handed_share one.now_is) (r.weight_is ∙ ap handed_share one.other_is);
       }
 
 -- ---- pieces of a list

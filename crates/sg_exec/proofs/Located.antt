@@ -14,15 +14,15 @@ use Rattle.sg_flat.specs.declared.effects.RunFault.TheVariants.{WriteOutside}
 use Rattle.sg_flat.specs.Kernel.{is_inside_of, outside_among}
 use Rattle.sg_ir.specs.Runs.{CodeWrite, CodeWant, is_own}
 use Rattle.sg_ir.specs.Apt.{walks, may_activate, IsWantOf}
-use Rattle.sg_exec.specs.Running.{place_of, wants_left, write_at, located}
+use Rattle.sg_exec.specs.Running.{coord_of_write, wants_left, write_at, located}
 use Rattle.sg_exec.specs.steps.Machines.{IsAtLoop, want_write}
 use Rattle.sg_exec.specs.steps.Landing.{code_write}
 use Rattle.sg_exec.specs.steps.Wants.{bare, acts}
 
 module _ (domain : Domain) (at : Coord) where
   step : (write : CodeWrite) (writes : List CodeWrite) (wants : List CodeWant) (may : Bool) → may_activate domain write ≡ may
-      → located domain at wants (write ∷ writes) ≡ write_at write (place_of may wants at) ∷ located domain at (wants_left may wants) writes
-  step write writes wants may is = ap (λ (b : Bool). write_at write (place_of b wants at) ∷ located domain at (wants_left b wants) writes) is
+      → located domain at wants (write ∷ writes) ≡ write_at write (coord_of_write may wants at) ∷ located domain at (wants_left may wants) writes
+  step write writes wants may is = ap (λ (b : Bool). write_at write (coord_of_write b wants at) ∷ located domain at (wants_left b wants) writes) is
 
   kept : {X : Type 0} (test : X → Bool) (x : X) (xs : List X) → test x ≡ true → filter test (x ∷ xs) ≡ x ∷ filter test xs
   kept test x xs is = cond-true (test x) (x ∷ filter test xs) (filter test xs) is
@@ -116,10 +116,10 @@ module _ (domain : Domain) (at : Coord) where
   -- a write that may not activate is at the loop's coordinate, in the layout that it walks
   pub left_at_loop : (wants : List CodeWant) (writes : List CodeWrite) (write : Write) → Contains (located domain at wants writes) write → acts domain write ≡ false → (write.at ≡ at) × (walks domain write.layout ≡ true)
   left_at_loop wants [] write has out = absurd (contains_none write has)
-  left_at_loop wants (first ∷ writes) write has out = elim (contains_cases write (write_at first (place_of (may_activate domain first) wants at)) (located domain at (wants_left (may_activate domain first) wants) writes) has) [
+  left_at_loop wants (first ∷ writes) write has out = elim (contains_cases write (write_at first (coord_of_write (may_activate domain first) wants at)) (located domain at (wants_left (may_activate domain first) wants) writes) has) [
     | inl same ↦
         let idle : may_activate domain first ≡ false = ap (acts domain) same ∙ out in (
-          sym (ap (λ (w : Write). w.at) same) ∙ ap (λ (b : Bool). place_of b wants at) idle,
+          sym (ap (λ (w : Write). w.at) same) ∙ ap (λ (b : Bool). coord_of_write b wants at) idle,
           (and_parts (is_own write.way) (walks domain write.layout) (not-false (is_own write.way && walks domain write.layout) out)).1,
         )
     | inr later ↦ left_at_loop (wants_left (may_activate domain first) wants) writes write later out

@@ -28,26 +28,26 @@ use Rattle.sg_words.specs.declared.memory.Memory.{Memory}
 use Rattle.sg_exec.specs.declared.held.Held.{Held}
 use Rattle.sg_exec.specs.Standing.{shapes_of}
 use Rattle.sg_exec.specs.steps.Stepping.{is_below, can_step, IsIdle, StepLeads, StepIsDead}
-use Rattle.sg_exec.specs.steps.Machines.{PlaceRow, IsDead, Holds, IsHeld, AreHeld, ArePlaces}
+use Rattle.sg_exec.specs.steps.Machines.{PlaceRow, IsDead, HoldsPlace, IsHeld, AreHeld, ArePlaces}
 use Rattle.sg_exec.proofs.StoreLists.{shape_at, some_is_none}
 
 -- ---- a row of places
 
-holds_put : (stores : List StoreWords) (row : List (Option Held)) (to : ℕ) (held : Option Held) (places : ℕ → Option Place) (place : Option Place) → Holds stores held place
-    → ((p : ℕ) → Holds stores (get_or row p None) (places p)) → (p : ℕ) → Holds stores (put to held (λ q. get_or row q None) p) (put to place places p)
+holds_put : (stores : List StoreWords) (row : List (Option Held)) (to : ℕ) (held : Option Held) (places : ℕ → Option Place) (place : Option Place) → HoldsPlace stores held place
+    → ((p : ℕ) → HoldsPlace stores (get_or row p None) (places p)) → (p : ℕ) → HoldsPlace stores (put to held (λ q. get_or row q None) p) (put to place places p)
 holds_put stores row to held places place new old p = elim (cases_eq p to) [
   | inl here ↦ both (sym (cond-true _ held (get_or row p None) (eq-eqb p to here))) (sym (cond-true _ place (places p) (eq-eqb p to here))) new
   | inr there ↦ both (sym (cond-false _ held (get_or row p None) (ne_eqb p to there))) (sym (cond-false _ place (places p) (ne_eqb p to there))) (old p)
 ]
   where
-    both : {a b : Option Held} {x y : Option Place} → a ≡ b → x ≡ y → Holds stores a x → Holds stores b y
-    both {a} {b} {x} {y} same_held same_place h = subst (λ (z : Option Place). Holds stores b z) same_place (subst (λ (c : Option Held). Holds stores c x) same_held h)
+    both : {a b : Option Held} {x y : Option Place} → a ≡ b → x ≡ y → HoldsPlace stores a x → HoldsPlace stores b y
+    both {a} {b} {x} {y} same_held same_place h = subst (λ (z : Option Place). HoldsPlace stores b z) same_place (subst (λ (c : Option Held). HoldsPlace stores c x) same_held h)
 
 pub places_put : (stores : List StoreWords) (row row' : PlaceRow) (to : ℕ) (held : Option Held) (places : ℕ → Option Place) (place : Option Place) → row'.stores ≡ row.stores
-    → ((p : ℕ) → get_or row'.list p None ≡ put to held (λ q. get_or row.list q None) p) → ArePlaces stores row places → Holds stores held place → ArePlaces stores row' (put to place places)
+    → ((p : ℕ) → get_or row'.list p None ≡ put to held (λ q. get_or row.list q None) p) → ArePlaces stores row places → HoldsPlace stores held place → ArePlaces stores row' (put to place places)
 places_put stores row row' to held places place same is old new = record {
   same_stores = same ∙ old.same_stores;
-  hold = λ p. subst (λ (h : Option Held). Holds stores h (put to place places p)) (sym (is p)) (holds_put stores row.list to held places place new old.hold p);
+  hold = λ p. subst (λ (h : Option Held). HoldsPlace stores h (put to place places p)) (sym (is p)) (holds_put stores row.list to held places place new old.hold p);
 }
 
 pub held_put : (stores : List StoreWords) (row row' : List (Option Held)) (to : ℕ) (held : Option Held) → ((p : ℕ) → get_or row' p None ≡ put to held (λ q. get_or row q None) p)
@@ -74,12 +74,12 @@ held_at stores row p (Some it) are is = are p it (sym is)
 pub no_places : (stores : List StoreWords) (row : PlaceRow) → row.stores ≡ stores → ((p : ℕ) → get_or row.list p None ≡ None) → ArePlaces stores row (λ place. None)
 no_places stores row same none = record {
   same_stores = same;
-  hold = λ p. subst (λ (h : Option Held). Holds stores h None) (sym (none p)) tt;
+  hold = λ p. subst (λ (h : Option Held). HoldsPlace stores h None) (sym (none p)) tt;
 }
 
 -- ---- checks
 
-pub holds_check : (stores : List StoreWords) (held : Option Held) (place : Option Place) (extent word : ℕ) (on : Bool) → Holds stores held place → Holds stores (if on then held else None) (if on then place else None)
+pub holds_check : (stores : List StoreWords) (held : Option Held) (place : Option Place) (extent word : ℕ) (on : Bool) → HoldsPlace stores held place → HoldsPlace stores (if on then held else None) (if on then place else None)
 holds_check stores held place extent word true h = h
 holds_check stores held place extent word false h = tt
 
@@ -177,10 +177,10 @@ down_at stores store layout path place node offset is there =
     ∙ ap (λ (found : Option Shape). add_offset offset (record { layout = layout; path = path }) (option_and_then (λ (shape : Shape). node_in shape.nodes node) found)) (shape_at stores layout store there)
 
 -- the step of a register that holds a spot
-pub holds_step : (stores : List StoreWords) (held : Held) (store : StoreWords) (below : Option Spot) (place : Option Place) (node offset : ℕ) → slice_get stores held.layout ≡ Some store → Holds stores (Some held) place
+pub holds_step : (stores : List StoreWords) (held : Held) (store : StoreWords) (below : Option Spot) (place : Option Place) (node offset : ℕ) → slice_get stores held.layout ≡ Some store → HoldsPlace stores (Some held) place
     → IfSome below (λ spot. (path : List ℕ) → LeadsAlong store held.spot path → StepLeads store spot node path offset)
     → IfNone below ((path : List ℕ) → LeadsAlong store held.spot path → StepIsDead store node path offset)
-    → Holds stores (option_map (λ spot. record { layout = held.layout; spot = spot }) below) (down (shapes_of stores) node offset place)
+    → HoldsPlace stores (option_map (λ spot. record { layout = held.layout; spot = spot }) below) (down (shapes_of stores) node offset place)
 holds_step stores held store below place node offset there h some none = by_below below some none
   where
     same : h.store ≡ store
@@ -202,7 +202,7 @@ holds_step stores held store below place node offset there h some none = by_belo
 
     by_below : (below : Option Spot) → IfSome below (λ spot. (path : List ℕ) → LeadsAlong store held.spot path → StepLeads store spot node path offset)
         → IfNone below ((path : List ℕ) → LeadsAlong store held.spot path → StepIsDead store node path offset)
-        → Holds stores (option_map (λ spot. record { layout = held.layout; spot = spot }) below) (down (shapes_of stores) node offset place)
+        → HoldsPlace stores (option_map (λ spot. record { layout = held.layout; spot = spot }) below) (down (shapes_of stores) node offset place)
     by_below (Some spot) some none =
         let step = some h.path leads in
         record {
@@ -223,7 +223,7 @@ dead_on stores there node offset dead (Some n) = by_test (nat_lt offset (size_of
     by_test true = λ store is at more along. dead store is at (offset ∷ more) (along ∙ append_assoc there.path (offset ∷ []) more)
     by_test false = tt
 
-pub holds_none : (stores : List StoreWords) (place : Option Place) (node offset : ℕ) → Holds stores None place → Holds stores None (down (shapes_of stores) node offset place)
+pub holds_none : (stores : List StoreWords) (place : Option Place) (node offset : ℕ) → HoldsPlace stores None place → HoldsPlace stores None (down (shapes_of stores) node offset place)
 holds_none stores None node offset h = tt
 holds_none stores (Some there) node offset h = dead_on stores there node offset h (node_of (shapes_of stores) there.layout node)
 
@@ -235,8 +235,8 @@ pub held_after : (stores : List StoreWords) (row row' : List (Option Held)) (to 
 held_after stores row row' to held (Ok done) ok err old new = held_put stores row row' to held ok old new
 held_after stores row row' to held (Err memory) ok err old new = held_same stores row row' err old
 
-pub holds_at : (stores : List StoreWords) (row : PlaceRow) (place : ℕ) (found : Option Held) (places : ℕ → Option Place) → found ≡ get_or row.list place None → ArePlaces stores row places → Holds stores found (places place)
-holds_at stores row place found places is are = subst (λ (h : Option Held). Holds stores h (places place)) (sym is) (are.hold place)
+pub holds_at : (stores : List StoreWords) (row : PlaceRow) (place : ℕ) (found : Option Held) (places : ℕ → Option Place) → found ≡ get_or row.list place None → ArePlaces stores row places → HoldsPlace stores found (places place)
+holds_at stores row place found places is are = subst (λ (h : Option Held). HoldsPlace stores h (places place)) (sym is) (are.hold place)
 
 -- the store of a layout, as it was got, or none
 pub got : (inside : List StoreWords) (row : PlaceRow) (layout : ℕ) (store : StoreWords) → inside ≡ row.stores → Some store ≡ slice_get inside layout → slice_get row.stores layout ≡ Some store

@@ -18,7 +18,7 @@ use Rattle.sg_exec.specs.declared.hand.Hand.{Hand}
 use Rattle.sg_exec.specs.steps.Machines.{AreCells}
 use Rattle.sg_exec.specs.steps.Landing.{current, Lands}
 use Rattle.sg_exec.specs.steps.Racing.{between, wrote, AreSeats, HaveShares}
-use Rattle.sg_exec.specs.steps.Passes.{HaveFields, AreGiven, IsFresh, passed}
+use Rattle.sg_exec.specs.steps.Passes.{HaveFields, AreGiven, IsAsBefore, passed}
 use Rattle.sg_exec.specs.steps.Working.{HasRunAt, HasRaced}
 use Rattle.sg_exec.proofs.CellsLanded.{landings_are}
 use Rattle.sg_exec.proofs.PassesLanded.{turns_writes}
@@ -75,6 +75,6 @@ if_ok P Q (Ok a) step is = step a is
 if_ok P Q (Err e) step is = tt
 
 -- where there are no copies all is as before
-pub fresh_none : (stores : List StoreWords) (copies : List (Option StoreWords)) (layout field : ℕ) → current copies stores ≡ stores → IsFresh stores copies layout field
+pub fresh_none : (stores : List StoreWords) (copies : List (Option StoreWords)) (layout field : ℕ) → current copies stores ≡ stores → IsAsBefore stores copies layout field
 fresh_none stores copies layout field none = λ store copy at copy_at cell.
     ap (λ (s : StoreWords). word_in s field cell) (same_Some _ _ (sym copy_at ∙ ap (λ (l : List StoreWords). slice_get l layout) none ∙ at))

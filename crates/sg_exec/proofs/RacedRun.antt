@@ -8,7 +8,7 @@ use Rattle.std.proofs.lemmas.List.Elements.{All-contains, All-cons, All-nil}
 use Rattle.std.proofs.lemmas.Option.{same_Some, slice_get_within}
 use Rattle.sg_words.proofs.Uses.{contains_none, contains_head, contains_rest, contains_cases, into_map}
 use Rattle.sg_words.specs.declared.race.Worker.{Worker}
-use Rattle.sg_words.specs.RaceInvariant.{weight}
+use Rattle.sg_words.specs.RaceInvariant.{handed_share}
 use Rattle.sg_coord.specs.declared.coord.Coord.{Coord}
 use Rattle.sg_flat.specs.declared.effects.Turn.{Turn}
 use Rattle.sg_flat.specs.declared.effects.Write.{Write}
@@ -83,7 +83,7 @@ module _ (stores : List StoreWords) (uses : List Use) (accumulated : List Accumu
   are_whole = λ k seat also.
       let it = pass_at k seat also in
       let was = old_at k seat also in
-      (ran.worked.gave k it.0 was.0 seat it.1 was.1 also).weight_is ∙ ap weight (have.new k was.0 was.1)
+      (ran.worked.gave k it.0 was.0 seat it.1 was.1 also).weight_is ∙ ap handed_share (have.new k was.0 was.1)
 
   pub gave_reached : GaveReached stores accumulated after.seats.items
   gave_reached = λ k it seat at also one has.

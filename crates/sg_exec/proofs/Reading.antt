@@ -24,7 +24,7 @@ use Rattle.sg_store.specs.Walks.{cell_in}
 use Rattle.sg_store.specs.WellFormed.{IsReached}
 use Rattle.sg_ir.specs.Runs as ir
 use Rattle.sg_ir.specs.Runs.{Place, CodeWrite, is_own, at_of, cell_value, coord_of}
-use Rattle.sg_ir.specs.Places.{place_in, place_at}
+use Rattle.sg_ir.specs.Places.{place_of_coord, place_at}
 use Rattle.sg_ir.specs.Laws.{PlaceHasCoordinate}
 use Rattle.sg_exec.specs.declared.held.Held.{Held}
 use Rattle.sg_exec.specs.declared.cell_write.CellWrite.{CellWrite}
@@ -121,8 +121,8 @@ place_found stores layout at place is = by_store (slice_get stores layout) refl
     by_test store there false outside same = absurd (cc)
 
     by_store : (found : Option StoreWords) → slice_get stores layout ≡ found → IsPlaceIn stores layout at place
-    by_store None none = absurd (let h : Some place ≡ None = is ∙ ap (place_in layout at) (no_shape_at stores layout none) in cc)
-    by_store (Some store) there = by_test store there (is_inside (bounds_of_shape store.shape) at) refl (is ∙ ap (place_in layout at) (shape_at stores layout store there))
+    by_store None none = absurd (let h : Some place ≡ None = is ∙ ap (place_of_coord layout at) (no_shape_at stores layout none) in cc)
+    by_store (Some store) there = by_test store there (is_inside (bounds_of_shape store.shape) at) refl (is ∙ ap (place_of_coord layout at) (shape_at stores layout store there))
 
 told_at : (stores : List StoreWords) (layout : ℕ) (at : Coord) (place : Place) (found : IsPlaceIn stores layout at place) → PlaceHasCoordinate (shapes_of stores) layout at → Some place ≡ place_at (shapes_of stores) layout at
     → at_of (shapes_of stores) (Some place) ≡ Some at

@@ -6,13 +6,13 @@ use Rattle.sg_coord.specs.declared.coord.Coord.{Coord}
 use Rattle.sg_flat.specs.declared.state.FlatState.{FlatState}
 use Rattle.sg_flat.specs.declared.effects.Write.{Write}
 use Rattle.sg_store.specs.StoreWords.{StoreWords}
-use Rattle.sg_ir.specs.Runs.{Seen, Moved, CodeWrite, CodeWant, Access, Place, put, set_reg, set_var, add_access, add_write}
+use Rattle.sg_ir.specs.Runs.{Seen, Moved, CodeWrite, CodeWant, Access, Place, put, set_reg, set_var_word, add_access, add_code_write}
 use Rattle.sg_ir.specs.Named.{IsNamedAccess, AreNamed}
 use Rattle.sg_exec.specs.declared.cell_write.CellWrite.{CellWrite}
 use Rattle.sg_exec.specs.declared.held.Held.{Held}
 use Rattle.sg_exec.specs.declared.moment.Moment.{Moment}
 use Rattle.sg_exec.specs.Standing.{shapes_of}
-use Rattle.sg_exec.specs.steps.Machines.{seen_in, Sees, PlaceRow, ArePlaces, Holds, AreWords, cell_write, IsAtLoop, want_write}
+use Rattle.sg_exec.specs.steps.Machines.{seen_in, Sees, PlaceRow, ArePlaces, HoldsPlace, AreWords, cell_write, IsAtLoop, want_write}
 use Rattle.sg_exec.specs.steps.Moments.{IsMoved, Follows, Moves}
 use Rattle.sg_exec.proofs.Rows.{put_as}
 
@@ -32,15 +32,15 @@ reg_done old new to word value act is same step = record {
       (λ lacks named. subst (λ (w : ℕ). IsMoved stores at new (set_reg to w now)) (same stores state at now sees (follows (step.kept lacks) named)) (step.follows stores state at sees now follows lacks named));
 }
 
-pub var_done : (old new : Moment) (to word : ℕ) (value : Seen → Moved → ℕ) (act : Seen → Moved → Moved) → ((seen : Seen) (now : Moved) → act seen now ≡ set_var to (value seen now) now)
+pub var_done : (old new : Moment) (to word : ℕ) (value : Seen → Moved → ℕ) (act : Seen → Moved → Moved) → ((seen : Seen) (now : Moved) → act seen now ≡ set_var_word to (value seen now) now)
     → ((stores : List StoreWords) (state : FlatState) (at : Coord) (now : Moved) → Sees stores state → IsMoved stores at old now → word ≡ value (seen_in stores state at) now)
-    → Moves (λ seen. set_var to word) old new → Moves act old new
+    → Moves (λ seen. set_var_word to word) old new → Moves act old new
 var_done old new to word value act is same step = record {
   stores = step.stores;
   kept = step.kept;
   follows = λ stores state at sees now follows.
       subst (λ (m : Moved). Follows stores at new m) (sym (is (seen_in stores state at) now))
-      (λ lacks named. subst (λ (w : ℕ). IsMoved stores at new (set_var to w now)) (same stores state at now sees (follows (step.kept lacks) named)) (step.follows stores state at sees now follows lacks named));
+      (λ lacks named. subst (λ (w : ℕ). IsMoved stores at new (set_var_word to w now)) (same stores state at now sees (follows (step.kept lacks) named)) (step.follows stores state at sees now follows lacks named));
 }
 
 -- ---- accesses
@@ -97,12 +97,12 @@ wants_more wants wants' made write more grew is was =
 places_grown : (stores : List StoreWords) (row row' : PlaceRow) (write : CellWrite) (places : ℕ → Option Place) → row' ≡ record row { writes = row.writes ++ write ∷ [] } → ArePlaces stores row places → ArePlaces stores row' places
 places_grown stores row row' write places grown are = record {
   same_stores = ap (λ (r : PlaceRow). r.stores) grown ∙ are.same_stores;
-  hold = subst (λ (held : List (Option Held)). (p : ℕ) → Holds stores (get_or held p None) (places p)) (sym (ap (λ (r : PlaceRow). r.list) grown)) are.hold;
+  hold = subst (λ (held : List (Option Held)). (p : ℕ) → HoldsPlace stores (get_or held p None) (places p)) (sym (ap (λ (r : PlaceRow). r.list) grown)) are.hold;
 }
 
 -- a write more
 pub write_done : (stores : List StoreWords) (at : Coord) (old : Moment) (row : PlaceRow) (write : CellWrite) (made : CodeWrite) (now : Moved) → row ≡ record old.places { writes = old.places.writes ++ write ∷ [] }
-    → write ≡ cell_write stores made → IsAtLoop at made → IsMoved stores at old now → IsMoved stores at (record old { places = row }) (add_write made now)
+    → write ≡ cell_write stores made → IsAtLoop at made → IsMoved stores at old now → IsMoved stores at (record old { places = row }) (add_code_write made now)
 write_done stores at old row write made now grown is loop moved = record {
   regs_are = moved.regs_are;
   vars_are = moved.vars_are;

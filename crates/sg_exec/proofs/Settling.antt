@@ -8,7 +8,7 @@ use Rattle.sg_exec.proofs.Reaching.{before_push, at_push}
 use Rattle.sg_layout.specs.declared.shape.Shape.{Shape}
 use Rattle.sg_store.specs.StoreWords.{StoreWords}
 use Rattle.sg_exec.specs.Standing.{shapes_of}
-use Rattle.sg_exec.specs.steps.Landing.{current, placed, with_copy}
+use Rattle.sg_exec.specs.steps.Landing.{current, with_copied_store, with_copy}
 use Rattle.sg_exec.proofs.StoresLanded.{current_length, current_set}
 
 pub set_long : {A : Type 0} (xs : List A) (i : ℕ) (x : A) → length (slice_set xs i x) ≡ length xs
@@ -32,11 +32,11 @@ settled_none (copy ∷ copies) (head ∷ stores) zero is = ap (λ (c : Option St
 settled_none (copy ∷ copies) (head ∷ stores) (suc i) is = ap (λ (rest : List StoreWords). unwrap_or copy head ∷ rest) (settled_none copies stores i is)
 
 pub settled_placed : (copies : List (Option StoreWords)) (stores : List StoreWords) (i : ℕ) (copy : Option StoreWords) → slice_get copies i ≡ Some copy → length copies ≡ length stores
-    → current (slice_set copies i None) (placed stores i copy) ≡ current copies stores
+    → current (slice_set copies i None) (with_copied_store stores i copy) ≡ current copies stores
 settled_placed copies stores i None is same = settled_none copies stores i is
 settled_placed copies stores i (Some store) is same = settled_some copies stores i store is same
 
-pub placed_long : (stores : List StoreWords) (i : ℕ) (copy : Option StoreWords) → length (placed stores i copy) ≡ length stores
+pub placed_long : (stores : List StoreWords) (i : ℕ) (copy : Option StoreWords) → length (with_copied_store stores i copy) ≡ length stores
 placed_long stores i None = refl
 placed_long stores i (Some store) = set_long stores i store
 

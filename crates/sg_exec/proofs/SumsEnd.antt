@@ -3,7 +3,7 @@ use Rattle.std.proofs.Common.{◌≡◌, ℕ, ◌<◌, List, [], ◌∷◌, ◌+
 use Rattle.std.specs.Prelude.{slice_get}
 use Rattle.std.proofs.lemmas.List.{append-nil, length-append}
 use Rattle.std.proofs.lemmas.Option.{same_Some, slice_get_within}
-use Rattle.sg_words.specs.RaceInvariant.{weight}
+use Rattle.sg_words.specs.RaceInvariant.{handed_share}
 use Rattle.sg_flat.specs.declared.effects.Write.{Write}
 use Rattle.sg_accum.specs.declared.seat.AccSeat.{AccSeat}
 use Rattle.sg_accum.specs.Folding.{worker_of, old_values, operator_of, type_of, IsSeatOf, AreFolded}
@@ -12,7 +12,7 @@ use Rattle.sg_store.specs.WellFormed.{IsFieldRow}
 use Rattle.sg_exec.specs.declared.shared.Accumulated.{Accumulated}
 use Rattle.sg_exec.specs.steps.Landing.{current, Lands}
 use Rattle.sg_exec.specs.steps.Racing.{ArePasses, AreSeats}
-use Rattle.sg_exec.specs.steps.Passes.{AreWhole, GaveReached, AreGiven, IsSumOf, IsFresh, into_field, passed}
+use Rattle.sg_exec.specs.steps.Passes.{AreWhole, GaveReached, AreGiven, IsSumOf, IsAsBefore, into_field, passed}
 use Rattle.sg_exec.proofs.FieldsFound.{snoc_old, snoc_new}
 use Rattle.sg_exec.proofs.StoresLanded.{lands_more}
 use Rattle.sg_exec.proofs.SumsPut.{sum_row}
@@ -71,7 +71,7 @@ module _ (stores : List StoreWords) (all list : List Accumulated) (last : Accumu
     pub whole_front : AreWhole all_seats → AreWhole seats
     whole_front whole = λ k one also. whole k one (seat_front k one also)
 
-    pub whole_last : AreSeats all all_seats → AreWhole all_seats → weight (worker_of seat) ≡ 16
+    pub whole_last : AreSeats all all_seats → AreWhole all_seats → handed_share (worker_of seat) ≡ 16
     whole_last are whole = whole (length list) seat (seat_last are)
 
     pub reached_front : GaveReached stores all all_seats → GaveReached stores list seats
@@ -97,14 +97,14 @@ module _ (stores : List StoreWords) (all list : List Accumulated) (last : Accumu
     pub lands_last : ArePasses stores all → AreSeats all all_seats → (layout field : ℕ) (words : List ℕ) → layout ≡ last.layout → field ≡ last.field
         → AreFolded (operator_of last.pass) (type_of last.pass) (old_values last.pass) (worker_of seat).given words
         → (olds mids news : List (Option StoreWords))
-        → ((other_layout other : ℕ) → (other_layout ≡ layout → other ≡ field → ⊥) → IsFresh stores olds other_layout other → IsFresh stores mids other_layout other)
-        → ((writes : List Write) → IsSumOf stores layout field words writes → IsFresh stores olds layout field → Lands (current olds stores) (current mids stores) (into_field layout field writes))
-        → ((writes : List Write) → AreGiven stores list seats writes → ((k : ℕ) (it : Accumulated) → slice_get list k ≡ Some it → IsFresh stores mids it.layout it.field) → Lands (current mids stores) (current news stores) (passed list writes))
-        → (writes : List Write) → AreGiven stores all all_seats writes → ((k : ℕ) (it : Accumulated) → slice_get all k ≡ Some it → IsFresh stores olds it.layout it.field)
+        → ((other_layout other : ℕ) → (other_layout ≡ layout → other ≡ field → ⊥) → IsAsBefore stores olds other_layout other → IsAsBefore stores mids other_layout other)
+        → ((writes : List Write) → IsSumOf stores layout field words writes → IsAsBefore stores olds layout field → Lands (current olds stores) (current mids stores) (into_field layout field writes))
+        → ((writes : List Write) → AreGiven stores list seats writes → ((k : ℕ) (it : Accumulated) → slice_get list k ≡ Some it → IsAsBefore stores mids it.layout it.field) → Lands (current mids stores) (current news stores) (passed list writes))
+        → (writes : List Write) → AreGiven stores all all_seats writes → ((k : ℕ) (it : Accumulated) → slice_get all k ≡ Some it → IsAsBefore stores olds it.layout it.field)
         → Lands (current olds stores) (current news stores) (passed all writes)
     lands_last are own layout field words layouts fields folds olds mids news stay one later writes given fresh =
         let pass = are.each (length list) last at_last in
-        let here : IsFresh stores olds layout field = subst (λ (l : ℕ). IsFresh stores olds l field) (sym layouts) (subst (λ (f : ℕ). IsFresh stores olds last.layout f) (sym fields) (fresh (length list) last at_last)) in
+        let here : IsAsBefore stores olds layout field = subst (λ (l : ℕ). IsAsBefore stores olds l field) (sym layouts) (subst (λ (f : ℕ). IsAsBefore stores olds last.layout f) (sym fields) (fresh (length list) last at_last)) in
         let sum : IsSumOf stores layout field words writes = record {
           it = last;
           given = (worker_of seat).given;

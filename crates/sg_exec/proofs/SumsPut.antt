@@ -22,7 +22,7 @@ use Rattle.sg_exec.specs.declared.shared.Accumulated.{Accumulated}
 use Rattle.sg_exec.specs.steps.Machines.{IsCellOf}
 use Rattle.sg_exec.specs.steps.Landing.{current, landed_layout, HasTree}
 use Rattle.sg_exec.specs.steps.Racing.{IsPassOf}
-use Rattle.sg_exec.specs.steps.Passes.{into_field, with_row, IsSumOf, IsFresh, AreActiveTo}
+use Rattle.sg_exec.specs.steps.Passes.{into_field, with_row, IsSumOf, IsAsBefore, AreActiveTo}
 use Rattle.sg_exec.proofs.Giving.{set_same, set_other}
 use Rattle.sg_exec.proofs.SumStands.{EndedPass, sets}
 
@@ -120,7 +120,7 @@ index_other (field ∷ fields) (suc k) (suc j) words apart = index_other fields 
 
 -- stays as it was, where another field's values were put
 pub fresh_after : (stores : List StoreWords) (olds nows : List (Option StoreWords)) (layout field other_layout other : ℕ) (was : StoreWords) (words : List ℕ) → current nows stores ≡ slice_set (current olds stores) layout (with_row was field words)
-    → slice_get (current olds stores) layout ≡ Some was → layout < length (current olds stores) → (other_layout ≡ layout → other ≡ field → ⊥) → IsFresh stores olds other_layout other → IsFresh stores nows other_layout other
+    → slice_get (current olds stores) layout ≡ Some was → layout < length (current olds stores) → (other_layout ≡ layout → other ≡ field → ⊥) → IsAsBefore stores olds other_layout other → IsAsBefore stores nows other_layout other
 fresh_after stores olds nows layout field other_layout other was words is there below apart fresh = λ store copy at copy_at cell. elim (cases_eq other_layout layout) [
   | inl same ↦ (
       let now : with_row was field words ≡ copy = same_Some _ _ (sym (set_same (current olds stores) layout (with_row was field words) below) ∙ ap (λ (l : List StoreWords). slice_get l layout) (sym is) ∙ ap (slice_get (current nows stores)) (sym same) ∙ copy_at) in

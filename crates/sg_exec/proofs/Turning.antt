@@ -33,7 +33,7 @@ use Rattle.sg_exec.specs.Running.{turn_of}
 use Rattle.sg_exec.specs.Standing.{shapes_of}
 use Rattle.sg_exec.specs.steps.Machines.{Sees}
 use Rattle.sg_exec.specs.steps.Moments.{AreNamedAt, slice_turn}
-use Rattle.sg_exec.specs.steps.Turning.{count_of, turns_in, AreNamedIn, wanted_of, writes_at, Means, IsMeant, AreMeant, IsActive, TellsOutside, in_both, wants_from, ReachesAll, TurnsActivated}
+use Rattle.sg_exec.specs.steps.Turning.{turn_count, turns_in, AreNamedIn, wanted_of, writes_of_turn, Means, IsMeant, AreMeant, IsActive, TellsOutside, in_both, wants_from, ReachesAll, TurnsActivated}
 use Rattle.sg_exec.specs.steps.Wants.{coords_in, AreWants}
 use Rattle.sg_exec.proofs.Wanting.{equal_members, coords_more}
 use Rattle.sg_exec.proofs.Following.{inside_head, writes_next}
@@ -163,75 +163,75 @@ wanted_inside bounds layout (write ∷ writes) law = by_test (write.layout == la
     by_test false b is rest = rest
 
 -- so is all that the turns are meant to want
-pub means_inside : (stores : List StoreWords) (turns : Turns) (bounds : Bounds) (layout count : ℕ) (list : ℕ → List Coord) → InsideTest → count ≡ count_of turns
+pub means_inside : (stores : List StoreWords) (turns : Turns) (bounds : Bounds) (layout count : ℕ) (list : ℕ → List Coord) → InsideTest → count ≡ turn_count turns
     → Means stores turns bounds layout list → (piece : ℕ) → piece < count → All (Inside bounds) (list piece)
 means_inside stores turns bounds layout count list law same means piece below =
     subst (λ (l : List Coord). All (Inside bounds) l) (sym (means.lists piece (subst (λ (n : ℕ). piece < n) same below)))
-    (wanted_inside bounds layout (writes_at (turns_in stores means.state turns) piece) law)
+    (wanted_inside bounds layout (writes_of_turn (turns_in stores means.state turns) piece) law)
 
 pub inside_more : (bounds : Bounds) (layout : ℕ) (writes : List Write) (old now : List Coord) → InsideTest → now ≡ old ++ wanted_of bounds layout writes → All (Inside bounds) old → All (Inside bounds) now
 inside_more bounds layout writes old now law is all =
     subst (λ (l : List Coord). All (Inside bounds) l) (sym is) (All-append (Inside bounds) old (wanted_of bounds layout writes) all (wanted_inside bounds layout writes law))
 
 -- the turn with a number
-writes_at_map : {X : Type 0} (f : X → Turn) (xs : List X) (i : ℕ) (d : X) → i < length xs → writes_at (map f xs) i ≡ (f (get_or xs i d)).writes
+writes_at_map : {X : Type 0} (f : X → Turn) (xs : List X) (i : ℕ) (d : X) → i < length xs → writes_of_turn (map f xs) i ≡ (f (get_or xs i d)).writes
 writes_at_map f [] i d below = absurd (omega arith)
 writes_at_map f (y ∷ ys) zero d below = refl
 writes_at_map f (y ∷ ys) (suc i) d below = writes_at_map f ys i d (omega arith)
 
 -- what an iteration of a slice wants, as its lists say
 pub slice_piece : (stores : List StoreWords) (turns : Turns) (points : Bor (List Coord)) (block : Bor (List Inst)) (bounds : Bounds) (layout count piece : ℕ) (list : ℕ → List Coord) (d : Coord) (writes : List Write)
-    → turns ≡ Slice points block → count ≡ count_of turns → piece < count → (means : Means stores turns bounds layout list)
+    → turns ≡ Slice points block → count ≡ turn_count turns → piece < count → (means : Means stores turns bounds layout list)
     → writes ≡ (slice_turn stores means.state block.now (get_or points.now piece d)).writes → wanted_of bounds layout writes ≡ list piece
 slice_piece stores turns points block bounds layout count piece list d writes is same below means wrote =
-    let long : count ≡ length points.now = same ∙ ap count_of is in
+    let long : count ≡ length points.now = same ∙ ap turn_count is in
     let low : piece < length points.now = omega arith in
     ap (wanted_of bounds layout) (wrote ∙ sym (writes_at_map (slice_turn stores means.state block.now) points.now piece d low)
-    ∙ ap (λ (t : Turns). writes_at (turns_in stores means.state t) piece) (sym is))
+    ∙ ap (λ (t : Turns). writes_of_turn (turns_in stores means.state t) piece) (sym is))
     ∙ sym (means.lists piece (omega arith))
 
 -- and of a listed write
 pub row_piece : (stores : List StoreWords) (turns : Turns) (rows : Bor (List Write)) (bounds : Bounds) (layout count piece : ℕ) (list : ℕ → List Coord) (d : Write)
-    → turns ≡ Rows rows → count ≡ count_of turns → piece < count → (means : Means stores turns bounds layout list)
+    → turns ≡ Rows rows → count ≡ turn_count turns → piece < count → (means : Means stores turns bounds layout list)
     → wanted_of bounds layout (get_or rows.now piece d ∷ []) ≡ list piece
 row_piece stores turns rows bounds layout count piece list d is same below means =
-    let long : count ≡ length rows.now = same ∙ ap count_of is in
+    let long : count ≡ length rows.now = same ∙ ap turn_count is in
     let low : piece < length rows.now = omega arith in
-    ap (wanted_of bounds layout) (sym (writes_at_map turn_of rows.now piece d low) ∙ ap (λ (t : Turns). writes_at (turns_in stores means.state t) piece) (sym is))
+    ap (wanted_of bounds layout) (sym (writes_at_map turn_of rows.now piece d low) ∙ ap (λ (t : Turns). writes_of_turn (turns_in stores means.state t) piece) (sym is))
     ∙ sym (means.lists piece (omega arith))
 
 -- the iterations of a slice are named
 pub slice_named : (stores : List StoreWords) (state : FlatState) (turns : Turns) (points : Bor (List Coord)) (block : Bor (List Inst)) → turns ≡ Slice points block → AreNamedIn stores state turns → AreNamedAt stores state block.now points.now
 slice_named stores state turns points block is named = subst (λ (t : Turns). AreNamedIn stores state t) is named
 
-pub low_point : (turns : Turns) (points : Bor (List Coord)) (block : Bor (List Inst)) (count piece : ℕ) → turns ≡ Slice points block → count ≡ count_of turns → piece < count → piece < length points.now
-low_point turns points block count piece is same below = let long : count ≡ length points.now = same ∙ ap count_of is in omega arith
+pub low_point : (turns : Turns) (points : Bor (List Coord)) (block : Bor (List Inst)) (count piece : ℕ) → turns ≡ Slice points block → count ≡ turn_count turns → piece < count → piece < length points.now
+low_point turns points block count piece is same below = let long : count ≡ length points.now = same ∙ ap turn_count is in omega arith
 
 -- ---- piece after piece
 
-writes_take : (turns : List Turn) (n : ℕ) → writes_of (take (suc n) turns) ≡ writes_of (take n turns) ++ writes_at turns n
+writes_take : (turns : List Turn) (n : ℕ) → writes_of (take (suc n) turns) ≡ writes_of (take n turns) ++ writes_of_turn turns n
 writes_take [] zero = refl
 writes_take [] (suc n) = refl
 writes_take (turn ∷ turns) zero = append-nil turn.writes
 writes_take (turn ∷ turns) (suc n) =
-    ap (λ (ws : List Write). turn.writes ++ ws) (writes_take turns n) ∙ sym (append_assoc turn.writes (writes_of (take n turns)) (writes_at turns n))
+    ap (λ (ws : List Write). turn.writes ++ ws) (writes_take turns n) ∙ sym (append_assoc turn.writes (writes_of (take n turns)) (writes_of_turn turns n))
 
-below_take : (bounds : Bounds) (layout : ℕ) (turns : List Turn) (list : ℕ → List Coord) (n : ℕ) → ((k : ℕ) → k < n → list k ≡ wanted_of bounds layout (writes_at turns k))
+below_take : (bounds : Bounds) (layout : ℕ) (turns : List Turn) (list : ℕ → List Coord) (n : ℕ) → ((k : ℕ) → k < n → list k ≡ wanted_of bounds layout (writes_of_turn turns k))
     → wanted_below list n ≡ wanted_of bounds layout (writes_of (take n turns))
 below_take bounds layout turns list zero lists = refl
 below_take bounds layout turns list (suc n) lists =
     ap (λ (l : List Coord). l ++ list n) (below_take bounds layout turns list n (λ k low. lists k (omega arith)))
     ∙ ap (λ (l : List Coord). wanted_of bounds layout (writes_of (take n turns)) ++ l) (lists n (omega arith))
-    ∙ sym (wanted_more bounds layout (writes_of (take n turns)) (writes_at turns n))
+    ∙ sym (wanted_more bounds layout (writes_of (take n turns)) (writes_of_turn turns n))
     ∙ ap (wanted_of bounds layout) (sym (writes_take turns n))
 
-count_is : (stores : List StoreWords) (state : FlatState) (turns : Turns) → length (turns_in stores state turns) ≡ count_of turns
+count_is : (stores : List StoreWords) (state : FlatState) (turns : Turns) → length (turns_in stores state turns) ≡ turn_count turns
 count_is stores state (Slice points block) = length-map points.now (slice_turn stores state block.now)
 count_is stores state (Rows rows) = length-map rows.now turn_of
 
 -- the lists of what each turn wants
 abbrev pub lists_of : List StoreWords → FlatState → Turns → Bounds → ℕ → ℕ → List Coord
-lists_of stores state turns bounds layout k = wanted_of bounds layout (writes_at (turns_in stores state turns) k)
+lists_of stores state turns bounds layout k = wanted_of bounds layout (writes_of_turn (turns_in stores state turns) k)
 
 pub means_lists : (stores : List StoreWords) (turns : Turns) (number layout : ℕ) (store : StoreWords) (wanted : List Coord) (bounds : Bounds) → layout ≡ number → bounds ≡ bounds_of_shape store.shape → (meant : IsMeant stores turns number store wanted)
     → Means stores turns bounds layout (lists_of stores meant.state turns (bounds_of_shape store.shape) number)
@@ -240,11 +240,11 @@ means_lists stores turns number layout store wanted bounds same_number same mean
   sees = meant.sees;
   named = meant.named;
   lists = λ k low.
-      ap (λ (b : Bounds). wanted_of b number (writes_at (turns_in stores meant.state turns) k)) (sym same)
-      ∙ ap (λ (n : ℕ). wanted_of bounds n (writes_at (turns_in stores meant.state turns) k)) (sym same_number);
+      ap (λ (b : Bounds). wanted_of b number (writes_of_turn (turns_in stores meant.state turns) k)) (sym same)
+      ∙ ap (λ (n : ℕ). wanted_of bounds n (writes_of_turn (turns_in stores meant.state turns) k)) (sym same_number);
 }
 
-pub below_all : (stores : List StoreWords) (turns : Turns) (number : ℕ) (store : StoreWords) (wanted : List Coord) (count : ℕ) → count ≡ count_of turns → (meant : IsMeant stores turns number store wanted)
+pub below_all : (stores : List StoreWords) (turns : Turns) (number : ℕ) (store : StoreWords) (wanted : List Coord) (count : ℕ) → count ≡ turn_count turns → (meant : IsMeant stores turns number store wanted)
     → wanted_below (lists_of stores meant.state turns (bounds_of_shape store.shape) number) count ≡ wanted
 below_all stores turns number store wanted count same meant =
     let made = turns_in stores meant.state turns in

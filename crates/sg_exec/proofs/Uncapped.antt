@@ -18,7 +18,7 @@ use Rattle.sg_store.specs.declared.node.NodeWords.{NodeWords}
 use Rattle.sg_store.specs.StoreWords.{StoreWords}
 use Rattle.sg_store.specs.StoreLaws.{LiveIsNeed}
 use Rattle.sg_store.specs.StandsFor.{StandsFor}
-use Rattle.sg_store.specs.WellFormed.{has_cap, IsWithinCap, AreNodes, IsWellFormed, is_root, places_below, live_below, live_slot}
+use Rattle.sg_store.specs.WellFormed.{kind_has_cap, IsWithinCap, AreNodes, IsWellFormed, is_root, places_below, live_below, live_slot}
 use Rattle.sg_exec.specs.steps.Wants.{reached_layout}
 
 at_most : (need cap : ℕ) → need ≤ cap → ltb cap need ≡ false
@@ -26,7 +26,7 @@ at_most need cap low = grind (arith, nat_tests)
 
 no_full : (shape : Shape) (active : List Coord) (number : ℕ) (nodes : List NodeShape) (words : List NodeWords) (places : ℕ) (live : ℕ → Bool) → AreNodes nodes words places live
     → AllZip (λ node kept. IsWithinCap node.kind node kept) nodes words
-    → ((j : ℕ) (node : NodeShape) (kept : NodeWords) → slice_get nodes j ≡ Some node → slice_get words j ≡ Some kept → has_cap node.kind ≡ true → live_count kept.pool ≡ need_of shape active (number + j) node)
+    → ((j : ℕ) (node : NodeShape) (kept : NodeWords) → slice_get nodes j ≡ Some node → slice_get words j ≡ Some kept → kind_has_cap node.kind ≡ true → live_count kept.pool ≡ need_of shape active (number + j) node)
     → first_full_from shape active number nodes ≡ None
 no_full shape active number [] words places live are within each = refl
 no_full shape active number (node ∷ nodes) [] places live are within each = absurd are
@@ -41,7 +41,7 @@ no_full shape active number (node ∷ nodes) (kept ∷ words) places live are wi
         let need : need_of shape active number node ≡ 0 = ap (λ (k : Kind). need_by k shape active number (count_of node.chunk)) e ∙ none in
         at_most (need_of shape active number node) (count_of node.cap) (omega arith)
 
-    capped_needed : has_cap node.kind ≡ true → live_count kept.pool ≤ count_of node.cap → ltb (count_of node.cap) (need_of shape active number node) ≡ false
+    capped_needed : kind_has_cap node.kind ≡ true → live_count kept.pool ≤ count_of node.cap → ltb (count_of node.cap) (need_of shape active number node) ≡ false
     capped_needed linked low =
         let here : number + 0 ≡ number = omega arith in
         let is_need : live_count kept.pool ≡ need_of shape active number node = each 0 node kept refl refl linked ∙ ap (λ (m : ℕ). need_of shape active m node) here in
@@ -50,9 +50,9 @@ no_full shape active number (node ∷ nodes) (kept ∷ words) places live are wi
     by_kind : (kind : Kind) → node.kind ≡ kind → ltb (count_of node.cap) (need_of shape active number node) ≡ false
     by_kind Dense e = none_needed Dense e refl
     by_kind Bitmasked e = none_needed Bitmasked e refl
-    by_kind Pointer e = capped_needed (ap has_cap e) (subst (λ (k : Kind). IsWithinCap k node kept) e within.0)
-    by_kind Hash e = capped_needed (ap has_cap e) (subst (λ (k : Kind). IsWithinCap k node kept) e within.0)
-    by_kind Dynamic e = capped_needed (ap has_cap e) (subst (λ (k : Kind). IsWithinCap k node kept) e within.0)
+    by_kind Pointer e = capped_needed (ap kind_has_cap e) (subst (λ (k : Kind). IsWithinCap k node kept) e within.0)
+    by_kind Hash e = capped_needed (ap kind_has_cap e) (subst (λ (k : Kind). IsWithinCap k node kept) e within.0)
+    by_kind Dynamic e = capped_needed (ap kind_has_cap e) (subst (λ (k : Kind). IsWithinCap k node kept) e within.0)
 
 pub nothing_wanted : (store : StoreWords) (flat : FlatLayout) → LiveIsNeed store → IsWellFormed store → StandsFor store flat
     → (first_full store.shape (flat.active ++ []) ≡ None) × StandsFor store (reached_layout store.shape flat [])

@@ -6,12 +6,12 @@ use Rattle.sg_words.specs.Words.{word_of}
 use Rattle.sg_flat.specs.Domain.{numbers}
 use Rattle.sg_ir.specs.declared.code.Inst.{Inst}
 use Rattle.sg_ir.specs.declared.code.Inst.TheVariants as v
-use Rattle.sg_ir.specs.Runs.{Seen, Moved, Action, in_turn, does, runs, set_var}
+use Rattle.sg_ir.specs.Runs.{Seen, Moved, InstAction, actions_in_turn, does, runs, set_var_word}
 use Rattle.sg_ir.proofs.Uses.{does-If, does-For}
 use Rattle.sg_exec.specs.steps.Turning.{wants_for, InstWantsNone, BlockWantsNone}
 
-in_branch : (layout : ℕ) (test : Bool) (yes no : List Action) (now : Moved) → wants_for layout (in_turn yes now) ≡ wants_for layout now → wants_for layout (in_turn no now) ≡ wants_for layout now
-    → wants_for layout (in_turn (if test then no else yes) now) ≡ wants_for layout now
+in_branch : (layout : ℕ) (test : Bool) (yes no : List InstAction) (now : Moved) → wants_for layout (actions_in_turn yes now) ≡ wants_for layout now → wants_for layout (actions_in_turn no now) ≡ wants_for layout now
+    → wants_for layout (actions_in_turn (if test then no else yes) now) ≡ wants_for layout now
 in_branch layout true first second now is_first is_second = is_second
 in_branch layout false first second now is_first is_second = is_first
 
@@ -22,10 +22,10 @@ if_none layout inst cond block otherwise is none none' = λ seen now.
     ∙ in_branch layout (now.regs cond == 0) (map (does seen) block) (map (does seen) otherwise) now (none seen now) (none' seen now)
 
 turns_none : (layout : ℕ) (seen : Seen) (var : ℕ) (body : List Inst) (turns : List ℤ) (now : Moved) → BlockWantsNone layout body
-    → wants_for layout (fold (λ (reached : Moved) (turn : ℤ). in_turn (map (does seen) body) (set_var var (word_of turn) reached)) now turns) ≡ wants_for layout now
+    → wants_for layout (fold (λ (reached : Moved) (turn : ℤ). actions_in_turn (map (does seen) body) (set_var_word var (word_of turn) reached)) now turns) ≡ wants_for layout now
 turns_none layout seen var body [] now none = refl
 turns_none layout seen var body (turn ∷ turns) now none =
-    turns_none layout seen var body turns (in_turn (map (does seen) body) (set_var var (word_of turn) now)) none ∙ none seen (set_var var (word_of turn) now)
+    turns_none layout seen var body turns (actions_in_turn (map (does seen) body) (set_var_word var (word_of turn) now)) none ∙ none seen (set_var_word var (word_of turn) now)
 
 pub for_none : (layout : ℕ) (inst : Inst) (var : ℕ) (lo hi : ℤ) (body : List Inst) → inst ≡ v.For var lo hi body → BlockWantsNone layout body → InstWantsNone layout inst
 for_none layout inst var lo hi body is none = λ seen now.

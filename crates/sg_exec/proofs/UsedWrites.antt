@@ -11,7 +11,7 @@ use Rattle.sg_ir.specs.declared.code.Inst.{Inst, out-Inst, roll-Inst, roll-out-I
 use Rattle.sg_ir.specs.declared.code.Inst.TheVariants.{rolls-Const, rolls-Var, rolls-Set, rolls-Bin, rolls-Un, rolls-Mulq, rolls-Root, rolls-Check, rolls-Extract, rolls-Offset, rolls-Child, rolls-HashChild, rolls-MaskBit, rolls-DynCell, rolls-ReadCell, rolls-OwnRead, rolls-OwnWrite, rolls-Acc, rolls-Want, rolls-If, rolls-For}
 use Rattle.sg_ir.specs.declared.code.Inst.TheOpen as i
 use Rattle.sg_ir.specs.declared.code.Inst.TheOpen.{Inst-F}
-use Rattle.sg_ir.specs.Runs.{Seen, Moved, Action, CodeWrite, set_var, in_turn, inst_step, does, iteration, iteration_start, at_of}
+use Rattle.sg_ir.specs.Runs.{Seen, Moved, InstAction, CodeWrite, set_var_word, actions_in_turn, inst_step, does, iteration, iteration_start, at_of}
 use Rattle.sg_ir.specs.Apt.{Use, Writes, Reads, ReadsOwn, uses_step, uses_in}
 use Rattle.sg_ir.proofs.Uses.{fold-Const, fold-Var, fold-Set, fold-Bin, fold-Un, fold-Mulq, fold-Root, fold-Check, fold-Extract, fold-Offset, fold-Child, fold-HashChild, fold-MaskBit, fold-DynCell, fold-ReadCell, fold-OwnRead, fold-OwnWrite, fold-Acc, fold-Want, fold-If, fold-For, largest, depth_step, depth}
 use Rattle.sg_exec.specs.steps.Machines.{IsAtLoop}
@@ -31,15 +31,15 @@ module _ (seen : Seen) where
   IsBy uses write = Contains uses (use_of write) × IsAtLoop seen.at write
 
   -- what an action writes is used, or was written before
-  abbrev Used : List Use → Action → Type 0
+  abbrev Used : List Use → InstAction → Type 0
   Used uses act = (now : Moved) (write : CodeWrite) → Contains (act now).writes write → Contains now.writes write ⊎ IsBy uses write
 
   abbrev UsesIts : Inst → Type 0
   UsesIts inst = Used (uses_of inst) (does seen inst)
 
-  leaf : (inst : Inst) (uses : List Use) (act : Action) → uses_of inst ≡ uses → does seen inst ≡ act → Used uses act → UsesIts inst
+  leaf : (inst : Inst) (uses : List Use) (act : InstAction) → uses_of inst ≡ uses → does seen inst ≡ act → Used uses act → UsesIts inst
   leaf inst uses act same is used =
-      subst (λ (them : List Use). Used them (does seen inst)) (sym same) (subst (λ (other : Action). Used uses other) (sym is) used)
+      subst (λ (them : List Use). Used them (does seen inst)) (sym same) (subst (λ (other : InstAction). Used uses other) (sym is) used)
 
   one : (now : List CodeWrite) (added write : CodeWrite) → IsAtLoop seen.at added → Contains (now ++ added ∷ []) write → Contains now write ⊎ IsBy (use_of added ∷ []) write
   one now added write at has = by (Contains-append_cases now (added ∷ []) write has)
@@ -53,7 +53,7 @@ module _ (seen : Seen) where
       by (inr new) = inr (single (contains_cases write added [] new))
 
   abbrev Listed : List Inst → Type 0
-  Listed insts = Used (flat_map uses_of insts) (in_turn (map (does seen) insts))
+  Listed insts = Used (flat_map uses_of insts) (actions_in_turn (map (does seen) insts))
 
   by_list : (n : ℕ) → ((inst : Inst) → depth inst < n → UsesIts inst) → (insts : List Inst) → largest (map depth insts) < n → Listed insts
   by_list n each [] below now write has = inl has
@@ -79,7 +79,7 @@ module _ (seen : Seen) where
       right (inl before) = inl before
       right (inr used) = inr (Contains-append_right (flat_map uses_of block) (flat_map uses_of otherwise) (use_of write) used.0, used.1)
 
-      by_test : (test : Bool) → Contains (in_turn (if test then map (does seen) otherwise else map (does seen) block) now).writes write
+      by_test : (test : Bool) → Contains (actions_in_turn (if test then map (does seen) otherwise else map (does seen) block) now).writes write
           → Contains now.writes write ⊎ IsBy (flat_map uses_of block ++ flat_map uses_of otherwise) write
       by_test true has = right (second now write has)
       by_test false has = left (first now write has)
@@ -87,15 +87,15 @@ module _ (seen : Seen) where
   by_for : (var : ℕ) (lo hi : ℤ) (body : List Inst) → Listed body → Used (flat_map uses_of body) (inst_step seen (i.For var lo hi (map (does seen) body)))
   by_for var lo hi body each now write has = turns (numbers lo hi) now has
     where
-      earlier : (z : ℤ) (from : Moved) → Contains (in_turn (map (does seen) body) (set_var var (word_of z) from)).writes write ⊎ IsBy (flat_map uses_of body) write
+      earlier : (z : ℤ) (from : Moved) → Contains (actions_in_turn (map (does seen) body) (set_var_word var (word_of z) from)).writes write ⊎ IsBy (flat_map uses_of body) write
           → Contains from.writes write ⊎ IsBy (flat_map uses_of body) write
-      earlier z from (inl before) = each (set_var var (word_of z) from) write before
+      earlier z from (inl before) = each (set_var_word var (word_of z) from) write before
       earlier z from (inr used) = inr used
 
-      turns : (zs : List ℤ) (from : Moved) → Contains (fold (λ reached turn. in_turn (map (does seen) body) (set_var var (word_of turn) reached)) from zs).writes write
+      turns : (zs : List ℤ) (from : Moved) → Contains (fold (λ reached turn. actions_in_turn (map (does seen) body) (set_var_word var (word_of turn) reached)) from zs).writes write
           → Contains from.writes write ⊎ IsBy (flat_map uses_of body) write
       turns [] from all = inl all
-      turns (z ∷ zs) from all = earlier z from (turns zs (in_turn (map (does seen) body) (set_var var (word_of z) from)) all)
+      turns (z ∷ zs) from all = earlier z from (turns zs (actions_in_turn (map (does seen) body) (set_var_word var (word_of z) from)) all)
 
   module _ (n : ℕ) (each : (insts : List Inst) → largest (map depth insts) < n → Listed insts) where
     abbrev Deep : Inst → Type 0

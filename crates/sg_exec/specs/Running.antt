@@ -27,10 +27,10 @@ pub record IsRunnable (shapes : List Shape) (kernel : KernelCode) : Type 0 where
   pub apt : IsApt shapes kernel
 
 -- where a write is, by whether it may activate: at the coordinate of the first want that is left, else at the loop's
-abbrev pub place_of : Bool → List CodeWant → Coord → Coord
-place_of true (want ∷ wants) at = want.at
-place_of true [] at = at
-place_of false wants at = at
+abbrev pub coord_of_write : Bool → List CodeWant → Coord → Coord
+coord_of_write true (want ∷ wants) at = want.at
+coord_of_write true [] at = at
+coord_of_write false wants at = at
 
 -- the wants that are left after a write, by whether it may activate
 abbrev pub wants_left : Bool → List CodeWant → List CodeWant
@@ -54,7 +54,7 @@ write_at write at = record {
 abbrev pub located : Domain → Coord → List CodeWant → List CodeWrite → List Write
 located domain at wants [] = []
 located domain at wants (write ∷ writes) =
-    write_at write (place_of (may_activate domain write) wants at)
+    write_at write (coord_of_write (may_activate domain write) wants at)
     ∷ located domain at (wants_left (may_activate domain write) wants) writes
 
 -- what an iteration sees

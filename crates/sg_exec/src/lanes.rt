@@ -1,7 +1,7 @@
 //! One instruction in each of several iterations, which run side by side.
 
 ghost use Rattle.sg_ir.specs.declared.code.Inst.TheVariants as v;
-ghost use Rattle.sg_ir.specs.Runs.{does, set_var, set_place, down};
+ghost use Rattle.sg_ir.specs.Runs.{does, set_var_word, set_place, down};
 ghost use Rattle.sg_exec.specs.steps.Moments.{AllMove};
 
 use crate::moment::Moment;
@@ -209,7 +209,7 @@ pub(crate) fn wants(moments: &mut [Moment], layout: u32, index: &[u32], stmt: u3
 /// Variables become a word.
 #[inline(always)]
 pub(crate) fn set_vars(moments: &mut [Moment], var: u32, word: u32)
-    ensures { AllMove (λ seen. set_var var word) moments.old moments.new }
+    ensures { AllMove (λ seen. set_var_word var word) moments.old moments.new }
 {
     for k in 0..moments.len() {
         let moment = &mut moments[k];

@@ -3,7 +3,7 @@
 ghost use Rattle.std.specs.Prelude.{◌≡◌, ◌++◌, All, OnOk};
 ghost use Rattle.sg_coord.specs.Bounds.{bounds_of};
 ghost use Rattle.sg_coord.specs.Coord.{Inside};
-ghost use Rattle.sg_exec.specs.steps.Turning.{count_of, wanted_of};
+ghost use Rattle.sg_exec.specs.steps.Turning.{turn_count, wanted_of};
 
 use crate::batch::{iterate_all, rows_for};
 use crate::moment::Moment;
@@ -24,7 +24,7 @@ pub struct LayoutWants<'a> {
     pub count: u32,
     pub layout: u32,
     pub extents: Extents,
-    ghost counted: { count ≡ count_of turns },
+    ghost counted: { count ≡ turn_count turns },
 }
 
 impl<'a> Wanted for LayoutWants<'a> {

@@ -25,7 +25,7 @@ impl<'a> Moment<'a> {
     ghost use Rattle.std.specs.Prelude.{◌≡◌, List, get_or, OnOk};
     ghost use Rattle.sg_store.specs.StoreWords.{StoreWords};
     ghost use Rattle.sg_flat.specs.declared.state.FlatState.{FlatState};
-    ghost use Rattle.sg_ir.specs.Runs.{iteration_start, set_reg, set_var};
+    ghost use Rattle.sg_ir.specs.Runs.{iteration_start, set_reg, set_var_word};
     ghost use Rattle.sg_exec.specs.steps.Machines.{seen_in, Sees};
     ghost use Rattle.sg_exec.specs.steps.Landing.{current};
     ghost use Rattle.sg_exec.specs.steps.Moments.{Follows, Moves};
@@ -91,7 +91,7 @@ impl<'a> Moment<'a> {
     /// Gives a variable a word.
     #[inline(always)]
     pub fn set_var(&mut self, var: u32, word: u32)
-        ensures { Moves (λ seen. set_var var word) self.old self.new }
+        ensures { Moves (λ seen. set_var_word var word) self.old self.new }
     {
         match put(&mut self.vars, var, word, 0) {
             Ok(()) => {}

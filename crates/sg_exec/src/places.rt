@@ -76,7 +76,7 @@ impl<'a> Places<'a> {
     ghost use Rattle.sg_exec.specs.Standing.{shapes_of};
     ghost use Rattle.sg_exec.specs.steps.Landing.{current};
     ghost use Rattle.sg_exec.specs.steps.Written.{own_write, last_or};
-    ghost use Rattle.sg_exec.specs.steps.Machines.{seen_in, cell_there, IsCellOf, AreCells, IsHeld, Holds, ArePlaces};
+    ghost use Rattle.sg_exec.specs.steps.Machines.{seen_in, cell_there, IsCellOf, AreCells, IsHeld, HoldsPlace, ArePlaces};
 
     /// No places over the stores, with each copy in the place of the store that it was made of.
     pub fn new(alloc: Global, stores: &'a Stores, copies: &'a [Option<Store>]) -> Places<'a>
@@ -285,7 +285,7 @@ impl<'a> Places<'a> {
         ensures at { self.new.at ≡ self.old.at }
         ensures writes { self.new.writes ≡ self.old.writes }
         ensures ok { OnOk result ((stores : List StoreWords) (places : ℕ → Option Place) (place : Option Place) →
-            ArePlaces stores self.old places → Holds stores held place → ArePlaces stores self.new (put to place places)) }
+            ArePlaces stores self.old places → HoldsPlace stores held place → ArePlaces stores self.new (put to place places)) }
     {
         put(&mut self.list, to, held, None)
     }
@@ -294,7 +294,7 @@ impl<'a> Places<'a> {
     #[inline(always)]
     fn root_of(&self, layout: u32) -> Option<Held>
         ensures held { IfSome result (IsHeld self.now.stores) }
-        ensures holds { Holds self.now.stores result (Some (record { layout = layout; path = [] })) }
+        ensures holds { HoldsPlace self.now.stores result (Some (record { layout = layout; path = [] })) }
     {
         match self.view.get(layout) {
             Some(store) => held_in(layout, Some(store.root())),
@@ -307,7 +307,7 @@ impl<'a> Places<'a> {
     fn checked(&self, place: u32, passes: bool) -> Option<Held>
         ensures held { IfSome result (IsHeld self.now.stores) }
         ensures holds { (places : ℕ → Option Place) → ArePlaces self.now.stores self.now places →
-            Holds self.now.stores result (if passes then places place else None) }
+            HoldsPlace self.now.stores result (if passes then places place else None) }
     {
         if passes { self.get(place) } else { None }
     }
@@ -317,7 +317,7 @@ impl<'a> Places<'a> {
     fn below(&self, place: u32, node: u32, offset: u32) -> Option<Held>
         ensures held { IfSome result (IsHeld self.now.stores) }
         ensures holds { (places : ℕ → Option Place) → ArePlaces self.now.stores self.now places →
-            Holds self.now.stores result (down (shapes_of self.now.stores) node offset (places place)) }
+            HoldsPlace self.now.stores result (down (shapes_of self.now.stores) node offset (places place)) }
     {
         match self.get(place) {
             Some(held) => self.below_held(held, node, offset),
@@ -330,8 +330,8 @@ impl<'a> Places<'a> {
     fn below_held(&self, held: Held, node: u32, offset: u32) -> Option<Held>
         requires held { IsHeld self.now.stores held }
         ensures held { IfSome result (IsHeld self.now.stores) }
-        ensures holds { (place : Option Place) → Holds self.now.stores (Some held) place →
-            Holds self.now.stores result (down (shapes_of self.now.stores) node offset place) }
+        ensures holds { (place : Option Place) → HoldsPlace self.now.stores (Some held) place →
+            HoldsPlace self.now.stores result (down (shapes_of self.now.stores) node offset place) }
     {
         match self.view.get(held.layout) {
             Some(store) => held_in(held.layout, spot_below(store, held.spot, node, offset)),

@@ -5,7 +5,7 @@ ghost use Rattle.sg_store.specs.StoreWords.{StoreWords};
 ghost use Rattle.sg_store.specs.StandsFor.{StandsFor};
 ghost use Rattle.sg_exec.specs.Standing.{shapes_of, StandForState};
 ghost use Rattle.sg_exec.specs.Running.{IsRunnable, Ran, run_meaning, load_meaning};
-ghost use Rattle.sg_exec.specs.steps.Landing.{current, placed, with_copy, CopiesRan};
+ghost use Rattle.sg_exec.specs.steps.Landing.{current, with_copied_store, with_copy, CopiesRan};
 
 use crate::activated::{activated_for_rows, activated_for_slice};
 use crate::landing::land_all;
@@ -163,7 +163,7 @@ pub(crate) fn settle(stores: &mut Stores, copies: Vec<Option<Store>>)
 
 fn place(stores: &mut Stores, number: usize, copy: Option<Store>)
     requires { number < length stores.old.list }
-    ensures { stores.new.list ≡ placed stores.old.list number copy }
+    ensures { stores.new.list ≡ with_copied_store stores.old.list number copy }
 {
     if let Some(store) = copy {
         stores.list.set(number, store);

@@ -1,5 +1,5 @@
 ghost use Rattle.std.specs.Prelude.{◌≡◌, ◌<◌, ◌≤◌, ◌^◌, ℕ, Option, List, map, length, IfOk, IfSome, OnOk, Some, slice_get, slice_index, unwrap_or};
-ghost use Rattle.sg_words.specs.RaceInvariant.{weight};
+ghost use Rattle.sg_words.specs.RaceInvariant.{handed_share};
 ghost use Rattle.sg_accum.specs.Folding.{old_values, operator_of, type_of, worker_of, IsSeatOf, AreFolded};
 ghost use Rattle.sg_coord.specs.declared.coord.Coord.{Coord};
 ghost use Rattle.sg_flat.specs.declared.effects.Turn.{Turn};
@@ -17,7 +17,7 @@ ghost use Rattle.sg_exec.specs.steps.Moments.{AreNamedAt};
 ghost use Rattle.sg_exec.specs.steps.Landing.{current, landing, landed_layout, AreTurnsOf, HasTree, AreCopies, Lands};
 ghost use Rattle.sg_exec.specs.steps.Racing.{ArePasses, AreSeats};
 ghost use Rattle.sg_exec.specs.steps.Working.{HasRaced};
-ghost use Rattle.sg_exec.specs.steps.Passes.{WritesOneWay, HaveFields, AreWhole, GaveReached, AreGiven, IsSumOf, IsFresh, AreActiveTo, into_field, passed, with_row};
+ghost use Rattle.sg_exec.specs.steps.Passes.{WritesOneWay, HaveFields, AreWhole, GaveReached, AreGiven, IsSumOf, IsAsBefore, AreActiveTo, into_field, passed, with_row};
 
 use crate::fields::written_fields;
 use crate::hand::Hand;
@@ -166,7 +166,7 @@ fn land_sums(
     requires cells { GaveReached (current reached.now stores.now.list) accumulated.items seats.items }
     ensures copies { AreCopies (current reached.now stores.now.list) copies.new.items }
     ensures lands { OnOk result ((writes : List Write) → AreGiven (current reached.now stores.now.list) accumulated.items seats.items writes →
-        ((k : ℕ) (it : Accumulated) → slice_get accumulated.items k ≡ Some it → IsFresh (current reached.now stores.now.list) copies.old.items it.layout it.field) →
+        ((k : ℕ) (it : Accumulated) → slice_get accumulated.items k ≡ Some it → IsAsBefore (current reached.now stores.now.list) copies.old.items it.layout it.field) →
         Lands (current copies.old.items (current reached.now stores.now.list)) (current copies.new.items (current reached.now stores.now.list)) (passed accumulated.items writes)) }
 {
     let mut accumulated = accumulated;
@@ -185,7 +185,7 @@ fn land_sums(
 /// The end of a pass.
 fn finish(it: Accumulated, seat: AccSeat) -> Result<Sum, Memory>
     requires own { IsSeatOf it.pass seat }
-    requires whole { weight (worker_of seat) ≡ 16 }
+    requires whole { handed_share (worker_of seat) ≡ 16 }
     ensures layout { IfOk result (λ sum. sum.layout ≡ it.layout) }
     ensures field { IfOk result (λ sum. sum.field ≡ it.field) }
     ensures folds { IfOk result (λ sum. AreFolded (operator_of it.pass) (type_of it.pass) (old_values it.pass) (worker_of seat).given sum.words) }
@@ -217,9 +217,9 @@ fn land_sum(
         (sum.now.field < length store.shape.fields) × IsFieldRow store sum.now.words }
     ensures copies { AreCopies (current reached.now stores.now.list) copies.new.items }
     ensures fresh { OnOk result ((layout field : ℕ) → (layout ≡ sum.now.layout → field ≡ sum.now.field → ⊥) →
-        IsFresh (current reached.now stores.now.list) copies.old.items layout field → IsFresh (current reached.now stores.now.list) copies.new.items layout field) }
+        IsAsBefore (current reached.now stores.now.list) copies.old.items layout field → IsAsBefore (current reached.now stores.now.list) copies.new.items layout field) }
     ensures lands { OnOk result ((writes : List Write) → IsSumOf (current reached.now stores.now.list) sum.now.layout sum.now.field sum.now.words writes →
-        IsFresh (current reached.now stores.now.list) copies.old.items sum.now.layout sum.now.field →
+        IsAsBefore (current reached.now stores.now.list) copies.old.items sum.now.layout sum.now.field →
         Lands (current copies.old.items (current reached.now stores.now.list)) (current copies.new.items (current reached.now stores.now.list))
         (into_field sum.now.layout sum.now.field writes)) }
 {

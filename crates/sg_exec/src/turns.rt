@@ -1,7 +1,7 @@
 //! The turns of a run, and the layouts into which they want to write.
 
 ghost use Rattle.std.specs.Prelude.{◌≡◌, ◌==◌, [], false, filter};
-ghost use Rattle.sg_exec.specs.steps.Turning.{count_of, WantsNone, BlockWantsNone, InstWantsNone, BlockSeeksNone, InstSeeksNone};
+ghost use Rattle.sg_exec.specs.steps.Turning.{turn_count, WantsNone, BlockWantsNone, InstWantsNone, BlockSeeksNone, InstSeeksNone};
 
 use sg_coord::Coord;
 use sg_flat::Write;
@@ -19,7 +19,7 @@ pub enum Turns<'a> {
 
 /// How many turns there are.
 pub(crate) fn count_of(turns: Turns) -> usize
-    ensures { result ≡ count_of turns.entry }
+    ensures { result ≡ turn_count turns.entry }
 {
     match turns {
         Turns::Slice { points, .. } => points.len(),

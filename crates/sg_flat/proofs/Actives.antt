@@ -31,7 +31,7 @@ use Rattle.sg_layout.specs.Accepted.{IsAccepted}
 use Rattle.sg_layout.specs.Path.{path}
 use Rattle.sg_layout.specs.Live.{kind_or, kind_at, makes_live, is_live}
 use Rattle.sg_layout.specs.Closure.{last_sparse, is_in_closure, points, closure}
-use Rattle.sg_flat.specs.steps.Blocks.{bounds_over, nodes_above, is_whole, block_of, place_of, reach_of, is_reached, is_row_reached}
+use Rattle.sg_flat.specs.steps.Blocks.{bounds_over, nodes_above, is_whole, block_number, row_in_block, live_points, is_reached, is_row_reached}
 use Rattle.sg_flat.proofs.MapWords.{is_eq-nat_cmp}
 use Rattle.sg_flat.proofs.Accepted.{good_at, last_where_dynamic}
 use Rattle.sg_flat.proofs.Slotted.{slot_test}
@@ -126,7 +126,7 @@ live_is_reached shape i node later coords at point_of_row row_below accepted spl
     let last : node.kind ≡ Dynamic → later ≡ [] = last_where_dynamic node later (good_at shape i node later accepted split) in
     ap (λ (kind : Kind). list_any (λ (w : Coord). makes_live kind (path shape w (suc i)) (path shape at (suc i))) coords) (kind_here shape.nodes i node later split)
     ∙ list_any-agree (Inside all) (λ (w : Coord). makes_live node.kind (path shape w (suc i)) (path shape at (suc i)))
-    (λ (w : Coord). eqb (block_of all block w) (block_of all block at) && ltb (place_of block at) (reach_of (is_whole node.kind) block w)) coords
+    (λ (w : Coord). eqb (block_number all block w) (block_number all block at) && ltb (row_in_block block at) (live_points (is_whole node.kind) block w)) coords
     (λ (w : Coord) w_in. slot_test shape i node later node.kind w at point_of_row row_below accepted split last w_in at_in) inside
     ∙ sym (is_reached-any all block (is_whole node.kind) coords at)
 

@@ -9,7 +9,7 @@ use Rattle.sg_coord.specs.Laws.{PointOfRow}
 use Rattle.sg_coord.proofs.Uses.{part_is, offset_below, same_parts}
 use Rattle.sg_flat.specs.declared.blocks.Blocks.{Blocks}
 use Rattle.sg_coord.specs.Bounds.{bounds_of}
-use Rattle.sg_flat.specs.steps.Blocks.{corner, within, block_of}
+use Rattle.sg_flat.specs.steps.Blocks.{corner, within, block_number}
 
 -- each axis is cut into runs of one length, from 1, without a rest
 pub record IsCut (all block : Bounds) : Type 0 where
@@ -133,12 +133,12 @@ pub record InSameRuns (block : Bounds) (x y : Coord) : Type 0 where
   pub b_run : count_of x.b / block.b ≡ count_of y.b / block.b
   pub c_run : count_of x.c / block.c ≡ count_of y.c / block.c
 
-pub same_block_from_runs : (all block : Bounds) (x y : Coord) → x.n ≡ y.n → InSameRuns block x y → block_of all block x ≡ block_of all block y
+pub same_block_from_runs : (all block : Bounds) (x y : Coord) → x.n ≡ y.n → InSameRuns block x y → block_number all block x ≡ block_number all block y
 same_block_from_runs all block x y same_n same =
     ap (row_of all) (same_parts (corner block x) (corner block y) same_n
     (ap (λ k. pos (k * block.a)) same.a_run) (ap (λ k. pos (k * block.b)) same.b_run) (ap (λ k. pos (k * block.c)) same.c_run))
 
-pub same_runs_from_block : (all block : Bounds) (x y : Coord) → PointOfRow → IsCut all block → Inside all x → Inside all y → block_of all block x ≡ block_of all block y → InSameRuns block x y
+pub same_runs_from_block : (all block : Bounds) (x y : Coord) → PointOfRow → IsCut all block → Inside all x → Inside all y → block_number all block x ≡ block_number all block y → InSameRuns block x y
 same_runs_from_block all block x y point_of_row cut x_inside y_inside same =
     let corners : corner block x ≡ corner block y =
     sym (point_of_row all (corner block x) (corner_inside all block x cut x_inside)) ∙ ap (point_at all) same ∙ point_of_row all (corner block y) (corner_inside all block y cut y_inside) in

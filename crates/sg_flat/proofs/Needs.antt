@@ -32,7 +32,7 @@ use Rattle.sg_layout.specs.Axes.{count_of, bounds_of_shape}
 use Rattle.sg_layout.specs.Accepted.{IsAccepted}
 use Rattle.sg_layout.specs.Path.{offset_at, offsets, path}
 use Rattle.sg_layout.specs.Need.{distinct, reached_slots, greatest_offset, under_slot, chunks_under, need_by, need_of}
-use Rattle.sg_flat.specs.steps.Blocks.{bounds_over, nodes_above, is_whole, block_of, place_of, reach_of, longer, length_at}
+use Rattle.sg_flat.specs.steps.Blocks.{bounds_over, nodes_above, is_whole, block_number, row_in_block, live_points, longer, length_at}
 use Rattle.sg_flat.proofs.Accepted.{good_at, last_where_dynamic, has_cap}
 use Rattle.sg_flat.proofs.MapWords.{is_eq-nat_cmp}
 use Rattle.sg_flat.proofs.Slotted.{paths_tell, place_is_offset}
@@ -200,11 +200,11 @@ keys_found lengths q = is_some-lookup (is_at (nat_cmp q)) lengths.entries ∙ at
     at_key [] = refl
     at_key (k ∷ ks) = ap (λ (b : Bool). b || list_any (is_at (nat_cmp q)) ks) (is_eq-nat_cmp q k) ∙ ap (λ (b : Bool). eqb q k || b) (at_key ks)
 
-pub keys_are_blocks : (all block : Bounds) (whole : Bool) (coords : List Coord) (lengths : BTreeMap ℕ ℕ) → ((number : ℕ) → get nat_cmp lengths number ≡ length_at all block whole coords number) → (q : ℕ) → is_member eqb (keys lengths) q ≡ is_member eqb (map (block_of all block) coords) q
+pub keys_are_blocks : (all block : Bounds) (whole : Bool) (coords : List Coord) (lengths : BTreeMap ℕ ℕ) → ((number : ℕ) → get nat_cmp lengths number ≡ length_at all block whole coords number) → (q : ℕ) → is_member eqb (keys lengths) q ≡ is_member eqb (map (block_number all block) coords) q
 keys_are_blocks all block whole coords lengths has q =
-    let known = has_length (reach_of whole block) (λ (at : Coord). eqb (block_of all block at) q) coords in
-    let any : list_any (λ (at : Coord). eqb (block_of all block at) q) coords ≡ is_member eqb (map (block_of all block) coords) q = member_of_blocks (block_of all block) coords q in
-    sym (keys_found lengths q) ∙ ap is_some (has q) ∙ elim (cases_Bool (list_any (λ (at : Coord). eqb (block_of all block at) q) coords)) [
+    let known = has_length (live_points whole block) (λ (at : Coord). eqb (block_number all block at) q) coords in
+    let any : list_any (λ (at : Coord). eqb (block_number all block at) q) coords ≡ is_member eqb (map (block_number all block) coords) q = member_of_blocks (block_number all block) coords q in
+    sym (keys_found lengths q) ∙ ap is_some (has q) ∙ elim (cases_Bool (list_any (λ (at : Coord). eqb (block_number all block at) q) coords)) [
       | inl there ↦ ap is_some (known.some there).1 ∙ sym there ∙ any
       | inr gone ↦ ap is_some (known.none gone) ∙ sym gone ∙ any
     ]
@@ -230,12 +230,12 @@ sum_of_values h G (e ∷ es) all =
     ∙ ap (λ k. G e.0 + k) (sum_of_values h G es (All-tail (λ (e : ℕ × ℕ). h e.1 ≡ G e.0) e es all))
     ∙ sym (sum_by-cons G e.0 (keys_of es))
 
-pub sum_of_lengths : (h : ℕ → ℕ) (all block : Bounds) (whole : Bool) (coords : List Coord) (lengths : BTreeMap ℕ ℕ) → IsOrdered nat_cmp lengths → ((number : ℕ) → get nat_cmp lengths number ≡ length_at all block whole coords number) → sum_by h (values lengths) ≡ sum_by (λ number. h (unwrap_or (length_at all block whole coords number) 0)) (unique_keys eqb (map (block_of all block) coords))
+pub sum_of_lengths : (h : ℕ → ℕ) (all block : Bounds) (whole : Bool) (coords : List Coord) (lengths : BTreeMap ℕ ℕ) → IsOrdered nat_cmp lengths → ((number : ℕ) → get nat_cmp lengths number ≡ length_at all block whole coords number) → sum_by h (values lengths) ≡ sum_by (λ number. h (unwrap_or (length_at all block whole coords number) 0)) (unique_keys eqb (map (block_number all block) coords))
 sum_of_lengths h all block whole coords lengths ordered has =
     let G : ℕ → ℕ = λ number. h (unwrap_or (length_at all block whole coords number) 0) in
     sum_of_values h G lengths.entries (λ k d below. ap (λ (found : Option ℕ). h (unwrap_or found 0)) (sym (All-found nat_cmp_total lengths ordered k d below) ∙ has (get_or lengths.entries k d).0))
-    ∙ same_sums G (keys lengths) (unique_keys eqb (map (block_of all block) coords)) (keys_apart lengths ordered) (unique_distinct (map (block_of all block) coords))
-    (λ q. keys_are_blocks all block whole coords lengths has q ∙ sym (unique_member (map (block_of all block) coords) q))
+    ∙ same_sums G (keys lengths) (unique_keys eqb (map (block_number all block) coords)) (keys_apart lengths ordered) (unique_distinct (map (block_number all block) coords))
+    (λ q. keys_are_blocks all block whole coords lengths has q ∙ sym (unique_member (map (block_number all block) coords) q))
 
 -- ---- pointer and hash nodes
 ones : {X : Type 0} (xs : List X) → sum_by (λ _. 1) xs ≡ length xs
@@ -247,7 +247,7 @@ slots_are_lengths shape k coords whole lengths point_of_row accepted inside orde
     let all = bounds_of_shape shape in
     let block = bounds_over shape.axes (drop k shape.nodes) in
     sym (ones (reached_slots shape coords k))
-    ∙ sum_of_distinct (Inside all) (λ (at : Coord). path shape at k) (block_of all block) (λ _. 1) (λ _. 1) coords
+    ∙ sum_of_distinct (Inside all) (λ (at : Coord). path shape at k) (block_number all block) (λ _. 1) (λ _. 1) coords
     (λ (x y : Coord) x_in y_in. paths_tell shape k x y point_of_row accepted x_in y_in) (λ (x : Coord) _. refl) inside
     ∙ sym (sum_of_lengths (λ _. 1) all block whole coords lengths ordered has)
     ∙ ones (values lengths)
@@ -332,22 +332,22 @@ map-agree f g [] agree = refl
 map-agree {X} {Y} f g (x ∷ xs) agree = ap (λ y. y ∷ map f xs) (agree x) ∙ ap (λ (ys : List Y). g x ∷ ys) (map-agree f g xs agree)
 
 -- the chunks under a parent that a coordinate is under
-chunks_are : (shape : Shape) (i number : ℕ) (node : NodeShape) (chunk : ℕ) (coords : List Coord) (w : Coord) → PointOfRow → IsAccepted shape → number - 1 ≡ i → drop i shape.nodes ≡ node ∷ [] → 1 ≤ chunk → All (Inside (bounds_of_shape shape)) coords → Inside (bounds_of_shape shape) w → Contains coords w → chunks_under shape coords number chunk (path shape w i) ≡ div_ceil (unwrap_or (length_at (bounds_of_shape shape) (bounds_over shape.axes (drop i shape.nodes)) false coords (block_of (bounds_of_shape shape) (bounds_over shape.axes (drop i shape.nodes)) w)) 0) chunk
+chunks_are : (shape : Shape) (i number : ℕ) (node : NodeShape) (chunk : ℕ) (coords : List Coord) (w : Coord) → PointOfRow → IsAccepted shape → number - 1 ≡ i → drop i shape.nodes ≡ node ∷ [] → 1 ≤ chunk → All (Inside (bounds_of_shape shape)) coords → Inside (bounds_of_shape shape) w → Contains coords w → chunks_under shape coords number chunk (path shape w i) ≡ div_ceil (unwrap_or (length_at (bounds_of_shape shape) (bounds_over shape.axes (drop i shape.nodes)) false coords (block_number (bounds_of_shape shape) (bounds_over shape.axes (drop i shape.nodes)) w)) 0) chunk
 chunks_are shape i number node chunk coords w point_of_row accepted before split some inside w_in there =
     let all = bounds_of_shape shape in
     let block = bounds_over shape.axes (drop i shape.nodes) in
-    let in_block : Coord → Bool = λ (at : Coord). eqb (block_of all block at) (block_of all block w) in
-    let place : Coord → ℕ = place_of block in
+    let in_block : Coord → Bool = λ (at : Coord). eqb (block_number all block at) (block_number all block w) in
+    let place : Coord → ℕ = row_in_block block in
     let offset : Coord → ℕ = λ (at : Coord). slice_index (offsets shape.nodes at) (number - 1) in
     let same_offset : (at : Coord) → offset at ≡ place at =
-    λ (at : Coord). offset_here shape.nodes i (number - 1) node at before split ∙ place_is_offset shape.axes node at ∙ ap (λ (ns : List NodeShape). place_of (bounds_over shape.axes ns) at) (sym split) in
+    λ (at : Coord). offset_here shape.nodes i (number - 1) node at before split ∙ place_is_offset shape.axes node at ∙ ap (λ (ns : List NodeShape). row_in_block (bounds_over shape.axes ns) at) (sym split) in
     let same_under : under_slot shape coords (number - 1) (path shape w i) ≡ filter in_block coords =
     ap (λ k. filter (λ (at : Coord). bytes_eq (path shape at k) (path shape w i)) coords) before
     ∙ filter-agree (Inside all) (λ (at : Coord). bytes_eq (path shape at i) (path shape w i)) in_block coords (λ (at : Coord) at_in. paths_tell shape i at w point_of_row accepted at_in w_in) inside in
-    let found = filter_some in_block coords (list_any-from_Any in_block coords (there.0, w, there.1, there.2, eq-eqb (block_of all block w) (block_of all block w) refl)) in
+    let found = filter_some in_block coords (list_any-from_Any in_block coords (there.0, w, there.1, there.2, eq-eqb (block_number all block w) (block_number all block w) refl)) in
     let greatest : greatest_offset shape number (under_slot shape coords (number - 1) (path shape w i)) ≡ fold max 0 (map place (filter in_block coords)) =
     ap (λ (xs : List Coord). fold max 0 (map offset xs)) same_under ∙ ap (fold max 0) (map-agree offset place (filter in_block coords) same_offset) in
-    let length : length_at all block false coords (block_of all block w) ≡ Some (suc (fold max 0 (map place (filter in_block coords)))) =
+    let length : length_at all block false coords (block_number all block w) ≡ Some (suc (fold max 0 (map place (filter in_block coords)))) =
     ap (λ (xs : List Coord). fold longer None (map (λ (at : Coord). suc (place at)) xs)) found.2
     ∙ greatest_is place found.0 found.1
     ∙ ap (λ (xs : List Coord). Some (suc (fold max 0 (map place xs)))) (sym found.2) in
@@ -361,7 +361,7 @@ chunks_are_lengths shape i number node chunk coords lengths point_of_row accepte
     let block = bounds_over shape.axes (drop i shape.nodes) in
     let P : Coord → Type 0 = λ (at : Coord). Inside all at × Contains coords at in
     ap (λ k. sum_by (chunks_under shape coords number chunk) (distinct (map (λ (at : Coord). path shape at k) coords))) before
-    ∙ sum_of_distinct P (λ (at : Coord). path shape at i) (block_of all block) (chunks_under shape coords number chunk)
+    ∙ sum_of_distinct P (λ (at : Coord). path shape at i) (block_number all block) (chunks_under shape coords number chunk)
     (λ k. div_ceil (unwrap_or (length_at all block false coords k) 0) chunk) coords
     (λ (x y : Coord) x_in y_in. paths_tell shape i x y point_of_row accepted x_in.0 y_in.0)
     (λ (w : Coord) w_in. chunks_are shape i number node chunk coords w point_of_row accepted before split some inside w_in.0 w_in.1)

@@ -12,7 +12,7 @@ use Rattle.sg_coord.specs.declared.coord.Coord.{Coord}
 use Rattle.sg_coord.specs.Bounds.{Bounds, volume}
 use Rattle.sg_coord.specs.Coord.{Inside, count_of, row_of, point_at}
 use Rattle.sg_coord.specs.Laws.{PointOfRow, RowOfPoint, PointInside}
-use Rattle.sg_flat.specs.steps.Blocks.{within, block_of, place_of, reach_of, longer, length_at, is_reached}
+use Rattle.sg_flat.specs.steps.Blocks.{within, block_number, row_in_block, live_points, longer, length_at, is_reached}
 use Rattle.sg_flat.proofs.Cuts.{IsCut, same_runs_from_block, within_inside}
 use Rattle.sg_coord.proofs.Uses.{same_parts, part_is}
 use Rattle.sg_flat.proofs.MapWords.{is_eq-nat_cmp}
@@ -20,19 +20,19 @@ use Rattle.sg_words.proofs.Uses.{same_tests}
 use Rattle.std.proofs.lemmas.Nat.{div-add-mod'}
 
 -- ---- one more coordinate
-length_by : (number : ℕ) (all block : Bounds) (whole : Bool) (front : List Coord) (at : Coord) (here : Bool) → fold longer None (map (reach_of whole block) (front ++ cond here (at ∷ []) [])) ≡ cond here (longer (fold longer None (map (reach_of whole block) front)) (reach_of whole block at)) (fold longer None (map (reach_of whole block) front))
-length_by number all block whole front at true = ap (fold longer None) (map-push front) ∙ fold_push longer None (map (reach_of whole block) front) (reach_of whole block at)
+length_by : (number : ℕ) (all block : Bounds) (whole : Bool) (front : List Coord) (at : Coord) (here : Bool) → fold longer None (map (live_points whole block) (front ++ cond here (at ∷ []) [])) ≡ cond here (longer (fold longer None (map (live_points whole block) front)) (live_points whole block at)) (fold longer None (map (live_points whole block) front))
+length_by number all block whole front at true = ap (fold longer None) (map-push front) ∙ fold_push longer None (map (live_points whole block) front) (live_points whole block at)
   where
-    map-push : (xs : List Coord) → map (reach_of whole block) (xs ++ at ∷ []) ≡ map (reach_of whole block) xs ++ (reach_of whole block at ∷ [])
+    map-push : (xs : List Coord) → map (live_points whole block) (xs ++ at ∷ []) ≡ map (live_points whole block) xs ++ (live_points whole block at ∷ [])
     map-push [] = refl
-    map-push (x ∷ xs) = ap (λ rest. reach_of whole block x ∷ rest) (map-push xs)
-length_by number all block whole front at false = ap (λ (xs : List Coord). fold longer None (map (reach_of whole block) xs)) (append-nil front)
+    map-push (x ∷ xs) = ap (λ rest. live_points whole block x ∷ rest) (map-push xs)
+length_by number all block whole front at false = ap (λ (xs : List Coord). fold longer None (map (live_points whole block) xs)) (append-nil front)
 
-pub length_at-more : (all block : Bounds) (whole : Bool) (coords : List Coord) (i : ℕ) (at : Coord) (number : ℕ) → i < length coords → at ≡ get_or coords i at → length_at all block whole (take (i + 1) coords) number ≡ cond (eqb (block_of all block at) number) (longer (length_at all block whole (take i coords) number) (reach_of whole block at)) (length_at all block whole (take i coords) number)
+pub length_at-more : (all block : Bounds) (whole : Bool) (coords : List Coord) (i : ℕ) (at : Coord) (number : ℕ) → i < length coords → at ≡ get_or coords i at → length_at all block whole (take (i + 1) coords) number ≡ cond (eqb (block_number all block at) number) (longer (length_at all block whole (take i coords) number) (live_points whole block at)) (length_at all block whole (take i coords) number)
 length_at-more all block whole coords i at number below is =
-    let test : Coord → Bool = λ (x : Coord). eqb (block_of all block x) number in
-    ap (λ (xs : List Coord). fold longer None (map (reach_of whole block) xs)) (filter_more test coords i at below)
-    ∙ ap (λ (x : Coord). fold longer None (map (reach_of whole block) (filter test (take i coords) ++ cond (test x) (x ∷ []) []))) (sym is)
+    let test : Coord → Bool = λ (x : Coord). eqb (block_number all block x) number in
+    ap (λ (xs : List Coord). fold longer None (map (live_points whole block) xs)) (filter_more test coords i at below)
+    ∙ ap (λ (x : Coord). fold longer None (map (live_points whole block) (filter test (take i coords) ++ cond (test x) (x ∷ []) []))) (sym is)
     ∙ length_by number all block whole (filter test (take i coords)) at (test at)
 
 -- ---- the points that a block gains
@@ -117,7 +117,7 @@ row_more contained contained' old inside same r n from p place after before rise
 same_part : (x y s : ℕ) → x / s ≡ y / s → x % s ≡ y % s → x ≡ y
 same_part x y s quotient rest = sym (div-add-mod' x s) ∙ ap (λ k. k * s + x % s) quotient ∙ ap (λ k. y / s * s + k) rest ∙ div-add-mod' y s
 
-pub same_place : (all block : Bounds) (x y : Coord) → PointOfRow → IsCut all block → Inside all x → Inside all y → block_of all block x ≡ block_of all block y → place_of block x ≡ place_of block y → x ≡ y
+pub same_place : (all block : Bounds) (x y : Coord) → PointOfRow → IsCut all block → Inside all x → Inside all y → block_number all block x ≡ block_number all block y → row_in_block block x ≡ row_in_block block y → x ≡ y
 same_place all block x y point_of_row cut x_in y_in same_block same =
     let runs = same_runs_from_block all block x y point_of_row cut x_in y_in same_block in
     let rests : within block x ≡ within block y =
@@ -127,7 +127,7 @@ same_place all block x y point_of_row cut x_in y_in same_block same =
     (part_is x.b x_in.b_low ∙ ap pos (same_part (count_of x.b) (count_of y.b) block.b runs.b_run (ap (λ (p : Coord). count_of p.b) rests)) ∙ sym (part_is y.b y_in.b_low))
     (part_is x.c x_in.c_low ∙ ap pos (same_part (count_of x.c) (count_of y.c) block.c runs.c_run (ap (λ (p : Coord). count_of p.c) rests)) ∙ sym (part_is y.c y_in.c_low))
 
-pub same_row : (all block : Bounds) (r n : ℕ) → PointOfRow → RowOfPoint → PointInside → IsCut all block → r < volume all → n < volume all → block_of all block (point_at all r) ≡ block_of all block (point_at all n) → place_of block (point_at all r) ≡ place_of block (point_at all n) → r ≡ n
+pub same_row : (all block : Bounds) (r n : ℕ) → PointOfRow → RowOfPoint → PointInside → IsCut all block → r < volume all → n < volume all → block_number all block (point_at all r) ≡ block_number all block (point_at all n) → row_in_block block (point_at all r) ≡ row_in_block block (point_at all n) → r ≡ n
 same_row all block r n point_of_row row_of_point point_inside cut r_below n_below same_block same =
     sym (row_of_point all r r_below)
     ∙ ap (row_of all) (same_place all block (point_at all r) (point_at all n) point_of_row cut (point_inside all r r_below) (point_inside all n n_below) same_block same)
@@ -159,10 +159,10 @@ reached_by {X} test reach p length (x ∷ xs) =
       | false ↦ reached_by test reach p length xs
     ]
 
-pub is_reached-any : (all block : Bounds) (whole : Bool) (coords : List Coord) (at : Coord) → is_reached all block whole coords at ≡ list_any (λ (w : Coord). eqb (block_of all block w) (block_of all block at) && ltb (place_of block at) (reach_of whole block w)) coords
+pub is_reached-any : (all block : Bounds) (whole : Bool) (coords : List Coord) (at : Coord) → is_reached all block whole coords at ≡ list_any (λ (w : Coord). eqb (block_number all block w) (block_number all block at) && ltb (row_in_block block at) (live_points whole block w)) coords
 is_reached-any all block whole coords at =
-    reached_by (λ (w : Coord). eqb (block_of all block w) (block_of all block at)) (reach_of whole block) (place_of block at) None coords
-    ∙ ap (λ (b : Bool). b || list_any (λ (w : Coord). eqb (block_of all block w) (block_of all block at) && ltb (place_of block at) (reach_of whole block w)) coords) (le-ltb (place_of block at) 0 (omega arith))
+    reached_by (λ (w : Coord). eqb (block_number all block w) (block_number all block at)) (live_points whole block) (row_in_block block at) None coords
+    ∙ ap (λ (b : Bool). b || list_any (λ (w : Coord). eqb (block_number all block w) (block_number all block at) && ltb (row_in_block block at) (live_points whole block w)) coords) (le-ltb (row_in_block block at) 0 (omega arith))
 
 -- tests that agree at each element of a list
 pub list_any-agree : {X : Type 0} (P : X → Type 0) (f g : X → Bool) (xs : List X) → ((x : X) → P x → f x ≡ g x) → All P xs → list_any f xs ≡ list_any g xs

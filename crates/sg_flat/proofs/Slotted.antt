@@ -21,7 +21,7 @@ use Rattle.sg_layout.specs.Accepted.{IsAccepted}
 use Rattle.sg_layout.specs.Path.{offset_at, offsets, path}
 use Rattle.sg_layout.specs.Live.{is_at_or_below, makes_live}
 use Rattle.sg_layout.specs.Rules.{has_good_extents}
-use Rattle.sg_flat.specs.steps.Blocks.{bounds_over, nodes_above, is_whole, block_of, within, place_of, reach_of}
+use Rattle.sg_flat.specs.steps.Blocks.{bounds_over, nodes_above, is_whole, block_number, within, row_in_block, live_points}
 use Rattle.sg_layout.proofs.Uses.{all_good, good_below, in_some, over_some}
 use Rattle.sg_flat.proofs.Cuts.{IsCut, same_runs_from_block, same_block_from_runs, within_inside}
 use Rattle.sg_coord.proofs.Uses.{offset_below}
@@ -149,7 +149,7 @@ cut_over shape k accepted =
     }
 
 -- two coordinates inside have one path through the first nodes exactly where they are in one block of the others
-pub paths_tell : (shape : Shape) (k : ℕ) (x y : Coord) → PointOfRow → IsAccepted shape → Inside (bounds_of_shape shape) x → Inside (bounds_of_shape shape) y → bytes_eq (path shape x k) (path shape y k) ≡ eqb (block_of (bounds_of_shape shape) (bounds_over shape.axes (drop k shape.nodes)) x) (block_of (bounds_of_shape shape) (bounds_over shape.axes (drop k shape.nodes)) y)
+pub paths_tell : (shape : Shape) (k : ℕ) (x y : Coord) → PointOfRow → IsAccepted shape → Inside (bounds_of_shape shape) x → Inside (bounds_of_shape shape) y → bytes_eq (path shape x k) (path shape y k) ≡ eqb (block_number (bounds_of_shape shape) (bounds_over shape.axes (drop k shape.nodes)) x) (block_number (bounds_of_shape shape) (bounds_over shape.axes (drop k shape.nodes)) y)
 paths_tell shape k x y point_of_row accepted x_in y_in = same_tests _ _ there back
   where
     all : Bounds
@@ -182,7 +182,7 @@ paths_tell shape k x y point_of_row accepted x_in y_in = same_tests _ _ there ba
     yc : count_of y.c < extent_over shape.nodes 3
     yc = offset_below y.c (extent_over shape.nodes 3) y_in.c_low y_in.c_high
 
-    there : bytes_eq (path shape x k) (path shape y k) ≡ true → eqb (block_of (bounds_of_shape shape) (bounds_over shape.axes (drop k shape.nodes)) x) (block_of (bounds_of_shape shape) (bounds_over shape.axes (drop k shape.nodes)) y) ≡ true
+    there : bytes_eq (path shape x k) (path shape y k) ≡ true → eqb (block_number (bounds_of_shape shape) (bounds_over shape.axes (drop k shape.nodes)) x) (block_number (bounds_of_shape shape) (bounds_over shape.axes (drop k shape.nodes)) y) ≡ true
     there same =
         let parts = parts_from_path shape.nodes k x y good ((bytes_decides (path shape x k) (path shape y k)).0 same) in
         eq-eqb _ _ (same_block_from_runs (bounds_of_shape shape) (bounds_over shape.axes (drop k shape.nodes)) x y (x_in.same_axes ∙ sym y_in.same_axes) (record {
@@ -191,7 +191,7 @@ paths_tell shape k x y point_of_row accepted x_in y_in = same_tests _ _ there ba
           c_run = sym (front 3 (count_of x.c) xc) ∙ parts.c ∙ front 3 (count_of y.c) yc;
         }))
 
-    back : eqb (block_of (bounds_of_shape shape) (bounds_over shape.axes (drop k shape.nodes)) x) (block_of (bounds_of_shape shape) (bounds_over shape.axes (drop k shape.nodes)) y) ≡ true → bytes_eq (path shape x k) (path shape y k) ≡ true
+    back : eqb (block_number (bounds_of_shape shape) (bounds_over shape.axes (drop k shape.nodes)) x) (block_number (bounds_of_shape shape) (bounds_over shape.axes (drop k shape.nodes)) y) ≡ true → bytes_eq (path shape x k) (path shape y k) ≡ true
     back same =
         let runs = same_runs_from_block (bounds_of_shape shape) (bounds_over shape.axes (drop k shape.nodes)) x y point_of_row (cut_over shape k accepted) x_in y_in (eqb-true _ _ same) in
         (bytes_decides (path shape x k) (path shape y k)).1 (path_from_parts shape.nodes k x y good (record {
@@ -202,20 +202,20 @@ paths_tell shape k x y point_of_row accepted x_in y_in = same_tests _ _ there ba
 
 -- ---- slots that are made live
 -- a block that is live as a whole
-whole_test : (shape : Shape) (i : ℕ) (w at : Coord) → PointOfRow → RowBelow → IsAccepted shape → Inside (bounds_of_shape shape) w → Inside (bounds_of_shape shape) at → bytes_eq (path shape w (suc i)) (path shape at (suc i)) ≡ (eqb (block_of (bounds_of_shape shape) (bounds_over shape.axes (drop (suc i) shape.nodes)) w) (block_of (bounds_of_shape shape) (bounds_over shape.axes (drop (suc i) shape.nodes)) at) && ltb (place_of (bounds_over shape.axes (drop (suc i) shape.nodes)) at) (volume (bounds_over shape.axes (drop (suc i) shape.nodes))))
+whole_test : (shape : Shape) (i : ℕ) (w at : Coord) → PointOfRow → RowBelow → IsAccepted shape → Inside (bounds_of_shape shape) w → Inside (bounds_of_shape shape) at → bytes_eq (path shape w (suc i)) (path shape at (suc i)) ≡ (eqb (block_number (bounds_of_shape shape) (bounds_over shape.axes (drop (suc i) shape.nodes)) w) (block_number (bounds_of_shape shape) (bounds_over shape.axes (drop (suc i) shape.nodes)) at) && ltb (row_in_block (bounds_over shape.axes (drop (suc i) shape.nodes)) at) (volume (bounds_over shape.axes (drop (suc i) shape.nodes))))
 whole_test shape i w at point_of_row row_below accepted w_in at_in =
     let block = bounds_over shape.axes (drop (suc i) shape.nodes) in
-    let below : ltb (place_of block at) (volume block) ≡ true =
+    let below : ltb (row_in_block block at) (volume block) ≡ true =
     lt-ltb _ _ (row_below block (within block at) (within_inside (bounds_of_shape shape) block at (cut_over shape (suc i) accepted) at_in)) in
     paths_tell shape (suc i) w at point_of_row accepted w_in at_in
-    ∙ sym (ap (λ (inside : Bool). eqb (block_of (bounds_of_shape shape) block w) (block_of (bounds_of_shape shape) block at) && inside) below ∙ and_true _)
+    ∙ sym (ap (λ (inside : Bool). eqb (block_number (bounds_of_shape shape) block w) (block_number (bounds_of_shape shape) block at) && inside) below ∙ and_true _)
   where
     and_true : (a : Bool) → (a && true) ≡ a
     and_true true = refl
     and_true false = refl
 
 -- a dynamic node, which is the last: the offsets at it are places in a block of its parent
-pub place_is_offset : (axes : ℕ) (node : NodeShape) (at : Coord) → offset_at node [] at ≡ place_of (bounds_over axes (node ∷ [])) at
+pub place_is_offset : (axes : ℕ) (node : NodeShape) (at : Coord) → offset_at node [] at ≡ row_in_block (bounds_over axes (node ∷ [])) at
 place_is_offset axes node at =
     let e = extent_in node.sizes in
     let a : count_of at.a / 1 % e 1 ≡ count_of at.a % (e 1 * 1) = ap (λ k. k % e 1) (div-one (count_of at.a)) ∙ ap (λ k. count_of at.a % k) (sym (mul-one (e 1))) in
@@ -248,17 +248,17 @@ below_test (first ∷ second ∷ later) (suc i) node w at split =
 leb-ltb_suc : (a b : ℕ) → leb a b ≡ ltb a (suc b)
 leb-ltb_suc a b = same_tests (leb a b) (ltb a (suc b)) (λ le. lt-ltb a (suc b) (let h = leb-true a b le in omega arith)) (λ lt. le-leb a b (let h = ltb-true a (suc b) lt in omega arith))
 
-length_test : (shape : Shape) (i : ℕ) (node : NodeShape) (w at : Coord) → PointOfRow → IsAccepted shape → drop i shape.nodes ≡ node ∷ [] → Inside (bounds_of_shape shape) w → Inside (bounds_of_shape shape) at → is_at_or_below (path shape w (suc i)) (path shape at (suc i)) ≡ (eqb (block_of (bounds_of_shape shape) (bounds_over shape.axes (drop i shape.nodes)) w) (block_of (bounds_of_shape shape) (bounds_over shape.axes (drop i shape.nodes)) at) && ltb (place_of (bounds_over shape.axes (drop i shape.nodes)) at) (suc (place_of (bounds_over shape.axes (drop i shape.nodes)) w)))
+length_test : (shape : Shape) (i : ℕ) (node : NodeShape) (w at : Coord) → PointOfRow → IsAccepted shape → drop i shape.nodes ≡ node ∷ [] → Inside (bounds_of_shape shape) w → Inside (bounds_of_shape shape) at → is_at_or_below (path shape w (suc i)) (path shape at (suc i)) ≡ (eqb (block_number (bounds_of_shape shape) (bounds_over shape.axes (drop i shape.nodes)) w) (block_number (bounds_of_shape shape) (bounds_over shape.axes (drop i shape.nodes)) at) && ltb (row_in_block (bounds_over shape.axes (drop i shape.nodes)) at) (suc (row_in_block (bounds_over shape.axes (drop i shape.nodes)) w)))
 length_test shape i node w at point_of_row accepted split w_in at_in =
     let block = bounds_over shape.axes (drop i shape.nodes) in
-    let place : (z : Coord) → offset_at node [] z ≡ place_of block z = λ z. place_is_offset shape.axes node z ∙ ap (λ (ns : List NodeShape). place_of (bounds_over shape.axes ns) z) (sym split) in
+    let place : (z : Coord) → offset_at node [] z ≡ row_in_block block z = λ z. place_is_offset shape.axes node z ∙ ap (λ (ns : List NodeShape). row_in_block (bounds_over shape.axes ns) z) (sym split) in
     below_test shape.nodes i node w at split
     ∙ ap (λ (same : Bool). same && leb (offset_at node [] at) (offset_at node [] w)) (paths_tell shape i w at point_of_row accepted w_in at_in)
-    ∙ ap (λ (less : Bool). eqb (block_of (bounds_of_shape shape) block w) (block_of (bounds_of_shape shape) block at) && less)
-    (ap (λ k. leb k (offset_at node [] w)) (place at) ∙ ap (leb (place_of block at)) (place w) ∙ leb-ltb_suc (place_of block at) (place_of block w))
+    ∙ ap (λ (less : Bool). eqb (block_number (bounds_of_shape shape) block w) (block_number (bounds_of_shape shape) block at) && less)
+    (ap (λ k. leb k (offset_at node [] w)) (place at) ∙ ap (leb (row_in_block block at)) (place w) ∙ leb-ltb_suc (row_in_block block at) (row_in_block block w))
 
 -- a coordinate makes the slot of another live at a node exactly where they are in one block and the other is not past what it reaches
-pub slot_test : (shape : Shape) (i : ℕ) (node : NodeShape) (later : List NodeShape) (kind : Kind) (w at : Coord) → PointOfRow → RowBelow → IsAccepted shape → drop i shape.nodes ≡ node ∷ later → (kind ≡ Dynamic → later ≡ []) → Inside (bounds_of_shape shape) w → Inside (bounds_of_shape shape) at → makes_live kind (path shape w (suc i)) (path shape at (suc i)) ≡ (eqb (block_of (bounds_of_shape shape) (bounds_over shape.axes (drop (nodes_above kind i) shape.nodes)) w) (block_of (bounds_of_shape shape) (bounds_over shape.axes (drop (nodes_above kind i) shape.nodes)) at) && ltb (place_of (bounds_over shape.axes (drop (nodes_above kind i) shape.nodes)) at) (reach_of (is_whole kind) (bounds_over shape.axes (drop (nodes_above kind i) shape.nodes)) w))
+pub slot_test : (shape : Shape) (i : ℕ) (node : NodeShape) (later : List NodeShape) (kind : Kind) (w at : Coord) → PointOfRow → RowBelow → IsAccepted shape → drop i shape.nodes ≡ node ∷ later → (kind ≡ Dynamic → later ≡ []) → Inside (bounds_of_shape shape) w → Inside (bounds_of_shape shape) at → makes_live kind (path shape w (suc i)) (path shape at (suc i)) ≡ (eqb (block_number (bounds_of_shape shape) (bounds_over shape.axes (drop (nodes_above kind i) shape.nodes)) w) (block_number (bounds_of_shape shape) (bounds_over shape.axes (drop (nodes_above kind i) shape.nodes)) at) && ltb (row_in_block (bounds_over shape.axes (drop (nodes_above kind i) shape.nodes)) at) (live_points (is_whole kind) (bounds_over shape.axes (drop (nodes_above kind i) shape.nodes)) w))
 slot_test shape i node later Dense w at point_of_row row_below accepted split last w_in at_in = whole_test shape i w at point_of_row row_below accepted w_in at_in
 slot_test shape i node later Bitmasked w at point_of_row row_below accepted split last w_in at_in = whole_test shape i w at point_of_row row_below accepted w_in at_in
 slot_test shape i node later Pointer w at point_of_row row_below accepted split last w_in at_in = whole_test shape i w at point_of_row row_below accepted w_in at_in

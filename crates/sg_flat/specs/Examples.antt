@@ -2,7 +2,7 @@
 use Rattle.std.specs.Prelude.{◌≡◌, ℕ, ◌*◌, pos, negsuc, List, [], ◌∷◌, map, Ok, Err, refl}
 use Rattle.sg_coord.specs.declared.coord.Coord.{Coord}
 use Rattle.sg_words.specs.declared.operators.AccOp.TheVariants as acc
-use Rattle.sg_layout.specs.Examples.{at1, at2, blocks, four}
+use Rattle.sg_layout.specs.Examples.{at1, at2, blocks, line_of_four}
 use Rattle.sg_flat.specs.declared.effects.Way.{Way}
 use Rattle.sg_flat.specs.declared.effects.Way.TheVariants.{Own, Acc}
 use Rattle.sg_flat.specs.declared.effects.Write.{Write}
@@ -38,18 +38,18 @@ empty_range = refl
 from_below_zero : box_points (record { n = 1; a = negsuc 0; b = pos 0; c = pos 0 }) (at1 1) ≡ record { n = 1; a = negsuc 0; b = pos 0; c = pos 0 } ∷ at1 0 ∷ []
 from_below_zero = refl
 
-squares : kernel_meaning (four ∷ []) (opening (four ∷ [])) (run_of (map (λ i. turn1 i (write1 Own i (i * i) ∷ [])) (0 ∷ 1 ∷ 2 ∷ 3 ∷ [])))
+squares : kernel_meaning (line_of_four ∷ []) (opening (line_of_four ∷ [])) (run_of (map (λ i. turn1 i (write1 Own i (i * i) ∷ [])) (0 ∷ 1 ∷ 2 ∷ 3 ∷ [])))
     ≡ Ok (state1 (map at1 (0 ∷ 1 ∷ 2 ∷ 3 ∷ [])) ((1, 1) ∷ (2, 4) ∷ (3, 9) ∷ []))
 squares = refl
 
-last_own_value_stays : kernel_meaning (four ∷ []) (opening (four ∷ [])) (run_of (turn1 2 (write1 Own 2 5 ∷ write1 Own 2 7 ∷ []) ∷ []))
+last_own_value_stays : kernel_meaning (line_of_four ∷ []) (opening (line_of_four ∷ [])) (run_of (turn1 2 (write1 Own 2 5 ∷ write1 Own 2 7 ∷ []) ∷ []))
     ≡ Ok (state1 (map at1 (0 ∷ 1 ∷ 2 ∷ 3 ∷ [])) ((2, 7) ∷ []))
 last_own_value_stays = refl
 
-outside_is_refused : kernel_meaning (four ∷ []) (opening (four ∷ [])) (run_of (turn1 3 (write1 Own 3 1 ∷ write1 Own 4 1 ∷ []) ∷ [])) ≡ Err (WriteOutside 1 (at1 3))
+outside_is_refused : kernel_meaning (line_of_four ∷ []) (opening (line_of_four ∷ [])) (run_of (turn1 3 (write1 Own 3 1 ∷ write1 Own 4 1 ∷ []) ∷ [])) ≡ Err (WriteOutside 1 (at1 3))
 outside_is_refused = refl
 
-contributions_add_up : kernel_meaning (four ∷ []) (state1 (map at1 (0 ∷ 1 ∷ 2 ∷ 3 ∷ [])) ((0, 4) ∷ [])) (run_of (turn1 0 (write1 (Acc acc.Add) 0 3 ∷ []) ∷ turn1 1 (write1 (Acc acc.Add) 0 2 ∷ []) ∷ []))
+contributions_add_up : kernel_meaning (line_of_four ∷ []) (state1 (map at1 (0 ∷ 1 ∷ 2 ∷ 3 ∷ [])) ((0, 4) ∷ [])) (run_of (turn1 0 (write1 (Acc acc.Add) 0 3 ∷ []) ∷ turn1 1 (write1 (Acc acc.Add) 0 2 ∷ []) ∷ []))
     ≡ Ok (state1 (map at1 (0 ∷ 1 ∷ 2 ∷ 3 ∷ [])) ((0, 9) ∷ []))
 contributions_add_up = refl
 

@@ -4,7 +4,7 @@ use Rattle.sg_coord.specs.declared.coord.Coord.{Coord}
 use Rattle.sg_words.specs.declared.operators.Ty.TheVariants as ty
 use Rattle.sg_words.specs.declared.operators.AccOp.TheVariants.{Min, Max}
 use Rattle.sg_layout.specs.declared.shape.Shape.{Shape}
-use Rattle.sg_layout.specs.Examples.{at1, blocks, masked_blocks, growing, four}
+use Rattle.sg_layout.specs.Examples.{at1, blocks, masked_blocks, growing, line_of_four}
 use Rattle.sg_layout.specs.NeedExamples.{keyed, rows}
 use Rattle.sg_flat.specs.declared.effects.Way.{Way}
 use Rattle.sg_flat.specs.declared.effects.Way.TheVariants.{Own, Acc}
@@ -49,7 +49,7 @@ three_chunks_have_room = refl
 no_room_beside_the_active : kernel_meaning (blocks ∷ []) (state1 (map at1 (0 ∷ 1 ∷ 2 ∷ 3 ∷ 4 ∷ 5 ∷ 6 ∷ 7 ∷ [])) []) (run_of (sevens 0 (8 ∷ []))) ≡ Err (PoolFull 0 1 2)
 no_room_beside_the_active = refl
 
-the_first_layout_without_room : kernel_meaning (four ∷ blocks ∷ blocks ∷ []) (opening (four ∷ blocks ∷ blocks ∷ [])) (run_of (map (λ i. turn1 i (record { layout = 2; place = 0; stmt = 1; at = at1 i; way = Own; value = 7 } ∷ record { layout = 1; place = 0; stmt = 2; at = at1 i; way = Own; value = 7 } ∷ [])) (0 ∷ 4 ∷ 8 ∷ []))) ≡ Err (PoolFull 1 1 2)
+the_first_layout_without_room : kernel_meaning (line_of_four ∷ blocks ∷ blocks ∷ []) (opening (line_of_four ∷ blocks ∷ blocks ∷ [])) (run_of (map (λ i. turn1 i (record { layout = 2; place = 0; stmt = 1; at = at1 i; way = Own; value = 7 } ∷ record { layout = 1; place = 0; stmt = 2; at = at1 i; way = Own; value = 7 } ∷ [])) (0 ∷ 4 ∷ 8 ∷ []))) ≡ Err (PoolFull 1 1 2)
 the_first_layout_without_room = refl
 
 the_second_layout_alone : kernel_meaning (blocks ∷ blocks ∷ []) (opening (blocks ∷ blocks ∷ [])) (run_of (sevens 1 (0 ∷ 4 ∷ 8 ∷ []))) ≡ Err (PoolFull 1 1 2)
@@ -60,18 +60,18 @@ outside_before_full : kernel_meaning (blocks ∷ []) (opening (blocks ∷ [])) (
 outside_before_full = refl
 
 -- the fault names the iteration's coordinate and not that of the write, and in the first iteration the first write
-the_coordinate_of_the_iteration : kernel_meaning (four ∷ []) (opening (four ∷ [])) (run_of (turn1 1 (write1 (Acc Max) 2 1 ∷ record { layout = 0; place = 0; stmt = 5; at = at1 9; way = Acc Max; value = 1 } ∷ record { layout = 0; place = 0; stmt = 6; at = at1 8; way = Acc Max; value = 1 } ∷ []) ∷ sevens 0 (7 ∷ [])))
+the_coordinate_of_the_iteration : kernel_meaning (line_of_four ∷ []) (opening (line_of_four ∷ [])) (run_of (turn1 1 (write1 (Acc Max) 2 1 ∷ record { layout = 0; place = 0; stmt = 5; at = at1 9; way = Acc Max; value = 1 } ∷ record { layout = 0; place = 0; stmt = 6; at = at1 8; way = Acc Max; value = 1 } ∷ []) ∷ sevens 0 (7 ∷ [])))
     ≡ Err (WriteOutside 5 (at1 1))
 the_coordinate_of_the_iteration = refl
 
 -- a layout that isn't there has nothing inside
-outside_without_a_layout : kernel_meaning (four ∷ []) (opening (four ∷ [])) (run_of (sevens 1 (2 ∷ []))) ≡ Err (WriteOutside 1 (at1 2))
+outside_without_a_layout : kernel_meaning (line_of_four ∷ []) (opening (line_of_four ∷ [])) (run_of (sevens 1 (2 ∷ []))) ≡ Err (WriteOutside 1 (at1 2))
 outside_without_a_layout = refl
 
 -- ---- values
 -- dense(i: 4); an I32 field and a U32 field
 abbrev pub two_fields : Shape
-two_fields = record { axes = four.axes; nodes = four.nodes; fields = ty.I32 ∷ ty.U32 ∷ [] }
+two_fields = record { axes = line_of_four.axes; nodes = line_of_four.nodes; fields = ty.I32 ∷ ty.U32 ∷ [] }
 
 abbrev pub state2 : List (ℕ × ℕ) → List (ℕ × ℕ) → FlatState
 state2 first second = record { layouts = record { active = map at1 (0 ∷ 1 ∷ 2 ∷ 3 ∷ []); fields = first ∷ second ∷ [] } ∷ [] }
@@ -98,8 +98,8 @@ a_zero_leaves_no_word = refl
 an_empty_range_beside_a_long_one : box_points (record { n = 2; a = pos 0; b = pos 5; c = pos 0 }) (record { n = 2; a = pos 3; b = pos 5; c = pos 0 }) ≡ []
 an_empty_range_beside_a_long_one = refl
 
-abbrev pub at3 : ℕ → ℕ → ℕ → Coord
-at3 i j k = record { n = 3; a = pos i; b = pos j; c = pos k }
+abbrev pub point3 : ℕ → ℕ → ℕ → Coord
+point3 i j k = record { n = 3; a = pos i; b = pos j; c = pos k }
 
-box_of_three_axes : box_points (at3 0 5 1) (at3 2 6 3) ≡ at3 0 5 1 ∷ at3 0 5 2 ∷ at3 1 5 1 ∷ at3 1 5 2 ∷ []
+box_of_three_axes : box_points (point3 0 5 1) (point3 2 6 3) ≡ point3 0 5 1 ∷ point3 0 5 2 ∷ point3 1 5 1 ∷ point3 1 5 2 ∷ []
 box_of_three_axes = refl

@@ -4,7 +4,7 @@ ghost use Rattle.sg_coord.specs.Bounds.{bounds_of, volume};
 ghost use Rattle.sg_coord.specs.Coord.{Inside};
 ghost use Rattle.sg_layout.specs.Axes.{extent_in, bounds_of_shape};
 ghost use Rattle.sg_layout.specs.Rules.{is_extent};
-ghost use Rattle.sg_flat.specs.steps.Blocks.{bounds_over, nodes_above, is_whole, corner, within, all_of, each_of, number_in, place_in, reach_in, point_in};
+ghost use Rattle.sg_flat.specs.steps.Blocks.{bounds_over, nodes_above, is_whole, corner, within, all_of, each_of, number_in, row_in_blocks, reach_in, point_in};
 
 use crate::blocks::Blocks;
 use sg_coord::{Coord, Extents, coord_at, coord_of, count, row};
@@ -87,7 +87,7 @@ impl Blocks {
         requires place { place < volume (each_of self.now) }
         ensures below { result < volume (all_of self.now) }
         ensures block { number_in self.now (point_in self.now result) ≡ number_in self.now at }
-        ensures place { place_in self.now (point_in self.now result) ≡ place }
+        ensures place { row_in_blocks self.now (point_in self.now result) ≡ place }
     {
         let first = self.corner(at);
         let by = coord_at(&self.block, place);

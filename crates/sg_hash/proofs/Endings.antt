@@ -9,9 +9,9 @@ use native.Mathlib.Decide.{ℕ_discrete, dec_le}
 use lib.ListN.{get_elem?}
 use Rattle.sg_words.specs.declared.race.Worker.{Worker}
 use Rattle.sg_words.specs.Counts.{one, once_below, times_in, pairs, firsts}
-use Rattle.sg_words.specs.RaceMachine.{Race, HasOthersBefore, place_of}
-use Rattle.sg_words.specs.RaceInvariant.{MeetsRaceInvariant, weight, made_at, holds_ticket, has_seen, has_made, has_linked, has_key, has_put, links_from}
-use Rattle.sg_words.specs.RaceLaws.{IsFresh}
+use Rattle.sg_words.specs.RaceMachine.{Race, HasOthersBefore, place_in_order}
+use Rattle.sg_words.specs.RaceInvariant.{MeetsRaceInvariant, handed_share, made_at, holds_ticket, has_seen, has_made, has_linked, has_key, has_put, links_from}
+use Rattle.sg_words.specs.RaceLaws.{IsFreshSetting}
 use Rattle.sg_words.proofs.Uses.{alone, stands, le-total, part-of, made-ticket, new_links_differ, spares_never_fill, pair_cases, first_cases, total-le, total-append}
 use Rattle.sg_hash.proofs.Turns.{place_comes}
 use Rattle.sg_hash.proofs.Racing.{made-held, sum_below, sum-same, sum-add, spread}
@@ -67,7 +67,7 @@ full-links : (i : ℕ) (words : List ℕ) → links_from (λ _. 0) 0 i words ≡
 full-links i [] = refl
 full-links i (w ∷ ws) = let r = full-links (i + 1) ws in omega arith
 
-pub settled : (start : Start) (v : Worker) (links keys : List ℕ) (count : ℕ) → IsFreshStock start.links start.stock → 0 < v.share → weight v ≡ 16 → length links ≡ length start.links
+pub settled : (start : Start) (v : Worker) (links keys : List ℕ) (count : ℕ) → IsFreshStock start.links start.stock → 0 < v.share → handed_share v ≡ 16 → length links ≡ length start.links
     → Ended start v links keys count → Settled start.links start.stock v links
 settled start v links keys count fresh live all long end =
     let g = setting_of start in
@@ -76,7 +76,7 @@ settled start v links keys count fresh live all long end =
     let at = end.3 in
     let ws = end.0 in
     let id = end.1 in
-    let fresh' : IsFresh g 0 = record { distinct = fresh.distinct; unlinked = λ t i below _. fresh.unlinked t i below } in
+    let fresh' : IsFreshSetting g 0 = record { distinct = fresh.distinct; unlinked = λ t i below _. fresh.unlinked t i below } in
     record {
       long = long;
       stay = k.slots_stay.1;
@@ -107,7 +107,7 @@ all-full (w ∷ ws) full =
     let test : not (w == 0) ≡ true = grind (arith, nat_tests) in
     let one' : one (not (w == 0)) ≡ 1 = ap one test in omega arith
 
-pub keys_settled : (start : Start) (v : Worker) (links keys : List ℕ) (count : ℕ) (full : Bool) → weight v ≡ 16 → length start.keys ≡ length start.links
+pub keys_settled : (start : Start) (v : Worker) (links keys : List ℕ) (count : ℕ) (full : Bool) → handed_share v ≡ 16 → length start.keys ≡ length start.links
     → (full ≡ true → (k : ℕ) × HasOthersBefore (length start.links) k (length start.links) v) → Ended start v links keys count → KeysSettled start.keys v keys full
 keys_settled start v links keys count full all many others end =
     let k = end.2 in
@@ -127,7 +127,7 @@ keys_settled start v links keys count full all many others end =
           all-full keys (λ p below.
           (let c = place_comes (length start.links) o.0 p (omega arith) in
           let other = o.1 c.0 c.1 in
-          let e = there (place_of (length start.links) o.0 c.0) other.0 other.2 in
+          let e = there (place_in_order (length start.links) o.0 c.0) other.0 other.2 in
           subst (λ q. 0 < slice_index keys q) c.2 (omega arith))));
     }
 
@@ -271,7 +271,7 @@ made-pair t xs h =
     let le = le-total (λ (x : ℕ × ℕ). one ((x.0 == p.1.0) && (x.1 == t))) xs p.0 p.1 p.2 in
     (p.1.0, omega arith)
 
-module _ (start : Start) (v : Worker) (links keys : List ℕ) (count : ℕ) (test : ℕ → Bool) (fresh : IsFreshStock start.links start.stock) (live : 0 < v.share) (all : weight v ≡ 16)
+module _ (start : Start) (v : Worker) (links keys : List ℕ) (count : ℕ) (test : ℕ → Bool) (fresh : IsFreshStock start.links start.stock) (live : 0 < v.share) (all : handed_share v ≡ 16)
     (long : length links ≡ length start.links) (end : Ended start v links keys count) (is : (x : ℕ) → test x ≡ nat_lt 0 (times_in x (taken_of start.links links))) where
   -- the tickets of the last seat are all tickets
   all-tickets : (t : ℕ) → holds_ticket (λ _. 0) 0 t v ≡ once_below t (min count (length start.stock))

@@ -5,7 +5,7 @@ use Rattle.std.proofs.lemmas.List.{set-get_or, get_or-take, get_or-drop, take-se
 use Rattle.std.proofs.lemmas.Bool.Decides.{nat_tests}
 use Rattle.std.proofs.Math.Seq.{take-set-lt, take-append_seam, drop-append_seam}
 use Rattle.sg_words.specs.declared.race.Worker.{Worker}
-use Rattle.sg_words.specs.RaceMachine.{Race, MayPut, key, link, see, miss, after_see, after_miss, after_link, after_draw, after_key, after_put, after_key_word, key_word}
+use Rattle.sg_words.specs.RaceMachine.{Race, MayPut, key, link, see, miss, after_see, after_miss, after_link, after_draw, after_key, after_key_put, after_key_word, key_word}
 use Rattle.sg_hash.specs.declared.rule.Start.{Start}
 use Rattle.sg_hash.specs.HashRace.{race_of}
 use Rattle.sg_hash.specs.HashLaws.{IsEvent, IsWide, at, StartIsEvent, LookIsEvent, DrawIsEvent, TryIsEvent, FindIsEvent, PutIsEvent, SplitIsEvent, JoinIsEvent}
@@ -146,7 +146,7 @@ find_is_event start words views id p wide live inside full =
     same_view : (p k word : ℕ) (v : Worker) → word ≢ 0 → after_key_word p k word v ≡ after_look_key p word v
     same_view p k word v full = go (word == 0) refl
       where
-        go : (b : Bool) → (word == 0) ≡ b → cond b (after_put p k v) (after_key p (word - 1) v) ≡ cond b v (after_key p (word - 1) v)
+        go : (b : Bool) → (word == 0) ≡ b → cond b (after_key_put p k v) (after_key p (word - 1) v) ≡ cond b v (after_key p (word - 1) v)
         go true e = absurd (full (grind (arith, nat_tests)))
         go false e = refl
 

@@ -4,7 +4,7 @@ use Rattle.std.specs.Prelude.{slice_index}
 use Rattle.std.proofs.lemmas.Bool.Decides.{nat_tests}
 use Rattle.sg_words.specs.declared.race.Worker.{Worker}
 use Rattle.sg_words.specs.Counts.{pairs}
-use Rattle.sg_words.specs.RaceMachine.{after_see, after_link, after_key, after_put, after_key_word, key_word, HasOthersBefore, place_of}
+use Rattle.sg_words.specs.RaceMachine.{after_see, after_link, after_key, after_key_put, after_key_word, key_word, HasOthersBefore, place_in_order}
 use Rattle.sg_words.specs.steps.RaceSteps.{after_try}
 use Rattle.sg_words.proofs.Uses.{found_case, pairs-snoc, pair_cases}
 use Rattle.sg_hash.specs.declared.rule.Start.{Start}
@@ -20,7 +20,7 @@ key-more p k q a xs has = let s = pairs-snoc q a xs (p, k) in omega arith
 found-searched : (v : Worker) (p k : ℕ) → Searched v (after_key p k v)
 found-searched v p k = record { told = refl; size = refl; share = refl; back = refl; spare = refl; left = refl; past = refl; seen = refl; missed = refl; made = refl; grows = λ q a has. key-more p k q a v.keys has }
 
-put-searched : (v : Worker) (p k : ℕ) → Searched v (after_put p k v)
+put-searched : (v : Worker) (p k : ℕ) → Searched v (after_key_put p k v)
 put-searched v p k = record { told = refl; size = refl; share = refl; back = refl; spare = refl; left = refl; past = refl; seen = refl; missed = refl; made = refl; grows = λ q a has. key-more p k q a v.keys has }
 
 pub same-searched : (v : Worker) → Searched v v
@@ -30,7 +30,7 @@ pub looked-key : (v w : Worker) (p word : ℕ) → w ≡ after_look_key p word v
 looked-key v w p word e = subst (Searched v) (sym e) (found_case (Searched v) word v (after_key p (word - 1) v) (λ _. same-searched v) (λ _. found-searched v p (word - 1)))
 
 pub tried-key : (v w : Worker) (p key word : ℕ) → w ≡ after_key_word p key word v → Searched v w
-tried-key v w p key word e = subst (Searched v) (sym e) (found_case (Searched v) word (after_put p key v) (after_key p (word - 1) v) (λ _. put-searched v p key) (λ _. found-searched v p (word - 1)))
+tried-key v w p key word e = subst (Searched v) (sym e) (found_case (Searched v) word (after_key_put p key v) (after_key p (word - 1) v) (λ _. put-searched v p key) (λ _. found-searched v p (word - 1)))
 
 pub searched-twice : (u v w : Worker) → Searched u v → Searched v w → Searched u w
 searched-twice u v w a b = record {
@@ -49,7 +49,7 @@ searched-twice u v w a b = record {
 
 -- another key found in each place before, still
 pub others-grow : (n key j : ℕ) (v w : Worker) → ((p k : ℕ) → 0 < pairs p k v.keys → 0 < pairs p k w.keys) → HasOthersBefore n key j v → HasOthersBefore n key j w
-others-grow n key j v w grows has i below = let o = has i below in (o.0, o.1, grows (place_of n key i) o.0 o.2)
+others-grow n key j v w grows has i below = let o = has i below in (o.0, o.1, grows (place_in_order n key i) o.0 o.2)
 
 pub tried-keys : (v w : Worker) (i t n word : ℕ) → w ≡ after_try 0 i t n word v → SameKeys v w
 tried-keys v w i t n word e = subst (SameKeys v) (sym e) (found_case (SameKeys v) word (after_link 0 i t n v) (after_see i (word - 1) v) (λ _. (refl, refl)) (λ _. (refl, refl)))
@@ -71,7 +71,7 @@ tried-found v w p key word now e e' =
     subst (λ now. (k : ℕ) × (now ≡ k + 1) × (0 < pairs p k w.keys)) (sym e)
     (subst (λ (w : Worker). (k : ℕ) × (key_word key word ≡ k + 1) × (0 < pairs p k w.keys)) (sym e') (go (word == 0) refl))
   where
-    go : (b : Bool) → (word == 0) ≡ b → (k : ℕ) × (cond b (key + 1) word ≡ k + 1) × (0 < pairs p k (cond b (after_put p key v) (after_key p (word - 1) v)).keys)
+    go : (b : Bool) → (word == 0) ≡ b → (k : ℕ) × (cond b (key + 1) word ≡ k + 1) × (0 < pairs p k (cond b (after_key_put p key v) (after_key p (word - 1) v)).keys)
     go true e = (key, refl, pair-last p key v.keys)
     go false e = (word - 1, (let h : word ≢ 0 = (λ z. grind (arith, nat_tests)) in omega arith), pair-last p (word - 1) v.keys)
 
@@ -79,7 +79,7 @@ pub tried-put : (v w : Worker) (p key word now : ℕ) → now ≡ key_word key w
 tried-put v w p key word now e e' =
     subst (λ now. PutAt key now v w) (sym e) (subst (PutAt key (key_word key word) v) (sym e') (go (word == 0)))
   where
-    go : (b : Bool) → PutAt key (cond b (key + 1) word) v (cond b (after_put p key v) (after_key p (word - 1) v))
+    go : (b : Bool) → PutAt key (cond b (key + 1) word) v (cond b (after_key_put p key v) (after_key p (word - 1) v))
     go true = inr (refl, refl)
     go false = inl refl
 

@@ -13,7 +13,7 @@ use Rattle.atomic_table.proofs.Lists.{set_again}
 use Rattle.atomic_table.specs.Table.{State, Me, step, keeps, Allows, Splits, Joins}
 use Rattle.sg_words.specs.declared.race.Worker.{Worker}
 use Rattle.sg_words.specs.Counts.{pairs, firsts}
-use Rattle.sg_words.specs.RaceMachine.{Race, MayPut, nobody, after_split, other_half, after_join, after_draw, after_key, after_put, after_key_word, key_word}
+use Rattle.sg_words.specs.RaceMachine.{Race, MayPut, nobody, after_split, other_half, after_join, after_draw, after_key, after_key_put, after_key_word, key_word}
 use Rattle.sg_words.specs.RaceInvariant.{MeetsRaceInvariant, has_seen, has_key}
 use Rattle.sg_words.specs.steps.RaceSteps.{after_look, after_try}
 use Rattle.sg_words.proofs.Uses.{kept-look, kept-try, kept-draw, kept-enrol, kept-found, kept-put, found_case, kept-join, stands, le-total, set_other_at, made-ticket, count_is_small, pair_cases}
@@ -237,10 +237,10 @@ tries_key-at start slots id me p key live told many inside may s r _ at _ =
           (ap (λ (q : ℕ). (after_key_word q key word v, me.1)) same, subst (λ q. TellKeys n q (key_word key word) w) same tell))),
     )
   where
-    put_case : (P : ℕ → Worker → Type 0) (p key word : ℕ) (v : Worker) → (word ≡ 0 → P (key + 1) (after_put p key v)) → (word ≢ 0 → P word (after_key p (word - 1) v)) → P (either (word == 0) (key + 1) word) (after_key_word p key word v)
+    put_case : (P : ℕ → Worker → Type 0) (p key word : ℕ) (v : Worker) → (word ≡ 0 → P (key + 1) (after_key_put p key v)) → (word ≢ 0 → P word (after_key p (word - 1) v)) → P (either (word == 0) (key + 1) word) (after_key_word p key word v)
     put_case P p key word v hit miss = go (word == 0) refl
       where
-        go : (b : Bool) → (word == 0) ≡ b → P (either b (key + 1) word) (cond b (after_put p key v) (after_key p (word - 1) v))
+        go : (b : Bool) → (word == 0) ≡ b → P (either b (key + 1) word) (cond b (after_key_put p key v) (after_key p (word - 1) v))
         go true e = hit (grind (arith, nat_tests))
         go false e = miss (λ z. grind (arith, nat_tests))
 

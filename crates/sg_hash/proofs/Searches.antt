@@ -5,24 +5,24 @@ use mathlib.Core.Logic.{dite}
 use native.Mathlib.Decide.{ℕ_discrete}
 use Rattle.sg_words.specs.declared.race.Worker.{Worker}
 use Rattle.sg_words.specs.Counts.{one, pairs}
-use Rattle.sg_words.specs.RaceMachine.{HasOthersBefore, MayPut, place_of, after_join}
+use Rattle.sg_words.specs.RaceMachine.{HasOthersBefore, MayPut, place_in_order, after_join}
 use Rattle.sg_words.proofs.Uses.{total-append}
 use Rattle.sg_hash.specs.declared.ask.Ask.{Ask}
 use Rattle.sg_hash.specs.declared.ask.Ask.TheVariants as ask
 use Rattle.sg_hash.specs.Asking.{Answered, AnsweredBeside, AnsweredKey, HasPut, SameTeam}
-use Rattle.sg_hash.specs.steps.Searching.{TellKeys, SameKeys, Searched, PutAt, SearchFound, Passed}
+use Rattle.sg_hash.specs.steps.Searching.{TellKeys, SameKeys, Searched, PutAt, SearchFound, HasLookedPast}
 use Rattle.sg_hash.proofs.Turns.{place_comes}
 use Rattle.sg_hash.proofs.Keys.{same-searched, searched-twice, others-grow}
 
-pub start-passed : (n key : ℕ) (v : Worker) → Passed n key 0 v v
+pub start-passed : (n key : ℕ) (v : Worker) → HasLookedPast n key 0 v v
 start-passed n key v = record { searched = same-searched v; put = refl; others = λ i below. absurd (omega arith); inside = λ below. absurd (omega arith); absent = λ q has j below. absurd (omega arith) }
 
-pub may-put : (n key turn at : ℕ) (v w : Worker) → turn < n → at ≡ place_of n key turn → Passed n key turn v w → MayPut n at key w
+pub may-put : (n key turn at : ℕ) (v w : Worker) → turn < n → at ≡ place_in_order n key turn → HasLookedPast n key turn v w → MayPut n at key w
 may-put n key turn at v w below is p = (turn, below, is, p.others)
 
 -- a place more holds another key
-pub more-passed : (n key turn at word : ℕ) (u v w : Worker) → at ≡ place_of n key turn → Passed n key turn u v → Searched v w → PutAt key word v w
-    → (k : ℕ) × (word ≡ k + 1) × (0 < pairs at k w.keys) → TellKeys n at word w → word ≢ key + 1 → Passed n key (turn + 1) u w
+pub more-passed : (n key turn at word : ℕ) (u v w : Worker) → at ≡ place_in_order n key turn → HasLookedPast n key turn u v → Searched v w → PutAt key word v w
+    → (k : ℕ) × (word ≡ k + 1) × (0 < pairs at k w.keys) → TellKeys n at word w → word ≢ key + 1 → HasLookedPast n key (turn + 1) u w
 more-passed n key turn at word u v w is p s put f t other =
     let there : (q : ℕ) → 0 < pairs q key u.keys → 0 < pairs q key w.keys = λ q has. s.grows q key (p.searched.grows q key has) in
     let differ : f.0 ≢ key = λ e. other (f.1 ∙ ap (λ k. k + 1) e) in
@@ -30,27 +30,27 @@ more-passed n key turn at word u v w is p s put f t other =
       searched = searched-twice u v w p.searched s;
       put = ⊎_elim (λ e. e ∙ p.put) (λ e. absurd (other e.0)) put;
       others = λ i below. dite (ℕ_discrete i turn)
-          (λ e. (f.0, differ, subst (λ q. 0 < pairs q f.0 w.keys) (is ∙ ap (place_of n key) (sym e)) f.2))
+          (λ e. (f.0, differ, subst (λ q. 0 < pairs q f.0 w.keys) (is ∙ ap (place_in_order n key) (sym e)) f.2))
           (λ ne. others-grow n key turn v w s.grows p.others i (omega arith));
       inside = λ _ q has. t.inside q key (there q has);
       absent = λ q has j below. dite (ℕ_discrete j turn)
           (λ e same.
-          let here : 0 < pairs at key w.keys = subst (λ q. 0 < pairs q key w.keys) (same ∙ ap (place_of n key) e ∙ sym is) (there q has) in
+          let here : 0 < pairs at key w.keys = subst (λ q. 0 < pairs q key w.keys) (same ∙ ap (place_in_order n key) e ∙ sym is) (there q has) in
           other (f.1 ∙ ap (λ k. k + 1) (sym (t.agree at key f.0 here f.2))))
           (λ ne. p.absent q has j (omega arith));
     }
 
 -- the place where the key stands
-pub found-there : (n key turn at word : ℕ) (u v w : Worker) → at < n → Passed n key turn u v → Searched v w
+pub found-there : (n key turn at word : ℕ) (u v w : Worker) → at < n → HasLookedPast n key turn u v → Searched v w
     → (k : ℕ) × (word ≡ k + 1) × (0 < pairs at k w.keys) → TellKeys n at word w → word ≡ key + 1 → SearchFound n key u w (Some at)
 found-there n key turn at word u v w below p s f t is =
     let same : f.0 ≡ key = (let e = f.1 in omega arith) in
     (below, subst (λ k. 0 < pairs at k w.keys) same f.2, λ q has. t.once q key is (s.grows q key (p.searched.grows q key has)))
 
-pub found-put : (n key turn word : ℕ) (u v w : Worker) → Passed n key turn u v → PutAt key word v w → HasPut key u w
+pub found-put : (n key turn word : ℕ) (u v w : Worker) → HasLookedPast n key turn u v → PutAt key word v w → HasPut key u w
 found-put n key turn word u v w p put = ⊎_elim (λ e. inl (e ∙ p.put)) (λ e. inr (e.1 ∙ ap (λ l. l ++ key ∷ []) p.put)) put
 
-pub none-there : (n key : ℕ) (u w : Worker) → 0 < n → Passed n key n u w → SearchFound n key u w None
+pub none-there : (n key : ℕ) (u w : Worker) → 0 < n → HasLookedPast n key n u w → SearchFound n key u w None
 none-there n key u w some p = (p.others, λ q has. let c = place_comes n key q (p.inside some q has) in p.absent q has c.0 c.1 (sym c.2))
 
 -- ---- the ask for the slot beside the key
@@ -100,4 +100,4 @@ full-joins n v w a b c e mine theirs is = go a b (sym e ∙ is) mine theirs
     go false b is mine theirs = let o = theirs is in (o.0, others-grow n o.0 n w (after_join v w) (λ q k has. let s = both q k in omega arith) o.1)
 
 pub others-same : (n key j : ℕ) (v w : Worker) → w.keys ≡ v.keys → HasOthersBefore n key j v → HasOthersBefore n key j w
-others-same n key j v w e has i below = let o = has i below in (o.0, o.1, subst (λ l. 0 < pairs (place_of n key i) o.0 l) (sym e) o.2)
+others-same n key j v w e has i below = let o = has i below in (o.0, o.1, subst (λ l. 0 < pairs (place_in_order n key i) o.0 l) (sym e) o.2)

@@ -2,7 +2,7 @@
 ghost use Rattle.std.specs.Prelude.{◌≡◌, ℕ, ◌+◌, ◌^◌, ◌<◌, ◌≤◌, ◌||◌, false, min, nat_lt, length, take, drop, IfOk, slice_index, slice_index_or};
 ghost use Rattle.std.specs.Mem.Slots.{slots_items, slots_len, IsFull};
 ghost use Rattle.sg_words.specs.Counts.{times_in};
-ghost use Rattle.sg_words.specs.RaceInvariant.{weight};
+ghost use Rattle.sg_words.specs.RaceInvariant.{handed_share};
 ghost use Rattle.sg_hash.specs.Asking.{AreLinks, is_dry};
 ghost use Rattle.sg_hash.specs.Finishing.{Settled, KeysSettled, AreSpares, taken_of};
 ghost use Rattle.sg_hash.specs.steps.Ending.{Ended, outside};
@@ -41,7 +41,7 @@ impl HashPass {
     /// Ends the pass by a seat into which all others were joined.
     pub fn finish(self, alloc: Global, seat: HashSeat) -> Result<HashLinked, Memory>
         requires own { IsSeatOf self seat }
-        requires all { weight (worker_of seat) ≡ 16 }
+        requires all { handed_share (worker_of seat) ≡ 16 }
         ensures settled { IfOk result (λ linked. Settled (old_links self) (stock_of self) (worker_of seat) linked.links) }
         ensures keys { IfOk result (λ linked. KeysSettled (old_keys self) (worker_of seat) linked.keys (is_full seat)) }
         ensures dry { IfOk result (λ linked. linked.dry ≡ (is_dry (worker_of seat) || is_full seat)) }

@@ -10,7 +10,7 @@ use Rattle.sg_layout.specs.declared.shape.Kind.TheVariants.{Dense}
 use Rattle.sg_layout.specs.declared.shape.NodeShape.{NodeShape}
 use Rattle.sg_layout.specs.declared.shape.Shape.{Shape}
 use Rattle.sg_layout.specs.Need.{need_of}
-use Rattle.sg_store.specs.WellFormed.{has_cap}
+use Rattle.sg_store.specs.WellFormed.{kind_has_cap}
 use Rattle.sg_image.specs.Counts.{live_text, node_text, nodes_text}
 
 -- the item of a list that is another
@@ -18,19 +18,19 @@ pub same_node : (items nodes : List NodeShape) → items ≡ nodes → (i : ℕ)
 same_node items nodes same i x node is there = is ∙ ap (λ (ns : List NodeShape). get_or ns i x) same ∙ get_or_from_slice_get nodes i node x there
 
 -- a node with a count
-pub counted : (shape : Shape) (active : List Coord) (number own : ℕ) (live : ℕ) (x node : NodeShape) (capped : Bool) (old new : List ℕ) → x ≡ node → own ≡ number → capped ≡ has_cap x.kind → capped ≡ true → live ≡ need_of shape active own node
+pub counted : (shape : Shape) (active : List Coord) (number own : ℕ) (live : ℕ) (x node : NodeShape) (capped : Bool) (old new : List ℕ) → x ≡ node → own ≡ number → capped ≡ kind_has_cap x.kind → capped ≡ true → live ≡ need_of shape active own node
     → new ≡ old ++ live_text own live → new ≡ old ++ node_text shape active number node
 counted shape active number own live x node capped old new same numbered test holds need pushed =
-    let here : has_cap node.kind ≡ true = ap (λ (n : NodeShape). has_cap n.kind) (sym same) ∙ sym test ∙ holds in
+    let here : kind_has_cap node.kind ≡ true = ap (λ (n : NodeShape). kind_has_cap n.kind) (sym same) ∙ sym test ∙ holds in
     pushed ∙ ap (λ (n : ℕ). old ++ live_text own n) need ∙ ap (λ (n : ℕ). old ++ live_text n (need_of shape active n node)) numbered
-    ∙ ap (λ (t : List ℕ). old ++ t) (sym (cond-true (has_cap node.kind) (live_text number (need_of shape active number node)) [] here))
+    ∙ ap (λ (t : List ℕ). old ++ t) (sym (cond-true (kind_has_cap node.kind) (live_text number (need_of shape active number node)) [] here))
 
 -- and one without
-pub uncounted : (shape : Shape) (active : List Coord) (number : ℕ) (x node : NodeShape) (capped : Bool) (old : List ℕ) → x ≡ node → capped ≡ has_cap x.kind → capped ≡ false
+pub uncounted : (shape : Shape) (active : List Coord) (number : ℕ) (x node : NodeShape) (capped : Bool) (old : List ℕ) → x ≡ node → capped ≡ kind_has_cap x.kind → capped ≡ false
     → old ≡ old ++ node_text shape active number node
 uncounted shape active number x node capped old same test holds =
-    let here : has_cap node.kind ≡ false = ap (λ (n : NodeShape). has_cap n.kind) (sym same) ∙ sym test ∙ holds in
-    sym (append-nil old) ∙ ap (λ (t : List ℕ). old ++ t) (sym (cond-false (has_cap node.kind) (live_text number (need_of shape active number node)) [] here))
+    let here : kind_has_cap node.kind ≡ false = ap (λ (n : NodeShape). kind_has_cap n.kind) (sym same) ∙ sym test ∙ holds in
+    sym (append-nil old) ∙ ap (λ (t : List ℕ). old ++ t) (sym (cond-false (kind_has_cap node.kind) (live_text number (need_of shape active number node)) [] here))
 
 no_node : NodeShape
 no_node = record { kind = Dense; sizes = []; cap = pos 0; chunk = pos 0 }

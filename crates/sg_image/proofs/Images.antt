@@ -22,7 +22,7 @@ use Rattle.sg_store.specs.WellFormed.{IsWellFormed}
 use Rattle.sg_store.specs.StandsFor.{StandsFor}
 use Rattle.sg_store.specs.StoreLaws.{CellsAreActive}
 use Rattle.sg_image.specs.Grey.{grey_of}
-use Rattle.sg_image.specs.Pgm.{behind, texts_below, row_text, pgm_text, pgm_head}
+use Rattle.sg_image.specs.Pgm.{behind, texts_below, image_row_text, pgm_text, pgm_head}
 use Rattle.sg_image.specs.Image.{type_of_field, grey_at, image_text}
 use Rattle.sg_image.specs.steps.Keeping.{word_or_zero, kept_word, kept_grey}
 
@@ -65,14 +65,14 @@ same_below : (n : ℕ) (f g : ℕ → List ℕ) → ((k : ℕ) → f k ≡ g k) 
 same_below zero f g same = refl
 same_below (suc n) f g same = ap (λ (t : List ℕ). t ++ f n) (same_below n f g same) ∙ ap (λ (t : List ℕ). texts_below n g ++ t) (same n)
 
-same_row : (width : ℕ) (f g : ℕ → ℕ) → ((k : ℕ) → f k ≡ g k) → row_text width f ≡ row_text width g
+same_row : (width : ℕ) (f g : ℕ → ℕ) → ((k : ℕ) → f k ≡ g k) → image_row_text width f ≡ image_row_text width g
 same_row width f g same =
     same_below width (λ column. decimal (f column) ++ behind width column ∷ []) (λ column. decimal (g column) ++ behind width column ∷ [])
     (λ column. ap (λ (grey : ℕ). decimal grey ++ behind width column ∷ []) (same column))
 
 same_image : (width height : ℕ) (f g : ℕ → ℕ → ℕ) → ((row column : ℕ) → f row column ≡ g row column) → pgm_text width height f ≡ pgm_text width height g
 same_image width height f g same =
-    ap (λ (t : List ℕ). pgm_head width height ++ t) (same_below height (λ row. row_text width (f row)) (λ row. row_text width (g row)) (λ row. same_row width (f row) (g row) (same row)))
+    ap (λ (t : List ℕ). pgm_head width height ++ t) (same_below height (λ row. image_row_text width (f row)) (λ row. image_row_text width (g row)) (λ row. same_row width (f row) (g row) (same row)))
 
 -- the image of what a store keeps is that of what it stands for
 pub image_is : InsideTest → PointOfRow → (store : StoreWords) → IsWellFormed store → CellsAreActive store → (flat : FlatLayout) → StandsFor store flat → (place : ℕ) → place < length store.shape.fields

@@ -6,7 +6,7 @@ use Rattle.sg_layout.specs.declared.shape.NodeShape.{NodeShape}
 use Rattle.sg_layout.specs.declared.shape.Shape.{Shape}
 use Rattle.sg_layout.specs.Need.{need_of}
 use Rattle.sg_flat.specs.declared.state.FlatLayout.{FlatLayout}
-use Rattle.sg_store.specs.WellFormed.{has_cap}
+use Rattle.sg_store.specs.WellFormed.{kind_has_cap}
 
 -- how much of a node with this number is live
 abbrev pub live_text : (number live : ℕ) → List ℕ
@@ -15,7 +15,7 @@ live_text number live = codes " node " ++ decimal number ++ codes " live " ++ de
 -- a node with a number: what it needs for the active coordinates, where it is a pointer, hash or dynamic node
 abbrev pub node_text : Shape → List Coord → ℕ → NodeShape → List ℕ
 node_text shape active number node =
-    if has_cap node.kind then live_text number (need_of shape active number node) else []
+    if kind_has_cap node.kind then live_text number (need_of shape active number node) else []
 
 -- nodes, of which the first has the number
 abbrev pub nodes_text : Shape → List Coord → ℕ → List NodeShape → List ℕ

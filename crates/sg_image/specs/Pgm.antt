@@ -21,13 +21,13 @@ texts_below zero text = []
 texts_below (suc n) text = texts_below n text ++ text n
 
 -- a row of so many values, by the grey in each column
-abbrev pub row_text : ℕ → (ℕ → ℕ) → List ℕ
-row_text width grey = texts_below width (λ column. decimal (grey column) ++ behind width column ∷ [])
+abbrev pub image_row_text : ℕ → (ℕ → ℕ) → List ℕ
+image_row_text width grey = texts_below width (λ column. decimal (grey column) ++ behind width column ∷ [])
 
 -- the rows of an image, by the grey in each row and column
-abbrev pub rows_text : (width height : ℕ) → (ℕ → ℕ → ℕ) → List ℕ
-rows_text width height grey = texts_below height (λ row. row_text width (grey row))
+abbrev pub image_rows_text : (width height : ℕ) → (ℕ → ℕ → ℕ) → List ℕ
+image_rows_text width height grey = texts_below height (λ row. image_row_text width (grey row))
 
 -- the whole image
 abbrev pub pgm_text : (width height : ℕ) → (ℕ → ℕ → ℕ) → List ℕ
-pgm_text width height grey = pgm_head width height ++ rows_text width height grey
+pgm_text width height grey = pgm_head width height ++ image_rows_text width height grey

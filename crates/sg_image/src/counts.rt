@@ -4,7 +4,7 @@ ghost use Rattle.std.specs.Prelude.{◌≡◌, ◌<◌, ◌++◌, suc, length, s
 ghost use Rattle.sg_layout.specs.declared.shape.NodeShape.{NodeShape};
 ghost use Rattle.sg_layout.specs.Limits.{most_nodes};
 ghost use Rattle.sg_flat.specs.declared.state.FlatLayout.{FlatLayout};
-ghost use Rattle.sg_store.specs.WellFormed.{has_cap};
+ghost use Rattle.sg_store.specs.WellFormed.{kind_has_cap};
 ghost use Rattle.sg_store.specs.StandsFor.{StandsFor};
 ghost use Rattle.sg_image.specs.Counts.{live_text, node_text, nodes_text, stats_text};
 
@@ -70,7 +70,7 @@ fn push_live(text: &mut String, number: u32, live: u32) -> Result<(), AllocError
 
 /// Whether a node of this kind has child containers or chunks.
 fn has_cap(kind: Kind) -> bool
-    ensures { result ≡ has_cap kind }
+    ensures { result ≡ kind_has_cap kind }
 {
     match kind {
         Kind::Pointer | Kind::Hash | Kind::Dynamic => true,

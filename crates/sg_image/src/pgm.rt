@@ -6,7 +6,7 @@ ghost use Rattle.sg_layout.specs.Axes.{bounds_of_shape};
 ghost use Rattle.sg_flat.specs.declared.state.FlatLayout.{FlatLayout};
 ghost use Rattle.sg_store.specs.StandsFor.{StandsFor};
 ghost use Rattle.sg_image.specs.Limits.{most_image_points};
-ghost use Rattle.sg_image.specs.Pgm.{pgm_head, ends_line, row_text, rows_text};
+ghost use Rattle.sg_image.specs.Pgm.{pgm_head, ends_line, image_row_text, image_rows_text};
 ghost use Rattle.sg_image.specs.Image.{type_of_field, image_text};
 ghost use Rattle.sg_image.specs.steps.Keeping.{kept_word, kept_grey};
 
@@ -70,7 +70,7 @@ fn push_rows(
     requires field { place < length store.now.shape.fields }
     requires width { width < 2 ^ 31 }
     requires height { height < 2 ^ 31 }
-    ensures { OnOk result (string_bytes text.new ≡ string_bytes text.old ++ rows_text width height
+    ensures { OnOk result (string_bytes text.new ≡ string_bytes text.old ++ image_rows_text width height
         (kept_grey store.now place shades.now.ty shades.now.lo shades.now.hi)) }
 {
     for row in 0..height {
@@ -92,7 +92,7 @@ fn push_row(
     requires row { row < 2 ^ 31 }
     requires width { width < 2 ^ 31 }
     ensures { OnOk result (string_bytes text.new ≡ string_bytes text.old
-        ++ row_text width (kept_grey store.now place shades.now.ty shades.now.lo shades.now.hi row)) }
+        ++ image_row_text width (kept_grey store.now place shades.now.ty shades.now.lo shades.now.hi row)) }
 {
     for column in 0..width {
         let word = kept_word(store, place, coord_of(2, row, column, 0));

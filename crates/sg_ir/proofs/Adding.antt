@@ -8,7 +8,7 @@ use Rattle.sg_words.specs.declared.operators.Ty.{Ty}
 use Rattle.sg_layout.specs.declared.shape.Shape.{Shape}
 use Rattle.sg_ir.specs.declared.code.Inst.{Inst, fold-Inst}
 use Rattle.sg_ir.specs.declared.names.Names.{Names}
-use Rattle.sg_ir.specs.WellTyped.{Scope, Frame, judge_step, with_reg, is_of, judges, judged, Setting, SetsReg, SetsPlace, sets_step, settings, set_regs, set_places, reg_number, place_number}
+use Rattle.sg_ir.specs.WellTyped.{Scope, Frame, judge_step, with_reg, is_truth_as, judges, judged, SetName, SetsReg, SetsPlace, sets_step, settings, set_regs, set_places, reg_number, place_number}
 use Rattle.sg_ir.specs.steps.Emits.{AddsReg, PutsReg, PutsPlace}
 use Rattle.sg_ir.specs.steps.Types.{GoesOn, Begins, IsFinal, KeepsScope, Adds, CanRead}
 use Rattle.sg_ir.proofs.Judging.{judged-more, set_regs-append, set_places-append}
@@ -75,7 +75,7 @@ final-type given to old new at adds final =
 -- one that sets a register, under a test
 pub adds-reg : (shapes : List Shape) (needs gains : Frame → Scope → Type 0) (given : Ty) (inst : ℕ → Inst) (test : Frame → Scope → Bool) (to : ℕ) (old new : Names) (before after : List Inst) →
     PutsReg given inst to old new before after →
-    fold-Inst (List Setting) sets_step (inst to) ≡ SetsReg to ∷ [] →
+    fold-Inst (List SetName) sets_step (inst to) ≡ SetsReg to ∷ [] →
     ((at : Frame) (scope : Scope) → judges at (inst to) scope ≡ (test at scope, with_reg to scope)) →
     ((at : Frame) (scope : Scope) → at.shapes ≡ shapes → slice_get at.regs to ≡ Some given → needs at scope → test at scope ≡ true) →
     ((at : Frame) (scope : Scope) → at.shapes ≡ shapes → slice_get at.regs to ≡ Some given → needs at scope → gains at (with_reg to scope)) →
@@ -114,7 +114,7 @@ adds-reg shapes needs gains given inst test to old new before after puts sets ju
 -- one that sets a place, under a test
 pub adds-place : (shapes : List Shape) (needs gains : Frame → Scope → Type 0) (inst : ℕ → Inst) (test : Frame → Scope → Bool) (behind : Scope → Scope) (to : ℕ) (old new : Names) (before after : List Inst) →
     PutsPlace inst to old new before after →
-    fold-Inst (List Setting) sets_step (inst to) ≡ SetsPlace to ∷ [] →
+    fold-Inst (List SetName) sets_step (inst to) ≡ SetsPlace to ∷ [] →
     ((at : Frame) (scope : Scope) → judges at (inst to) scope ≡ (test at scope, behind scope)) →
     ((scope : Scope) → ((p : ℕ) → p < to → (behind scope).places p ≡ scope.places p) × (((behind scope).regs ≡ scope.regs) × ((behind scope).vars ≡ scope.vars))) →
     ((at : Frame) (scope : Scope) → at.shapes ≡ shapes → to < at.places → needs at scope → test at scope ≡ true) →
@@ -196,4 +196,4 @@ adds-trans shapes needs middle asks gains old mid new a b c first second bridge 
 -- index registers that have a name stay readable
 pub can_read-kept : (old : Names) (at : Frame) (first second : Scope) (index : List ℕ) → All (λ r. r < length old.regs) index → KeepsScope old first second → CanRead index at first → CanRead index at second
 can_read-kept old at first second index named keeps can =
-    λ k d below. ap (λ b. b && is_of false (slice_get at.regs (get_or index k d))) (keeps.regs (get_or index k d) (named k d below)) ∙ can k d below
+    λ k d below. ap (λ b. b && is_truth_as false (slice_get at.regs (get_or index k d))) (keeps.regs (get_or index k d) (named k d below)) ∙ can k d below

@@ -16,11 +16,11 @@ use Rattle.sg_ir.specs.declared.code.Inst.{Inst, fold-Inst}
 use Rattle.sg_ir.specs.declared.code.Inst.TheVariants as v
 use Rattle.sg_ir.specs.declared.names.Names.{Names}
 use Rattle.sg_ir.specs.Runs.{put, node_in}
-use Rattle.sg_ir.specs.WellTyped.{Known, Scope, Frame, Way_down, ByChild, ByKey, ByBit, ByLength, goes_down, reads, is_of, holds_of, checkable, descends, goes_on, step_fits, judges, judged, Setting, SetsPlace, sets_step, set_vars, var_number, with_place}
+use Rattle.sg_ir.specs.WellTyped.{KnownPlace, Scope, Frame, Way_down, ByChild, ByKey, ByBit, ByLength, goes_down, reads, is_truth_as, holds_of, checkable, descends, goes_on, step_fits, judges, judged, SetName, SetsPlace, sets_step, set_vars, var_number, with_place}
 use Rattle.sg_ir.specs.Apt.{Use, uses_step, uses_in}
-use Rattle.sg_ir.specs.steps.Emits.{Grows, PutsReg, PutsPlace}
-use Rattle.sg_ir.specs.steps.Steps.{step_of}
-use Rattle.sg_ir.specs.steps.Types.{IsPlain, AddsSteps, KeepsScope, CanRead, HasPassed, AddsWord, AddsChecks, AddsDescent}
+use Rattle.sg_ir.specs.steps.Emits.{NamesGrow, PutsReg, PutsPlace}
+use Rattle.sg_ir.specs.steps.Steps.{child_inst}
+use Rattle.sg_ir.specs.steps.Types.{KeepsVarsAndUses, AddsSteps, KeepsScope, CanRead, HasPassed, AddsWord, AddsChecks, AddsDescent}
 use Rattle.sg_ir.specs.Places.{extents_in}
 use Rattle.sg_ir.proofs.Folds.{fold-Root, fold-Check, fold-Extract, fold-Offset, fold-Child, fold-HashChild, fold-MaskBit, fold-DynCell}
 use Rattle.sg_ir.proofs.Judging.{judges-Root, judges-Check, judges-Extract, judges-Offset, judges-Child, judges-HashChild, judges-MaskBit, judges-DynCell, set_vars-append, uses-append}
@@ -29,7 +29,7 @@ use Rattle.sg_ir.proofs.Extending.{rest-whole, rest-shorter, all_rest, empty_fro
 use Rattle.sg_ir.proofs.Leading.{slice_get-past}
 use Rattle.sg_ir.proofs.Adding.{adds-reg, adds-place, adds-same, adds-trans, can_read-kept}
 
-plain-one : (inst : Inst) (before after : List Inst) → after ≡ before ++ inst ∷ [] → set_vars (inst ∷ []) ≡ [] → uses_in (inst ∷ []) ≡ [] → IsPlain before after
+plain-one : (inst : Inst) (before after : List Inst) → after ≡ before ++ inst ∷ [] → set_vars (inst ∷ []) ≡ [] → uses_in (inst ∷ []) ≡ [] → KeepsVarsAndUses before after
 plain-one inst before after more vars uses = record {
   vars = ap set_vars more ∙ set_vars-append before (inst ∷ []) ∙ ap (λ l. set_vars before ++ l) vars ∙ append-nil (set_vars before);
   uses = ap uses_in more ∙ uses-append before (inst ∷ []) ∙ ap (λ l. uses_in before ++ l) uses ∙ append-nil (uses_in before);
@@ -54,10 +54,10 @@ steps-same shapes needs gains names block gained = record {
 pub extract-adds : (shapes : List Shape) (div size from to : ℕ) (old new : Names) (a b : List Inst) → PutsReg ty.U32 (λ r. v.Extract r div size from) to old new a b → 1 ≤ div → 1 ≤ size →
     AddsSteps shapes (λ at scope. reads at scope false from ≡ true) (λ at scope. reads at scope false to ≡ true) old new a b
 extract-adds shapes div size from to old new a b puts div_some size_some = record {
-  adds = adds-reg shapes _ _ ty.U32 (λ r. v.Extract r div size from) (λ at scope. ltb 0 div && (ltb 0 size && (reads at scope false from && is_of false (slice_get at.regs to)))) to old new a b puts
+  adds = adds-reg shapes _ _ ty.U32 (λ r. v.Extract r div size from) (λ at scope. ltb 0 div && (ltb 0 size && (reads at scope false from && is_truth_as false (slice_get at.regs to)))) to old new a b puts
       (fold-Extract sets_step to div size from) (λ at scope. judges-Extract at to div size from scope)
-      (λ at scope same typed need. and_from (ltb 0 div) _ (lt-ltb 0 div (omega arith)) (and_from (ltb 0 size) _ (lt-ltb 0 size (omega arith)) (and_from (reads at scope false from) _ need (ap (is_of false) typed))))
-      (λ at scope same typed need. and_from (put to true scope.regs to) _ (put-same to true scope.regs) (ap (is_of false) typed));
+      (λ at scope same typed need. and_from (ltb 0 div) _ (lt-ltb 0 div (omega arith)) (and_from (ltb 0 size) _ (lt-ltb 0 size (omega arith)) (and_from (reads at scope false from) _ need (ap (is_truth_as false) typed))))
+      (λ at scope same typed need. and_from (put to true scope.regs to) _ (put-same to true scope.regs) (ap (is_truth_as false) typed));
   plain = plain-one (v.Extract to div size from) a b puts.block
       (ap (λ ss. flat_map var_number (ss ++ [])) (fold-Extract sets_step to div size from)) (ap (λ us. us ++ []) (fold-Extract uses_step to div size from));
 }
@@ -65,10 +65,10 @@ extract-adds shapes div size from to old new a b puts div_some size_some = recor
 pub offset-adds : (shapes : List Shape) (high size low to : ℕ) (old new : Names) (a b : List Inst) → PutsReg ty.U32 (λ r. v.Offset r high size low) to old new a b → 1 ≤ size →
     AddsSteps shapes (λ at scope. (reads at scope false high ≡ true) × (reads at scope false low ≡ true)) (λ at scope. reads at scope false to ≡ true) old new a b
 offset-adds shapes high size low to old new a b puts size_some = record {
-  adds = adds-reg shapes _ _ ty.U32 (λ r. v.Offset r high size low) (λ at scope. ltb 0 size && (reads at scope false high && (reads at scope false low && is_of false (slice_get at.regs to)))) to old new a b puts
+  adds = adds-reg shapes _ _ ty.U32 (λ r. v.Offset r high size low) (λ at scope. ltb 0 size && (reads at scope false high && (reads at scope false low && is_truth_as false (slice_get at.regs to)))) to old new a b puts
       (fold-Offset sets_step to high size low) (λ at scope. judges-Offset at to high size low scope)
-      (λ at scope same typed need. and_from (ltb 0 size) _ (lt-ltb 0 size (omega arith)) (and_from (reads at scope false high) _ need.0 (and_from (reads at scope false low) _ need.1 (ap (is_of false) typed))))
-      (λ at scope same typed need. and_from (put to true scope.regs to) _ (put-same to true scope.regs) (ap (is_of false) typed));
+      (λ at scope same typed need. and_from (ltb 0 size) _ (lt-ltb 0 size (omega arith)) (and_from (reads at scope false high) _ need.0 (and_from (reads at scope false low) _ need.1 (ap (is_truth_as false) typed))))
+      (λ at scope same typed need. and_from (put to true scope.regs to) _ (put-same to true scope.regs) (ap (is_truth_as false) typed));
   plain = plain-one (v.Offset to high size low) a b puts.block
       (ap (λ ss. flat_map var_number (ss ++ [])) (fold-Offset sets_step to high size low)) (ap (λ us. us ++ []) (fold-Offset uses_step to high size low));
 }
@@ -86,11 +86,11 @@ root-adds shapes layout to old new a b puts there = record {
 }
 
 -- what is behind a place that goes on from one that is known
-goes_on-kept : (to passed : ℕ) (from : Option Known) (scope : Scope) → ((p : ℕ) → p < to → (goes_on to passed from scope).places p ≡ scope.places p) × (((goes_on to passed from scope).regs ≡ scope.regs) × ((goes_on to passed from scope).vars ≡ scope.vars))
+goes_on-kept : (to passed : ℕ) (from : Option KnownPlace) (scope : Scope) → ((p : ℕ) → p < to → (goes_on to passed from scope).places p ≡ scope.places p) × (((goes_on to passed from scope).regs ≡ scope.regs) × ((goes_on to passed from scope).vars ≡ scope.vars))
 goes_on-kept to passed None scope = ((λ p below. refl), (refl, refl))
 goes_on-kept to passed (Some known) scope = ((λ p below. put-other to p (Some (record { layout = known.layout; passed = passed })) scope.places below), (refl, refl))
 
-goes_on-known : (to passed layout before : ℕ) (from : Option Known) (scope : Scope) → from ≡ Some (record { layout = layout; passed = before }) → (goes_on to passed from scope).places to ≡ Some (record { layout = layout; passed = passed })
+goes_on-known : (to passed layout before : ℕ) (from : Option KnownPlace) (scope : Scope) → from ≡ Some (record { layout = layout; passed = before }) → (goes_on to passed from scope).places to ≡ Some (record { layout = layout; passed = passed })
 goes_on-known to passed layout before from scope there =
     ap (λ k. (goes_on to passed k scope).places to) there ∙ put-same to (Some (record { layout = layout; passed = passed })) scope.places
 
@@ -131,7 +131,7 @@ right_way Hash = refl
 right_way Bitmasked = refl
 right_way Dynamic = refl
 
-judges-step : (at : Frame) (kind : Kind) (to place node offset : ℕ) (scope : Scope) → judges at (step_of kind to place node offset) scope ≡ step_fits at (way_of kind) to place node offset scope
+judges-step : (at : Frame) (kind : Kind) (to place node offset : ℕ) (scope : Scope) → judges at (child_inst kind to place node offset) scope ≡ step_fits at (way_of kind) to place node offset scope
 unfolding way_of
 judges-step at Dense to place node offset scope = judges-Child at to place node offset scope
 judges-step at Pointer to place node offset scope = judges-Child at to place node offset scope
@@ -139,14 +139,14 @@ judges-step at Hash to place node offset scope = judges-HashChild at to place no
 judges-step at Bitmasked to place node offset scope = judges-MaskBit at to place node offset scope
 judges-step at Dynamic to place node offset scope = judges-DynCell at to place node offset scope
 
-sets-step : (kind : Kind) (to place node offset : ℕ) → fold-Inst (List Setting) sets_step (step_of kind to place node offset) ≡ SetsPlace to ∷ []
+sets-step : (kind : Kind) (to place node offset : ℕ) → fold-Inst (List SetName) sets_step (child_inst kind to place node offset) ≡ SetsPlace to ∷ []
 sets-step Dense to place node offset = fold-Child sets_step to place node offset
 sets-step Pointer to place node offset = fold-Child sets_step to place node offset
 sets-step Hash to place node offset = fold-HashChild sets_step to place node offset
 sets-step Bitmasked to place node offset = fold-MaskBit sets_step to place node offset
 sets-step Dynamic to place node offset = fold-DynCell sets_step to place node offset
 
-uses-step : (kind : Kind) (to place node offset : ℕ) → fold-Inst (List Use) uses_step (step_of kind to place node offset) ≡ []
+uses-step : (kind : Kind) (to place node offset : ℕ) → fold-Inst (List Use) uses_step (child_inst kind to place node offset) ≡ []
 uses-step Dense to place node offset = fold-Child uses_step to place node offset
 uses-step Pointer to place node offset = fold-Child uses_step to place node offset
 uses-step Hash to place node offset = fold-HashChild uses_step to place node offset
@@ -161,11 +161,11 @@ may_descend at kind shape node layout number passed there found same next =
     ∙ ap (holds_of (λ (n : NodeShape). goes_down (way_of kind) n.kind)) found
     ∙ ap (goes_down (way_of kind)) same ∙ right_way kind)
 
-pub step-adds : (shapes : List Shape) (kind : Kind) (shape : Shape) (node : NodeShape) (layout place number passed offset to : ℕ) (old new : Names) (a b : List Inst) → PutsPlace (λ p. step_of kind p place number offset) to old new a b →
+pub step-adds : (shapes : List Shape) (kind : Kind) (shape : Shape) (node : NodeShape) (layout place number passed offset to : ℕ) (old new : Names) (a b : List Inst) → PutsPlace (λ p. child_inst kind p place number offset) to old new a b →
     slice_get shapes layout ≡ Some shape → node_in shape.nodes number ≡ Some node → node.kind ≡ kind → number ≡ suc passed →
     AddsSteps shapes (λ at scope. HasPassed place layout passed at scope × (reads at scope false offset ≡ true)) (HasPassed to layout number) old new a b
 step-adds shapes kind shape node layout place number passed offset to old new a b puts there found kinds next = record {
-  adds = adds-place shapes _ _ (λ p. step_of kind p place number offset)
+  adds = adds-place shapes _ _ (λ p. child_inst kind p place number offset)
       (λ at scope. ltb to at.places && (holds_of (descends at (way_of kind) number) (scope.places place) && reads at scope false offset)) (λ scope. goes_on to number (scope.places place) scope) to old new a b puts
       (sets-step kind to place number offset) (λ at scope. judges-step at kind to place number offset scope)
       (λ scope. goes_on-kept to number (scope.places place) scope)
@@ -173,7 +173,7 @@ step-adds shapes kind shape node layout place number passed offset to old new a 
       (and_from (holds_of (descends at (way_of kind) number) (scope.places place)) _
       (ap (holds_of (descends at (way_of kind) number)) need.0 ∙ may_descend at kind shape node layout number passed (ap (λ ss. slice_get ss layout) same ∙ there) found kinds next) need.1))
       (λ at scope same need. goes_on-known to number layout passed (scope.places place) scope need.0);
-  plain = plain-one (step_of kind to place number offset) a b puts.block
+  plain = plain-one (child_inst kind to place number offset) a b puts.block
       (ap (λ ss. flat_map var_number (ss ++ [])) (sets-step kind to place number offset)) (ap (λ us. us ++ []) (uses-step kind to place number offset));
 }
 
@@ -200,7 +200,7 @@ rest-named : (names : Names) (index : List ℕ) → All (λ r. r < length names.
 rest-named names index named = let P : ℕ → Type 0 = λ r. r < length names.regs in subst (All P) (sym (rest-whole index)) (all_rest P index named)
 
 read-kept : (old : Names) (at : Frame) (first second : Scope) (r : ℕ) → r < length old.regs → KeepsScope old first second → reads at first false r ≡ true → reads at second false r ≡ true
-read-kept old at first second r named keeps can = ap (λ b. b && is_of false (slice_get at.regs r)) (keeps.regs r named) ∙ can
+read-kept old at first second r named keeps can = ap (λ b. b && is_truth_as false (slice_get at.regs r)) (keeps.regs r named) ∙ can
 
 extent-some : (bounds : Bounds) (axis extent : ℕ) → 1 ≤ bounds.a → 1 ≤ bounds.b → 1 ≤ bounds.c → Some extent ≡ slice_get (extents_in bounds) axis → 1 ≤ extent
 extent-some bounds zero extent a b c is = let same : extent ≡ bounds.a = cc in omega arith
@@ -230,7 +230,7 @@ pub offset-added-done : (shapes : List Shape) (index : List ℕ) (high : ℕ) (n
 offset-added-done shapes index high names block = steps-same shapes _ _ names block (λ at scope need. need.0)
 
 pub offset-added : (shapes : List Shape) (size : ℕ) (index : List ℕ) (high low next to : ℕ) (old mid1 mid2 new : Names) (a b c d : List Inst) →
-    1 ≤ size → 1 ≤ length index → high < length old.regs → All (λ r. r < length old.regs) index → Grows old mid1 →
+    1 ≤ size → 1 ≤ length index → high < length old.regs → All (λ r. r < length old.regs) index → NamesGrow old mid1 →
     AddsSteps shapes (λ at scope. reads at scope false (get_or index 0 0) ≡ true) (λ at scope. reads at scope false low ≡ true) old mid1 a b →
     PutsReg ty.U32 (λ r. v.Offset r high size low) next mid1 mid2 b c →
     AddsSteps shapes (λ at scope. (reads at scope false next ≡ true) × CanRead (take (length index - 1) (drop 1 index)) at scope) (λ at scope. reads at scope false to ≡ true) mid2 new c d →
@@ -263,7 +263,7 @@ descent-added-done shapes number nodes index place names block none = λ layout 
 pub descent-added : (shapes : List Shape) (number : ℕ) (nodes : List NodeShape) (node : NodeShape) (index : List ℕ) (place offset next to : ℕ) (old mid1 mid2 new : Names) (a b c d : List Inst) →
     nodes ≡ node ∷ drop 1 nodes → place < old.places → All (λ r. r < length old.regs) index →
     AddsWord shapes index offset old mid1 a b →
-    PutsPlace (λ p. step_of node.kind p place number offset) next mid1 mid2 b c →
+    PutsPlace (λ p. child_inst node.kind p place number offset) next mid1 mid2 b c →
     AddsDescent shapes (number + 1) (take (length nodes - 1) (drop 1 nodes)) index next to mid2 new c d →
     AddsDescent shapes number nodes index place to old new a d
 descent-added shapes number nodes node index place offset next to old mid1 mid2 new a b c d split place_named named first puts third = λ layout shape done there whole is.

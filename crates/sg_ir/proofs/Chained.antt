@@ -8,7 +8,7 @@ use Rattle.sg_ir.specs.declared.code.Inst.{Inst, fold-Inst, out-Inst, roll-Inst,
 use Rattle.sg_ir.specs.declared.code.Inst.TheVariants.{rolls-Const, rolls-Var, rolls-Set, rolls-Bin, rolls-Un, rolls-Mulq, rolls-Root, rolls-Check, rolls-Extract, rolls-Offset, rolls-Child, rolls-HashChild, rolls-MaskBit, rolls-DynCell, rolls-ReadCell, rolls-OwnRead, rolls-OwnWrite, rolls-Acc, rolls-Want, rolls-If, rolls-For}
 use Rattle.sg_ir.specs.declared.code.Inst.TheOpen as i
 use Rattle.sg_ir.specs.declared.code.Inst.TheOpen.{Inst-F}
-use Rattle.sg_ir.specs.Runs.{Seen, Moved, Action, set_var, in_turn, inst_step, does, runs}
+use Rattle.sg_ir.specs.Runs.{Seen, Moved, InstAction, set_var_word, actions_in_turn, inst_step, does, runs}
 use Rattle.sg_ir.specs.Blocks.{Block, End, Link, chained, link_step, link, block_of}
 use Rattle.sg_ir.specs.steps.Flat.{goes}
 use Rattle.sg_ir.proofs.Folds.{fold-Const, fold-Var, fold-Set, fold-Bin, fold-Un, fold-Mulq, fold-Root, fold-Check, fold-Extract, fold-Offset, fold-Child, fold-HashChild, fold-MaskBit, fold-DynCell, fold-ReadCell, fold-OwnRead, fold-OwnWrite, fold-Acc, fold-Want, fold-If, fold-For}
@@ -35,11 +35,11 @@ module _ (seen : Seen) (regs : List Ty) where
   abbrev Goes : Inst → Type 0
   Goes inst = (rest : Block) (now : Moved) → goes seen (link regs inst rest) now ≡ goes seen rest (does seen inst now)
 
-  leaf : (inst : Inst) (l : Link) (act : Action) → link regs inst ≡ l → does seen inst ≡ act → ((rest : Block) (now : Moved) → goes seen (l rest) now ≡ goes seen rest (act now)) → Goes inst
-  leaf inst l act e f h rest now = ap (λ (other : Link). goes seen (other rest) now) e ∙ (h rest now ∙ ap (λ (other : Action). goes seen rest (other now)) (sym f))
+  leaf : (inst : Inst) (l : Link) (act : InstAction) → link regs inst ≡ l → does seen inst ≡ act → ((rest : Block) (now : Moved) → goes seen (l rest) now ≡ goes seen rest (act now)) → Goes inst
+  leaf inst l act e f h rest now = ap (λ (other : Link). goes seen (other rest) now) e ∙ (h rest now ∙ ap (λ (other : InstAction). goes seen rest (other now)) (sym f))
 
   abbrev Listed : List Inst → Type 0
-  Listed insts = (rest : Block) (now : Moved) → goes seen (chained (map (link regs) insts) rest) now ≡ goes seen rest (in_turn (map (does seen) insts) now)
+  Listed insts = (rest : Block) (now : Moved) → goes seen (chained (map (link regs) insts) rest) now ≡ goes seen rest (actions_in_turn (map (does seen) insts) now)
 
   by_list : (n : ℕ) → ((inst : Inst) → depth inst < n → Goes inst) → (insts : List Inst) → largest (map depth insts) < n → Listed insts
   by_list n each [] below rest now = refl
@@ -50,15 +50,15 @@ module _ (seen : Seen) (regs : List Ty) where
       goes seen (link_step regs (i.If cond (map (link regs) block) (map (link regs) otherwise)) rest) now ≡ goes seen rest (inst_step seen (i.If cond (map (does seen) block) (map (does seen) otherwise)) now)
   by_if cond block otherwise first second rest now = ap (goes seen rest) (by_test (now.regs cond == 0))
     where
-      by_test : (test : Bool) → (if test then goes seen (chained (map (link regs) otherwise) End) now else goes seen (chained (map (link regs) block) End) now) ≡ in_turn (if test then map (does seen) otherwise else map (does seen) block) now
+      by_test : (test : Bool) → (if test then goes seen (chained (map (link regs) otherwise) End) now else goes seen (chained (map (link regs) block) End) now) ≡ actions_in_turn (if test then map (does seen) otherwise else map (does seen) block) now
       by_test true = second End now
       by_test false = first End now
 
   by_for : (var : ℕ) (lo hi : ℤ) (body : List Inst) → Listed body → (rest : Block) (now : Moved) →
       goes seen (link_step regs (i.For var lo hi (map (link regs) body)) rest) now ≡ goes seen rest (inst_step seen (i.For var lo hi (map (does seen) body)) now)
   by_for var lo hi body each rest now =
-      ap (goes seen rest) (fold_same (λ (reached : Moved) (turn : ℤ). goes seen (chained (map (link regs) body) End) (set_var var (word_of turn) reached)) (λ (reached : Moved) (turn : ℤ). in_turn (map (does seen) body) (set_var var (word_of turn) reached))
-      (λ reached turn. each End (set_var var (word_of turn) reached)) now (numbers lo hi))
+      ap (goes seen rest) (fold_same (λ (reached : Moved) (turn : ℤ). goes seen (chained (map (link regs) body) End) (set_var_word var (word_of turn) reached)) (λ (reached : Moved) (turn : ℤ). actions_in_turn (map (does seen) body) (set_var_word var (word_of turn) reached))
+      (λ reached turn. each End (set_var_word var (word_of turn) reached)) now (numbers lo hi))
 
   module _ (n : ℕ) (each : (insts : List Inst) → largest (map depth insts) < n → Listed insts) where
     abbrev Deep : Inst → Type 0

@@ -7,7 +7,7 @@ use Rattle.sg_layout.specs.declared.shape.Shape.{Shape}
 use Rattle.sg_ir.specs.declared.code.Inst.{Inst}
 use Rattle.sg_ir.specs.declared.names.Names.{Names}
 use Rattle.sg_ir.specs.Runs.{Seen, Place, Access, Moved, put, set_reg, set_place, add_access, does, runs}
-use Rattle.sg_ir.specs.steps.Emits.{Grows, Computes, Reaches, Fetches, AddsReg, AddsPlace, PutsReg, PutsPlace}
+use Rattle.sg_ir.specs.steps.Emits.{NamesGrow, Computes, Reaches, Fetches, AddsReg, AddsPlace, PutsReg, PutsPlace}
 use Rattle.sg_ir.proofs.Equations.{runs-more}
 
 pub put-same : {A : Type 0} (to : ℕ) (new : A) (old : ℕ → A) → put to new old to ≡ new
@@ -16,14 +16,14 @@ put-same to new old = cond-true (eqb to to) new (old to) (eq-eqb to to refl)
 pub put-other : {A : Type 0} (to other : ℕ) (new : A) (old : ℕ → A) → other < to → put to new old other ≡ old other
 put-other to other new old below = cond-false (eqb other to) new (old other) (ne_eqb other to (λ same. omega arith))
 
-grows-reg : (ty : Ty) (to : ℕ) (old new : Names) → AddsReg ty to old new → Grows old new × (to < length new.regs)
+grows-reg : (ty : Ty) (to : ℕ) (old new : Names) → AddsReg ty to old new → NamesGrow old new × (to < length new.regs)
 grows-reg ty to old new adds =
     let longer : length new.regs ≡ length old.regs + 1 = ap length adds.regs ∙ length_push old.regs ty in
     let number = adds.number in
     let places = adds.places in
     (record { regs = omega arith; places = omega arith }, omega arith)
 
-grows-place : (to : ℕ) (old new : Names) → AddsPlace to old new → Grows old new × (to < new.places)
+grows-place : (to : ℕ) (old new : Names) → AddsPlace to old new → NamesGrow old new × (to < new.places)
 grows-place to old new adds =
     let same : length new.regs ≡ length old.regs = ap length adds.regs in
     let number = adds.number in

@@ -6,7 +6,7 @@ use Rattle.sg_layout.specs.declared.shape.Shape.{Shape}
 use Rattle.sg_ir.specs.declared.code.Inst.{Inst}
 use Rattle.sg_ir.specs.declared.names.Names.{Names}
 use Rattle.sg_ir.specs.Runs.{Seen, Place, Moved, runs}
-use Rattle.sg_ir.specs.steps.Emits.{Keeps, Grows, Extends, IsQuiet, Computes, Reaches}
+use Rattle.sg_ir.specs.steps.Emits.{Keeps, NamesGrow, Extends, IsQuiet, Computes, Reaches}
 
 module _ (shapes : List Shape) where
   pub extends-same : (names : Names) (block : List Inst) → Extends shapes names names block block
@@ -86,7 +86,7 @@ empty_from [] none = refl
 empty_from (x ∷ xs) none = absurd (omega arith)
 
 -- named registers stay named
-pub all_named : (old new : Names) (xs : List ℕ) → Grows old new → All (λ r. r < length old.regs) xs → All (λ r. r < length new.regs) xs
+pub all_named : (old new : Names) (xs : List ℕ) → NamesGrow old new → All (λ r. r < length old.regs) xs → All (λ r. r < length new.regs) xs
 all_named old new xs grows all = λ k d below. let g = grows.regs in let h : get_or xs k d < length old.regs = all k d below in omega arith
 
 -- the first of a list that was read there, and what is left

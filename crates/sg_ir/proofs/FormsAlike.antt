@@ -10,11 +10,11 @@ use Rattle.sg_ir.specs.declared.op.Op.{Op}
 use Rattle.sg_ir.specs.declared.op.Op.TheVariants as op
 use Rattle.sg_ir.specs.declared.op.Step.{Step}
 use Rattle.sg_ir.specs.declared.op.Step.TheVariants as step
-use Rattle.sg_ir.specs.Runs.{Seen, Moved, put, set_reg, set_place, set_var, iteration_start, iteration}
+use Rattle.sg_ir.specs.Runs.{Seen, Moved, put, set_reg, set_place, set_var_word, iteration_start, iteration}
 use Rattle.sg_ir.specs.Blocks.{Block, End, Word, Spot, Cell, Do, Branch, Loop, Act, SetVar, WriteOwn, Contribute, Wish, block_of}
-use Rattle.sg_ir.specs.steps.Scoped.{Moment, Room, room_reg, room_place, op_word, step_place, acted, at_turn, run, first_room}
+use Rattle.sg_ir.specs.steps.Scoped.{RunMoment, Room, room_reg, room_place, op_word, step_place, moment_after_act, at_turn, run, first_room}
 use Rattle.sg_ir.specs.steps.Flat.{room_of, moment_of, moved_by, moved_by_read, goes}
-use Rattle.sg_ir.specs.steps.InScope.{InScope, and_reg, and_place, nothing, op_regs, op_places, step_regs, step_places, act_regs, act_places, AreSet, IsScoped, Agrees}
+use Rattle.sg_ir.specs.steps.InScope.{InScope, and_reg, and_place, nothing, op_regs, op_places, step_regs, step_places, act_regs, act_places, AreSet, IsScoped, AgreesInScope}
 use Rattle.sg_ir.proofs.Chained.{goes-runs}
 
 -- where one number is given something new
@@ -54,7 +54,7 @@ mapped set f g h [] all = refl
 mapped set f g h (r ∷ rs) all = rw (h r all.0, mapped set f g h rs all.1) refl
 
 module _ (seen : Seen) where
-  pub op_same : (scope : InScope) (room : Room) (moment : Moment) (moved : Moved) → Agrees scope room moment moved → (how : Op) → AreSet scope.regs (op_regs how) → AreSet scope.places (op_places how)
+  pub op_same : (scope : InScope) (room : Room) (moment : RunMoment) (moved : Moved) → AgreesInScope scope room moment moved → (how : Op) → AreSet scope.regs (op_regs how) → AreSet scope.places (op_places how)
       → op_word seen (room_of moved) (moment_of moved) how ≡ op_word seen room moment how
   op_same scope room moment moved same (op.Const word truth) regs places = refl
   op_same scope room moment moved same (op.Var var) regs places = same.vars var
@@ -66,14 +66,14 @@ module _ (seen : Seen) where
   op_same scope room moment moved same (op.Read place layout field) regs places = rw (same.places place places.0) refl
   op_same scope room moment moved same (op.OwnRead layout field) regs places = rw same.writes refl
 
-  pub step_same : (scope : InScope) (room : Room) (moment : Moment) (moved : Moved) → Agrees scope room moment moved → (how : Step) → AreSet scope.regs (step_regs how) → AreSet scope.places (step_places how)
+  pub step_same : (scope : InScope) (room : Room) (moment : RunMoment) (moved : Moved) → AgreesInScope scope room moment moved → (how : Step) → AreSet scope.regs (step_regs how) → AreSet scope.places (step_places how)
       → step_place seen (room_of moved) how ≡ step_place seen room how
   step_same scope room moment moved same (step.Root layout) regs places = refl
   step_same scope room moment moved same (step.Check place axis extent index) regs places = rw (same.regs index regs.0, same.places place places.0) refl
   step_same scope room moment moved same (step.Down descent place node offset) regs places = rw (same.regs offset regs.0, same.places place places.0) refl
 
-  pub act_same : (scope : InScope) (room : Room) (moment : Moment) (moved : Moved) → Agrees scope room moment moved → (what : Act) → AreSet scope.regs (act_regs what) → AreSet scope.places (act_places what)
-      → Agrees scope room (acted seen room what moment) (moved_by seen what moved)
+  pub act_same : (scope : InScope) (room : Room) (moment : RunMoment) (moved : Moved) → AgreesInScope scope room moment moved → (what : Act) → AreSet scope.regs (act_regs what) → AreSet scope.places (act_places what)
+      → AgreesInScope scope room (moment_after_act seen room what moment) (moved_by seen what moved)
   act_same scope room moment moved same (SetVar var from) regs places = record {
     regs = same.regs;
     places = same.places;
@@ -104,7 +104,7 @@ module _ (seen : Seen) where
   }
 
   -- a register, or a place, that is set; and out of the scope that has it
-  pub reg_same : (scope : InScope) (room : Room) (moment : Moment) (moved : Moved) (to word : ℕ) (other : ℕ) → other ≡ word → Agrees scope room moment moved → Agrees (and_reg to scope) (room_reg to word room) moment (set_reg to other moved)
+  pub reg_same : (scope : InScope) (room : Room) (moment : RunMoment) (moved : Moved) (to word : ℕ) (other : ℕ) → other ≡ word → AgreesInScope scope room moment moved → AgreesInScope (and_reg to scope) (room_reg to word room) moment (set_reg to other moved)
   reg_same scope room moment moved to word other e same = record {
     regs = put_same to other word scope.regs moved.regs room.regs e same.regs;
     places = same.places;
@@ -113,7 +113,7 @@ module _ (seen : Seen) where
     wants = same.wants;
   }
 
-  out_of_reg : (scope : InScope) (room : Room) (moment : Moment) (moved : Moved) (to word : ℕ) → scope.regs to ≡ false → Agrees (and_reg to scope) (room_reg to word room) moment moved → Agrees scope room moment moved
+  out_of_reg : (scope : InScope) (room : Room) (moment : RunMoment) (moved : Moved) (to word : ℕ) → scope.regs to ≡ false → AgreesInScope (and_reg to scope) (room_reg to word room) moment moved → AgreesInScope scope room moment moved
   out_of_reg scope room moment moved to word free same = record {
     regs = λ r is. same.regs r (put_wider to scope.regs r is) ∙ put_kept to word scope.regs room.regs free r is;
     places = same.places;
@@ -122,7 +122,7 @@ module _ (seen : Seen) where
     wants = same.wants;
   }
 
-  out_of_place : (scope : InScope) (room : Room) (moment : Moment) (moved : Moved) (to : ℕ) (how : Step) → scope.places to ≡ false → Agrees (and_place to scope) (room_place to (step_place seen room how) room) moment moved → Agrees scope room moment moved
+  out_of_place : (scope : InScope) (room : Room) (moment : RunMoment) (moved : Moved) (to : ℕ) (how : Step) → scope.places to ≡ false → AgreesInScope (and_place to scope) (room_place to (step_place seen room how) room) moment moved → AgreesInScope scope room moment moved
   out_of_place scope room moment moved to how free same = record {
     regs = same.regs;
     places = λ p is. same.places p (put_wider to scope.places p is) ∙ put_kept to (step_place seen room how) scope.places room.places free p is;
@@ -131,13 +131,13 @@ module _ (seen : Seen) where
     wants = same.wants;
   }
 
-  turns_same : (scope : InScope) (room : Room) (var : ℕ) (body : Block) → ((moment : Moment) (moved : Moved) → Agrees scope room moment moved → Agrees scope room (run seen body room moment) (goes seen body moved))
-      → (turns : List ℤ) (moment : Moment) (moved : Moved) → Agrees scope room moment moved
-      → Agrees scope room (fold (λ reached turn. run seen body room (at_turn var turn reached)) moment turns) (fold (λ reached turn. goes seen body (set_var var (word_of turn) reached)) moved turns)
+  turns_same : (scope : InScope) (room : Room) (var : ℕ) (body : Block) → ((moment : RunMoment) (moved : Moved) → AgreesInScope scope room moment moved → AgreesInScope scope room (run seen body room moment) (goes seen body moved))
+      → (turns : List ℤ) (moment : RunMoment) (moved : Moved) → AgreesInScope scope room moment moved
+      → AgreesInScope scope room (fold (λ reached turn. run seen body room (at_turn var turn reached)) moment turns) (fold (λ reached turn. goes seen body (set_var_word var (word_of turn) reached)) moved turns)
   turns_same scope room var body each [] moment moved same = same
   turns_same scope room var body each (turn ∷ turns) moment moved same =
-      turns_same scope room var body each turns (run seen body room (at_turn var turn moment)) (goes seen body (set_var var (word_of turn) moved))
-      (each (at_turn var turn moment) (set_var var (word_of turn) moved) (record {
+      turns_same scope room var body each turns (run seen body room (at_turn var turn moment)) (goes seen body (set_var_word var (word_of turn) moved))
+      (each (at_turn var turn moment) (set_var_word var (word_of turn) moved) (record {
         regs = same.regs;
         places = same.places;
         vars = put_all var (word_of turn) (word_of turn) moved.vars moment.vars refl same.vars;
@@ -145,7 +145,7 @@ module _ (seen : Seen) where
         wants = same.wants;
       }))
 
-  pub scoped_same : (block : Block) (scope : InScope) (room : Room) (moment : Moment) (moved : Moved) → IsScoped scope block → Agrees scope room moment moved → Agrees scope room (run seen block room moment) (goes seen block moved)
+  pub scoped_same : (block : Block) (scope : InScope) (room : Room) (moment : RunMoment) (moved : Moved) → IsScoped scope block → AgreesInScope scope room moment moved → AgreesInScope scope room (run seen block room moment) (goes seen block moved)
   scoped_same End scope room moment moved good same = same
   scoped_same (Word to how rest) scope room moment moved good same =
       let e : op_word seen (room_of moved) (moment_of moved) how ≡ op_word seen room moment how = op_same scope room moment moved same how good.0 good.1 in
@@ -164,28 +164,28 @@ module _ (seen : Seen) where
       }))
   scoped_same (Cell to place layout field index rest) scope room moment moved good same =
       let e : op_word seen (room_of moved) (moment_of moved) (op.Read place layout field) ≡ op_word seen room moment (op.Read place layout field) = op_same scope room moment moved same (op.Read place layout field) tt good.0 in
-      let next : Agrees (and_reg to scope) (room_reg to (op_word seen room moment (op.Read place layout field)) room) moment (set_reg to (op_word seen (room_of moved) (moment_of moved) (op.Read place layout field)) moved) =
+      let next : AgreesInScope (and_reg to scope) (room_reg to (op_word seen room moment (op.Read place layout field)) room) moment (set_reg to (op_word seen (room_of moved) (moment_of moved) (op.Read place layout field)) moved) =
       reg_same scope room moment moved to (op_word seen room moment (op.Read place layout field)) (op_word seen (room_of moved) (moment_of moved) (op.Read place layout field)) e same in
       out_of_reg scope room _ _ to (op_word seen room moment (op.Read place layout field)) good.1
       (scoped_same rest (and_reg to scope) (room_reg to (op_word seen room moment (op.Read place layout field)) room) moment (moved_by_read seen to place layout field index moved) good.2
       (record { regs = next.regs; places = next.places; vars = next.vars; writes = next.writes; wants = next.wants }))
   scoped_same (Do what rest) scope room moment moved good same =
-      scoped_same rest scope room (acted seen room what moment) (moved_by seen what moved) good.2 (act_same scope room moment moved same what good.0 good.1)
+      scoped_same rest scope room (moment_after_act seen room what moment) (moved_by seen what moved) good.2 (act_same scope room moment moved same what good.0 good.1)
   scoped_same (Branch cond block otherwise rest) scope room moment moved good same =
       scoped_same rest scope room (if room.regs cond == 0 then run seen otherwise room moment else run seen block room moment) (if moved.regs cond == 0 then goes seen otherwise moved else goes seen block moved) good.3
-      (subst (λ (word : ℕ). Agrees scope room (if room.regs cond == 0 then run seen otherwise room moment else run seen block room moment) (if word == 0 then goes seen otherwise moved else goes seen block moved))
+      (subst (λ (word : ℕ). AgreesInScope scope room (if room.regs cond == 0 then run seen otherwise room moment else run seen block room moment) (if word == 0 then goes seen otherwise moved else goes seen block moved))
       (sym (same.regs cond good.0)) (by_test (room.regs cond == 0) (scoped_same block scope room moment moved good.1 same) (scoped_same otherwise scope room moment moved good.2 same)))
     where
-      by_test : (test : Bool) → Agrees scope room (run seen block room moment) (goes seen block moved) → Agrees scope room (run seen otherwise room moment) (goes seen otherwise moved)
-          → Agrees scope room (if test then run seen otherwise room moment else run seen block room moment) (if test then goes seen otherwise moved else goes seen block moved)
+      by_test : (test : Bool) → AgreesInScope scope room (run seen block room moment) (goes seen block moved) → AgreesInScope scope room (run seen otherwise room moment) (goes seen otherwise moved)
+          → AgreesInScope scope room (if test then run seen otherwise room moment else run seen block room moment) (if test then goes seen otherwise moved else goes seen block moved)
       by_test true first second = second
       by_test false first second = first
   scoped_same (Loop var lo hi body rest) scope room moment moved good same =
-      scoped_same rest scope room (fold (λ reached turn. run seen body room (at_turn var turn reached)) moment (numbers lo hi)) (fold (λ reached turn. goes seen body (set_var var (word_of turn) reached)) moved (numbers lo hi)) good.1
+      scoped_same rest scope room (fold (λ reached turn. run seen body room (at_turn var turn reached)) moment (numbers lo hi)) (fold (λ reached turn. goes seen body (set_var_word var (word_of turn) reached)) moved (numbers lo hi)) good.1
       (turns_same scope room var body (λ reached moved_to agreed. scoped_same body scope room reached moved_to good.0 agreed) (numbers lo hi) moment moved same)
 
   -- both forms tell the same of an iteration
-  pub forms_alike : (regs : List Ty) (insts : List Inst) → IsScoped nothing (block_of regs insts) → Agrees nothing first_room (run seen (block_of regs insts) first_room (moment_of (iteration_start seen))) (iteration seen insts)
-  forms_alike regs insts good = subst (λ (moved : Moved). Agrees nothing first_room (run seen (block_of regs insts) first_room (moment_of (iteration_start seen))) moved) (goes-runs seen regs insts (iteration_start seen))
+  pub forms_alike : (regs : List Ty) (insts : List Inst) → IsScoped nothing (block_of regs insts) → AgreesInScope nothing first_room (run seen (block_of regs insts) first_room (moment_of (iteration_start seen))) (iteration seen insts)
+  forms_alike regs insts good = subst (λ (moved : Moved). AgreesInScope nothing first_room (run seen (block_of regs insts) first_room (moment_of (iteration_start seen))) moved) (goes-runs seen regs insts (iteration_start seen))
       (scoped_same (block_of regs insts) nothing first_room (moment_of (iteration_start seen)) (iteration_start seen) good
       (record { regs = λ r is. refl; places = λ p is. refl; vars = λ var. refl; writes = refl; wants = refl }))

@@ -8,7 +8,7 @@ use Rattle.sg_words.specs.declared.operators.AccOp.{AccOp}
 use Rattle.sg_ir.specs.declared.code.Inst.{Inst, fold-Inst}
 use Rattle.sg_ir.specs.declared.code.Inst.TheVariants as v
 use Rattle.sg_ir.specs.declared.code.Inst.TheOpen as i
-use Rattle.sg_ir.specs.WellTyped.{Frame, Scope, Judge, judge_step, judge_all, inst_fits, judges, judged, Setting, sets_step, settings, reg_number, place_number, var_number, set_regs, set_places, set_vars}
+use Rattle.sg_ir.specs.WellTyped.{Frame, Scope, Judge, judge_step, judge_all, inst_fits, judges, judged, SetName, sets_step, settings, reg_number, place_number, var_number, set_regs, set_places, set_vars}
 use Rattle.sg_ir.specs.Apt.{Use, uses_step, uses_in}
 use Rattle.sg_ir.proofs.Folds.{fold-Const, fold-Var, fold-Set, fold-Bin, fold-Un, fold-Mulq, fold-Root, fold-Check, fold-Extract, fold-Offset, fold-Child, fold-HashChild, fold-MaskBit, fold-DynCell, fold-ReadCell, fold-OwnRead, fold-OwnWrite, fold-Acc, fold-Want, fold-If, fold-For}
 
@@ -94,7 +94,7 @@ flat-append f [] ys = refl
 flat-append f (x ∷ xs) ys = ap (λ more. f x ++ more) (flat-append f xs ys) ∙ sym (append_assoc (f x) (flat_map f xs) (flat_map f ys))
 
 pub settings-append : (block more : List Inst) → settings (block ++ more) ≡ settings block ++ settings more
-settings-append block more = flat-append (fold-Inst (List Setting) sets_step) block more
+settings-append block more = flat-append (fold-Inst (List SetName) sets_step) block more
 
 pub set_regs-append : (block more : List Inst) → set_regs (block ++ more) ≡ set_regs block ++ set_regs more
 set_regs-append block more = ap (flat_map reg_number) (settings-append block more) ∙ flat-append reg_number (settings block) (settings more)

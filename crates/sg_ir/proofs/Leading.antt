@@ -23,7 +23,7 @@ use Rattle.sg_layout.specs.Rules.{has_good_extents}
 use Rattle.sg_layout.specs.Slots.{IsSlot}
 use Rattle.sg_layout.proofs.Uses.{in_some, over_some, size_some, slots_few, all_good}
 use Rattle.sg_ir.specs.Runs.{Place, coord_of, down, add_offset, node_in, node_of}
-use Rattle.sg_ir.specs.Places.{place_in, place_at, extents_in}
+use Rattle.sg_ir.specs.Places.{place_of_coord, place_at, extents_in}
 use Rattle.sg_ir.specs.steps.Walks.{checks, digit, node_offset, led}
 
 -- ---- checks
@@ -224,7 +224,7 @@ walk-leads shapes layout shape words there accepted good test is_slot long small
     ∙ by_test (led shapes 1 shape.nodes words) (is_inside bounds at) (Some (place_of layout [])) (Some (place_of layout (offsets shape.nodes at)))
     (λ inside. led-whole shapes layout shape words there [] shape.nodes [] refl (all-steps words shape.nodes some few (inside_counts bounds words few ((test bounds at).0 inside) small) (all_good shape accepted) unused (slots_few shape accepted) (is_slot at)))
     (led-none shapes 1 shape.nodes words)
-    ∙ ap (place_in layout at) (sym there)
+    ∙ ap (place_of_coord layout at) (sym there)
   where
     unused_over : (axis : ℕ) → length words < axis → axis ≤ 3 → extent_over shape.nodes axis ≡ 1
     unused_over zero past last = absurd (omega arith)

@@ -5,7 +5,7 @@ use Rattle.std.specs.List.{flat_map, list_all, list_any}
 use Rattle.std.proofs.lemmas.Bool.Decides.{nat_tests}
 use Rattle.sg_ir.specs.declared.settings.Target.TheVariants as t
 use Rattle.sg_ir.specs.declared.settings.Next.{Next}
-use Rattle.sg_ir.specs.WellTyped.{Setting, SetsReg, SetsPlace, SetsVar, reg_number, place_number, has_no_twice}
+use Rattle.sg_ir.specs.WellTyped.{SetName, SetsReg, SetsPlace, SetsVar, reg_number, place_number, has_no_twice}
 use Rattle.sg_ir.specs.steps.Targets.{is_setting, past, with_next_reg, with_next_place, passes, ascends, once_in}
 use Rattle.sg_ir.proofs.Counting.{count-regs, count-places, count-cons}
 
@@ -49,11 +49,11 @@ next-place from next (Some place) h = (place, (refl, some-is _ _ h))
     some-is : (a b : Next) → Some a ≡ Some b → a ≡ b
     some-is a b e = cc
 
-behind-is : (one : Option Next) (more : List Setting) (end : Next) → option_and_then (λ next. ascends next more) one ≡ Some end → (next : Next) × ((one ≡ Some next) × (ascends next more ≡ Some end))
+behind-is : (one : Option Next) (more : List SetName) (end : Next) → option_and_then (λ next. ascends next more) one ≡ Some end → (next : Next) × ((one ≡ Some next) × (ascends next more ≡ Some end))
 behind-is None more end h = absurd cc
 behind-is (Some next) more end h = (next, (refl, h))
 
-ascends-above : (set : List Setting) (from end : Next) → ascends from set ≡ Some end → Above from.reg (flat_map reg_number set) × Above from.place (flat_map place_number set)
+ascends-above : (set : List SetName) (from end : Next) → ascends from set ≡ Some end → Above from.reg (flat_map reg_number set) × Above from.place (flat_map place_number set)
 ascends-above [] from end h = (tt, tt)
 ascends-above (SetsVar v ∷ set) from end h = ascends-above set from end h
 ascends-above (SetsReg r ∷ set) from end h =
@@ -75,7 +75,7 @@ ascends-above (SetsPlace p ∷ set) from end h =
     let Q : ℕ → Type 0 = λ (n : ℕ). Above n (flat_map place_number set) in
     (there.0, (step.0, subst Q step.1 there.1))
 
-pub ascends-once : (set : List Setting) (from end : Next) → ascends from set ≡ Some end → true ≡ (has_no_twice (flat_map reg_number set) && has_no_twice (flat_map place_number set))
+pub ascends-once : (set : List SetName) (from end : Next) → ascends from set ≡ Some end → true ≡ (has_no_twice (flat_map reg_number set) && has_no_twice (flat_map place_number set))
 ascends-once set from end h =
     let above = ascends-above set from end h in
     rw (above-once (flat_map reg_number set) from.reg above.0, above-once (flat_map place_number set) from.place above.1) refl
@@ -185,7 +185,7 @@ take-and : (a b c : Bool) → (a && (b && c)) ≡ ((a && b) && c)
 take-and true b c = refl
 take-and false b c = refl
 
-once-split : (all set : List Setting) →
+once-split : (all set : List SetName) →
     list_all (once_in all) set
     ≡ (list_all (counted_once (flat_map reg_number all)) (flat_map reg_number set) && list_all (counted_once (flat_map place_number all)) (flat_map place_number set))
 once-split all [] = refl
@@ -199,7 +199,7 @@ once-split all (SetsPlace p ∷ set) =
     ∙ ap (λ (b : Bool). counted_once (flat_map place_number all) p && b) (once-split all set)
     ∙ swap-and (counted_once (flat_map place_number all) p) (list_all (counted_once (flat_map reg_number all)) (flat_map reg_number set)) (list_all (counted_once (flat_map place_number all)) (flat_map place_number set))
 
-pub once-is : (set : List Setting) → list_all (once_in set) set ≡ (has_no_twice (flat_map reg_number set) && has_no_twice (flat_map place_number set))
+pub once-is : (set : List SetName) → list_all (once_in set) set ≡ (has_no_twice (flat_map reg_number set) && has_no_twice (flat_map place_number set))
 once-is set =
     once-split set set
     ∙ ap (λ (b : Bool). b && list_all (counted_once (flat_map place_number set)) (flat_map place_number set)) (no-twice (flat_map reg_number set))

@@ -18,7 +18,7 @@ use Rattle.sg_ir.specs.declared.code.Inst.{Inst}
 use Rattle.sg_ir.specs.declared.names.Names.{Names}
 use Rattle.sg_ir.specs.Runs.{Place, Moved, named_by, runs}
 use Rattle.sg_ir.specs.Places.{place_at, extents_in}
-use Rattle.sg_ir.specs.steps.Emits.{Extends, Reaches, LeadsTo}
+use Rattle.sg_ir.specs.steps.Emits.{Extends, Reaches, LeadsToPlace}
 use Rattle.sg_ir.specs.steps.Walks.{AreWalkable, checks, led}
 use Rattle.sg_ir.proofs.Extending.{extends-trans, quiet-trans, words-kept}
 use Rattle.sg_ir.proofs.Leading.{walk-leads}
@@ -46,7 +46,7 @@ pub place-leads : (shapes : List Shape) (layout : ℕ) (shape : Shape) (bounds :
     Reaches shapes (λ seen now. Some (record { layout = layout; path = [] })) start old mid1 a b →
     Reaches shapes (λ seen now. checks (drop 0 (extents_in bounds)) (map now.regs index) (now.places start)) inside mid1 mid2 b c →
     Reaches shapes (λ seen now. led shapes 1 nodes (map now.regs index) (now.places inside)) to mid2 new c d →
-    LeadsTo shapes index (λ seen now. place_at shapes layout (named_by index now)) to old new a d
+    LeadsToPlace shapes index (λ seen now. place_at shapes layout (named_by index now)) to old new a d
 place-leads shapes layout shape bounds nodes index start inside to old mid1 mid2 new a b c d same_bounds same_nodes accepted good test is_slot whole long named there first second third =
     let two : Extends shapes old mid2 a c = extends-trans shapes old mid1 mid2 a b c first.extends second.extends in
     record {

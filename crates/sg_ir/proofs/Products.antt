@@ -3,7 +3,7 @@ use Rattle.std.specs.Prelude.{◌≡◌, refl, ℕ, zero, suc, ℤ, pos, negsuc,
 use Rattle.std.proofs.Common.{arith}
 use Rattle.std.proofs.lemmas.Int.{ints}
 use Rattle.std.proofs.Math.IntN.{*ℤ_comm, zero-*ℤ, suc_ℤ-*ℤ, pred_ℤ-*ℤ}
-use Rattle.sg_ir.specs.Span.{least, greatest}
+use Rattle.sg_ir.specs.Span.{lesser_of, greater_of}
 
 more : (p q p_more q_more a b : ℤ) → p_more ≡ p +ℤ a → q_more ≡ q +ℤ b → p ≤ℤ q → a ≤ℤ b → p_more ≤ℤ q_more
 more p q p_more q_more a b e f h k = omega (arith, ints)
@@ -33,8 +33,8 @@ falls (suc n) a b h =
 
 -- z lies between two numbers, whichever is the least
 pub record Between (p q z : ℤ) : Type 0 where
-  pub low : least p q ≤ℤ z
-  pub high : z ≤ℤ greatest p q
+  pub low : lesser_of p q ≤ℤ z
+  pub high : z ≤ℤ greater_of p q
 
 rising : (p q z : ℤ) → p ≤ℤ z → z ≤ℤ q → Between p q z
 rising p q z h k = record { low = grind (arith, ints); high = grind (arith, ints) }
@@ -52,23 +52,23 @@ between_left x lo hi z h k = rw (*ℤ_comm lo x, *ℤ_comm hi x, *ℤ_comm z x) 
 low_trans : (p q r : ℤ) → p ≤ℤ q → q ≤ℤ r → p ≤ℤ r
 low_trans p q r h k = omega (arith, ints)
 
-least_both : (p q x y : ℤ) → p ≤ℤ x → q ≤ℤ y → least p q ≤ℤ least x y
+least_both : (p q x y : ℤ) → p ≤ℤ x → q ≤ℤ y → lesser_of p q ≤ℤ lesser_of x y
 least_both p q x y h k = grind (arith, ints)
 
-greatest_both : (x y p q : ℤ) → x ≤ℤ p → y ≤ℤ q → greatest x y ≤ℤ greatest p q
+greatest_both : (x y p q : ℤ) → x ≤ℤ p → y ≤ℤ q → greater_of x y ≤ℤ greater_of p q
 greatest_both x y p q h k = grind (arith, ints)
 
 joined : (p q r s x y z : ℤ) → Between p q x → Between r s y → Between x y z →
-    (least (least p q) (least r s) ≤ℤ z) × (z ≤ℤ greatest (greatest p q) (greatest r s))
+    (lesser_of (lesser_of p q) (lesser_of r s) ≤ℤ z) × (z ≤ℤ greater_of (greater_of p q) (greater_of r s))
 joined p q r s x y z f g h = (
-  low_trans (least (least p q) (least r s)) (least x y) z (least_both (least p q) (least r s) x y f.low g.low) h.low,
-  low_trans z (greatest x y) (greatest (greatest p q) (greatest r s)) h.high (greatest_both x y (greatest p q) (greatest r s) f.high g.high),
+  low_trans (lesser_of (lesser_of p q) (lesser_of r s)) (lesser_of x y) z (least_both (lesser_of p q) (lesser_of r s) x y f.low g.low) h.low,
+  low_trans z (greater_of x y) (greater_of (greater_of p q) (greater_of r s)) h.high (greatest_both x y (greater_of p q) (greater_of r s) f.high g.high),
 )
 
 -- products of numbers in two ranges lie between the least and the greatest of the four products of their ends
 pub products_lie : (a_lo a_hi b_lo b_hi a b : ℤ) → a_lo ≤ℤ a → a ≤ℤ a_hi → b_lo ≤ℤ b → b ≤ℤ b_hi →
-    (least (least (a_lo *ℤ b_lo) (a_lo *ℤ b_hi)) (least (a_hi *ℤ b_lo) (a_hi *ℤ b_hi)) ≤ℤ (a *ℤ b))
-    × ((a *ℤ b) ≤ℤ greatest (greatest (a_lo *ℤ b_lo) (a_lo *ℤ b_hi)) (greatest (a_hi *ℤ b_lo) (a_hi *ℤ b_hi)))
+    (lesser_of (lesser_of (a_lo *ℤ b_lo) (a_lo *ℤ b_hi)) (lesser_of (a_hi *ℤ b_lo) (a_hi *ℤ b_hi)) ≤ℤ (a *ℤ b))
+    × ((a *ℤ b) ≤ℤ greater_of (greater_of (a_lo *ℤ b_lo) (a_lo *ℤ b_hi)) (greater_of (a_hi *ℤ b_lo) (a_hi *ℤ b_hi)))
 products_lie a_lo a_hi b_lo b_hi a b al ah bl bh =
     let low : Between (a_lo *ℤ b_lo) (a_lo *ℤ b_hi) (a_lo *ℤ b) = between_right a_lo b_lo b_hi b bl bh in
     let high : Between (a_hi *ℤ b_lo) (a_hi *ℤ b_hi) (a_hi *ℤ b) = between_right a_hi b_lo b_hi b bl bh in

@@ -8,7 +8,7 @@ use Rattle.sg_ir.specs.declared.settings.Target.TheVariants as t
 use Rattle.sg_ir.specs.declared.before.Passed.{Passed}
 use Rattle.sg_ir.specs.WellTyped.{holds_of}
 use Rattle.sg_ir.specs.steps.Targets.{is_setting, settings_of, left, leaves}
-use Rattle.sg_ir.specs.steps.Scopes.{IsLast, Places, origin, known_from, placed, place_step, places_after}
+use Rattle.sg_ir.specs.steps.Scopes.{IsLast, KnownPlaces, origin, known_from, places_then, place_step, places_after}
 
 -- something is there, where one at an index is
 pub any-at : {X : Type 0} (p : X → Bool) (xs : List X) (at : ℕ) → holds_of p (slice_get xs at) ≡ true → list_any p xs ≡ true
@@ -28,8 +28,8 @@ eq-swap : (a b : ℕ) → (a == b) ≡ (b == a)
 eq-swap a b = grind (arith, nat_tests)
 
 -- a place that isn't set stays, and one that is set is known where something is known of what it comes from
-placed-other : (p : ℕ) (set : Option Target) (known : Option Passed) (places : Places) →
-    list_any (is_setting (t.Place p)) (settings_of set) ≡ false → placed set known places p ≡ places p
+placed-other : (p : ℕ) (set : Option Target) (known : Option Passed) (places : KnownPlaces) →
+    list_any (is_setting (t.Place p)) (settings_of set) ≡ false → places_then set known places p ≡ places p
 placed-other p None known places h = refl
 placed-other p (Some (t.Reg r)) known places h = refl
 placed-other p (Some (t.Var v)) known places h = refl
@@ -40,8 +40,8 @@ abbrev pub or_earlier : Option Passed → Option Passed → Option Passed
 or_earlier None earlier = earlier
 or_earlier (Some known) earlier = Some known
 
-placed-here : (p : ℕ) (set : Option Target) (known : Option Passed) (places : Places) →
-    list_any (is_setting (t.Place p)) (settings_of set) ≡ true → placed set known places p ≡ or_earlier known (places p)
+placed-here : (p : ℕ) (set : Option Target) (known : Option Passed) (places : KnownPlaces) →
+    list_any (is_setting (t.Place p)) (settings_of set) ≡ true → places_then set known places p ≡ or_earlier known (places p)
 placed-here p None known places h = absurd cc
 placed-here p (Some (t.Reg r)) known places h = absurd cc
 placed-here p (Some (t.Var v)) known places h = absurd cc
@@ -52,13 +52,13 @@ placed-here p (Some (t.Place q)) (Some known) places h = rw (eq-swap p q ∙ or-
     or-first true h = refl
     or-first false h = h
 
-pub places-none : (p : ℕ) (places : Places) (done : List Inst) → list_any (leaves (t.Place p)) done ≡ false → places_after places done p ≡ places p
+pub places-none : (p : ℕ) (places : KnownPlaces) (done : List Inst) → list_any (leaves (t.Place p)) done ≡ false → places_after places done p ≡ places p
 places-none p places [] h = refl
 places-none p places (x ∷ xs) h =
     let parts = or-parts (leaves (t.Place p) x) (list_any (leaves (t.Place p)) xs) h in
     places-none p (place_step places x) xs parts.1 ∙ placed-other p (left x) (known_from places (origin x)) places parts.0
 
-places-last : (p : ℕ) (places : Places) (done : List Inst) (at : ℕ) (inst : Inst) → slice_get done at ≡ Some inst →
+places-last : (p : ℕ) (places : KnownPlaces) (done : List Inst) (at : ℕ) (inst : Inst) → slice_get done at ≡ Some inst →
     list_any (leaves (t.Place p)) (drop (suc at) done) ≡ false → places_after places done p ≡ place_step (places_after places (take at done)) inst p
 places-last p places [] at inst is h = absurd cc
 places-last p places (x ∷ xs) zero inst is h =
@@ -66,7 +66,7 @@ places-last p places (x ∷ xs) zero inst is h =
     places-none p (place_step places x) xs h ∙ ap (λ (y : Inst). place_step places y p) same
 places-last p places (x ∷ xs) (suc at) inst is h = places-last p (place_step places x) xs at inst is h
 
-pub places-at : (p : ℕ) (places : Places) (done : List Inst) (at : ℕ) (inst : Inst) (known : Option Passed) → IsLast (t.Place p) done at →
+pub places-at : (p : ℕ) (places : KnownPlaces) (done : List Inst) (at : ℕ) (inst : Inst) (known : Option Passed) → IsLast (t.Place p) done at →
     slice_get done at ≡ Some inst → known_from (places_after places (take at done)) (origin inst) ≡ known →
     places_after places done p ≡ or_earlier known (places_after places (take at done) p)
 places-at p places done at inst known last is from =

@@ -21,18 +21,18 @@ use Rattle.sg_ir.specs.declared.before.Origin.{Origin}
 use Rattle.sg_ir.specs.declared.before.Origin.TheVariants as o
 use Rattle.sg_ir.specs.declared.before.Passed.{Passed}
 use Rattle.sg_ir.specs.Runs.{put}
-use Rattle.sg_ir.specs.WellTyped.{Frame, Scope, Known, Judge, judge_step, judges, judged, with_reg, with_place, with_var, goes_on, holds_of, is_i32}
-use Rattle.sg_ir.specs.steps.Targets.{is_setting, setting_of, settings_of, left_step, left, leaves}
-use Rattle.sg_ir.specs.steps.Scopes.{Places, origin_step, origin, known_from, settled, passed_on, placed, place_step, places_after, known_of, scope_with, scope_at, set_step, set_before, before_step, places_before}
+use Rattle.sg_ir.specs.WellTyped.{Frame, Scope, KnownPlace, Judge, judge_step, judges, judged, with_reg, with_place, with_var, goes_on, holds_of, is_i32}
+use Rattle.sg_ir.specs.steps.Targets.{is_setting, set_name_of, settings_of, left_step, left, leaves}
+use Rattle.sg_ir.specs.steps.Scopes.{KnownPlaces, origin_step, origin, known_from, settled, passed_on, places_then, place_step, places_after, known_by_check, scope_with, scope_at, set_step, set_before, before_step, places_before}
 use Rattle.sg_ir.proofs.Folds.{fold-Const, fold-Var, fold-Set, fold-Bin, fold-Un, fold-Mulq, fold-Root, fold-Check, fold-Extract, fold-Offset, fold-Child, fold-HashChild, fold-MaskBit, fold-DynCell, fold-ReadCell, fold-OwnRead, fold-OwnWrite, fold-Acc, fold-Want, fold-If, fold-For}
 use Rattle.sg_ir.proofs.Judging.{judged-more, judges-Const, judges-Var, judges-Set, judges-Bin, judges-Un, judges-Mulq, judges-Root, judges-Check, judges-Extract, judges-Offset, judges-Child, judges-HashChild, judges-MaskBit, judges-DynCell, judges-ReadCell, judges-OwnRead, judges-OwnWrite, judges-Acc, judges-Want, judges-If, judges-For}
 use Rattle.sg_ir.proofs.Cases.{by_inst}
 
 -- the scope behind an instruction that leaves this, where a place comes from there
-abbrev after : (ℕ → Bool) → Places → (ℕ → Bool) → Option Target → Option Origin → Scope
+abbrev after : (ℕ → Bool) → KnownPlaces → (ℕ → Bool) → Option Target → Option Origin → Scope
 after regs places vars set from = scope_with
     (λ r. list_any (is_setting (t.Reg r)) (settings_of set) || regs r)
-    (placed set (known_from places from) places)
+    (places_then set (known_from places from) places)
     (λ v. list_any (is_setting (t.Var v)) (settings_of set) || vars v)
 
 put-one : (to : ℕ) (set : ℕ → Bool) (x : ℕ) → put to true set x ≡ (((to == x) || false) || set x)
@@ -47,17 +47,17 @@ put-one to set x = one (x == to) (to == x) (set x) (swap x to)
     one false true s e = absurd cc
     one false false s e = refl
 
-put-known : (to : ℕ) (known : Passed) (places : Places) (p : ℕ) → put to (known_of (Some known)) (λ q. known_of (places q)) p ≡ known_of (put to (Some known) places p)
+put-known : (to : ℕ) (known : Passed) (places : KnownPlaces) (p : ℕ) → put to (known_by_check (Some known)) (λ q. known_by_check (places q)) p ≡ known_by_check (put to (Some known) places p)
 put-known to known places p = one (p == to)
   where
-    one : (b : Bool) → (if b then known_of (Some known) else known_of (places p)) ≡ known_of (if b then Some known else places p)
+    one : (b : Bool) → (if b then known_by_check (Some known) else known_by_check (places p)) ≡ known_by_check (if b then Some known else places p)
     one true = refl
     one false = refl
 
-abbrev scope_of_places : (ℕ → Bool) → (ℕ → Bool) → (ℕ → Option Known) → Scope
+abbrev scope_of_places : (ℕ → Bool) → (ℕ → Bool) → (ℕ → Option KnownPlace) → Scope
 scope_of_places regs vars set = record { regs = regs; places = set; vars = vars }
 
-module _ (regs : ℕ → Bool) (places : Places) (vars : ℕ → Bool) where
+module _ (regs : ℕ → Bool) (places : KnownPlaces) (vars : ℕ → Bool) where
   after-reg : (to : ℕ) → with_reg to (scope_with regs places vars) ≡ after regs places vars (Some (t.Reg to)) None
   after-reg to = ap (λ (set : ℕ → Bool). scope_with set places vars) (fun_ext (put-one to regs))
 
@@ -70,14 +70,14 @@ module _ (regs : ℕ → Bool) (places : Places) (vars : ℕ → Bool) where
   after-root : (to layout : ℕ) → with_place to (record { layout = layout; passed = 0 }) (scope_with regs places vars) ≡ after regs places vars (Some (t.Place to)) (Some (o.Root layout))
   after-root to layout = after-known to (record { layout = layout; passed = 0 })
 
-  after-place : (to from passed : ℕ) → goes_on to passed (known_of (places from)) (scope_with regs places vars) ≡ after regs places vars (Some (t.Place to)) (Some (o.Place from passed))
+  after-place : (to from passed : ℕ) → goes_on to passed (known_by_check (places from)) (scope_with regs places vars) ≡ after regs places vars (Some (t.Place to)) (Some (o.Place from passed))
   after-place to from passed = on (places from)
     where
-      on : (known : Option Passed) → goes_on to passed (known_of known) (scope_with regs places vars) ≡ scope_with regs (settled to (passed_on passed known) places) vars
+      on : (known : Option Passed) → goes_on to passed (known_by_check known) (scope_with regs places vars) ≡ scope_with regs (settled to (passed_on passed known) places) vars
       on None = refl
       on (Some known) = after-known to (record { layout = known.layout; passed = passed })
 
-module _ (at : Frame) (regs : ℕ → Bool) (places : Places) (vars : ℕ → Bool) where
+module _ (at : Frame) (regs : ℕ → Bool) (places : KnownPlaces) (vars : ℕ → Bool) where
   abbrev Behind : Inst → Type 0
   Behind inst = (judges at inst (scope_with regs places vars)).1 ≡ after regs places vars (left inst) (origin inst)
 
@@ -206,14 +206,14 @@ swap-or true false c = refl
 swap-or false true c = refl
 swap-or false false c = refl
 
-scope-eq : (regs other : ℕ → Bool) (places places_2 : Places) (vars vars_2 : ℕ → Bool) → ((r : ℕ) → regs r ≡ other r) → places ≡ places_2 → ((v : ℕ) → vars v ≡ vars_2 v) →
+scope-eq : (regs other : ℕ → Bool) (places places_2 : KnownPlaces) (vars vars_2 : ℕ → Bool) → ((r : ℕ) → regs r ≡ other r) → places ≡ places_2 → ((v : ℕ) → vars v ≡ vars_2 v) →
     scope_with regs places vars ≡ scope_with other places_2 vars_2
 scope-eq regs other places places_2 vars vars_2 same_regs same_places same_vars =
     ap (λ (set : ℕ → Bool). scope_with set places vars) (fun_ext same_regs)
-    ∙ ap (λ (set : Places). scope_with other set vars) same_places
+    ∙ ap (λ (set : KnownPlaces). scope_with other set vars) same_places
     ∙ ap (λ (set : ℕ → Bool). scope_with other places_2 set) (fun_ext same_vars)
 
-pub block-behind : (at : Frame) (done : List Inst) (regs : ℕ → Bool) (places : Places) (vars : ℕ → Bool) →
+pub block-behind : (at : Frame) (done : List Inst) (regs : ℕ → Bool) (places : KnownPlaces) (vars : ℕ → Bool) →
     (judged at done (scope_with regs places vars)).1
     ≡ scope_with (λ r. list_any (leaves (t.Reg r)) done || regs r) (places_after places done) (λ v. list_any (leaves (t.Var v)) done || vars v)
 block-behind at [] regs places vars = refl
@@ -226,7 +226,7 @@ block-behind at (x ∷ xs) regs places vars =
 see-Block : (what : Target) (done : Bor (List Inst)) (outer : Bor Before) → set_before what (bv.Block done outer) ≡ (list_any (leaves what) done.now || set_before what outer.now)
 see-Block what done outer = ap (set_before what) (sym (rolls-Block done outer)) ∙ fold-roll-Before Bool (set_step what) (b.Block done outer)
 
-see-Loop : (what : Target) (var : ℕ) (outer : Bor Before) → set_before what (bv.Loop var outer) ≡ (is_setting what (setting_of (t.Var var)) || set_before what outer.now)
+see-Loop : (what : Target) (var : ℕ) (outer : Bor Before) → set_before what (bv.Loop var outer) ≡ (is_setting what (set_name_of (t.Var var)) || set_before what outer.now)
 see-Loop what var outer = ap (set_before what) (sym (rolls-Loop var outer)) ∙ fold-roll-Before Bool (set_step what) (b.Loop var outer)
 
 see-Start : (what : Target) → set_before what bv.Start ≡ false
@@ -237,14 +237,14 @@ scope-Block at free done outer =
     block-behind at done.now (λ r. set_before (t.Reg r) outer.now) (places_before outer.now) (λ v. free v || set_before (t.Var v) outer.now)
     ∙ scope-eq _ _ _ _ _ _
     (λ r. sym (see-Block (t.Reg r) done outer))
-    (sym (ap places_before (sym (rolls-Block done outer)) ∙ fold-roll-Before Places before_step (b.Block done outer)))
+    (sym (ap places_before (sym (rolls-Block done outer)) ∙ fold-roll-Before KnownPlaces before_step (b.Block done outer)))
     (λ v. swap-or (list_any (leaves (t.Var v)) done.now) (free v) (set_before (t.Var v) outer.now) ∙ ap (λ (s : Bool). free v || s) (sym (see-Block (t.Var v) done outer)))
 
 pub scope-Loop : (free : ℕ → Bool) (var : ℕ) (outer : Bor Before) → with_var var (scope_at free outer.now) ≡ scope_at free (bv.Loop var outer)
 scope-Loop free var outer =
     scope-eq _ _ _ _ _ _
     (λ r. sym (see-Loop (t.Reg r) var outer))
-    (sym (ap places_before (sym (rolls-Loop var outer)) ∙ fold-roll-Before Places before_step (b.Loop var outer)))
+    (sym (ap places_before (sym (rolls-Loop var outer)) ∙ fold-roll-Before KnownPlaces before_step (b.Loop var outer)))
     (λ v. put-one var (λ w. free w || set_before (t.Var w) outer.now) v ∙ loop-or (var == v) (free v) (set_before (t.Var v) outer.now) ∙ ap (λ (s : Bool). free v || s) (sym (see-Loop (t.Var v) var outer)))
   where
     loop-or : (a f c : Bool) → ((a || false) || (f || c)) ≡ (f || (a || c))
@@ -256,7 +256,7 @@ pub scope-Start : (free : ℕ → Bool) → scope_at free bv.Start ≡ record { 
 scope-Start free =
     scope-eq _ (λ r. false) _ (λ p. None) _ free
     (λ r. see-Start (t.Reg r))
-    (ap places_before (sym rolls-Start) ∙ fold-roll-Before Places before_step b.Start)
+    (ap places_before (sym rolls-Start) ∙ fold-roll-Before KnownPlaces before_step b.Start)
     (λ v. ap (λ (s : Bool). free v || s) (see-Start (t.Var v)) ∙ or-no (free v))
   where
     or-no : (f : Bool) → (f || false) ≡ f

@@ -18,15 +18,15 @@ use Rattle.sg_ir.specs.declared.op.Op.TheVariants as op
 use Rattle.sg_ir.specs.Runs.{Seen, CodeWrite, put, at_of}
 use Rattle.sg_ir.specs.Blocks.{Block, End, Word, Spot, Cell, Do, Branch, Loop, SetVar, WriteOwn, Contribute, Wish}
 use Rattle.sg_ir.specs.declared.span.Span.{Span}
-use Rattle.sg_ir.specs.Span.{whole, range_span, Spans, reg_span, var_span, op_span, with_span, in_loop}
-use Rattle.sg_ir.specs.SpanLaws.{Lies, HasWord, WhereTest, EachTurn, SpansHold, IsSpanned, StateIsWords, RoomFits, Fits}
-use Rattle.sg_ir.specs.steps.Scoped.{Moment, Room, room_reg, room_place, op_word, step_place, acted, at_turn, run}
+use Rattle.sg_ir.specs.Span.{whole_i32, range_span, Spans, reg_span, var_span, op_span, with_span, in_loop}
+use Rattle.sg_ir.specs.SpanLaws.{Lies, HasConstantWord, WhereTest, EachTurn, SpansHold, IsSpanned, StateIsWords, RoomFits, FitsSpans}
+use Rattle.sg_ir.specs.steps.Scoped.{RunMoment, Room, room_reg, room_place, op_word, step_place, moment_after_act, at_turn, run}
 use Rattle.sg_ir.proofs.SpanWords.{lies_whole, range_lies, op_lies, all_one}
 
 -- the spans hold along a run, and what is known holds behind it
-pub record Sound (seen : Seen) (spans : Spans) (block : Block) (room : Room) (now : Moment) : Type 0 where
+pub record Sound (seen : Seen) (spans : Spans) (block : Block) (room : Room) (now : RunMoment) : Type 0 where
   pub holds : SpansHold seen spans block room now
-  pub fits : Fits spans (run seen block room now)
+  pub fits : FitsSpans spans (run seen block room now)
 
 -- a new entry in front, on both sides
 lies_either : (test : Bool) (s t : Span) (w v : ℕ) → Lies s w → Lies t v → Lies (if test then s else t) (if test then w else v)
@@ -37,7 +37,7 @@ pub room_with : (spans : Spans) (room : Room) (to : ℕ) (span : Span) (word : �
 room_with spans room to span word fits lies r = lies_either (r == to) span (reg_span spans r) word (room.regs r) lies (fits r)
 
 -- a variable that has all of I32 may be set to any word
-pub vars_set : (spans : Spans) (vars : ℕ → ℕ) (var word : ℕ) → ((v : ℕ) → Lies (var_span spans v) (vars v)) → var_span spans var ≡ whole → Lies whole word → (v : ℕ) → Lies (var_span spans v) (put var word vars v)
+pub vars_set : (spans : Spans) (vars : ℕ → ℕ) (var word : ℕ) → ((v : ℕ) → Lies (var_span spans v) (vars v)) → var_span spans var ≡ whole_i32 → Lies whole_i32 word → (v : ℕ) → Lies (var_span spans v) (put var word vars v)
 vars_set spans vars var word fits all lies v = by_test (v == var) refl
   where
     by_test : (test : Bool) → (v == var) ≡ test → Lies (var_span spans v) (if test then word else vars v)
@@ -45,13 +45,13 @@ vars_set spans vars var word fits all lies v = by_test (v == var) refl
     by_test false e = fits v
 
 -- into a turn of a loop, and out of the loop
-pub entered : (spans : Spans) (var : ℕ) (lo hi turn : ℤ) (now : Moment) → Fits spans now → Lies (range_span lo hi) (word_of turn) → Fits (in_loop var lo hi spans) (at_turn var turn now)
+pub entered : (spans : Spans) (var : ℕ) (lo hi turn : ℤ) (now : RunMoment) → FitsSpans spans now → Lies (range_span lo hi) (word_of turn) → FitsSpans (in_loop var lo hi spans) (at_turn var turn now)
 entered spans var lo hi turn now fits lies = record {
   vars = λ v. lies_either (v == var) (range_span lo hi) (var_span spans v) (word_of turn) (now.vars v) lies (fits.vars v);
   writes = fits.writes;
 }
 
-pub left : (whole_law : (w : ℕ) → IsWord w → Lies whole w) (spans : Spans) (var : ℕ) (lo hi : ℤ) (now : Moment) → var_span spans var ≡ whole → Fits (in_loop var lo hi spans) now → Fits spans now
+pub left : (whole_law : (w : ℕ) → IsWord w → Lies whole_i32 w) (spans : Spans) (var : ℕ) (lo hi : ℤ) (now : RunMoment) → var_span spans var ≡ whole_i32 → FitsSpans (in_loop var lo hi spans) now → FitsSpans spans now
 left whole_law spans var lo hi now all fits = record { vars = λ v. by_test v (v == var) refl (fits.vars v); writes = fits.writes }
   where
     by_test : (v : ℕ) (test : Bool) → (v == var) ≡ test → Lies (if test then range_span lo hi else var_span spans v) (now.vars v) → Lies (var_span spans v) (now.vars v)
@@ -73,24 +73,24 @@ module _
     (un_law : (how : UnOp) (a : ℕ) → AppliedUnIsWord how a)
     (mulq_law : (a b s : ℕ) → MulqIsWord a b s)
     (seen : Seen) (state : StateIsWords seen) where
-  abbrev any_word : (w : ℕ) → IsWord w → Lies whole w
+  abbrev any_word : (w : ℕ) → IsWord w → Lies whole_i32 w
   any_word = lies_whole number_law word_law sum_law difference_law product_law applied_law un_law mulq_law
 
   abbrev in_range : (lo hi turn : ℤ) → lo ≤ℤ turn → turn <ℤ hi → Lies (range_span lo hi) (word_of turn)
   in_range = range_lies number_law word_law sum_law difference_law product_law applied_law un_law mulq_law
 
-  gives : (spans : Spans) (room : Room) (now : Moment) → RoomFits spans room → Fits spans now → (how : Op) → HasWord how → Lies (op_span spans how) (op_word seen room now how)
+  gives : (spans : Spans) (room : Room) (now : RunMoment) → RoomFits spans room → FitsSpans spans now → (how : Op) → HasConstantWord how → Lies (op_span spans how) (op_word seen room now how)
   gives = op_lies number_law word_law sum_law difference_law product_law applied_law un_law mulq_law seen state
 
-  wrote : (spans : Spans) (now : Moment) (write : CodeWrite) → Fits spans now → IsWord write.value → All (λ (w : CodeWrite). IsWord w.value) (now.writes ++ write ∷ [])
+  wrote : (spans : Spans) (now : RunMoment) (write : CodeWrite) → FitsSpans spans now → IsWord write.value → All (λ (w : CodeWrite). IsWord w.value) (now.writes ++ write ∷ [])
   wrote spans now write fits h = All-append (λ (w : CodeWrite). IsWord w.value) now.writes (write ∷ []) fits.writes (all_one (λ (w : CodeWrite). IsWord w.value) write h)
 
   -- the turns of a loop, from one on
-  turns_sound : (spans : Spans) (var : ℕ) (lo hi : ℤ) (body : Block) (room : Room) → var_span spans var ≡ whole
-      → ((now : Moment) → Fits (in_loop var lo hi spans) now → Sound seen (in_loop var lo hi spans) body room now)
-      → (start count : ℕ) → start + count ≤ count_of (hi -ℤ lo) → (now : Moment) → Fits spans now
+  turns_sound : (spans : Spans) (var : ℕ) (lo hi : ℤ) (body : Block) (room : Room) → var_span spans var ≡ whole_i32
+      → ((now : RunMoment) → FitsSpans (in_loop var lo hi spans) now → Sound seen (in_loop var lo hi spans) body room now)
+      → (start count : ℕ) → start + count ≤ count_of (hi -ℤ lo) → (now : RunMoment) → FitsSpans spans now
       → EachTurn (λ turn reached. SpansHold seen (in_loop var lo hi spans) body room (at_turn var turn reached)) (λ reached turn. run seen body room (at_turn var turn reached)) now (map (λ k. lo +ℤ pos k) (range_with_len start count))
-      × Fits spans (fold (λ reached turn. run seen body room (at_turn var turn reached)) now (map (λ k. lo +ℤ pos k) (range_with_len start count)))
+      × FitsSpans spans (fold (λ reached turn. run seen body room (at_turn var turn reached)) now (map (λ k. lo +ℤ pos k) (range_with_len start count)))
   turns_sound spans var lo hi body room all each start zero few now fits = (tt, fits)
   turns_sound spans var lo hi body room all each start (suc count) few now fits =
       let inside : (lo ≤ℤ (lo +ℤ pos start)) × ((lo +ℤ pos start) <ℤ hi) = counted lo hi (hi -ℤ lo) start refl (omega arith) in
@@ -99,7 +99,7 @@ module _
       let more = turns_sound spans var lo hi body room all each (start + 1) count (omega arith) (run seen body room (at_turn var (lo +ℤ pos start) now)) (left any_word spans var lo hi _ all turn.fits) in
       ((turn.holds, more.0), more.1)
 
-  pub sound : (block : Block) (spans : Spans) (room : Room) (now : Moment) → IsSpanned spans block → RoomFits spans room → Fits spans now → Sound seen spans block room now
+  pub sound : (block : Block) (spans : Spans) (room : Room) (now : RunMoment) → IsSpanned spans block → RoomFits spans room → FitsSpans spans now → Sound seen spans block room now
   sound End spans room now good regs fits = record { holds = tt; fits = fits }
   sound (Word to how rest) spans room now good regs fits =
       let lies = gives spans room now regs fits how good.0 in
@@ -110,22 +110,22 @@ module _
       let more = sound rest spans (room_place to (step_place seen room how) room) now good regs fits in
       record { holds = more.holds; fits = more.fits }
   sound (Cell to place layout field index rest) spans room now good regs fits =
-      let lies : Lies whole (op_word seen room now (op.Read place layout field)) = gives spans room now regs fits (op.Read place layout field) tt in
-      let more = sound rest (with_span to whole spans) (room_reg to (op_word seen room now (op.Read place layout field)) room) now good
-      (room_with spans room to whole (op_word seen room now (op.Read place layout field)) regs lies) (record { vars = fits.vars; writes = fits.writes }) in
+      let lies : Lies whole_i32 (op_word seen room now (op.Read place layout field)) = gives spans room now regs fits (op.Read place layout field) tt in
+      let more = sound rest (with_span to whole_i32 spans) (room_reg to (op_word seen room now (op.Read place layout field)) room) now good
+      (room_with spans room to whole_i32 (op_word seen room now (op.Read place layout field)) regs lies) (record { vars = fits.vars; writes = fits.writes }) in
       record { holds = (lies, more.holds); fits = record { vars = more.fits.vars; writes = more.fits.writes } }
   sound (Do (SetVar var from) rest) spans room now good regs fits =
-      let more = sound rest spans room (acted seen room (SetVar var from) now) good.1 regs
+      let more = sound rest spans room (moment_after_act seen room (SetVar var from) now) good.1 regs
       (record { vars = vars_set spans now.vars var (room.regs from) fits.vars good.0 (any_word (room.regs from) (regs from).is_word); writes = fits.writes }) in
       record { holds = more.holds; fits = more.fits }
   sound (Do (WriteOwn layout field from stmt) rest) spans room now good regs fits =
-      let more = sound rest spans room (acted seen room (WriteOwn layout field from stmt) now) good.1 regs (record { vars = fits.vars; writes = wrote spans now (record { layout = layout; field = field; stmt = stmt; at = Some seen.at; way = Own; value = room.regs from }) fits (regs from).is_word }) in
+      let more = sound rest spans room (moment_after_act seen room (WriteOwn layout field from stmt) now) good.1 regs (record { vars = fits.vars; writes = wrote spans now (record { layout = layout; field = field; stmt = stmt; at = Some seen.at; way = Own; value = room.regs from }) fits (regs from).is_word }) in
       record { holds = more.holds; fits = more.fits }
   sound (Do (Contribute how layout field place from index stmt) rest) spans room now good regs fits =
-      let more = sound rest spans room (acted seen room (Contribute how layout field place from index stmt) now) good.1 regs (record { vars = fits.vars; writes = wrote spans now (record { layout = layout; field = field; stmt = stmt; at = at_of seen.shapes (room.places place); way = Acc how; value = room.regs from }) fits (regs from).is_word }) in
+      let more = sound rest spans room (moment_after_act seen room (Contribute how layout field place from index stmt) now) good.1 regs (record { vars = fits.vars; writes = wrote spans now (record { layout = layout; field = field; stmt = stmt; at = at_of seen.shapes (room.places place); way = Acc how; value = room.regs from }) fits (regs from).is_word }) in
       record { holds = more.holds; fits = more.fits }
   sound (Do (Wish layout index stmt) rest) spans room now good regs fits =
-      let more = sound rest spans room (acted seen room (Wish layout index stmt) now) good.1 regs (record { vars = fits.vars; writes = fits.writes }) in
+      let more = sound rest spans room (moment_after_act seen room (Wish layout index stmt) now) good.1 regs (record { vars = fits.vars; writes = fits.writes }) in
       record { holds = more.holds; fits = more.fits }
   sound (Branch cond block otherwise rest) spans room now good regs fits =
       let first = sound block spans room now good.0 regs fits in
@@ -135,7 +135,7 @@ module _
       record { holds = (both.0, more.holds); fits = more.fits }
     where
       by_test : (test : Bool) → Sound seen spans block room now → Sound seen spans otherwise room now →
-          WhereTest test (SpansHold seen spans otherwise room now) (SpansHold seen spans block room now) × Fits spans (if test then run seen otherwise room now else run seen block room now)
+          WhereTest test (SpansHold seen spans otherwise room now) (SpansHold seen spans block room now) × FitsSpans spans (if test then run seen otherwise room now else run seen block room now)
       by_test true a b = (b.holds, b.fits)
       by_test false a b = (a.holds, a.fits)
   sound (Loop var lo hi body rest) spans room now good regs fits =

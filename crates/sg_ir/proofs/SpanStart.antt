@@ -28,8 +28,8 @@ use Rattle.sg_flat.specs.State.{IsFlatField, AreFlatLayouts, IsFlat, words_or_no
 use Rattle.sg_flat.specs.Words.{are_words, word_at}
 use Rattle.sg_ir.specs.Runs.{iteration_start, part_words}
 use Rattle.sg_ir.specs.Blocks.{Block}
-use Rattle.sg_ir.specs.Span.{whole, only, range_span, sets, extent_span, walk_span, box_span, domain_span, first_spans}
-use Rattle.sg_ir.specs.SpanLaws.{Lies, Fits, WordsLieInSpans}
+use Rattle.sg_ir.specs.Span.{whole_i32, only, range_span, sets, extent_span, walk_span, box_span, domain_span, first_spans}
+use Rattle.sg_ir.specs.SpanLaws.{Lies, FitsSpans, WordsLieInSpans}
 use Rattle.sg_ir.specs.steps.Flat.{moment_of}
 use Rattle.sg_ir.specs.steps.Scoped.{first_room}
 use Rattle.sg_ir.proofs.SpanWords.{lies_whole, range_lies}
@@ -143,13 +143,13 @@ module _
   domain_lies shapes (Range lo hi) state flat at has var = boxed_lies lo hi at ((box_law lo hi at).0 has) var
 
   pub first_fits : (shapes : List Shape) (domain : Domain) (block : Block) (state : FlatState) → IsFlat shapes state → (at : Coord) → Contains (domain_points state domain) at
-      → Fits (first_spans shapes domain block) (moment_of (iteration_start (record { shapes = shapes; state = state; at = at })))
+      → FitsSpans (first_spans shapes domain block) (moment_of (iteration_start (record { shapes = shapes; state = state; at = at })))
   first_fits shapes domain block state flat at has = record {
     vars = λ var. by_test var (sets var block == 0) (domain_lies shapes domain state flat at has var);
     writes = λ k d below. absurd (omega (arith, below));
   }
     where
-      by_test : (var : ℕ) (test : Bool) → Lies (domain_span shapes domain var) (get_or (part_words at) var 0) → Lies (if test then domain_span shapes domain var else whole) (get_or (part_words at) var 0)
+      by_test : (var : ℕ) (test : Bool) → Lies (domain_span shapes domain var) (get_or (part_words at) var 0) → Lies (if test then domain_span shapes domain var else whole_i32) (get_or (part_words at) var 0)
       by_test var true lies = lies
       by_test var false lies = lies_whole number_law word_law sum_law difference_law product_law applied_law un_law mulq_law (get_or (part_words at) var 0) lies.is_word
 

@@ -19,16 +19,16 @@ use Rattle.sg_ir.specs.declared.op.Op.{Op}
 use Rattle.sg_ir.specs.declared.op.Op.TheVariants as op
 use Rattle.sg_ir.specs.Runs.{Seen, CodeWrite, at_of, cell_value, is_own, value_or_own}
 use Rattle.sg_ir.specs.declared.span.Span.{Span}
-use Rattle.sg_ir.specs.Span.{whole, only, fits, cut, bin_span, range_span, Spans, reg_span, op_span}
-use Rattle.sg_ir.specs.SpanLaws.{Lies, HasWord, StateIsWords, RoomFits, Fits}
-use Rattle.sg_ir.specs.steps.Scoped.{Moment, Room, op_word}
+use Rattle.sg_ir.specs.Span.{whole_i32, only, fits_i32, cut_to_i32, bin_span, range_span, Spans, reg_span, op_span}
+use Rattle.sg_ir.specs.SpanLaws.{Lies, HasConstantWord, StateIsWords, RoomFits, FitsSpans}
+use Rattle.sg_ir.specs.steps.Scoped.{RunMoment, Room, op_word}
 use Rattle.sg_ir.proofs.Products.{products_lie}
 
 in_whole : (z : ℤ) → FitsSigned w32 z → (negsuc 2147483647 ≤ℤ z) × (z ≤ℤ pos 2147483647)
 in_whole z h = (omega (arith, ints), omega (arith, ints))
 
 fit_between : (lo hi z : ℤ) → ((int_le (negsuc 2147483647) lo && int_le lo (pos 2147483647)) && (int_le (negsuc 2147483647) hi && int_le hi (pos 2147483647))) ≡ true → lo ≤ℤ z → z ≤ℤ hi → FitsSigned w32 z
-fit_between lo hi z fits low high = grind (arith, ints)
+fit_between lo hi z fits_i32 low high = grind (arith, ints)
 
 word_of-word : (z : ℤ) → IsWord (word_of z)
 word_of-word (pos n) = omega arith
@@ -60,21 +60,21 @@ module _
     (applied_law : (how : BinOp) (t : Ty) (a b : ℕ) → AppliedIsWord how t a b)
     (un_law : (how : UnOp) (a : ℕ) → AppliedUnIsWord how a)
     (mulq_law : (a b s : ℕ) → MulqIsWord a b s) where
-  pub lies_whole : (w : ℕ) → IsWord w → Lies whole w
+  pub lies_whole : (w : ℕ) → IsWord w → Lies whole_i32 w
   lies_whole w h = let in_it : (negsuc 2147483647 ≤ℤ number ty.I32 w) × (number ty.I32 w ≤ℤ pos 2147483647) = in_whole (number ty.I32 w) (number_law ty.I32 w h).0 in
       record { is_word = h; low = in_it.0; high = in_it.1 }
 
   lies_exactly : (lo hi z : ℤ) (w : ℕ) → FitsSigned w32 z → lo ≤ℤ z → z ≤ℤ hi → w ≡ word_of z → Lies (record { lo = lo; hi = hi }) w
-  lies_exactly lo hi z w fits low high is =
-      let known : IsWord (word_of z) × (number ty.I32 (word_of z) ≡ z) = word_law ty.I32 z fits in
+  lies_exactly lo hi z w fits_i32 low high is =
+      let known : IsWord (word_of z) × (number ty.I32 (word_of z) ≡ z) = word_law ty.I32 z fits_i32 in
       let same : number ty.I32 w ≡ z = ap (number ty.I32) is ∙ known.1 in
       record { is_word = rw is known.0; low = rw same low; high = rw same high }
 
   -- a number between the ends has its word in the cut interval
-  pub cut_within : (lo hi z : ℤ) (w : ℕ) → lo ≤ℤ z → z ≤ℤ hi → w ≡ word_of z → Lies (cut lo hi) w
+  pub cut_within : (lo hi z : ℤ) (w : ℕ) → lo ≤ℤ z → z ≤ℤ hi → w ≡ word_of z → Lies (cut_to_i32 lo hi) w
   cut_within lo hi z w low high is = by_test ((int_le (negsuc 2147483647) lo && int_le lo (pos 2147483647)) && (int_le (negsuc 2147483647) hi && int_le hi (pos 2147483647))) refl
     where
-      by_test : (test : Bool) → ((int_le (negsuc 2147483647) lo && int_le lo (pos 2147483647)) && (int_le (negsuc 2147483647) hi && int_le hi (pos 2147483647))) ≡ test → Lies (if test then record { lo = lo; hi = hi } else whole) w
+      by_test : (test : Bool) → ((int_le (negsuc 2147483647) lo && int_le lo (pos 2147483647)) && (int_le (negsuc 2147483647) hi && int_le hi (pos 2147483647))) ≡ test → Lies (if test then record { lo = lo; hi = hi } else whole_i32) w
       by_test true e = lies_exactly lo hi z w (fit_between lo hi z e low high) low high is
       by_test false e = lies_whole w (rw is (word_of-word z))
 
@@ -113,7 +113,7 @@ module _
       below : (q r : ℤ) → q <ℤ r → q ≤ℤ (r -ℤ pos 1)
       below q r k = omega (arith, ints)
 
-      by_test : (test : Bool) → int_lt lo hi ≡ test → Lies (if test then cut lo (hi -ℤ pos 1) else only (pos 0)) (word_of turn)
+      by_test : (test : Bool) → int_lt lo hi ≡ test → Lies (if test then cut_to_i32 lo (hi -ℤ pos 1) else only (pos 0)) (word_of turn)
       by_test true e = cut_within lo (hi -ℤ pos 1) turn (word_of turn) low (below turn hi high) refl
       by_test false e = absurd (absent lo turn hi low high e)
 
@@ -128,14 +128,14 @@ module _
   cell_word seen words layout field (Some at) = words layout field at
 
   -- the word that an operation gives lies in its span
-  pub op_lies : (seen : Seen) → StateIsWords seen → (spans : Spans) (room : Room) (now : Moment) → RoomFits spans room → Fits spans now → (how : Op) → HasWord how → Lies (op_span spans how) (op_word seen room now how)
-  op_lies seen words spans room now regs fits (op.Const word truth) h = record { is_word = h; low = ≤ℤ_refl (number ty.I32 word); high = ≤ℤ_refl (number ty.I32 word) }
-  op_lies seen words spans room now regs fits (op.Var var) h = fits.vars var
-  op_lies seen words spans room now regs fits (op.Bin how given a b) h = bin_lies how given (reg_span spans a) (reg_span spans b) (room.regs a) (room.regs b) (regs a) (regs b)
-  op_lies seen words spans room now regs fits (op.Un how given a) h = lies_whole _ (un_law how (room.regs a))
-  op_lies seen words spans room now regs fits (op.Mulq a b s) h = lies_whole _ (mulq_law (room.regs a) (room.regs b) (room.regs s))
-  op_lies seen words spans room now regs fits (op.Extract div size from) h = lies_whole _ (quotient_word (room.regs from) div size (regs from).is_word)
-  op_lies seen words spans room now regs fits (op.Offset high size low) h = lies_whole _ (offset_word (room.regs high * size + room.regs low))
-  op_lies seen words spans room now regs fits (op.Read place layout field) h = lies_whole _ (cell_word seen words layout field (at_of seen.shapes (room.places place)))
-  op_lies seen words spans room now regs fits (op.OwnRead layout field) h =
-      lies_whole _ (found_word (λ write. is_own write.way && ((write.layout == layout) && (write.field == field))) (reverse now.writes) _ (all_reverse (λ (w : CodeWrite). IsWord w.value) now.writes fits.writes) (words layout field seen.at))
+  pub op_lies : (seen : Seen) → StateIsWords seen → (spans : Spans) (room : Room) (now : RunMoment) → RoomFits spans room → FitsSpans spans now → (how : Op) → HasConstantWord how → Lies (op_span spans how) (op_word seen room now how)
+  op_lies seen words spans room now regs fits_i32 (op.Const word truth) h = record { is_word = h; low = ≤ℤ_refl (number ty.I32 word); high = ≤ℤ_refl (number ty.I32 word) }
+  op_lies seen words spans room now regs fits_i32 (op.Var var) h = fits_i32.vars var
+  op_lies seen words spans room now regs fits_i32 (op.Bin how given a b) h = bin_lies how given (reg_span spans a) (reg_span spans b) (room.regs a) (room.regs b) (regs a) (regs b)
+  op_lies seen words spans room now regs fits_i32 (op.Un how given a) h = lies_whole _ (un_law how (room.regs a))
+  op_lies seen words spans room now regs fits_i32 (op.Mulq a b s) h = lies_whole _ (mulq_law (room.regs a) (room.regs b) (room.regs s))
+  op_lies seen words spans room now regs fits_i32 (op.Extract div size from) h = lies_whole _ (quotient_word (room.regs from) div size (regs from).is_word)
+  op_lies seen words spans room now regs fits_i32 (op.Offset high size low) h = lies_whole _ (offset_word (room.regs high * size + room.regs low))
+  op_lies seen words spans room now regs fits_i32 (op.Read place layout field) h = lies_whole _ (cell_word seen words layout field (at_of seen.shapes (room.places place)))
+  op_lies seen words spans room now regs fits_i32 (op.OwnRead layout field) h =
+      lies_whole _ (found_word (λ write. is_own write.way && ((write.layout == layout) && (write.field == field))) (reverse now.writes) _ (all_reverse (λ (w : CodeWrite). IsWord w.value) now.writes fits_i32.writes) (words layout field seen.at))

@@ -5,7 +5,7 @@ use Rattle.sg_words.specs.declared.operators.Ty.TheVariants as ty
 use Rattle.sg_words.specs.declared.operators.BinOp.TheVariants as b
 use Rattle.sg_words.specs.declared.operators.UnOp.TheVariants as u
 use Rattle.sg_words.specs.declared.operators.AccOp.TheVariants as acc
-use Rattle.sg_layout.specs.Examples.{at1, four}
+use Rattle.sg_layout.specs.Examples.{at1, line_of_four}
 use Rattle.sg_flat.specs.Examples.{state1}
 use Rattle.sg_flat.specs.declared.effects.Way.TheVariants.{Own, Acc}
 use Rattle.sg_ir.specs.declared.code.Inst.{Inst}
@@ -15,7 +15,7 @@ use Rattle.sg_ir.proofs.Equations.{does-Const, does-Var, does-Set, does-Bin, doe
 
 -- one layout of four points with one field, whose value is 7 at the point 1
 abbrev seen_at : ℕ → Seen
-seen_at at = record { shapes = four ∷ []; state = state1 (map at1 (0 ∷ 1 ∷ 2 ∷ 3 ∷ [])) ((1, 7) ∷ []); at = at1 at }
+seen_at at = record { shapes = line_of_four ∷ []; state = state1 (map at1 (0 ∷ 1 ∷ 2 ∷ 3 ∷ [])) ((1, 7) ∷ []); at = at1 at }
 
 -- the writes of a run, as a word that stays
 told : Moved → List CodeWrite

@@ -3,7 +3,7 @@ use Rattle.std.specs.Prelude.{◌≡◌, Bool, true, false, List, [], ◌∷◌,
 use Rattle.std.proofs.Common.{refl}
 use Rattle.sg_words.specs.declared.operators.Ty.TheVariants as ty
 use Rattle.sg_words.specs.declared.operators.BinOp.TheVariants as b
-use Rattle.sg_layout.specs.Examples.{four}
+use Rattle.sg_layout.specs.Examples.{line_of_four}
 use Rattle.sg_ir.specs.declared.code.Inst.{Inst}
 use Rattle.sg_ir.specs.declared.code.Inst.TheVariants as v
 use Rattle.sg_ir.specs.WellTyped.{Frame, Scope, judged}
@@ -12,7 +12,7 @@ use Rattle.sg_ir.proofs.Judging.{judges-Const, judges-Var, judges-Bin, judges-Ro
 -- one layout of four points with one field; the registers 0 and 1 are truth values, the others numbers; one variable of the loop
 abbrev frame : Frame
 frame = record {
-  shapes = four ∷ [];
+  shapes = line_of_four ∷ [];
   regs = ty.Bool ∷ ty.Bool ∷ ty.I32 ∷ ty.I32 ∷ ty.U32 ∷ ty.I32 ∷ [];
   places = 3;
   vars = ty.I32 ∷ [];

@@ -10,7 +10,7 @@ use Rattle.sg_ir.specs.declared.op.Step.TheVariants as step
 use Rattle.sg_ir.specs.declared.op.Descent.TheVariants as by
 use Rattle.sg_ir.specs.Blocks.{Block, End, Word, Spot, Cell, Do, Branch, SetVar}
 use Rattle.sg_ir.specs.declared.span.Span.{Span}
-use Rattle.sg_ir.specs.Span.{whole, only, bin_span, range_span, op_span, var_span, first_spans}
+use Rattle.sg_ir.specs.Span.{whole_i32, only, bin_span, range_span, op_span, var_span, first_spans}
 use Rattle.sg_ir.specs.Shared.{is_shared}
 use Rattle.sg_ir.specs.Trimmed.{is_trimmed}
 
@@ -27,13 +27,13 @@ difference_of_spans = refl
 product_of_spans : bin_span bin.Mul ty.I32 (span (negsuc 2) (pos 2)) (span (negsuc 4) (pos 4)) ≡ span (negsuc 11) (pos 15)
 product_of_spans = refl
 
-sum_that_wraps : bin_span bin.Add ty.I32 (span (pos 0) (pos 2147483647)) (only (pos 1)) ≡ whole
+sum_that_wraps : bin_span bin.Add ty.I32 (span (pos 0) (pos 2147483647)) (only (pos 1)) ≡ whole_i32
 sum_that_wraps = refl
 
-sum_of_u32 : bin_span bin.Add ty.U32 (only (pos 1)) (only (pos 1)) ≡ whole
+sum_of_u32 : bin_span bin.Add ty.U32 (only (pos 1)) (only (pos 1)) ≡ whole_i32
 sum_of_u32 = refl
 
-quotient_of_spans : bin_span bin.Div ty.I32 (only (pos 1)) (only (pos 1)) ≡ whole
+quotient_of_spans : bin_span bin.Div ty.I32 (only (pos 1)) (only (pos 1)) ≡ whole_i32
 quotient_of_spans = refl
 
 empty_range : range_span (pos 5) (pos 5) ≡ only (pos 0)
@@ -53,7 +53,7 @@ axis_of_a_box : var_span (first_spans [] (Range (record { n = 2; a = negsuc 2; b
 axis_of_a_box = refl
 
 -- a variable of the loop that an instruction sets has all of I32
-variable_that_is_set : var_span (first_spans (row_of_eight ∷ []) (Walk 0) (Do (SetVar 0 0) End)) 0 ≡ whole
+variable_that_is_set : var_span (first_spans (row_of_eight ∷ []) (Walk 0) (Do (SetVar 0 0) End)) 0 ≡ whole_i32
 variable_that_is_set = refl
 
 constant_below_zero : op_span (first_spans [] (Walk 0) End) (op.Const 4294967295 false) ≡ only (negsuc 0)

@@ -9,14 +9,14 @@ use Rattle.sg_layout.specs.Path.{offsets}
 use Rattle.sg_ir.specs.Runs.{Place}
 
 -- the place of a coordinate in a layout that may be there: its whole path where it is inside, else none
-abbrev pub place_in : ℕ → Coord → Option Shape → Option Place
-place_in layout at None = None
-place_in layout at (Some shape) =
+abbrev pub place_of_coord : ℕ → Coord → Option Shape → Option Place
+place_of_coord layout at None = None
+place_of_coord layout at (Some shape) =
     if is_inside (bounds_of_shape shape) at then Some (record { layout = layout; path = offsets shape.nodes at }) else None
 
 -- the place of a coordinate in the layout with this number
 abbrev pub place_at : List Shape → ℕ → Coord → Option Place
-place_at shapes layout at = place_in layout at (slice_get shapes layout)
+place_at shapes layout at = place_of_coord layout at (slice_get shapes layout)
 
 -- the extents of the axes, in order
 abbrev pub extents_in : Bounds → List ℕ

@@ -69,11 +69,11 @@ set_reg to word now = record { regs = put to word now.regs; places = now.places;
 abbrev pub set_place : ℕ → Option Place → Moved → Moved
 set_place to place now = record { regs = now.regs; places = put to place now.places; vars = now.vars; writes = now.writes; wants = now.wants; accesses = now.accesses }
 
-abbrev pub set_var : ℕ → ℕ → Moved → Moved
-set_var var word now = record { regs = now.regs; places = now.places; vars = put var word now.vars; writes = now.writes; wants = now.wants; accesses = now.accesses }
+abbrev pub set_var_word : ℕ → ℕ → Moved → Moved
+set_var_word var word now = record { regs = now.regs; places = now.places; vars = put var word now.vars; writes = now.writes; wants = now.wants; accesses = now.accesses }
 
-abbrev pub add_write : CodeWrite → Moved → Moved
-add_write write now = record { regs = now.regs; places = now.places; vars = now.vars; writes = now.writes ++ write ∷ []; wants = now.wants; accesses = now.accesses }
+abbrev pub add_code_write : CodeWrite → Moved → Moved
+add_code_write write now = record { regs = now.regs; places = now.places; vars = now.vars; writes = now.writes ++ write ∷ []; wants = now.wants; accesses = now.accesses }
 
 abbrev pub add_want : CodeWant → Moved → Moved
 add_want want now = record { regs = now.regs; places = now.places; vars = now.vars; writes = now.writes; wants = now.wants ++ want ∷ []; accesses = now.accesses }
@@ -143,18 +143,18 @@ abbrev pub own_value : Seen → ℕ → ℕ → Moved → ℕ
 own_value seen layout field now = value_or_own (own_write layout field now.writes) (flat.value_of seen.shapes seen.state layout field seen.at)
 
 -- what an instruction makes of how far a run has come
-abbrev pub Action : Type 0
-Action = Moved → Moved
+abbrev pub InstAction : Type 0
+InstAction = Moved → Moved
 
 -- one after the other
-abbrev pub in_turn : List Action → Action
-in_turn actions now = fold (λ reached action. action reached) now actions
+abbrev pub actions_in_turn : List InstAction → InstAction
+actions_in_turn actions now = fold (λ reached action. action reached) now actions
 
 -- One layer of an instruction, where it is given what the instructions in it do.
-abbrev pub inst_step : Seen → Inst-F Action → Action
+abbrev pub inst_step : Seen → Inst-F InstAction → InstAction
 inst_step seen (i.Const to word) now = set_reg to word now
 inst_step seen (i.Var to var) now = set_reg to (now.vars var) now
-inst_step seen (i.Set var from) now = set_var var (now.regs from) now
+inst_step seen (i.Set var from) now = set_var_word var (now.regs from) now
 inst_step seen (i.Bin to op given a b) now = set_reg to (applied op given (now.regs a) (now.regs b)) now
 inst_step seen (i.Un to op given a) now = set_reg to (applied_un op (now.regs a)) now
 inst_step seen (i.Mulq to a b s) now = set_reg to (mulq_of (now.regs a) (now.regs b) (now.regs s)) now
@@ -171,21 +171,21 @@ inst_step seen (i.ReadCell to place layout field index) now =
     (add_access (record { layout = layout; place = now.places place; at = named_by index now }) now)
 inst_step seen (i.OwnRead to layout field) now = set_reg to (own_value seen layout field now) now
 inst_step seen (i.OwnWrite layout field from stmt) now =
-    add_write (record { layout = layout; field = field; stmt = stmt; at = Some seen.at; way = Own; value = now.regs from }) now
+    add_code_write (record { layout = layout; field = field; stmt = stmt; at = Some seen.at; way = Own; value = now.regs from }) now
 inst_step seen (i.Acc op layout field place from index stmt) now =
-    add_write (record { layout = layout; field = field; stmt = stmt; at = at_of seen.shapes (now.places place); way = Acc op; value = now.regs from })
+    add_code_write (record { layout = layout; field = field; stmt = stmt; at = at_of seen.shapes (now.places place); way = Acc op; value = now.regs from })
     (add_access (record { layout = layout; place = now.places place; at = named_by index now }) now)
 inst_step seen (i.Want layout index stmt) now = add_want (record { layout = layout; stmt = stmt; at = named_by index now }) now
-inst_step seen (i.If cond block otherwise) now = in_turn (if now.regs cond == 0 then otherwise else block) now
-inst_step seen (i.For var lo hi body) now = fold (λ reached turn. in_turn body (set_var var (word_of turn) reached)) now (numbers lo hi)
+inst_step seen (i.If cond block otherwise) now = actions_in_turn (if now.regs cond == 0 then otherwise else block) now
+inst_step seen (i.For var lo hi body) now = fold (λ reached turn. actions_in_turn body (set_var_word var (word_of turn) reached)) now (numbers lo hi)
 
 -- what an instruction does
-abbrev pub does : Seen → Inst → Action
-does seen = fold-Inst Action (inst_step seen)
+abbrev pub does : Seen → Inst → InstAction
+does seen = fold-Inst InstAction (inst_step seen)
 
 -- a run of a block
-abbrev pub runs : Seen → List Inst → Action
-runs seen block now = in_turn (map (does seen) block) now
+abbrev pub runs : Seen → List Inst → InstAction
+runs seen block now = actions_in_turn (map (does seen) block) now
 
 -- the words of a coordinate's parts
 abbrev pub part_words : Coord → List ℕ

@@ -20,39 +20,39 @@ abbrev pub only : ℤ → Span
 only z = record { lo = z; hi = z }
 
 -- all numbers of an I32
-abbrev pub whole : Span
-whole = record { lo = negsuc 2147483647; hi = pos 2147483647 }
+abbrev pub whole_i32 : Span
+whole_i32 = record { lo = negsuc 2147483647; hi = pos 2147483647 }
 
 -- a number fits I32
-abbrev pub fits : ℤ → Bool
-fits z = int_le (negsuc 2147483647) z && int_le z (pos 2147483647)
+abbrev pub fits_i32 : ℤ → Bool
+fits_i32 z = int_le (negsuc 2147483647) z && int_le z (pos 2147483647)
 
 -- the interval where both ends fit I32, else all of I32
-abbrev pub cut : ℤ → ℤ → Span
-cut lo hi = if fits lo && fits hi then record { lo = lo; hi = hi } else whole
+abbrev pub cut_to_i32 : ℤ → ℤ → Span
+cut_to_i32 lo hi = if fits_i32 lo && fits_i32 hi then record { lo = lo; hi = hi } else whole_i32
 
-abbrev pub least : ℤ → ℤ → ℤ
-least a b = if int_le a b then a else b
+abbrev pub lesser_of : ℤ → ℤ → ℤ
+lesser_of a b = if int_le a b then a else b
 
-abbrev pub greatest : ℤ → ℤ → ℤ
-greatest a b = if int_le a b then b else a
+abbrev pub greater_of : ℤ → ℤ → ℤ
+greater_of a b = if int_le a b then b else a
 
 -- the least and the greatest product of numbers of two spans are products of two of their ends
 abbrev pub product_span : Span → Span → Span
-product_span x y = cut
-    (least (least (x.lo *ℤ y.lo) (x.lo *ℤ y.hi)) (least (x.hi *ℤ y.lo) (x.hi *ℤ y.hi)))
-    (greatest (greatest (x.lo *ℤ y.lo) (x.lo *ℤ y.hi)) (greatest (x.hi *ℤ y.lo) (x.hi *ℤ y.hi)))
+product_span x y = cut_to_i32
+    (lesser_of (lesser_of (x.lo *ℤ y.lo) (x.lo *ℤ y.hi)) (lesser_of (x.hi *ℤ y.lo) (x.hi *ℤ y.hi)))
+    (greater_of (greater_of (x.lo *ℤ y.lo) (x.lo *ℤ y.hi)) (greater_of (x.hi *ℤ y.lo) (x.hi *ℤ y.hi)))
 
 -- the span of an operator in a type: sums, differences and products of I32 alone have a narrower one
 abbrev pub bin_span : BinOp → Ty → Span → Span → Span
-bin_span bin.Add ty.I32 x y = cut (x.lo +ℤ y.lo) (x.hi +ℤ y.hi)
-bin_span bin.Sub ty.I32 x y = cut (x.lo -ℤ y.hi) (x.hi -ℤ y.lo)
+bin_span bin.Add ty.I32 x y = cut_to_i32 (x.lo +ℤ y.lo) (x.hi +ℤ y.hi)
+bin_span bin.Sub ty.I32 x y = cut_to_i32 (x.lo -ℤ y.hi) (x.hi -ℤ y.lo)
 bin_span bin.Mul ty.I32 x y = product_span x y
-bin_span how given x y = whole
+bin_span how given x y = whole_i32
 
 -- the numbers from `lo` up to below `hi`; 0 alone where there are none
 abbrev pub range_span : ℤ → ℤ → Span
-range_span lo hi = if int_lt lo hi then cut lo (hi -ℤ pos 1) else only (pos 0)
+range_span lo hi = if int_lt lo hi then cut_to_i32 lo (hi -ℤ pos 1) else only (pos 0)
 
 -- what is known: spans of registers that are set here or in a block round here, the last first; those of the variables of the inner
 -- loops round here; and those of the other variables
@@ -67,7 +67,7 @@ held other [] key = other
 held other (entry ∷ entries) key = if key == entry.0 then entry.1 else held other entries key
 
 abbrev pub reg_span : Spans → ℕ → Span
-reg_span spans r = held whole spans.regs r
+reg_span spans r = held whole_i32 spans.regs r
 
 abbrev pub var_span : Spans → ℕ → Span
 var_span spans var = held (spans.others var) spans.loops var
@@ -77,12 +77,12 @@ abbrev pub op_span : Spans → Op → Span
 op_span spans (op.Const word truth) = only (number ty.I32 word)
 op_span spans (op.Var var) = var_span spans var
 op_span spans (op.Bin how given a b) = bin_span how given (reg_span spans a) (reg_span spans b)
-op_span spans (op.Un how given a) = whole
-op_span spans (op.Mulq a b s) = whole
-op_span spans (op.Extract div size from) = whole
-op_span spans (op.Offset high size low) = whole
-op_span spans (op.Read place layout field) = whole
-op_span spans (op.OwnRead layout field) = whole
+op_span spans (op.Un how given a) = whole_i32
+op_span spans (op.Mulq a b s) = whole_i32
+op_span spans (op.Extract div size from) = whole_i32
+op_span spans (op.Offset high size low) = whole_i32
+op_span spans (op.Read place layout field) = whole_i32
+op_span spans (op.OwnRead layout field) = whole_i32
 
 -- what is known behind a register that is set, and in an inner loop
 abbrev pub with_span : ℕ → Span → Spans → Spans
@@ -113,7 +113,7 @@ extent_span extent = range_span (pos 0) (pos extent)
 
 -- the parts on an axis, counted from 0: over a layout that may be there; and over a box, where an axis past its own has 0 alone
 abbrev pub walk_span : Option Shape → ℕ → Span
-walk_span None var = whole
+walk_span None var = whole_i32
 walk_span (Some shape) var = extent_span (get_or (extents_in (bounds_of_shape shape)) var 1)
 
 abbrev pub box_span : Coord → Coord → ℕ → Span
@@ -132,5 +132,5 @@ abbrev pub first_spans : List Shape → Domain → Block → Spans
 first_spans shapes domain block = record {
   regs = [];
   loops = [];
-  others = λ var. if sets var block == 0 then domain_span shapes domain var else whole;
+  others = λ var. if sets var block == 0 then domain_span shapes domain var else whole_i32;
 }

@@ -15,8 +15,8 @@ use Rattle.sg_ir.specs.declared.op.Op.TheVariants as op
 use Rattle.sg_ir.specs.Runs.{Seen, CodeWrite, iteration_start}
 use Rattle.sg_ir.specs.Blocks.{Block, End, Word, Spot, Cell, Do, Branch, Loop, Act, SetVar, WriteOwn, Contribute, Wish}
 use Rattle.sg_ir.specs.declared.span.Span.{Span}
-use Rattle.sg_ir.specs.Span.{whole, Spans, reg_span, var_span, op_span, with_span, in_loop, first_spans}
-use Rattle.sg_ir.specs.steps.Scoped.{Moment, Room, room_reg, room_place, op_word, step_place, acted, at_turn, run, first_room}
+use Rattle.sg_ir.specs.Span.{whole_i32, Spans, reg_span, var_span, op_span, with_span, in_loop, first_spans}
+use Rattle.sg_ir.specs.steps.Scoped.{RunMoment, Room, room_reg, room_place, op_word, step_place, moment_after_act, at_turn, run, first_room}
 use Rattle.sg_ir.specs.steps.Flat.{moment_of}
 
 -- a word whose number, as I32, is in the span
@@ -31,19 +31,19 @@ WhereTest true P Q = P
 WhereTest false P Q = Q
 
 -- a fact at the moment of each turn, where `next` makes the moment of a turn from that of the turn before
-abbrev pub EachTurn : (ℤ → Moment → Type 0) → (Moment → ℤ → Moment) → Moment → List ℤ → Type 0
+abbrev pub EachTurn : (ℤ → RunMoment → Type 0) → (RunMoment → ℤ → RunMoment) → RunMoment → List ℤ → Type 0
 EachTurn holds next now [] = Unit {0}
 EachTurn holds next now (turn ∷ turns) = holds turn now × EachTurn holds next (next now turn) turns
 
 -- along a run of a block each word that a register is set to lies in the span of the instruction that sets it
-abbrev pub SpansHold : Seen → Spans → Block → Room → Moment → Type 0
+abbrev pub SpansHold : Seen → Spans → Block → Room → RunMoment → Type 0
 SpansHold seen spans End room now = Unit {0}
 SpansHold seen spans (Word to how rest) room now =
     Lies (op_span spans how) (op_word seen room now how) × SpansHold seen (with_span to (op_span spans how) spans) rest (room_reg to (op_word seen room now how) room) now
 SpansHold seen spans (Spot to how rest) room now = SpansHold seen spans rest (room_place to (step_place seen room how) room) now
 SpansHold seen spans (Cell to place layout field index rest) room now =
-    Lies whole (op_word seen room now (op.Read place layout field)) × SpansHold seen (with_span to whole spans) rest (room_reg to (op_word seen room now (op.Read place layout field)) room) now
-SpansHold seen spans (Do what rest) room now = SpansHold seen spans rest room (acted seen room what now)
+    Lies whole_i32 (op_word seen room now (op.Read place layout field)) × SpansHold seen (with_span to whole_i32 spans) rest (room_reg to (op_word seen room now (op.Read place layout field)) room) now
+SpansHold seen spans (Do what rest) room now = SpansHold seen spans rest room (moment_after_act seen room what now)
 SpansHold seen spans (Branch cond block otherwise rest) room now =
     WhereTest (room.regs cond == 0) (SpansHold seen spans otherwise room now) (SpansHold seen spans block room now)
     × SpansHold seen spans rest room (run seen (Branch cond block otherwise End) room now)
@@ -52,32 +52,32 @@ SpansHold seen spans (Loop var lo hi body rest) room now =
     × SpansHold seen spans rest room (run seen (Loop var lo hi body End) room now)
 
 -- an operation whose constant is a word
-abbrev pub HasWord : Op → Type 0
-HasWord (op.Const word truth) = IsWord word
-HasWord (op.Var var) = Unit {0}
-HasWord (op.Bin how given a b) = Unit {0}
-HasWord (op.Un how given a) = Unit {0}
-HasWord (op.Mulq a b s) = Unit {0}
-HasWord (op.Extract div size from) = Unit {0}
-HasWord (op.Offset high size low) = Unit {0}
-HasWord (op.Read place layout field) = Unit {0}
-HasWord (op.OwnRead layout field) = Unit {0}
+abbrev pub HasConstantWord : Op → Type 0
+HasConstantWord (op.Const word truth) = IsWord word
+HasConstantWord (op.Var var) = Unit {0}
+HasConstantWord (op.Bin how given a b) = Unit {0}
+HasConstantWord (op.Un how given a) = Unit {0}
+HasConstantWord (op.Mulq a b s) = Unit {0}
+HasConstantWord (op.Extract div size from) = Unit {0}
+HasConstantWord (op.Offset high size low) = Unit {0}
+HasConstantWord (op.Read place layout field) = Unit {0}
+HasConstantWord (op.OwnRead layout field) = Unit {0}
 
 -- constants of a block are words, and an instruction sets only a variable that has all of I32 there
 abbrev pub IsSpanned : Spans → Block → Type 0
 IsSpanned spans End = Unit {0}
-IsSpanned spans (Word to how rest) = HasWord how × IsSpanned (with_span to (op_span spans how) spans) rest
+IsSpanned spans (Word to how rest) = HasConstantWord how × IsSpanned (with_span to (op_span spans how) spans) rest
 IsSpanned spans (Spot to how rest) = IsSpanned spans rest
-IsSpanned spans (Cell to place layout field index rest) = IsSpanned (with_span to whole spans) rest
+IsSpanned spans (Cell to place layout field index rest) = IsSpanned (with_span to whole_i32 spans) rest
 IsSpanned spans (Do what rest) = ActIsSpanned what × IsSpanned spans rest
   where
     ActIsSpanned : Act → Type 0
-    ActIsSpanned (SetVar var from) = var_span spans var ≡ whole
+    ActIsSpanned (SetVar var from) = var_span spans var ≡ whole_i32
     ActIsSpanned (WriteOwn layout field from stmt) = Unit {0}
     ActIsSpanned (Contribute how layout field place from index stmt) = Unit {0}
     ActIsSpanned (Wish layout index stmt) = Unit {0}
 IsSpanned spans (Branch cond block otherwise rest) = IsSpanned spans block × IsSpanned spans otherwise × IsSpanned spans rest
-IsSpanned spans (Loop var lo hi body rest) = (var_span spans var ≡ whole) × IsSpanned (in_loop var lo hi spans) body × IsSpanned spans rest
+IsSpanned spans (Loop var lo hi body rest) = (var_span spans var ≡ whole_i32) × IsSpanned (in_loop var lo hi spans) body × IsSpanned spans rest
 
 -- all values of the state are words
 abbrev pub StateIsWords : Seen → Type 0
@@ -87,7 +87,7 @@ StateIsWords seen = (layout field : ℕ) (at : Coord) → IsWord (flat.value_of 
 abbrev pub RoomFits : Spans → Room → Type 0
 RoomFits spans room = (r : ℕ) → Lies (reg_span spans r) (room.regs r)
 
-pub record Fits (spans : Spans) (now : Moment) : Type 0 where
+pub record FitsSpans (spans : Spans) (now : RunMoment) : Type 0 where
   pub vars : (var : ℕ) → Lies (var_span spans var) (now.vars var)
   pub writes : All (λ (write : CodeWrite). IsWord write.value) now.writes
 

@@ -57,8 +57,8 @@ acc_text acc.Max = codes "max"
 abbrev pub reg : ℕ → List ℕ
 reg r = 114 ∷ decimal r
 
-abbrev pub place : ℕ → List ℕ
-place p = 112 ∷ decimal p
+abbrev pub place_text : ℕ → List ℕ
+place_text p = 112 ∷ decimal p
 
 abbrev pub then_number : ℕ → List ℕ
 then_number n = 32 ∷ decimal n
@@ -85,7 +85,7 @@ all_lines lines indent = flat_map (λ (one : Lines). one indent) lines
 
 -- a step down a node
 abbrev pub step_line : List ℕ → ℕ → ℕ → ℕ → ℕ → List ℕ
-step_line name to from node offset = place to ++ codes " = " ++ name ++ 32 ∷ place from ++ then_number node ++ then_reg offset
+step_line name to from node offset = place_text to ++ codes " = " ++ name ++ 32 ∷ place_text from ++ then_number node ++ then_reg offset
 
 -- the lines of instructions with an operator or index registers
 abbrev pub bin_line : ℕ → BinOp → Ty → ℕ → ℕ → List ℕ
@@ -107,10 +107,10 @@ abbrev pub un_line : ℕ → UnOp → Ty → ℕ → List ℕ
 un_line to op given a = reg to ++ codes " = " ++ un_text op ++ 32 ∷ ty_text given ++ then_reg a
 
 abbrev pub read_line : ℕ → ℕ → ℕ → ℕ → List ℕ → List ℕ
-read_line to from layout field index = reg to ++ codes " = read " ++ place from ++ then_number layout ++ then_number field ++ index_text index
+read_line to from layout field index = reg to ++ codes " = read " ++ place_text from ++ then_number layout ++ then_number field ++ index_text index
 
 abbrev pub acc_line : AccOp → ℕ → ℕ → ℕ → ℕ → List ℕ → List ℕ
-acc_line op layout field from value index = codes "acc " ++ acc_text op ++ then_number layout ++ then_number field ++ 32 ∷ place from ++ then_reg value ++ index_text index
+acc_line op layout field from value index = codes "acc " ++ acc_text op ++ then_number layout ++ then_number field ++ 32 ∷ place_text from ++ then_reg value ++ index_text index
 
 abbrev pub want_line : ℕ → List ℕ → List ℕ
 want_line layout index = codes "want" ++ then_number layout ++ index_text index
@@ -134,8 +134,8 @@ text_step (i.Set var from) indent = line indent (codes "set" ++ then_number var 
 text_step (i.Bin to op given a b) indent = line indent (bin_line to op given a b)
 text_step (i.Un to op given a) indent = line indent (un_line to op given a)
 text_step (i.Mulq to a b s) indent = line indent (reg to ++ codes " = mulq" ++ then_reg a ++ then_reg b ++ then_reg s)
-text_step (i.Root to layout) indent = line indent (place to ++ codes " = root" ++ then_number layout)
-text_step (i.Check to from axis extent index) indent = line indent (place to ++ codes " = check " ++ place from ++ then_number axis ++ then_number extent ++ then_reg index)
+text_step (i.Root to layout) indent = line indent (place_text to ++ codes " = root" ++ then_number layout)
+text_step (i.Check to from axis extent index) indent = line indent (place_text to ++ codes " = check " ++ place_text from ++ then_number axis ++ then_number extent ++ then_reg index)
 text_step (i.Extract to div size from) indent = line indent (extract_line (codes "extract") to div size from)
 text_step (i.Offset to high size low) indent = line indent (offset_line (codes "offset") to high size low)
 text_step (i.Child to from node offset) indent = line indent (step_line (codes "child") to from node offset)

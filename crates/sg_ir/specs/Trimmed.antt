@@ -9,28 +9,28 @@ use Rattle.sg_ir.specs.declared.op.Step.TheVariants as step
 use Rattle.sg_ir.specs.Places.{extents_in}
 use Rattle.sg_ir.specs.Blocks.{Block, End, Word, Spot, Cell, Do, Branch, Loop, Act, SetVar, WriteOwn, Contribute, Wish}
 use Rattle.sg_ir.specs.declared.span.Span.{Span}
-use Rattle.sg_ir.specs.Span.{whole, Spans, reg_span, op_span, with_span, in_loop, first_spans}
+use Rattle.sg_ir.specs.Span.{whole_i32, Spans, reg_span, op_span, with_span, in_loop, first_spans}
 
 -- every number of the span is from 0 to below the extent
 abbrev pub is_within : ℕ → Span → Bool
 is_within extent span = int_le (pos 0) span.lo && int_lt span.hi (pos extent)
 
 -- a check of an axis on an index register, with the place that it sets
-pub record Passed : Type 0 where
+pub record AxisCheck : Type 0 where
   pub axis : ℕ
   pub index : ℕ
   pub place : ℕ
 
 -- the way to a place: the checks that it has passed, in order
 abbrev pub Ways : Type 0
-Ways = List (ℕ × List Passed)
+Ways = List (ℕ × List AxisCheck)
 
-abbrev pub way_to : Ways → ℕ → List Passed
+abbrev pub way_to : Ways → ℕ → List AxisCheck
 way_to [] place = []
 way_to (way ∷ ways) place = if way.0 == place then way.1 else way_to ways place
 
 -- the way to a place that a step sets
-abbrev pub way_behind : Ways → ℕ → Step → List Passed
+abbrev pub way_behind : Ways → ℕ → Step → List AxisCheck
 way_behind ways to (step.Root layout) = []
 way_behind ways to (step.Check place axis extent index) = way_to ways place ++ record { axis = axis; index = index; place = to } ∷ []
 way_behind ways to (step.Down descent place node offset) = way_to ways place
@@ -52,7 +52,7 @@ needed_in spans None index = []
 needed_in spans (Some shape) index = needed spans 0 (extents_in (bounds_of_shape shape)) index
 
 -- these checks, in this order, and no others
-abbrev pub are_checks : List (ℕ × ℕ) → List Passed → Bool
+abbrev pub are_checks : List (ℕ × ℕ) → List AxisCheck → Bool
 are_checks [] [] = true
 are_checks [] (passed ∷ way) = false
 are_checks (check ∷ checks) [] = false
@@ -68,7 +68,7 @@ accesses_are_trim shapes spans ways End = true
 accesses_are_trim shapes spans ways (Word to how rest) = accesses_are_trim shapes (with_span to (op_span spans how) spans) ways rest
 accesses_are_trim shapes spans ways (Spot to how rest) = accesses_are_trim shapes spans ((to, way_behind ways to how) ∷ ways) rest
 accesses_are_trim shapes spans ways (Cell to place layout field index rest) =
-    is_trim shapes spans ways layout place index && accesses_are_trim shapes (with_span to whole spans) ways rest
+    is_trim shapes spans ways layout place index && accesses_are_trim shapes (with_span to whole_i32 spans) ways rest
 accesses_are_trim shapes spans ways (Do what rest) = act_is_trim what && accesses_are_trim shapes spans ways rest
   where
     act_is_trim : Act → Bool
@@ -97,14 +97,14 @@ checks_of (Branch cond block otherwise rest) = checks_of block ++ (checks_of oth
 checks_of (Loop var lo hi body rest) = checks_of body ++ checks_of rest
 
 -- the checks that accesses of a block have passed
-abbrev pub passed_in : Ways → Block → List Passed
+abbrev pub passed_in : Ways → Block → List AxisCheck
 passed_in ways End = []
 passed_in ways (Word to how rest) = passed_in ways rest
 passed_in ways (Spot to how rest) = passed_in ((to, way_behind ways to how) ∷ ways) rest
 passed_in ways (Cell to place layout field index rest) = way_to ways place ++ passed_in ways rest
 passed_in ways (Do what rest) = act_passed what ++ passed_in ways rest
   where
-    act_passed : Act → List Passed
+    act_passed : Act → List AxisCheck
     act_passed (SetVar var from) = []
     act_passed (WriteOwn layout field from stmt) = []
     act_passed (Contribute how layout field place from index stmt) = way_to ways place
@@ -116,4 +116,4 @@ passed_in ways (Loop var lo hi body rest) = passed_in ways body ++ passed_in way
 abbrev pub is_trimmed : List Shape → Domain → Block → Bool
 is_trimmed shapes domain block =
     accesses_are_trim shapes (first_spans shapes domain block) [] block
-    && list_all (λ place. list_any (λ (passed : Passed). passed.place == place) (passed_in [] block)) (checks_of block)
+    && list_all (λ place. list_any (λ (passed : AxisCheck). passed.place == place) (passed_in [] block)) (checks_of block)

@@ -21,14 +21,14 @@ use Rattle.sg_ir.specs.Runs.{put, node_in}
 use Rattle.sg_ir.specs.Places.{extents_in}
 
 -- what is known of a place: its layout, and how many nodes it has passed
-pub record Known : Type 0 where
+pub record KnownPlace : Type 0 where
   pub layout : ℕ
   pub passed : ℕ
 
 -- what is set so far in this block and the blocks round it: registers, places, and variables that may be read
 pub record Scope : Type 0 where
   pub regs : ℕ → Bool
-  pub places : ℕ → Option Known
+  pub places : ℕ → Option KnownPlace
   pub vars : ℕ → Bool
 
 -- what is the same in all of a code: the layouts, the types of registers and variables, how many places there are, and how many
@@ -43,7 +43,7 @@ pub record Frame : Type 0 where
 abbrev pub with_reg : ℕ → Scope → Scope
 with_reg to scope = record { regs = put to true scope.regs; places = scope.places; vars = scope.vars }
 
-abbrev pub with_place : ℕ → Known → Scope → Scope
+abbrev pub with_place : ℕ → KnownPlace → Scope → Scope
 with_place to known scope = record { regs = scope.regs; places = put to (Some known) scope.places; vars = scope.vars }
 
 abbrev pub with_var : ℕ → Scope → Scope
@@ -55,19 +55,19 @@ is_truth ty.I32 = false
 is_truth ty.U32 = false
 
 -- a type that is there is that of a truth value, or isn't, as asked
-abbrev pub is_of : Bool → Option Ty → Bool
-is_of truth None = false
-is_of true (Some given) = is_truth given
-is_of false (Some given) = not (is_truth given)
+abbrev pub is_truth_as : Bool → Option Ty → Bool
+is_truth_as truth None = false
+is_truth_as true (Some given) = is_truth given
+is_truth_as false (Some given) = not (is_truth given)
 
 -- both types are there, and both are that of a truth value or neither
 abbrev pub joins : Option Ty → Option Ty → Bool
 joins None other = false
-joins (Some given) other = is_of (is_truth given) other
+joins (Some given) other = is_truth_as (is_truth given) other
 
 -- a register that may be read, of a truth value or not
 abbrev pub reads : Frame → Scope → Bool → ℕ → Bool
-reads at scope truth r = scope.regs r && is_of truth (slice_get at.regs r)
+reads at scope truth r = scope.regs r && is_truth_as truth (slice_get at.regs r)
 
 -- index registers that may be read, one for each axis
 abbrev pub indexes : Frame → Scope → Shape → List ℕ → Bool
@@ -132,25 +132,25 @@ abbrev pub judge_all : List Judge → Judge
 judge_all judges scope = fold judge_step (true, scope) judges
 
 -- a place that may be checked on an axis: it has passed no node, and this is the axis's extent
-abbrev pub checkable : Frame → ℕ → ℕ → Known → Bool
+abbrev pub checkable : Frame → ℕ → ℕ → KnownPlace → Bool
 checkable at axis extent known =
     (known.passed == 0) && holds_of (λ (shape : Shape). nat_lt axis shape.axes && holds_of (λ e. e == extent) (slice_get (extents_in (bounds_of_shape shape)) axis)) (slice_get at.shapes known.layout)
 
 -- a place that may go down a node: the first that it hasn't passed, and of the right kind
-abbrev pub descends : Frame → Way_down → ℕ → Known → Bool
+abbrev pub descends : Frame → Way_down → ℕ → KnownPlace → Bool
 descends at way node known =
     (node == suc known.passed) && holds_of (λ (shape : Shape). holds_of (λ (there : NodeShape). goes_down way there.kind) (node_in shape.nodes node)) (slice_get at.shapes known.layout)
 
 -- a place at a cell of a layout: it has passed the last node
-abbrev pub is_cell : Frame → ℕ → Known → Bool
+abbrev pub is_cell : Frame → ℕ → KnownPlace → Bool
 is_cell at layout known = (known.layout == layout) && holds_of (λ (shape : Shape). known.passed == length shape.nodes) (slice_get at.shapes layout)
 
 -- the type of a field that may be there
-abbrev pub field_type : Frame → ℕ → ℕ → Option Ty
-field_type at layout field = option_and_then (λ (shape : Shape). slice_get shape.fields field) (slice_get at.shapes layout)
+abbrev pub field_type_at : Frame → ℕ → ℕ → Option Ty
+field_type_at at layout field = option_and_then (λ (shape : Shape). slice_get shape.fields field) (slice_get at.shapes layout)
 
 -- the scope behind a place that goes on from another
-abbrev pub goes_on : ℕ → ℕ → Option Known → Scope → Scope
+abbrev pub goes_on : ℕ → ℕ → Option KnownPlace → Scope → Scope
 goes_on to passed None scope = scope
 goes_on to passed (Some known) scope = with_place to (record { layout = known.layout; passed = passed }) scope
 
@@ -165,28 +165,28 @@ inst_fits at (i.Const to word) scope = (nat_lt to (length at.regs), with_reg to 
 inst_fits at (i.Var to var) scope = (scope.vars var && joins (slice_get at.vars var) (slice_get at.regs to), with_reg to scope)
 inst_fits at (i.Set var from) scope = (scope.regs from && joins (slice_get at.vars var) (slice_get at.regs from), with_var var scope)
 inst_fits at (i.Bin to op given a b) scope =
-    (reads at scope (takes_truth op) a && (reads at scope (takes_truth op) b && is_of (gives_truth op) (slice_get at.regs to)), with_reg to scope)
-inst_fits at (i.Un to op given a) scope = (reads at scope (is_lnot op) a && is_of (is_lnot op) (slice_get at.regs to), with_reg to scope)
+    (reads at scope (takes_truth op) a && (reads at scope (takes_truth op) b && is_truth_as (gives_truth op) (slice_get at.regs to)), with_reg to scope)
+inst_fits at (i.Un to op given a) scope = (reads at scope (is_lnot op) a && is_truth_as (is_lnot op) (slice_get at.regs to), with_reg to scope)
 inst_fits at (i.Mulq to a b s) scope =
-    (reads at scope false a && (reads at scope false b && (reads at scope false s && is_of false (slice_get at.regs to))), with_reg to scope)
+    (reads at scope false a && (reads at scope false b && (reads at scope false s && is_truth_as false (slice_get at.regs to))), with_reg to scope)
 inst_fits at (i.Root to layout) scope = (nat_lt to at.places && nat_lt layout (length at.shapes), with_place to (record { layout = layout; passed = 0 }) scope)
 inst_fits at (i.Check to place axis extent index) scope =
     (nat_lt to at.places && (nat_lt 0 extent && (holds_of (checkable at axis extent) (scope.places place) && reads at scope false index)), goes_on to 0 (scope.places place) scope)
 inst_fits at (i.Extract to div size from) scope =
-    (nat_lt 0 div && (nat_lt 0 size && (reads at scope false from && is_of false (slice_get at.regs to))), with_reg to scope)
+    (nat_lt 0 div && (nat_lt 0 size && (reads at scope false from && is_truth_as false (slice_get at.regs to))), with_reg to scope)
 inst_fits at (i.Offset to high size low) scope =
-    (nat_lt 0 size && (reads at scope false high && (reads at scope false low && is_of false (slice_get at.regs to))), with_reg to scope)
+    (nat_lt 0 size && (reads at scope false high && (reads at scope false low && is_truth_as false (slice_get at.regs to))), with_reg to scope)
 inst_fits at (i.Child to place node offset) scope = step_fits at ByChild to place node offset scope
 inst_fits at (i.HashChild to place node offset) scope = step_fits at ByKey to place node offset scope
 inst_fits at (i.MaskBit to place node offset) scope = step_fits at ByBit to place node offset scope
 inst_fits at (i.DynCell to place node offset) scope = step_fits at ByLength to place node offset scope
 inst_fits at (i.ReadCell to place layout field index) scope =
-    (holds_of (is_cell at layout) (scope.places place) && (joins (field_type at layout field) (slice_get at.regs to) && holds_of (λ shape. indexes at scope shape index) (slice_get at.shapes layout)), with_reg to scope)
-inst_fits at (i.OwnRead to layout field) scope = (joins (field_type at layout field) (slice_get at.regs to), with_reg to scope)
-inst_fits at (i.OwnWrite layout field from stmt) scope = (scope.regs from && joins (field_type at layout field) (slice_get at.regs from), scope)
+    (holds_of (is_cell at layout) (scope.places place) && (joins (field_type_at at layout field) (slice_get at.regs to) && holds_of (λ shape. indexes at scope shape index) (slice_get at.shapes layout)), with_reg to scope)
+inst_fits at (i.OwnRead to layout field) scope = (joins (field_type_at at layout field) (slice_get at.regs to), with_reg to scope)
+inst_fits at (i.OwnWrite layout field from stmt) scope = (scope.regs from && joins (field_type_at at layout field) (slice_get at.regs from), scope)
 inst_fits at (i.Acc op layout field place from index stmt) scope = (
   holds_of (is_cell at layout) (scope.places place)
-      && (scope.regs from && (joins (field_type at layout field) (slice_get at.regs from) && holds_of (λ shape. indexes at scope shape index) (slice_get at.shapes layout))),
+      && (scope.regs from && (joins (field_type_at at layout field) (slice_get at.regs from) && holds_of (λ shape. indexes at scope shape index) (slice_get at.shapes layout))),
   scope,
 )
 inst_fits at (i.Want layout index stmt) scope = (holds_of (λ shape. indexes at scope shape index) (slice_get at.shapes layout), scope)
@@ -202,16 +202,16 @@ abbrev pub judged : Frame → List Inst → Judge
 judged at block = judge_all (map (judges at) block)
 
 -- what an instruction sets: a register, a place or a variable
-pub data Setting : Type 0 where
-  SetsReg : ℕ → Setting
-  SetsPlace : ℕ → Setting
-  SetsVar : ℕ → Setting
+pub data SetName : Type 0 where
+  SetsReg : ℕ → SetName
+  SetsPlace : ℕ → SetName
+  SetsVar : ℕ → SetName
 
-abbrev pub in_order : List (List Setting) → List Setting
+abbrev pub in_order : List (List SetName) → List SetName
 in_order = flat_map (λ settings. settings)
 
 -- One layer: what an instruction sets, and what those in it set, in order of the text.
-abbrev pub sets_step : Inst-F (List Setting) → List Setting
+abbrev pub sets_step : Inst-F (List SetName) → List SetName
 sets_step (i.Const to word) = SetsReg to ∷ []
 sets_step (i.Var to var) = SetsReg to ∷ []
 sets_step (i.Set var from) = SetsVar var ∷ []
@@ -235,18 +235,18 @@ sets_step (i.If cond block otherwise) = in_order block ++ in_order otherwise
 sets_step (i.For var lo hi body) = SetsVar var ∷ in_order body
 
 -- all that a block sets, in order of the text
-abbrev pub settings : List Inst → List Setting
-settings block = flat_map (fold-Inst (List Setting) sets_step) block
+abbrev pub settings : List Inst → List SetName
+settings block = flat_map (fold-Inst (List SetName) sets_step) block
 
-abbrev pub reg_number : Setting → List ℕ
+abbrev pub reg_number : SetName → List ℕ
 reg_number (SetsReg r) = r ∷ []
 reg_number _ = []
 
-abbrev pub place_number : Setting → List ℕ
+abbrev pub place_number : SetName → List ℕ
 place_number (SetsPlace p) = p ∷ []
 place_number _ = []
 
-abbrev pub var_number : Setting → List ℕ
+abbrev pub var_number : SetName → List ℕ
 var_number (SetsVar v) = v ∷ []
 var_number _ = []
 

@@ -4,7 +4,7 @@ ghost use Rattle.sg_words.specs.declared.operators.Ty.{Ty};
 ghost use Rattle.sg_words.specs.declared.operators.AccOp.{AccOp};
 ghost use Rattle.sg_ir.specs.declared.code.Inst.TheOpen as i;
 ghost use Rattle.sg_ir.specs.WellTyped.{inst_fits, step_fits};
-ghost use Rattle.sg_ir.specs.steps.Frames.{frame_in, scope_in, way_of};
+ghost use Rattle.sg_ir.specs.steps.Frames.{frame_in, scope_in, way_of_step};
 
 use crate::before::{Before, passed_by};
 use crate::kinds::{StepKind, both, gives_truth, is_lnot, is_of, joins, takes_truth};
@@ -140,7 +140,7 @@ impl Typing<'_> {
         node: u32,
         offset: u32,
     ) -> bool
-        ensures { result ≡ (step_fits (frame_in self.now) (way_of step) to place node offset (scope_in self.now before.now)).0 }
+        ensures { result ≡ (step_fits (frame_in self.now) (way_of_step step) to place node offset (scope_in self.now before.now)).0 }
     {
         let last = both(
             self.descends(passed_by(before, place), step, node),

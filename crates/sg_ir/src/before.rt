@@ -1,7 +1,7 @@
 //! What stands before a point of code, and what of it may be used there.
 ghost use Rattle.std.specs.Prelude.{◌≡◌, MatchOption, false, Some};
 ghost use Rattle.std.specs.List.{list_any};
-ghost use Rattle.sg_ir.specs.steps.Targets.{leaves, is_setting, setting_of};
+ghost use Rattle.sg_ir.specs.steps.Targets.{leaves, is_setting, set_name_of};
 ghost use Rattle.sg_ir.specs.steps.Scopes.{IsLast, origin, places_after, set_before, places_before};
 ghost use Rattle.sg_ir.specs.declared.before.Origin.{Origin};
 
@@ -38,7 +38,7 @@ pub(crate) fn was_set(before: &Before, what: Target) -> bool
 }
 
 fn is_same(one: Target, what: Target) -> bool
-    ensures { result ≡ is_setting what (setting_of one) }
+    ensures { result ≡ is_setting what (set_name_of one) }
 {
     one == what
 }

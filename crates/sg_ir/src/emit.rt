@@ -5,7 +5,7 @@ ghost use Rattle.sg_layout.specs.declared.shape.Shape.{Shape};
 ghost use Rattle.sg_ir.specs.declared.code.Inst.TheVariants as v;
 ghost use Rattle.sg_ir.specs.Runs.{check, down, at_of, cell_value, own_value, named_by};
 ghost use Rattle.sg_ir.specs.steps.Emits.{Computes, Reaches, Fetches, PutsReg, PutsPlace};
-ghost use Rattle.sg_ir.specs.steps.Steps.{step_of};
+ghost use Rattle.sg_ir.specs.steps.Steps.{child_inst};
 
 use crate::code::Inst;
 use crate::names::Names;
@@ -189,7 +189,7 @@ pub fn stepped(
     node: u32,
     offset: u32,
 ) -> Result<u32, Memory>
-    ensures puts { IfOk result (λ to. PutsPlace (λ place_to. step_of kind place_to place node offset) to names.old names.new block.old block.new) }
+    ensures puts { IfOk result (λ to. PutsPlace (λ place_to. child_inst kind place_to place node offset) to names.old names.new block.old block.new) }
     ensures reaches { IfOk result (λ to. (shapes : List Shape) → Reaches shapes (λ seen now. down seen.shapes node (now.regs offset) (now.places place)) to names.old names.new block.old block.new) }
 {
     let to = names.place()?;
@@ -199,7 +199,7 @@ pub fn stepped(
 
 /// The instruction for one step down a node of a kind.
 fn step(kind: Kind, to: u32, place: u32, node: u32, offset: u32) -> Inst
-    ensures { result ≡ step_of kind to place node offset }
+    ensures { result ≡ child_inst kind to place node offset }
 {
     match kind {
         Kind::Dense | Kind::Pointer => Inst::Child {

@@ -3,16 +3,16 @@ ghost use Rattle.std.specs.Prelude.{◌≡◌, ◌&&◌, ◌==◌, slice_get};
 ghost use Rattle.sg_layout.specs.declared.shape.NodeShape.{NodeShape};
 ghost use Rattle.sg_layout.specs.Axes.{bounds_of_shape};
 ghost use Rattle.sg_ir.specs.Runs.{node_in};
-ghost use Rattle.sg_ir.specs.WellTyped.{is_of, joins, is_truth, takes_truth, gives_truth, is_lnot, goes_down, holds_of, is_i32};
+ghost use Rattle.sg_ir.specs.WellTyped.{is_truth_as, joins, is_truth, takes_truth, gives_truth, is_lnot, goes_down, holds_of, is_i32};
 ghost use Rattle.sg_ir.specs.Places.{extents_in};
-ghost use Rattle.sg_ir.specs.steps.Frames.{way_of};
+ghost use Rattle.sg_ir.specs.steps.Frames.{way_of_step};
 
 use sg_layout::{Kind, Layout, NodeShape};
 use sg_words::{BinOp, Ty, UnOp};
 
 /// Whether the node with this number, from 1, is there and of the kind that is gone down so.
 pub(crate) fn is_gone_down(nodes: &[NodeShape], step: StepKind, node: u32) -> bool
-    ensures { result ≡ holds_of (λ (there : NodeShape). goes_down (way_of step) there.kind) (node_in nodes.now node) }
+    ensures { result ≡ holds_of (λ (there : NodeShape). goes_down (way_of_step step) there.kind) (node_in nodes.now node) }
 {
     let Some(before) = node.checked_sub(1) else {
         return false;
@@ -62,7 +62,7 @@ pub enum StepKind {
 }
 
 pub(crate) fn goes_down(step: StepKind, kind: Kind) -> bool
-    ensures { result ≡ goes_down (way_of step) kind }
+    ensures { result ≡ goes_down (way_of_step step) kind }
 {
     match kind {
         Kind::Dense => step == StepKind::Child,
@@ -75,7 +75,7 @@ pub(crate) fn goes_down(step: StepKind, kind: Kind) -> bool
 
 /// Whether a type is there, that of a truth value or not.
 pub(crate) fn is_of(truth: bool, ty: Option<Ty>) -> bool
-    ensures { result ≡ is_of truth ty }
+    ensures { result ≡ is_truth_as truth ty }
 {
     match ty {
         Some(ty) => is_truth(ty) == truth,

@@ -8,7 +8,7 @@ ghost use Rattle.sg_layout.specs.Rules.{has_good_extents};
 ghost use Rattle.sg_ir.specs.Runs.{named_by};
 ghost use Rattle.sg_ir.specs.Places.{place_at, extents_in};
 ghost use Rattle.sg_ir.specs.WellTyped.{reads};
-ghost use Rattle.sg_ir.specs.steps.Emits.{Computes, Reaches, Grows, LeadsTo};
+ghost use Rattle.sg_ir.specs.steps.Emits.{Computes, Reaches, NamesGrow, LeadsToPlace};
 ghost use Rattle.sg_ir.specs.steps.Types.{AddsSteps, AddsWord, AddsChecks, AddsDescent, CanRead, HasPassed};
 ghost use Rattle.sg_ir.specs.steps.Walks.{AreWalkable, checks, digit, offset_from, node_offset, led};
 
@@ -30,8 +30,8 @@ pub fn place(
 ) -> Result<u32, Memory>
     requires axes { length index.now ≡ layout.now.axes }
     requires named { All (λ r. r < length names.old.regs) index.now }
-    ensures grows { IfOk result (λ to. Grows names.old names.new × (to < names.new.places)) }
-    ensures leads { IfOk result (λ to. (shapes : List Shape) → slice_get shapes number ≡ Some layout.now → LeadsTo shapes index.now
+    ensures grows { IfOk result (λ to. NamesGrow names.old names.new × (to < names.new.places)) }
+    ensures leads { IfOk result (λ to. (shapes : List Shape) → slice_get shapes number ≡ Some layout.now → LeadsToPlace shapes index.now
         (λ seen now. place_at shapes number (named_by index.now now)) to names.old names.new block.old block.new) }
     ensures typed { IfOk result (λ to. (shapes : List Shape) → slice_get shapes number ≡ Some layout.now → AddsSteps shapes (CanRead index.now)
         (HasPassed to number (length layout.now.nodes)) names.old names.new block.old block.new) }

@@ -1,9 +1,9 @@
 //! What may be used at a point of code: registers, variables, fields and places.
 ghost use Rattle.std.specs.Prelude.{◌≡◌, ◌&&◌, ◌==◌, false, slice_get};
 ghost use Rattle.std.specs.List.{list_all};
-ghost use Rattle.sg_ir.specs.WellTyped.{holds_of, reads, indexes, checkable, descends, is_cell, field_type, setters_in, is_i32};
-ghost use Rattle.sg_ir.specs.steps.Scopes.{known_of};
-ghost use Rattle.sg_ir.specs.steps.Frames.{frame_in, free_in, scope_in, way_of, has_extent, has_node, has_nodes};
+ghost use Rattle.sg_ir.specs.WellTyped.{holds_of, reads, indexes, checkable, descends, is_cell, field_type_at, setters_in, is_i32};
+ghost use Rattle.sg_ir.specs.steps.Scopes.{known_by_check};
+ghost use Rattle.sg_ir.specs.steps.Frames.{frame_in, free_in, scope_in, way_of_step, has_extent, has_node, has_nodes};
 
 use crate::before::{Before, Passed, was_set};
 use crate::kinds::{StepKind, both, extent_of, is_extent, is_gone_down, is_i32, is_of};
@@ -35,7 +35,7 @@ impl Typing<'_> {
 
     /// The type of a field that may be there.
     pub(crate) fn field(&self, layout: u32, field: u32) -> Option<Ty>
-        ensures { result ≡ field_type (frame_in self.now) layout field }
+        ensures { result ≡ field_type_at (frame_in self.now) layout field }
     {
         match self.layouts.get(layout as usize) {
             Some(layout) => layout
@@ -116,7 +116,7 @@ impl Typing<'_> {
 
     /// Whether a place may be checked on an axis against this extent.
     pub(crate) fn is_checkable(&self, place: Option<Passed>, axis: u32, extent: u32) -> bool
-        ensures { result ≡ holds_of (checkable (frame_in self.now) axis extent) (known_of place) }
+        ensures { result ≡ holds_of (checkable (frame_in self.now) axis extent) (known_by_check place) }
     {
         match place {
             Some(place) => both(
@@ -144,7 +144,7 @@ impl Typing<'_> {
 
     /// Whether a node is the first that a place hasn't passed, and of the right kind.
     pub(crate) fn descends(&self, place: Option<Passed>, step: StepKind, node: u32) -> bool
-        ensures { result ≡ holds_of (descends (frame_in self.now) (way_of step) node) (known_of place) }
+        ensures { result ≡ holds_of (descends (frame_in self.now) (way_of_step step) node) (known_by_check place) }
     {
         match place {
             Some(place) => {
@@ -159,7 +159,7 @@ impl Typing<'_> {
 
     /// Whether a layout has a node with this number, from 1, of the kind that is gone down so.
     pub(crate) fn has_node(&self, layout: u32, step: StepKind, node: u32) -> bool
-        ensures { result ≡ has_node self.now.layouts.now layout (way_of step) node }
+        ensures { result ≡ has_node self.now.layouts.now layout (way_of_step step) node }
     {
         match self.layouts.get(layout as usize) {
             Some(layout) => is_gone_down(layout.shape().nodes.as_slice(), step, node),
@@ -169,7 +169,7 @@ impl Typing<'_> {
 
     /// Whether a place is at a cell of a layout.
     pub(crate) fn is_cell(&self, place: Option<Passed>, layout: u32) -> bool
-        ensures { result ≡ holds_of (is_cell (frame_in self.now) layout) (known_of place) }
+        ensures { result ≡ holds_of (is_cell (frame_in self.now) layout) (known_by_check place) }
     {
         match place {
             Some(place) => both(place.layout == layout, self.has_nodes(layout, place.passed)),

@@ -2,7 +2,7 @@
 ghost use Rattle.std.specs.Prelude.{◌≡◌, ◌+◌, ◌≤◌, min, OnSome, Some, true};
 ghost use Rattle.std.specs.List.{list_all};
 ghost use Rattle.sg_ir.specs.WellTyped.{settings};
-ghost use Rattle.sg_ir.specs.steps.Targets.{left, inst_settings, settings_of, times_in, past, ascends, once_in, inst_once};
+ghost use Rattle.sg_ir.specs.steps.Targets.{left, inst_settings, settings_of, set_times, past, ascends, once_in, inst_once};
 
 use crate::code::Inst;
 
@@ -137,7 +137,7 @@ pub(crate) fn left_by(inst: &Inst) -> Option<Target>
 /// How many instructions of a block, and of the blocks in it, set this: 2 stands for more too.
 #[cycle(setters)]
 pub(crate) fn setters(block: &[Inst], what: Target) -> u8
-    ensures { result ≡ times_in what (settings block.now) }
+    ensures { result ≡ set_times what (settings block.now) }
 {
     let mut count = 0;
     for inst in block {
@@ -148,7 +148,7 @@ pub(crate) fn setters(block: &[Inst], what: Target) -> u8
 
 #[cycle(setters)]
 fn inst_setters(inst: &Inst, what: Target) -> u8
-    ensures { result ≡ times_in what (inst_settings inst.now) }
+    ensures { result ≡ set_times what (inst_settings inst.now) }
 {
     match inst {
         Inst::If {
@@ -170,7 +170,7 @@ fn inst_setters(inst: &Inst, what: Target) -> u8
 }
 
 fn one_if(there: Option<Target>, what: Target) -> u8
-    ensures { result ≡ times_in what (settings_of there) }
+    ensures { result ≡ set_times what (settings_of there) }
 {
     match there {
         Some(there) => if there == what { 1 } else { 0 },

@@ -15,7 +15,7 @@ pub struct Span {
 impl Span {
     /// All numbers of an i32.
     pub fn whole() -> Span
-        ensures { result ≡ spec.whole }
+        ensures { result ≡ spec.whole_i32 }
     {
         Span {
             lo: i32::MIN,
@@ -79,7 +79,7 @@ impl Span {
 
 /// The interval where both ends are numbers of an i32, else all of them.
 fn cut(lo: i64, hi: i64) -> Span
-    ensures { result ≡ spec.cut lo hi }
+    ensures { result ≡ spec.cut_to_i32 lo hi }
 {
     match (i32::try_from(lo), i32::try_from(hi)) {
         (Ok(lo), Ok(hi)) => Span { lo, hi },
@@ -88,25 +88,25 @@ fn cut(lo: i64, hi: i64) -> Span
 }
 
 fn least(a: i64, b: i64) -> i64
-    ensures { result ≡ spec.least a b }
+    ensures { result ≡ spec.lesser_of a b }
 {
     if a <= b { a } else { b }
 }
 
 fn greatest(a: i64, b: i64) -> i64
-    ensures { result ≡ spec.greatest a b }
+    ensures { result ≡ spec.greater_of a b }
 {
     if a <= b { b } else { a }
 }
 
 fn least_of(a: i64, b: i64, c: i64, d: i64) -> i64
-    ensures { result ≡ spec.least (spec.least a b) (spec.least c d) }
+    ensures { result ≡ spec.lesser_of (spec.lesser_of a b) (spec.lesser_of c d) }
 {
     least(least(a, b), least(c, d))
 }
 
 fn greatest_of(a: i64, b: i64, c: i64, d: i64) -> i64
-    ensures { result ≡ spec.greatest (spec.greatest a b) (spec.greatest c d) }
+    ensures { result ≡ spec.greater_of (spec.greater_of a b) (spec.greater_of c d) }
 {
     greatest(greatest(a, b), greatest(c, d))
 }

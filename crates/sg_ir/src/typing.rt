@@ -1,7 +1,7 @@
 //! Whether code is well typed.
 ghost use Rattle.std.specs.Prelude.{◌≡◌, ℕ, ◌&&◌, ◌==◌, min, IsTrue};
 ghost use Rattle.sg_ir.specs.WellTyped.{is_well_typed, has_no_twice, set_regs, set_places, setters_in, frame_of, first_scope};
-ghost use Rattle.sg_ir.specs.steps.Frames.{frame_in, free_in, is_good, are_good, is_plain};
+ghost use Rattle.sg_ir.specs.steps.Frames.{frame_in, free_in, is_good, are_good, is_without_blocks};
 
 use crate::before::{Before, passed_by};
 use crate::code::{Code, Inst};
@@ -142,7 +142,7 @@ impl Typing<'_> {
 
     /// Whether an instruction without blocks is good.
     fn plain_fits(&self, inst: &Inst, before: &Before) -> bool
-        requires { IsTrue (is_plain inst.now) }
+        requires { IsTrue (is_without_blocks inst.now) }
         ensures { result ≡ is_good self.now before.now inst.now }
     {
         match inst {

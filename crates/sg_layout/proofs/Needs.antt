@@ -20,7 +20,7 @@ use Rattle.sg_layout.specs.Live.{is_at_or_below, makes_live, kind_or, kind_at}
 use Rattle.sg_layout.specs.Closure.{is_dense, last_sparse, closure}
 use Rattle.sg_layout.specs.Need.{FullNode, greatest_offset, under_slot, chunks_under, need_by, need_of, first_full_from}
 use Rattle.sg_layout.specs.ClosureLaws.{PointsAreInside}
-use Rattle.sg_layout.specs.NeedLaws.{IsNode, AllInside, NeedGrows, NeedIsOfMembers, FullIsOfMembers, NeedAbsorbs, FullAbsorbs}
+use Rattle.sg_layout.specs.NeedLaws.{IsNumberedNode, AllInside, NeedGrows, NeedIsOfMembers, FullIsOfMembers, NeedAbsorbs, FullAbsorbs}
 use Rattle.sg_words.proofs.Uses.{contains_none, contains_head, contains_rest, from_filter, into_filter, contains_cases, into_map, from_map}
 use Rattle.sg_layout.proofs.Distinct.{distinct_grows, distinct_length}
 use Rattle.sg_layout.proofs.Closing.{closed_parts, closure_is_tested, closure_extends}
@@ -266,11 +266,11 @@ sparse_before (first ∷ later) (suc k) node there sparse =
     sparse_more first later (suc k) (omega arith) rest
 
 -- the node with a number
-node_kind : (shape : Shape) (number : ℕ) (node : NodeShape) → IsNode shape number node → kind_at shape.nodes number ≡ node.kind
+node_kind : (shape : Shape) (number : ℕ) (node : NodeShape) → IsNumberedNode shape number node → kind_at shape.nodes number ≡ node.kind
 node_kind shape number node is = ap kind_or is.there
 
 -- the closure of a list reaches what the list does
-closure_covered : (shape : Shape) → InsideTest → PointsAreInside (bounds_of_shape shape) → (written more : List Coord) (number : ℕ) (node : NodeShape) → IsNode shape number node → is_dense node.kind ≡ false → Covers node.kind shape number (closure shape written ++ more) (written ++ more)
+closure_covered : (shape : Shape) → InsideTest → PointsAreInside (bounds_of_shape shape) → (written more : List Coord) (number : ℕ) (node : NodeShape) → IsNumberedNode shape number node → is_dense node.kind ≡ false → Covers node.kind shape number (closure shape written ++ more) (written ++ more)
 closure_covered shape test inside written more number node is sparse at has = elim (Contains-append_cases (closure shape written) more at has) [
   | inr there ↦ (at, Contains-append_right written more at there, covered_itself node.kind shape number at)
   | inl closed ↦

@@ -11,7 +11,7 @@ use Rattle.sg_layout.specs.declared.shape.Shape.{Shape}
 use Rattle.sg_layout.specs.Path.{offsets, path}
 use Rattle.sg_layout.specs.Live.{is_at_or_below, makes_live, kind_at, is_live}
 use Rattle.sg_layout.specs.Need.{reached_slots, under_slot}
-use Rattle.sg_layout.specs.NeedLaws.{IsDynamicNode, ReachedAreLive, ReachedOnce, ParentsHaveLive, LiveUpToGreatest}
+use Rattle.sg_layout.specs.NeedLaws.{IsNumberedDynamicNode, ReachedAreLive, ReachedOnce, ParentsHaveLive, LiveUpToGreatest}
 use Rattle.sg_layout.proofs.Slots.{from_live, into_live, live_itself}
 use Rattle.sg_layout.proofs.Distinct.{into_distinct, from_distinct, distinct_once, once_pairs}
 use Rattle.sg_words.proofs.Uses.{into_map, from_map}
@@ -84,7 +84,7 @@ from_dynamic : (shape : Shape) (number : ℕ) (x y : List ℕ) → kind_at shape
 from_dynamic shape number x y dynamic below = subst (λ k. makes_live k x y ≡ true) (sym dynamic) below
 
 -- a coordinate that makes an index under a parent live is under this parent, at that index or past it
-live_under : (shape : Shape) (number : ℕ) (parent : List ℕ) (index : ℕ) (at : Coord) → IsDynamicNode shape number → makes_live (kind_at shape.nodes number) (path shape at number) (parent ++ index ∷ []) ≡ true → (path shape at (number - 1) ≡ parent) × (index ≤ offset_there shape number at)
+live_under : (shape : Shape) (number : ℕ) (parent : List ℕ) (index : ℕ) (at : Coord) → IsNumberedDynamicNode shape number → makes_live (kind_at shape.nodes number) (path shape at number) (parent ++ index ∷ []) ≡ true → (path shape at (number - 1) ≡ parent) × (index ≤ offset_there shape number at)
 live_under shape number parent index at is live =
     let below = makes_dynamic shape number (path shape at number) (parent ++ index ∷ []) is.dynamic live in
     let long = path_long shape at number is.within in
@@ -99,7 +99,7 @@ live_under shape number parent index at is live =
     )
 
 -- an index up to that of a coordinate under the parent is live
-live_up_to : (shape : Shape) (written : List Coord) (number : ℕ) (parent : List ℕ) (index : ℕ) (at : Coord) → IsDynamicNode shape number → Contains written at → path shape at (number - 1) ≡ parent → index ≤ offset_there shape number at → is_live shape written number (parent ++ index ∷ []) ≡ true
+live_up_to : (shape : Shape) (written : List Coord) (number : ℕ) (parent : List ℕ) (index : ℕ) (at : Coord) → IsNumberedDynamicNode shape number → Contains written at → path shape at (number - 1) ≡ parent → index ≤ offset_there shape number at → is_live shape written number (parent ++ index ∷ []) ≡ true
 live_up_to shape written number parent index at is has same below =
     let split : path shape at number ≡ parent ++ offset_there shape number at ∷ [] = slot_split shape number at is.first is.within ∙ ap (λ p. p ++ offset_there shape number at ∷ []) same in
     let reaches : is_at_or_below (path shape at number) (parent ++ index ∷ []) ≡ true = subst (λ s. is_at_or_below s (parent ++ index ∷ []) ≡ true) (sym split) (below_push parent (offset_there shape number at) index below) in

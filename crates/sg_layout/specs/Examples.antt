@@ -11,7 +11,7 @@ use Rattle.sg_layout.specs.Path.{path}
 use Rattle.sg_layout.specs.Live.{is_live}
 use Rattle.sg_layout.specs.Closure.{closure}
 use Rattle.sg_layout.specs.Need.{need_of, first_full}
-use Rattle.sg_layout.specs.Rules.{checked}
+use Rattle.sg_layout.specs.Rules.{checked_shape}
 
 -- a node over one axis, and over two
 abbrev pub node1 : Kind → ℤ → ℤ → ℤ → NodeShape
@@ -26,8 +26,8 @@ node2 kind i j cap =
       chunk = pos 0;
     }
 
-abbrev pub shape_of : ℕ → List NodeShape → Shape
-shape_of axes nodes = record { axes = axes; nodes = nodes; fields = ty.I32 ∷ [] }
+abbrev pub shape_with : ℕ → List NodeShape → Shape
+shape_with axes nodes = record { axes = axes; nodes = nodes; fields = ty.I32 ∷ [] }
 
 abbrev pub at1 : ℕ → Coord
 at1 i = record { n = 1; a = pos i; b = pos 0; c = pos 0 }
@@ -37,24 +37,24 @@ at2 i j = record { n = 2; a = pos i; b = pos j; c = pos 0 }
 
 -- pointer(i: 4) cap 2; dense(i: 4);
 abbrev pub blocks : Shape
-blocks = shape_of 1 (node1 Pointer (pos 4) (pos 2) (pos 0) ∷ node1 Dense (pos 4) (pos 0) (pos 0) ∷ [])
+blocks = shape_with 1 (node1 Pointer (pos 4) (pos 2) (pos 0) ∷ node1 Dense (pos 4) (pos 0) (pos 0) ∷ [])
 
 -- pointer(i: 4) cap 2; bitmasked(i: 4);
 abbrev pub masked_blocks : Shape
-masked_blocks = shape_of 1 (node1 Pointer (pos 4) (pos 2) (pos 0) ∷ node1 Bitmasked (pos 4) (pos 0) (pos 0) ∷ [])
+masked_blocks = shape_with 1 (node1 Pointer (pos 4) (pos 2) (pos 0) ∷ node1 Bitmasked (pos 4) (pos 0) (pos 0) ∷ [])
 
 -- dynamic(i: 8) chunk 4 cap 2;
 abbrev pub growing : Shape
-growing = shape_of 1 (node1 Dynamic (pos 8) (pos 2) (pos 4) ∷ [])
+growing = shape_with 1 (node1 Dynamic (pos 8) (pos 2) (pos 4) ∷ [])
 
 -- dense(i: 4);
-abbrev pub four : Shape
-four = shape_of 1 (node1 Dense (pos 4) (pos 0) (pos 0) ∷ [])
+abbrev pub line_of_four : Shape
+line_of_four = shape_with 1 (node1 Dense (pos 4) (pos 0) (pos 0) ∷ [])
 
 -- hash(i: 4, j: 4) cap 16; pointer(i: 2, j: 2) cap 64; bitmasked(i: 8, j: 8);
 abbrev pub grid : Shape
 grid =
-    shape_of 2
+    shape_with 2
     (node2 Hash (pos 4) (pos 4) (pos 16) ∷ node2 Pointer (pos 2) (pos 2) (pos 64) ∷ node2 Bitmasked (pos 8) (pos 8) (pos 0) ∷ [])
 
 path_of_five : path blocks (at1 5) 2 ≡ 1 ∷ 1 ∷ []
@@ -72,7 +72,7 @@ masked_five = refl
 all_below_five : closure growing (at1 5 ∷ []) ≡ map at1 (0 ∷ 1 ∷ 2 ∷ 3 ∷ 4 ∷ 5 ∷ [])
 all_below_five = refl
 
-dense_is_always_active : closure four [] ≡ map at1 (0 ∷ 1 ∷ 2 ∷ 3 ∷ [])
+dense_is_always_active : closure line_of_four [] ≡ map at1 (0 ∷ 1 ∷ 2 ∷ 3 ∷ [])
 dense_is_always_active = refl
 
 sparse_starts_empty : closure blocks [] ≡ []
@@ -90,34 +90,34 @@ six_elements_need_two_chunks = refl
 third_block_is_too_many : first_full blocks (at1 0 ∷ at1 4 ∷ at1 8 ∷ []) ≡ Some (record { node = 1; cap = 2 })
 third_block_is_too_many = refl
 
-three_is_no_extent : checked (shape_of 1 (node1 Dense (pos 3) (pos 0) (pos 0) ∷ [])) ≡ Err (BadExtent 1)
+three_is_no_extent : checked_shape (shape_with 1 (node1 Dense (pos 3) (pos 0) (pos 0) ∷ [])) ≡ Err (BadExtent 1)
 three_is_no_extent = refl
 
-hash_stands_first : checked (shape_of 1 (node1 Dense (pos 4) (pos 0) (pos 0) ∷ node1 Hash (pos 4) (pos 2) (pos 0) ∷ []))
+hash_stands_first : checked_shape (shape_with 1 (node1 Dense (pos 4) (pos 0) (pos 0) ∷ node1 Hash (pos 4) (pos 2) (pos 0) ∷ []))
     ≡ Err (BadOrder 2)
 hash_stands_first = refl
 
-axis_not_there : checked (shape_of 1 (node2 Dense (pos 4) (pos 4) (pos 0) ∷ [])) ≡ Err (BadAxis 1)
+axis_not_there : checked_shape (shape_with 1 (node2 Dense (pos 4) (pos 4) (pos 0) ∷ [])) ≡ Err (BadAxis 1)
 axis_not_there = refl
 
-two_long_nodes : checked (shape_of 1 (node1 Dense (pos 256) (pos 0) (pos 0) ∷ node1 Dense (pos 256) (pos 0) (pos 0) ∷ []))
+two_long_nodes : checked_shape (shape_with 1 (node1 Dense (pos 256) (pos 0) (pos 0) ∷ node1 Dense (pos 256) (pos 0) (pos 0) ∷ []))
     ≡ Err TooLarge
 two_long_nodes = refl
 
-no_cap : checked (shape_of 1 (node1 Pointer (pos 4) (pos 0) (pos 0) ∷ [])) ≡ Err (BadCap 1)
+no_cap : checked_shape (shape_with 1 (node1 Pointer (pos 4) (pos 0) (pos 0) ∷ [])) ≡ Err (BadCap 1)
 no_cap = refl
 
 -- the smallest rule of a node, the first node, and the whole layout last
-extent_before_cap : checked (shape_of 1 (node1 Pointer (pos 3) (pos 0) (pos 0) ∷ [])) ≡ Err (BadExtent 1)
+extent_before_cap : checked_shape (shape_with 1 (node1 Pointer (pos 3) (pos 0) (pos 0) ∷ [])) ≡ Err (BadExtent 1)
 extent_before_cap = refl
 
-first_node_first : checked (shape_of 1 (node1 Pointer (pos 4) (pos 0) (pos 0) ∷ node1 Dense (pos 3) (pos 0) (pos 0) ∷ []))
+first_node_first : checked_shape (shape_with 1 (node1 Pointer (pos 4) (pos 0) (pos 0) ∷ node1 Dense (pos 3) (pos 0) (pos 0) ∷ []))
     ≡ Err (BadCap 1)
 first_node_first = refl
 
-nodes_before_the_layout : checked (shape_of 1 (node1 Dense (pos 32768) (pos 0) (pos 0) ∷ node1 Pointer (pos 2) (pos 0) (pos 0) ∷ []))
+nodes_before_the_layout : checked_shape (shape_with 1 (node1 Dense (pos 32768) (pos 0) (pos 0) ∷ node1 Pointer (pos 2) (pos 0) (pos 0) ∷ []))
     ≡ Err (BadCap 2)
 nodes_before_the_layout = refl
 
-grid_is_well_formed : checked grid ≡ Ok grid
+grid_is_well_formed : checked_shape grid ≡ Ok grid
 grid_is_well_formed = refl

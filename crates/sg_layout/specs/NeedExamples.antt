@@ -6,11 +6,11 @@ use Rattle.sg_layout.specs.declared.shape.Shape.{Shape}
 use Rattle.sg_layout.specs.Live.{is_live}
 use Rattle.sg_layout.specs.Closure.{closure, last_sparse}
 use Rattle.sg_layout.specs.Need.{reached_slots, need_of, first_full}
-use Rattle.sg_layout.specs.Examples.{node1, node2, shape_of, at1, at2, blocks, masked_blocks}
+use Rattle.sg_layout.specs.Examples.{node1, node2, shape_with, at1, at2, blocks, masked_blocks}
 
 -- hash(i: 64) cap 3;
 abbrev pub keyed : Shape
-keyed = shape_of 1 (node1 Hash (pos 64) (pos 3) (pos 0) ∷ [])
+keyed = shape_with 1 (node1 Hash (pos 64) (pos 3) (pos 0) ∷ [])
 
 -- a chunk has 4 elements, and there are 3 of them
 abbrev pub row_node : NodeShape
@@ -18,34 +18,34 @@ row_node = node1 Dynamic (pos 8) (pos 3) (pos 4)
 
 -- pointer(i: 2) cap 2; dynamic(i: 8) chunk 4 cap 3;
 abbrev pub rows : Shape
-rows = shape_of 1 (node1 Pointer (pos 2) (pos 2) (pos 0) ∷ row_node ∷ [])
+rows = shape_with 1 (node1 Pointer (pos 2) (pos 2) (pos 0) ∷ row_node ∷ [])
 
 -- bitmasked(i: 4); dense(i: 2);
-abbrev pub pairs : Shape
-pairs = shape_of 1 (node1 Bitmasked (pos 4) (pos 0) (pos 0) ∷ node1 Dense (pos 2) (pos 0) (pos 0) ∷ [])
+abbrev pub blocks_of_two : Shape
+blocks_of_two = shape_with 1 (node1 Bitmasked (pos 4) (pos 0) (pos 0) ∷ node1 Dense (pos 2) (pos 0) (pos 0) ∷ [])
 
 -- pointer(i: 2) cap 1; pointer(i: 2) cap 1; dense(i: 2);
 abbrev pub inner_blocks : NodeShape
 inner_blocks = node1 Pointer (pos 2) (pos 1) (pos 0)
 
 abbrev pub nested : Shape
-nested = shape_of 1 (inner_blocks ∷ inner_blocks ∷ node1 Dense (pos 2) (pos 0) (pos 0) ∷ [])
+nested = shape_with 1 (inner_blocks ∷ inner_blocks ∷ node1 Dense (pos 2) (pos 0) (pos 0) ∷ [])
 
 -- pointer(i: 2, j: 2) cap 2; dense(i: 2, j: 2);
 abbrev pub squares : Shape
-squares = shape_of 2 (node2 Pointer (pos 2) (pos 2) (pos 2) ∷ node2 Dense (pos 2) (pos 2) (pos 0) ∷ [])
+squares = shape_with 2 (node2 Pointer (pos 2) (pos 2) (pos 2) ∷ node2 Dense (pos 2) (pos 2) (pos 0) ∷ [])
 
 -- dense(j: 2); dynamic(i: 4) chunk 2 cap 3; so that each j has a list of its own
 abbrev pub lists : Shape
 lists =
-    shape_of 2
+    shape_with 2
     (record { kind = Dense; sizes = record { axis = 2; extent = pos 2 } ∷ []; cap = pos 0; chunk = pos 0 }
     ∷ node1 Dynamic (pos 4) (pos 3) (pos 2) ∷ [])
 
 one_key : closure keyed (at1 24 ∷ []) ≡ at1 24 ∷ []
 one_key = refl
 
-pair_of_five : closure pairs (at1 5 ∷ at1 0 ∷ []) ≡ map at1 (0 ∷ 1 ∷ 4 ∷ 5 ∷ [])
+pair_of_five : closure blocks_of_two (at1 5 ∷ at1 0 ∷ []) ≡ map at1 (0 ∷ 1 ∷ 4 ∷ 5 ∷ [])
 pair_of_five = refl
 
 rows_fill_up : closure rows (at1 6 ∷ at1 9 ∷ []) ≡ map at1 (0 ∷ 1 ∷ 2 ∷ 3 ∷ 4 ∷ 5 ∷ 6 ∷ 8 ∷ 9 ∷ [])
@@ -86,7 +86,7 @@ need_of_nested = refl
 root_is_full_first : first_full nested (at1 0 ∷ at1 4 ∷ []) ≡ Some (record { node = 1; cap = 1 })
 root_is_full_first = refl
 
-masks_need_nothing : need_of pairs (at1 5 ∷ at1 0 ∷ []) 1 (node1 Bitmasked (pos 4) (pos 0) (pos 0)) ≡ 0
+masks_need_nothing : need_of blocks_of_two (at1 5 ∷ at1 0 ∷ []) 1 (node1 Bitmasked (pos 4) (pos 0) (pos 0)) ≡ 0
 masks_need_nothing = refl
 
 cells_need_nothing : need_of blocks (at1 5 ∷ at1 0 ∷ []) 2 (node1 Dense (pos 4) (pos 0) (pos 0)) ≡ 0

@@ -11,7 +11,7 @@ use Rattle.sg_layout.specs.Closure.{closure}
 use Rattle.sg_layout.specs.Need.{reached_slots, greatest_offset, under_slot, chunks_under, need_of, first_full}
 
 -- the node with this number, counted from 1
-pub record IsNode (shape : Shape) (number : ℕ) (node : NodeShape) : Type 0 where
+pub record IsNumberedNode (shape : Shape) (number : ℕ) (node : NodeShape) : Type 0 where
   pub first : 1 ≤ number
   pub there : slice_get shape.nodes (number - 1) ≡ Some node
 
@@ -41,7 +41,7 @@ FullIsOfMembers shape =
 -- and a closure has those inside alone
 abbrev pub NeedAbsorbs : Shape → Type 0
 NeedAbsorbs shape =
-    (written more : List Coord) → AllInside shape written → (number : ℕ) (node : NodeShape) → IsNode shape number node →
+    (written more : List Coord) → AllInside shape written → (number : ℕ) (node : NodeShape) → IsNumberedNode shape number node →
     need_of shape (closure shape written ++ more) number node ≡ need_of shape (written ++ more) number node
 
 -- and so it changes nothing about which node is too full
@@ -61,7 +61,7 @@ abbrev pub ReachedOnce : Shape → Type 0
 ReachedOnce shape = (written : List Coord) (number : ℕ) → AllPairs (λ x y. x ≢ y) (reached_slots shape written number)
 
 -- a dynamic node, by its number
-pub record IsDynamicNode (shape : Shape) (number : ℕ) : Type 0 where
+pub record IsNumberedDynamicNode (shape : Shape) (number : ℕ) : Type 0 where
   pub first : 1 ≤ number
   pub within : number ≤ length shape.nodes
   pub dynamic : kind_at shape.nodes number ≡ Dynamic
@@ -69,7 +69,7 @@ pub record IsDynamicNode (shape : Shape) (number : ℕ) : Type 0 where
 -- the parents that a dynamic node's need goes over are those with a live index
 abbrev pub ParentsHaveLive : Shape → Type 0
 ParentsHaveLive shape =
-    (written : List Coord) (number : ℕ) → IsDynamicNode shape number → (parent : List ℕ) →
+    (written : List Coord) (number : ℕ) → IsNumberedDynamicNode shape number → (parent : List ℕ) →
     Contains (reached_slots shape written (number - 1)) parent
     ↔ ((index : ℕ) × IsTrue (is_live shape written number (parent ++ index ∷ [])))
 
@@ -80,7 +80,7 @@ greatest_under shape written number parent = greatest_offset shape number (under
 -- under such a parent the live indices are those up to the greatest
 abbrev pub LiveUpToGreatest : Shape → Type 0
 LiveUpToGreatest shape =
-    (written : List Coord) (number : ℕ) → IsDynamicNode shape number → (parent : List ℕ) →
+    (written : List Coord) (number : ℕ) → IsNumberedDynamicNode shape number → (parent : List ℕ) →
     Contains (reached_slots shape written (number - 1)) parent → (index : ℕ) →
     IsTrue (is_live shape written number (parent ++ index ∷ []))
     ↔ (index ≤ greatest_under shape written number parent)

@@ -7,7 +7,7 @@ use Rattle.sg_layout.specs.declared.shape.NodeShape.{NodeShape}
 use Rattle.sg_layout.specs.declared.shape.Shape.{Shape}
 use Rattle.sg_layout.specs.Axes.{slots_of, bounds_of_shape}
 use Rattle.sg_layout.specs.Path.{offsets, path}
-use Rattle.sg_layout.specs.Rules.{checked}
+use Rattle.sg_layout.specs.Rules.{checked_shape}
 use Rattle.sg_layout.specs.Slots.{slot_number, slot_at, slots, coordinate_of}
 use Rattle.sg_layout.specs.Examples.{blocks}
 
@@ -49,7 +49,7 @@ cells = record {
 abbrev pub deep : Shape
 deep = record { axes = 3; nodes = root ∷ columns ∷ boxes ∷ cells ∷ []; fields = ty.I32 ∷ [] }
 
-deep_is_well_formed : checked deep ≡ Ok deep
+deep_is_well_formed : checked_shape deep ≡ Ok deep
 deep_is_well_formed = refl
 
 extents_of_deep : bounds_of_shape deep ≡ record { n = 3; a = 32; b = 16; c = 16 }

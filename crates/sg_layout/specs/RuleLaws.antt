@@ -5,7 +5,7 @@ use Rattle.sg_layout.specs.declared.shape.Shape.{Shape}
 use Rattle.sg_layout.specs.declared.layout.LayoutFault.{LayoutFault}
 use Rattle.sg_layout.specs.declared.layout.LayoutFault.TheVariants.{BadExtent, BadOrder, BadAxis, TooLarge, BadCap}
 use Rattle.sg_layout.specs.Axes.{bounds_of_shape}
-use Rattle.sg_layout.specs.Rules.{has_good_extents, has_good_order, has_good_axes, has_good_caps, is_small, checked}
+use Rattle.sg_layout.specs.Rules.{has_good_extents, has_good_order, has_good_axes, has_good_caps, is_small, checked_shape}
 
 -- the node with this number, before these others, keeps the rules that are about one node
 pub record KeepsRules (axes number : ℕ) (node : NodeShape) (later : List NodeShape) : Type 0 where
@@ -28,7 +28,7 @@ KeepBefore shape end =
 
 -- a shape is accepted exactly where all nodes keep the rules and the layout is small
 abbrev pub AcceptedKeepsRules : Shape → Type 0
-AcceptedKeepsRules shape = (checked shape ≡ Ok shape) ↔ (AllKeep shape × IsTrue (is_small (bounds_of_shape shape)))
+AcceptedKeepsRules shape = (checked_shape shape ≡ Ok shape) ↔ (AllKeep shape × IsTrue (is_small (bounds_of_shape shape)))
 
 -- the fault of the node with this number, by the tests of its rules: the first that fails
 abbrev pub FailsFirst : (extents order names caps : Bool) → ℕ → LayoutFault → Type 0
@@ -61,5 +61,5 @@ pub record IsTooLarge (shape : Shape) (fault : LayoutFault) : Type 0 where
 -- a fault is that of the first node that has one; or all nodes keep the rules, and it is about the whole layout
 abbrev pub FaultIsFirst : Shape → Type 0
 FaultIsFirst shape =
-    (fault : LayoutFault) → checked shape ≡ Err fault →
+    (fault : LayoutFault) → checked_shape shape ≡ Err fault →
     IsTooLarge shape fault ⊎ ((place : ℕ) × (node : NodeShape) × IsFirstFault shape fault place node)

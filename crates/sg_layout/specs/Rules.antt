@@ -92,8 +92,8 @@ abbrev pub checked_by : Option LayoutFault → Shape → Result Shape LayoutFaul
 checked_by fault shape = fault_or fault (if is_small (bounds_of_shape shape) then Ok shape else Err TooLarge)
 
 -- the shape where it keeps all rules, else the fault: of the first node that has one, and after all nodes rule 4
-abbrev pub checked : Shape → Result Shape LayoutFault
-checked shape = checked_by (first_node_fault shape.axes 1 shape.nodes) shape
+abbrev pub checked_shape : Shape → Result Shape LayoutFault
+checked_shape shape = checked_by (first_node_fault shape.axes 1 shape.nodes) shape
 
 -- a field holds numbers
 abbrev pub is_field : Ty → Bool

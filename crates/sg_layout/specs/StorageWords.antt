@@ -10,7 +10,7 @@ use Rattle.sg_layout.specs.declared.shape.Shape.{Shape}
 use Rattle.sg_layout.specs.Limits.{spare_places}
 pub use Rattle.sg_layout.specs.Limits.{most_words}
 use Rattle.sg_layout.specs.Axes.{count_of, size_of, slots_of}
-use Rattle.sg_layout.specs.Examples.{node1, node2, shape_of, blocks, growing, grid}
+use Rattle.sg_layout.specs.Examples.{node1, node2, shape_with, blocks, growing, grid}
 
 -- a node whose slots have child containers ends a segment
 abbrev pub ends_segment : Kind → Bool
@@ -131,26 +131,26 @@ two_fields : words_of_shape large_grid ≡ 2127700
 two_fields = refl
 
 -- pointer(i: 4) cap 2; alone: each child container is one cell
-one_cell : words_of_shape (shape_of 1 (node1 Pointer (pos 4) (pos 2) (pos 0) ∷ [])) ≡ 23
+one_cell : words_of_shape (shape_with 1 (node1 Pointer (pos 4) (pos 2) (pos 0) ∷ [])) ≡ 23
 one_cell = refl
 
 -- bitmasked(i: 4); bitmasked(i: 32); has 1 and 2 words of masks and 128 cells
-two_masks : words_of_shape (shape_of 1 (node1 Bitmasked (pos 4) (pos 0) (pos 0) ∷ node1 Bitmasked (pos 32) (pos 0) (pos 0) ∷ []))
+two_masks : words_of_shape (shape_with 1 (node1 Bitmasked (pos 4) (pos 0) (pos 0) ∷ node1 Bitmasked (pos 32) (pos 0) (pos 0) ∷ []))
     ≡ 131
 two_masks = refl
 
 -- a table for a cap of 3 has room for 8 keys
-three_keys : words_of_shape (shape_of 1 (node1 Hash (pos 64) (pos 3) (pos 0) ∷ [])) ≡ 36
+three_keys : words_of_shape (shape_with 1 (node1 Hash (pos 64) (pos 3) (pos 0) ∷ [])) ≡ 36
 three_keys = refl
 
 -- 64 bits are one word
-full_mask : words_of_shape (shape_of 1 (node1 Bitmasked (pos 64) (pos 0) (pos 0) ∷ [])) ≡ 65
+full_mask : words_of_shape (shape_with 1 (node1 Bitmasked (pos 64) (pos 0) (pos 0) ∷ [])) ≡ 65
 full_mask = refl
 
 -- pointer(i: 2) cap 2; dense(i: 4); dynamic(i: 8) chunk 4 cap 3; has 2 links, 19 copies of 4 lengths and heads, and
 -- 3 chunks of 4 values and a link
 dynamic_below : words_of_shape
-    (shape_of 1 (node1 Pointer (pos 2) (pos 2) (pos 0) ∷ node1 Dense (pos 4) (pos 0) (pos 0) ∷ node1 Dynamic (pos 8) (pos 3) (pos 4) ∷ []))
+    (shape_with 1 (node1 Pointer (pos 2) (pos 2) (pos 0) ∷ node1 Dense (pos 4) (pos 0) (pos 0) ∷ node1 Dynamic (pos 8) (pos 3) (pos 4) ∷ []))
     ≡ 169
 dynamic_below = refl
 

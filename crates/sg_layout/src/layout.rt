@@ -7,7 +7,7 @@ ghost use Rattle.sg_layout.specs.Limits.{most_nodes};
 ghost use Rattle.sg_layout.specs.Path.{offsets};
 ghost use Rattle.sg_layout.specs.Slots.{share_at};
 ghost use Rattle.sg_layout.specs.steps.Measuring.{measure_of, measure_at};
-ghost use Rattle.sg_layout.specs.Rules.{is_declared, checked};
+ghost use Rattle.sg_layout.specs.Rules.{is_declared, checked_shape};
 ghost use Rattle.sg_layout.specs.Accepted.{IsAccepted};
 ghost use Rattle.sg_words.specs.Answers.{Answers};
 
@@ -58,7 +58,7 @@ impl Model for Layout {
 /// The layout of a shape, or the fault of the first node that has one, or after all nodes `TooLarge`.
 pub fn check_layout(alloc: Global, shape: &Shape) -> Result<Layout, Stop<LayoutFault>>
     requires declared { IsTrue (is_declared shape.now) }
-    ensures { Answers result (checked shape.now) }
+    ensures { Answers result (checked_shape shape.now) }
 {
     if let Some(fault) = first_fault(shape.axes, shape.nodes.as_slice()) {
         return Err(Stop::Refused(fault));

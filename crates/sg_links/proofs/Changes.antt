@@ -6,7 +6,7 @@ use Rattle.std.proofs.lemmas.List.Sums.{sum_by-cons}
 use Rattle.std.proofs.lemmas.Bool.{cases_eq, cases_lt}
 use Rattle.std.proofs.lemmas.List.{length-set, length-append, get_or-set_same, get_or-set_other, set-get_or, append-nil, get_or_past, drop_more, length-replicate, get_or-replicate}
 use Rattle.sg_links.specs.declared.head.Head.{Head}
-use Rattle.sg_links.specs.Lists.{Lists, times, times_in, list_of, with_list, empty_lists, AreDisjoint}
+use Rattle.sg_links.specs.Lists.{Lists, times, times_in_lists, list_of, with_list, empty_lists, AreDisjoint}
 use Rattle.sg_links.specs.steps.Rows.{IsPath, IsLinked, AreLinked, no_head}
 use Rattle.sg_links.proofs.Times.{times-append, times_same, times_other, times-cons, times_in_set, times_at, times_two, short}
 use Rattle.sg_links.proofs.Paths.{path_set}
@@ -26,14 +26,14 @@ alone next x h below is =
       last = λ some. ap (λ g. g.last) is ∙ refl;
     }
 
-pub one_more : (n : ℕ) (lists : List (List ℕ)) (x : ℕ) → AreDisjoint (record { numbers = n; lists = lists }) → times_in x lists ≡ 0 → (z : ℕ) → times_in z lists + times z (x ∷ []) ≤ 1
+pub one_more : (n : ℕ) (lists : List (List ℕ)) (x : ℕ) → AreDisjoint (record { numbers = n; lists = lists }) → times_in_lists x lists ≡ 0 → (z : ℕ) → times_in_lists z lists + times z (x ∷ []) ≤ 1
 one_more n lists x disjoint free z = elim (cases_eq x z) [
   | inl same ↦
-      let none : times_in z lists ≡ 0 = subst (λ k. times_in k lists ≡ 0) same free in
+      let none : times_in_lists z lists ≡ 0 = subst (λ k. times_in_lists k lists ≡ 0) same free in
       let one : times z (x ∷ []) ≡ 1 + times z [] = subst (λ k. times z (k ∷ []) ≡ 1 + times z []) (sym same) (times_same z []) in
       omega arith
   | inr other ↦
-      let least : times_in z lists ≤ 1 = disjoint.once z in
+      let least : times_in_lists z lists ≤ 1 = disjoint.once z in
       omega (arith, times_other z x [] other)
 ]
 
@@ -43,7 +43,7 @@ only_that n x below z has = elim (cases_eq x z) [
   | inr other ↦ absurd (let none : times z (x ∷ []) ≡ times z [] = times_other z x [] other in omega arith)
 ]
 
-pub pushed_back_first : (l : Lists) (next rest : List ℕ) (heads others : List Head) (head x : ℕ) (old new : Head) → AreKept l next heads → head < length l.lists → x < l.numbers → times_in x l.lists ≡ 0 → old ≡ get_or heads head no_head → old.len ≡ 0 → new ≡ record { first = x; last = x; len = 1 } → rest ≡ set next x (length next) → others ≡ set heads head new → AreKept (with_list l head (list_of l head ++ x ∷ [])) rest others
+pub pushed_back_first : (l : Lists) (next rest : List ℕ) (heads others : List Head) (head x : ℕ) (old new : Head) → AreKept l next heads → head < length l.lists → x < l.numbers → times_in_lists x l.lists ≡ 0 → old ≡ get_or heads head no_head → old.len ≡ 0 → new ≡ record { first = x; last = x; len = 1 } → rest ≡ set next x (length next) → others ≡ set heads head new → AreKept (with_list l head (list_of l head ++ x ∷ [])) rest others
 pushed_back_first l next rest heads others head x old new kept there below free is none made rest_is others_is =
     let row : List ℕ = set next x (length next) in
     let same : length row ≡ length next = length-set next x (length next) in
@@ -57,7 +57,7 @@ pushed_back_first l next rest heads others head x old new kept there below free 
       numbers = ap length rest_is ∙ same ∙ kept.numbers;
     }
 
-pub pushed_back : (l : Lists) (next row rest : List ℕ) (heads others : List Head) (head x : ℕ) (old new : Head) → AreKept l next heads → head < length l.lists → x < l.numbers → times_in x l.lists ≡ 0 → old ≡ get_or heads head no_head → old.len ≢ 0 → new ≡ record { first = old.first; last = x; len = old.len + 1 } → row ≡ set next x (length next) → rest ≡ set row old.last x → others ≡ set heads head new → AreKept (with_list l head (list_of l head ++ x ∷ [])) rest others
+pub pushed_back : (l : Lists) (next row rest : List ℕ) (heads others : List Head) (head x : ℕ) (old new : Head) → AreKept l next heads → head < length l.lists → x < l.numbers → times_in_lists x l.lists ≡ 0 → old ≡ get_or heads head no_head → old.len ≢ 0 → new ≡ record { first = old.first; last = x; len = old.len + 1 } → row ≡ set next x (length next) → rest ≡ set row old.last x → others ≡ set heads head new → AreKept (with_list l head (list_of l head ++ x ∷ [])) rest others
 pushed_back l next row rest heads others head x old new kept there below free is some made row_is rest_is others_is =
     let r : List ℕ = set next x (length next) in
     let same : length r ≡ length next = length-set next x (length next) in
@@ -83,7 +83,7 @@ longer l next heads head ys kept there once below =
     ]) in
     omega (arith, length-append list ys, kept.linked.few, kept.numbers)
 
-pub longer_by_one : (l : Lists) (next : List ℕ) (heads : List Head) (head x : ℕ) (old : Head) → AreKept l next heads → head < length l.lists → x < l.numbers → times_in x l.lists ≡ 0 → old ≡ get_or heads head no_head → old.len + 1 < 2 ^ 32
+pub longer_by_one : (l : Lists) (next : List ℕ) (heads : List Head) (head x : ℕ) (old : Head) → AreKept l next heads → head < length l.lists → x < l.numbers → times_in_lists x l.lists ≡ 0 → old ≡ get_or heads head no_head → old.len + 1 < 2 ^ 32
 longer_by_one l next heads head x old kept there below free is =
     let long : old.len ≡ length (get_or l.lists head []) = ap (λ h. h.len) is ∙ (kept.linked.linked head there).as_long in
     let some : length (list_of l head) + length (x ∷ []) < 2 ^ 32 = longer l next heads head (x ∷ []) kept there (λ z. omega (arith, one_more (length next) l.lists x kept.linked.disjoint free z, times_at z l.lists head there)) (only_that l.numbers x below) in
@@ -99,7 +99,7 @@ last_below l next heads head old kept there is some =
 
 -- ── A number in front ──
 
-fronted : (next rest : List ℕ) (heads : List Head) (lists : List (List ℕ)) (head x : ℕ) (old new : Head) → AreLinked next heads lists → head < length lists → x < length next → times_in x lists ≡ 0 → old ≡ get_or heads head no_head → rest ≡ set next x old.first → new.first ≡ x → new.len ≡ old.len + 1 → new.last ≡ get_or (x ∷ get_or lists head []) (length (get_or lists head [])) 0 → AreLinked rest (set heads head new) (set lists head (x ∷ get_or lists head []))
+fronted : (next rest : List ℕ) (heads : List Head) (lists : List (List ℕ)) (head x : ℕ) (old new : Head) → AreLinked next heads lists → head < length lists → x < length next → times_in_lists x lists ≡ 0 → old ≡ get_or heads head no_head → rest ≡ set next x old.first → new.first ≡ x → new.len ≡ old.len + 1 → new.last ≡ get_or (x ∷ get_or lists head []) (length (get_or lists head [])) 0 → AreLinked rest (set heads head new) (set lists head (x ∷ get_or lists head []))
 fronted next rest heads lists head x old new linked there below free is rest_is first_is len_is last_is =
     let list : List ℕ = get_or lists head [] in
     let mine : IsLinked next old list = subst (λ h. IsLinked next h list) (sym is) (linked.linked head there) in
@@ -109,7 +109,7 @@ fronted next rest heads lists head x old new linked there below free is rest_is 
     let leads : get_or row x 0 ≡ old.first = get_or-set_same next x old.first 0 below in
     let further : IsPath row old.first list (length row) = subst (λ n. IsPath row old.first list n) (sym same) (path_set next old.first list (length next) x old.first mine.path absent) in
     let path : IsPath row x (x ∷ list) (length row) = (refl, subst (λ s. IsPath row s list (length row)) (sym leads) further) in
-    let count : (z : ℕ) → times_in z (set lists head (x ∷ list)) ≡ times_in z lists + times z (x ∷ []) = λ z. omega (arith, times_in_set z lists head (x ∷ list) there, times-append z (x ∷ []) list) in
+    let count : (z : ℕ) → times_in_lists z (set lists head (x ∷ list)) ≡ times_in_lists z lists + times z (x ∷ []) = λ z. omega (arith, times_in_set z lists head (x ∷ list) there, times-append z (x ∷ []) list) in
     let one : IsLinked row new (x ∷ list) = record {
       as_long = omega (arith, mine.as_long);
       path = subst (λ s. IsPath row s (x ∷ list) (length row)) (sym first_is) path;
@@ -121,7 +121,7 @@ fronted next rest heads lists head x old new linked there below free is rest_is 
     (λ z. omega (arith, count z, one_more (length next) lists x linked.disjoint free z))
     (λ z has. within_of next lists z (x ∷ []) linked.disjoint (omega (arith, count z)) (only_that (length next) x below)))
 
-front_kept : (l : Lists) (next rest : List ℕ) (heads others : List Head) (head x : ℕ) (old new : Head) → AreKept l next heads → head < length l.lists → x < l.numbers → times_in x l.lists ≡ 0 → old ≡ get_or heads head no_head → rest ≡ set next x old.first → others ≡ set heads head new → new.first ≡ x → new.len ≡ old.len + 1 → new.last ≡ get_or (x ∷ list_of l head) (length (list_of l head)) 0 → AreKept (with_list l head (x ∷ list_of l head)) rest others
+front_kept : (l : Lists) (next rest : List ℕ) (heads others : List Head) (head x : ℕ) (old new : Head) → AreKept l next heads → head < length l.lists → x < l.numbers → times_in_lists x l.lists ≡ 0 → old ≡ get_or heads head no_head → rest ≡ set next x old.first → others ≡ set heads head new → new.first ≡ x → new.len ≡ old.len + 1 → new.last ≡ get_or (x ∷ list_of l head) (length (list_of l head)) 0 → AreKept (with_list l head (x ∷ list_of l head)) rest others
 front_kept l next rest heads others head x old new kept there below free is rest_is others_is first_is len_is last_is = record {
   linked = subst (λ o. AreLinked rest o (set l.lists head (x ∷ list_of l head))) (sym others_is) (fronted next rest heads l.lists head x old new kept.linked there (omega (arith, kept.numbers)) free is rest_is first_is len_is last_is);
   numbers = ap length rest_is ∙ length-set next x old.first ∙ kept.numbers;
@@ -133,14 +133,14 @@ long_is l next heads head old kept there is = ap (λ h. h.len) is ∙ (kept.link
 mine_is : (l : Lists) (next : List ℕ) (heads : List Head) (head : ℕ) (old : Head) → AreKept l next heads → head < length l.lists → old ≡ get_or heads head no_head → IsLinked next old (list_of l head)
 mine_is l next heads head old kept there is = subst (λ h. IsLinked next h (list_of l head)) (sym is) (kept.linked.linked head there)
 
-pub pushed_front_first : (l : Lists) (next rest : List ℕ) (heads others : List Head) (head x : ℕ) (old new : Head) → AreKept l next heads → head < length l.lists → x < l.numbers → times_in x l.lists ≡ 0 → old ≡ get_or heads head no_head → old.len ≡ 0 → new ≡ record { first = x; last = x; len = 1 } → rest ≡ set next x old.first → others ≡ set heads head new → AreKept (with_list l head (x ∷ list_of l head)) rest others
+pub pushed_front_first : (l : Lists) (next rest : List ℕ) (heads others : List Head) (head x : ℕ) (old new : Head) → AreKept l next heads → head < length l.lists → x < l.numbers → times_in_lists x l.lists ≡ 0 → old ≡ get_or heads head no_head → old.len ≡ 0 → new ≡ record { first = x; last = x; len = 1 } → rest ≡ set next x old.first → others ≡ set heads head new → AreKept (with_list l head (x ∷ list_of l head)) rest others
 pushed_front_first l next rest heads others head x old new kept there below free is none made rest_is others_is =
     let long : length (list_of l head) ≡ 0 = sym (long_is l next heads head old kept there is) ∙ none in
     let at : get_or (x ∷ list_of l head) (length (list_of l head)) 0 ≡ x = ap (λ k. get_or (x ∷ list_of l head) k 0) long in
     front_kept l next rest heads others head x old new kept there below free is rest_is others_is
     (ap (λ h. h.first) made) (ap (λ h. h.len) made ∙ omega arith) (ap (λ h. h.last) made ∙ sym at)
 
-pub pushed_front : (l : Lists) (next rest : List ℕ) (heads others : List Head) (head x : ℕ) (old new : Head) → AreKept l next heads → head < length l.lists → x < l.numbers → times_in x l.lists ≡ 0 → old ≡ get_or heads head no_head → old.len ≢ 0 → new ≡ record { first = x; last = old.last; len = old.len + 1 } → rest ≡ set next x old.first → others ≡ set heads head new → AreKept (with_list l head (x ∷ list_of l head)) rest others
+pub pushed_front : (l : Lists) (next rest : List ℕ) (heads others : List Head) (head x : ℕ) (old new : Head) → AreKept l next heads → head < length l.lists → x < l.numbers → times_in_lists x l.lists ≡ 0 → old ≡ get_or heads head no_head → old.len ≢ 0 → new ≡ record { first = x; last = old.last; len = old.len + 1 } → rest ≡ set next x old.first → others ≡ set heads head new → AreKept (with_list l head (x ∷ list_of l head)) rest others
 pushed_front l next rest heads others head x old new kept there below free is some made rest_is others_is =
     let list : List ℕ = list_of l head in
     let mine : IsLinked next old list = mine_is l next heads head old kept there is in
@@ -199,7 +199,7 @@ popped l next heads others head old new kept there is some made others_is =
       path = subst (λ s. IsPath next s rest (length next)) (sym (ap (λ h. h.first) made)) path.0;
       last = λ more. ap (λ h. h.last) made ∙ mine.last long ∙ last_of_rest list more;
     } in
-    let count : (z : ℕ) → times_in z (set l.lists head rest) ≤ times_in z l.lists = λ z. omega (arith, times_in_set z l.lists head rest there, times_rest z list) in
+    let count : (z : ℕ) → times_in_lists z (set l.lists head rest) ≤ times_in_lists z l.lists = λ z. omega (arith, times_in_set z l.lists head rest there, times_rest z list) in
     record {
       linked = subst (λ o. AreLinked next o (set l.lists head rest)) (sym others_is) (changed next next heads l.lists head new rest kept.linked refl there one (λ i within other. kept.linked.linked i within) (λ z. omega (arith, count z, kept.linked.disjoint.once z)) (λ z has. kept.linked.disjoint.below z (omega (arith, count z))));
       numbers = kept.numbers;
@@ -224,7 +224,7 @@ popped_none l next heads head old kept there is none =
 
 emptied : (next : List ℕ) (heads : List Head) (lists : List (List ℕ)) (from : ℕ) (empty : Head) → AreLinked next heads lists → from < length lists → empty ≡ record { first = length next; last = length next; len = 0 } → AreLinked next (set heads from empty) (set lists from [])
 emptied next heads lists from empty linked there is =
-    let count : (z : ℕ) → times_in z (set lists from []) + times z (get_or lists from []) ≡ times_in z lists + times z [] = λ z. times_in_set z lists from [] there in
+    let count : (z : ℕ) → times_in_lists z (set lists from []) + times z (get_or lists from []) ≡ times_in_lists z lists + times z [] = λ z. times_in_set z lists from [] there in
     let one : IsLinked next empty [] = record { as_long = ap (λ h. h.len) is; path = ap (λ h. h.first) is; last = λ some. absurd (omega arith) } in
     changed next next heads lists from empty [] linked refl there one (λ i within other. linked.linked i within) (λ z. omega (arith, count z, linked.disjoint.once z)) (λ z has. linked.disjoint.below z (omega (arith, count z)))
 
@@ -240,9 +240,9 @@ spliced_none l next heads head from more kept there is none =
     let second : l ≡ with_list l head (list_of l head ++ list_of l from) = same_list l head (list_of l head ++ list_of l from) whole in
     second ∙ ap (λ (m : Lists). with_list m head (list_of l head ++ list_of l from)) first
 
-once_apart : (n : ℕ) (lists : List (List ℕ)) (from x : ℕ) → AreDisjoint (record { numbers = n; lists = lists }) → from < length lists → times_in x (set lists from []) + times x (get_or lists from []) ≤ 1
+once_apart : (n : ℕ) (lists : List (List ℕ)) (from x : ℕ) → AreDisjoint (record { numbers = n; lists = lists }) → from < length lists → times_in_lists x (set lists from []) + times x (get_or lists from []) ≤ 1
 once_apart n lists from x disjoint there =
-    let least : times_in x lists ≤ 1 = disjoint.once x in
+    let least : times_in_lists x lists ≤ 1 = disjoint.once x in
     omega (arith, times_in_set x lists from [] there)
 
 pub spliced_first : (l : Lists) (next : List ℕ) (heads without others : List Head) (head from : ℕ) (old more empty : Head) → AreKept l next heads → head < length l.lists → from < length l.lists → head ≢ from → old ≡ get_or heads head no_head → old.len ≡ 0 → more ≡ get_or heads from no_head → empty ≡ record { first = length next; last = length next; len = 0 } → without ≡ set heads from empty → others ≡ set without head more → AreKept (spliced l head from) next others
@@ -358,7 +358,7 @@ walk_below l next heads head x k kept there path within =
 
 -- ── At the start ──
 
-none_in_empty : (x heads : ℕ) → times_in x (replicate heads []) ≡ 0
+none_in_empty : (x heads : ℕ) → times_in_lists x (replicate heads []) ≡ 0
 none_in_empty x zero = refl
 none_in_empty x (suc heads) = omega (arith, sum_by-cons {X = List ℕ} (times x) [] (replicate heads []), none_in_empty x heads)
 

@@ -3,8 +3,8 @@ use Rattle.std.proofs.Common.{◌≡◌, ◌≢◌, ℕ, ◌+◌, ◌-◌, ◌<�
 use Rattle.std.proofs.lemmas.Bool.{cases_eq}
 use Rattle.std.proofs.lemmas.List.{length-set, length-append, length-map, get_or-map, get_or-set_same, get_or-set_other, get_or-append-add, ext_get_or}
 use Rattle.sg_links.specs.declared.head.Head.{Head}
-use Rattle.sg_links.specs.Lists.{Lists, times, times_in, AreDisjoint}
-use Rattle.sg_links.specs.steps.Rows.{IsPath, walk, lists_of, IsLinked, AreLinked, AreInOrder, no_head}
+use Rattle.sg_links.specs.Lists.{Lists, times, times_in_lists, AreDisjoint}
+use Rattle.sg_links.specs.steps.Rows.{IsPath, numbers_along, lists_of, IsLinked, AreLinked, AreInOrder, no_head}
 use Rattle.sg_links.proofs.Times.{times-append, times_same, times_in_set, times_at, times_two}
 use Rattle.sg_links.proofs.Paths.{path_set, path_join, walk_path, split_last}
 
@@ -18,14 +18,14 @@ pub record AreKept (l : Lists) (next : List ℕ) (heads : List Head) : Type 0 wh
 
 walked : (next : List ℕ) (heads : List Head) (lists : List (List ℕ)) → AreLinked next heads lists → lists_of next heads ≡ lists
 walked next heads lists linked =
-    let view : Head → List ℕ = λ h. walk next h.first h.len in
+    let view : Head → List ℕ = λ h. numbers_along next h.first h.len in
     let many : length (lists_of next heads) ≡ length lists = length-map heads view ∙ linked.as_many in
     ext_get_or [] (lists_of next heads) lists many (λ i below.
     let there : i < length lists = omega arith in
     let one = linked.linked i there in
     let h : Head = get_or heads i no_head in
     let at : get_or (lists_of next heads) i [] ≡ view h = get_or-map view heads i no_head [] (omega (arith, linked.as_many)) in
-    at ∙ ap (walk next h.first) one.as_long ∙ walk_path next h.first (get_or lists i []) (length next) one.path)
+    at ∙ ap (numbers_along next h.first) one.as_long ∙ walk_path next h.first (get_or lists i []) (length next) one.path)
 
 -- so they are what contracts see
 pub kept_seen : (l : Lists) (next : List ℕ) (heads : List Head) → AreKept l next heads → record { numbers = length next; lists = lists_of next heads } ≡ l
@@ -59,7 +59,7 @@ linked_set next h xs y v one none = record {
 }
 
 -- one list changes, and the others stay
-pub changed : (next rest : List ℕ) (heads : List Head) (lists : List (List ℕ)) (head : ℕ) (h : Head) (list : List ℕ) → AreLinked next heads lists → length rest ≡ length next → head < length lists → IsLinked rest h list → ((i : ℕ) → i < length lists → i ≢ head → IsLinked rest (get_or heads i no_head) (get_or lists i [])) → ((x : ℕ) → times_in x (set lists head list) ≤ 1) → ((x : ℕ) → 0 < times_in x (set lists head list) → x < length next) → AreLinked rest (set heads head h) (set lists head list)
+pub changed : (next rest : List ℕ) (heads : List Head) (lists : List (List ℕ)) (head : ℕ) (h : Head) (list : List ℕ) → AreLinked next heads lists → length rest ≡ length next → head < length lists → IsLinked rest h list → ((i : ℕ) → i < length lists → i ≢ head → IsLinked rest (get_or heads i no_head) (get_or lists i [])) → ((x : ℕ) → times_in_lists x (set lists head list) ≤ 1) → ((x : ℕ) → 0 < times_in_lists x (set lists head list) → x < length next) → AreLinked rest (set heads head h) (set lists head list)
 changed next rest heads lists head h list linked same there one others once below = record {
   as_many = omega (arith, length-set heads head h, length-set lists head list, linked.as_many);
   linked = λ i within. elim (cases_eq i head) [
@@ -79,7 +79,7 @@ changed next rest heads lists head h list linked same there one others once belo
 }
 
 -- what comes behind a number of no list changes
-pub untouched : (next : List ℕ) (heads : List Head) (lists : List (List ℕ)) (y v : ℕ) → AreLinked next heads lists → times_in y lists ≡ 0 → AreLinked (set next y v) heads lists
+pub untouched : (next : List ℕ) (heads : List Head) (lists : List (List ℕ)) (y v : ℕ) → AreLinked next heads lists → times_in_lists y lists ≡ 0 → AreLinked (set next y v) heads lists
 untouched next heads lists y v linked free = record {
   as_many = linked.as_many;
   linked = λ i within. linked_set next (get_or heads i no_head) (get_or lists i []) y v (linked.linked i within) (omega (arith, times_at y lists i within));
@@ -97,14 +97,14 @@ last_once n lists head y disjoint there some is =
     let counted : times y list ≡ times y (front ++ y ∷ []) = ap (times y) split in
     let apart : times y (front ++ y ∷ []) ≡ times y front + times y (y ∷ []) = times-append y front (y ∷ []) in
     let one : times y (y ∷ []) ≡ 1 + times y [] = times_same y [] in
-    let most : times y list ≤ times_in y lists = times_at y lists head there in
-    let least : times_in y lists ≤ 1 = disjoint.once y in
+    let most : times y list ≤ times_in_lists y lists = times_at y lists head there in
+    let least : times_in_lists y lists ≤ 1 = disjoint.once y in
     (omega arith, omega arith)
 
 -- what stands in one list stands in no other
 elsewhere : (n : ℕ) (lists : List (List ℕ)) (i head y : ℕ) → AreDisjoint (record { numbers = n; lists = lists }) → i < length lists → head < length lists → i ≢ head → times y (get_or lists head []) ≡ 1 → times y (get_or lists i []) ≡ 0
 elsewhere n lists i head y disjoint within there other one =
-    let least : times_in y lists ≤ 1 = disjoint.once y in
+    let least : times_in_lists y lists ≤ 1 = disjoint.once y in
     omega (arith, times_two y lists i head within there other)
 
 -- ── One list behind another ──
@@ -114,23 +114,23 @@ nothing [] ys none = refl
 nothing (z ∷ zs) ys none = absurd (omega arith)
 
 -- what stands in the lists or in further numbers is one of the numbers
-pub within_of : (next : List ℕ) (lists : List (List ℕ)) (x : ℕ) (ys : List ℕ) → AreDisjoint (record { numbers = length next; lists = lists }) → 0 < times_in x lists + times x ys → ((x : ℕ) → 0 < times x ys → x < length next) → x < length next
-within_of next lists x ys disjoint has below = elim (cases_eq (times_in x lists) 0) [
+pub within_of : (next : List ℕ) (lists : List (List ℕ)) (x : ℕ) (ys : List ℕ) → AreDisjoint (record { numbers = length next; lists = lists }) → 0 < times_in_lists x lists + times x ys → ((x : ℕ) → 0 < times x ys → x < length next) → x < length next
+within_of next lists x ys disjoint has below = elim (cases_eq (times_in_lists x lists) 0) [
   | inl none ↦ below x (omega arith)
   | inr some ↦ disjoint.below x (omega arith)
 ]
 
 -- more numbers, in no list, begin an empty list
-pub started : (next : List ℕ) (heads : List Head) (lists : List (List ℕ)) (head : ℕ) (more : Head) (ys : List ℕ) → AreLinked next heads lists → head < length lists → length (get_or lists head []) ≡ 0 → IsLinked next more ys → ((x : ℕ) → times_in x lists + times x ys ≤ 1) → ((x : ℕ) → 0 < times x ys → x < length next) → AreLinked next (set heads head more) (set lists head (get_or lists head [] ++ ys))
+pub started : (next : List ℕ) (heads : List Head) (lists : List (List ℕ)) (head : ℕ) (more : Head) (ys : List ℕ) → AreLinked next heads lists → head < length lists → length (get_or lists head []) ≡ 0 → IsLinked next more ys → ((x : ℕ) → times_in_lists x lists + times x ys ≤ 1) → ((x : ℕ) → 0 < times x ys → x < length next) → AreLinked next (set heads head more) (set lists head (get_or lists head [] ++ ys))
 started next heads lists head more ys linked there none one once below =
     let list : List ℕ = get_or lists head [] in
     let alone : list ++ ys ≡ ys = nothing list ys none in
-    let count : (x : ℕ) → times_in x (set lists head ys) + times x list ≡ times_in x lists + times x ys = λ x. times_in_set x lists head ys there in
+    let count : (x : ℕ) → times_in_lists x (set lists head ys) + times x list ≡ times_in_lists x lists + times x ys = λ x. times_in_set x lists head ys there in
     subst (λ xs. AreLinked next (set heads head more) (set lists head xs)) (sym alone)
     (changed next next heads lists head more ys linked refl there one (λ i within other. linked.linked i within) (λ x. omega (arith, count x, once x)) (λ x has. within_of next lists x ys linked.disjoint (omega (arith, count x)) below))
 
 -- more numbers, in no list, go behind the last of a list
-pub joined : (next : List ℕ) (heads : List Head) (lists : List (List ℕ)) (head : ℕ) (old more both : Head) (ys : List ℕ) → AreLinked next heads lists → head < length lists → old ≡ get_or heads head no_head → 0 < length (get_or lists head []) → IsLinked next more ys → 0 < length ys → ((x : ℕ) → times_in x lists + times x ys ≤ 1) → ((x : ℕ) → 0 < times x ys → x < length next) → both ≡ record { first = old.first; last = more.last; len = old.len + more.len } → AreLinked (set next old.last more.first) (set heads head both) (set lists head (get_or lists head [] ++ ys))
+pub joined : (next : List ℕ) (heads : List Head) (lists : List (List ℕ)) (head : ℕ) (old more both : Head) (ys : List ℕ) → AreLinked next heads lists → head < length lists → old ≡ get_or heads head no_head → 0 < length (get_or lists head []) → IsLinked next more ys → 0 < length ys → ((x : ℕ) → times_in_lists x lists + times x ys ≤ 1) → ((x : ℕ) → 0 < times x ys → x < length next) → both ≡ record { first = old.first; last = more.last; len = old.len + more.len } → AreLinked (set next old.last more.first) (set heads head both) (set lists head (get_or lists head [] ++ ys))
 joined next heads lists head old more both ys linked there is some one many once below made =
     let list : List ℕ = get_or lists head [] in
     let mine : IsLinked next old list = subst (λ h. IsLinked next h list) (sym is) (linked.linked head there) in
@@ -147,7 +147,7 @@ joined next heads lists head old more both ys linked there is some one many once
     let path : IsPath next old.first (front ++ y ∷ []) (length next) = subst (λ xs. IsPath next old.first xs (length next)) split mine.path in
     let whole : IsPath rest old.first (front ++ y ∷ ys) (length next) = path_join next old.first front y (length next) more.first ys (length next) path counted.0 here further in
     let list_is : front ++ y ∷ ys ≡ list ++ ys = sym (append_assoc front (y ∷ []) ys) ∙ ap (λ xs. xs ++ ys) (sym split) in
-    let count : (x : ℕ) → times_in x (set lists head (list ++ ys)) ≡ times_in x lists + times x ys = λ x. omega (arith, times_in_set x lists head (list ++ ys) there, times-append x list ys) in
+    let count : (x : ℕ) → times_in_lists x (set lists head (list ++ ys)) ≡ times_in_lists x lists + times x ys = λ x. omega (arith, times_in_set x lists head (list ++ ys) there, times-append x list ys) in
     let end_is : get_or (list ++ ys) (length (list ++ ys) - 1) 0 ≡ get_or ys (length ys - 1) 0 =
     ap (λ k. get_or (list ++ ys) k 0) (omega (arith, length-append list ys)) ∙ get_or-append-add list ys (length ys - 1) 0 in
     let long : both.len ≡ length (list ++ ys) = ap (λ h. h.len) made ∙ omega (arith, length-append list ys, mine.as_long, one.as_long) in

@@ -2,7 +2,7 @@
 use Rattle.std.proofs.Common.{◌≡◌, ℕ, zero, suc, ◌+◌, ◌-◌, ◌<◌, List, [], ◌∷◌, ◌++◌, length, set, get_or, take, drop, refl, sym, ap, ◌∙◌, subst, arith}
 use Rattle.std.proofs.lemmas.List.{get_or-set_same, get_or-set_other, take_more, take_all}
 use Rattle.sg_links.specs.Lists.{times}
-use Rattle.sg_links.specs.steps.Rows.{IsPath, walk}
+use Rattle.sg_links.specs.steps.Rows.{IsPath, numbers_along}
 use Rattle.sg_links.proofs.Times.{none_apart}
 
 -- a change of what comes behind a number that is not on the path
@@ -24,7 +24,7 @@ path_join next x (z ∷ zs) y end v ys end2 path none below more =
     (path.0, subst (λ s. IsPath (set next y v) s (zs ++ y ∷ ys) end2) (sym stays) (path_join next (get_or next x 0) zs y end v ys end2 path.1 other.1 below more))
 
 -- a walk finds the numbers of a path
-pub walk_path : (next : List ℕ) (x : ℕ) (xs : List ℕ) (end : ℕ) → IsPath next x xs end → walk next x (length xs) ≡ xs
+pub walk_path : (next : List ℕ) (x : ℕ) (xs : List ℕ) (end : ℕ) → IsPath next x xs end → numbers_along next x (length xs) ≡ xs
 walk_path next x [] end path = refl
 walk_path next x (y ∷ ys) end path =
     ap (λ rest. x ∷ rest) (walk_path next (get_or next x 0) ys end path.1) ∙ ap (λ first. first ∷ ys) (sym path.0)

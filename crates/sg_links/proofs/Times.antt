@@ -5,7 +5,7 @@ use Rattle.std.proofs.lemmas.Bool.{cases_eq}
 use Rattle.std.proofs.lemmas.Bool.Decides.{eqb_tells}
 use Rattle.std.proofs.lemmas.List.{length-set, get_or-set_other}
 use Rattle.std.proofs.lemmas.List.Sums.{sum_by-cons, sum_by-append, sum_by-set, get_or-le-sum_by}
-use Rattle.sg_links.specs.Lists.{times, times_in}
+use Rattle.sg_links.specs.Lists.{times, times_in_lists}
 
 abbrev pub one_if : Bool → ℕ
 one_if b = cond b 1 0
@@ -35,18 +35,18 @@ none_apart x y ys none = elim (cases_eq y x) [
   | inr other ↦ (other, sym (times_other x y ys other) ∙ none)
 ]
 
-pub times_in_set : (x : ℕ) (lists : List (List ℕ)) (i : ℕ) (list : List ℕ) → i < length lists → times_in x (set lists i list) + times x (get_or lists i []) ≡ times_in x lists + times x list
+pub times_in_set : (x : ℕ) (lists : List (List ℕ)) (i : ℕ) (list : List ℕ) → i < length lists → times_in_lists x (set lists i list) + times x (get_or lists i []) ≡ times_in_lists x lists + times x list
 times_in_set x lists i list below = sum_by-set (times x) lists i list [] below
 
-pub times_at : (x : ℕ) (lists : List (List ℕ)) (i : ℕ) → i < length lists → times x (get_or lists i []) ≤ times_in x lists
+pub times_at : (x : ℕ) (lists : List (List ℕ)) (i : ℕ) → i < length lists → times x (get_or lists i []) ≤ times_in_lists x lists
 times_at x lists i below = get_or-le-sum_by (times x) lists i [] below
 
 -- two lists have a number together at most as often as all lists
-pub times_two : (x : ℕ) (lists : List (List ℕ)) (i j : ℕ) → i < length lists → j < length lists → i ≢ j → times x (get_or lists i []) + times x (get_or lists j []) ≤ times_in x lists
+pub times_two : (x : ℕ) (lists : List (List ℕ)) (i j : ℕ) → i < length lists → j < length lists → i ≢ j → times x (get_or lists i []) + times x (get_or lists j []) ≤ times_in_lists x lists
 times_two x lists i j there here apart =
     let without : List (List ℕ) = set lists j [] in
     let stays : get_or without i [] ≡ get_or lists i [] = get_or-set_other lists j i [] [] apart in
-    let within : times x (get_or without i []) ≤ times_in x without = times_at x without i (omega (arith, length-set lists j [])) in
+    let within : times x (get_or without i []) ≤ times_in_lists x without = times_at x without i (omega (arith, length-set lists j [])) in
     let same : times x (get_or without i []) ≡ times x (get_or lists i []) = ap (times x) stays in
     omega (arith, times_in_set x lists j [] here)
 
@@ -103,11 +103,11 @@ pub short : (n : ℕ) (xs : List ℕ) → ((x : ℕ) → times x xs ≤ 1) → (
 short n xs once below = omega (arith, length_is_sum n xs below, sums_least (λ x. times x xs) n once)
 
 -- all lists together have as many numbers as each stands in them
-pub total_is_sum : (n : ℕ) (lists : List (List ℕ)) → ((x : ℕ) → 0 < times_in x lists → x < n) → sum_by length lists ≡ sums (λ x. times_in x lists) n
+pub total_is_sum : (n : ℕ) (lists : List (List ℕ)) → ((x : ℕ) → 0 < times_in_lists x lists → x < n) → sum_by length lists ≡ sums (λ x. times_in_lists x lists) n
 total_is_sum n [] below = sym (sums_zero n)
 total_is_sum n (list ∷ lists) below =
-    let cons : (x : ℕ) → times_in x (list ∷ lists) ≡ times x list + times_in x lists = λ x. sum_by-cons (times x) list lists in
+    let cons : (x : ℕ) → times_in_lists x (list ∷ lists) ≡ times x list + times_in_lists x lists = λ x. sum_by-cons (times x) list lists in
     let first : length list ≡ sums (λ x. times x list) n = length_is_sum n list (λ x has. below x (omega (arith, cons x))) in
-    let rest : sum_by length lists ≡ sums (λ x. times_in x lists) n = total_is_sum n lists (λ x has. below x (omega (arith, cons x))) in
-    let split : sums (λ x. times_in x (list ∷ lists)) n ≡ sums (λ x. times x list + times_in x lists) n = sums_same (λ x. times_in x (list ∷ lists)) (λ x. times x list + times_in x lists) n cons in
-    omega (arith, sum_by-cons {X = List ℕ} length list lists, split, sums_plus (λ x. times x list) (λ x. times_in x lists) n)
+    let rest : sum_by length lists ≡ sums (λ x. times_in_lists x lists) n = total_is_sum n lists (λ x has. below x (omega (arith, cons x))) in
+    let split : sums (λ x. times_in_lists x (list ∷ lists)) n ≡ sums (λ x. times x list + times_in_lists x lists) n = sums_same (λ x. times_in_lists x (list ∷ lists)) (λ x. times x list + times_in_lists x lists) n cons in
+    omega (arith, sum_by-cons {X = List ℕ} length list lists, split, sums_plus (λ x. times x list) (λ x. times_in_lists x lists) n)

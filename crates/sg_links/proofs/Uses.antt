@@ -3,7 +3,7 @@ use Rattle.std.proofs.Common.{◌≡◌, ℕ, zero, suc, ◌+◌, ◌<◌, ◌�
 use Rattle.std.specs.Prelude.{Some, None, slice_get, sum_by}
 use Rattle.std.proofs.lemmas.Bool.{cases_eq, cases_lt}
 use Rattle.std.proofs.lemmas.List.{get_or_past}
-use Rattle.sg_links.specs.Lists.{Lists, list_of, times, times_in, AreDisjoint}
+use Rattle.sg_links.specs.Lists.{Lists, list_of, times, times_in_lists, AreDisjoint}
 use Rattle.sg_links.proofs.Times.{times-cons, times_same, times_at, times_two, total_is_sum, sums, sums_least}
 use Rattle.sg_links.proofs.Changes.{stands}
 pub use Rattle.sg_links.proofs.Times.{times-cons, times-append, times_same, times_other, times_in_set, times_at, times_two, sums, sums_least, sums_all, sums_same, sums_plus, total_is_sum, one_if}
@@ -38,11 +38,11 @@ stands_at_one_place l disjoint x head place other there at also =
     let first : head < length l.lists = there_is_list l x head place at in
     let second : other < length l.lists = there_is_list l x other there also in
     let here : 0 < times x (list_of l head) = stands (list_of l head) place x at in
-    let once : times_in x l.lists ≤ 1 = disjoint.once x in
+    let once : times_in_lists x l.lists ≤ 1 = disjoint.once x in
     elim (cases_eq head other) [
       | inl same ↦ (same, one_place x (list_of l head) place there (omega (arith, times_at x l.lists head first)) at (subst (λ i. slice_get (list_of l i) there ≡ Some x) (sym same) also))
       | inr apart ↦ absurd (omega (arith, times_two x l.lists head other first second apart, stands (list_of l other) there x also))
     ]
 
 pub fit_numbers : (l : Lists) → AreDisjoint l → sum_by length l.lists ≤ l.numbers
-fit_numbers l disjoint = omega (arith, total_is_sum l.numbers l.lists disjoint.below, sums_least (λ x. times_in x l.lists) l.numbers disjoint.once)
+fit_numbers l disjoint = omega (arith, total_is_sum l.numbers l.lists disjoint.below, sums_least (λ x. times_in_lists x l.lists) l.numbers disjoint.once)

@@ -11,8 +11,8 @@ abbrev pub times : ℕ → List ℕ → ℕ
 times x list = count_by (λ y. y == x) list
 
 -- how often it stands in all lists together
-abbrev pub times_in : ℕ → List (List ℕ) → ℕ
-times_in x lists = sum_by (λ list. times x list) lists
+abbrev pub times_in_lists : ℕ → List (List ℕ) → ℕ
+times_in_lists x lists = sum_by (λ list. times x list) lists
 
 -- the list of a head, the heads being numbered from 0
 abbrev pub list_of : Lists → ℕ → List ℕ
@@ -28,5 +28,5 @@ empty_lists numbers heads = record { numbers = numbers; lists = replicate heads 
 
 -- each number stands in one list at most, and there once, and what stands in a list is one of the numbers
 pub record AreDisjoint (l : Lists) : Type 0 where
-  pub once : (x : ℕ) → times_in x l.lists ≤ 1
-  pub below : (x : ℕ) → 0 < times_in x l.lists → x < l.numbers
+  pub once : (x : ℕ) → times_in_lists x l.lists ≤ 1
+  pub below : (x : ℕ) → 0 < times_in_lists x l.lists → x < l.numbers

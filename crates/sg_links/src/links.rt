@@ -1,5 +1,5 @@
 ghost use Rattle.std.specs.Prelude.{◌≡◌, ◌≢◌, ℕ, ◌+◌, ◌<◌, [], ◌∷◌, ◌++◌, length, drop, slice_get, IfOk};
-ghost use Rattle.sg_links.specs.Lists.{Lists, empty_lists, list_of, with_list, times_in, AreDisjoint};
+ghost use Rattle.sg_links.specs.Lists.{Lists, empty_lists, list_of, with_list, times_in_lists, AreDisjoint};
 
 use crate::LinkMemory;
 use crate::head::Head;
@@ -67,7 +67,7 @@ impl Links {
     pub fn push_front(&mut self, head: u32, number: u32)
         requires there { head < length self.old.lists }
         requires below { number < self.old.numbers }
-        requires free { times_in number self.old.lists ≡ 0 }
+        requires free { times_in_lists number self.old.lists ≡ 0 }
         ensures { self.new ≡ with_list self.old head (number ∷ list_of self.old head) }
     {
         let old = self.heads.as_slice()[head as usize];
@@ -89,7 +89,7 @@ impl Links {
     pub fn push_back(&mut self, head: u32, number: u32)
         requires there { head < length self.old.lists }
         requires below { number < self.old.numbers }
-        requires free { times_in number self.old.lists ≡ 0 }
+        requires free { times_in_lists number self.old.lists ≡ 0 }
         ensures { self.new ≡ with_list self.old head (list_of self.old head ++ number ∷ []) }
     {
         let old = self.heads.as_slice()[head as usize];
@@ -221,7 +221,7 @@ impl Links {
 
     /// The number behind a number of some list. None where that is the last one.
     pub fn next(&self, number: u32) -> Option<u32>
-        requires { 0 < times_in number self.now.lists }
+        requires { 0 < times_in_lists number self.now.lists }
         ensures { (head place : ℕ) → slice_get (list_of self.now head) place ≡ Some number → result ≡ slice_get (list_of self.now head) (place + 1) }
     {
         let following = self.next.as_slice()[number as usize];

@@ -28,11 +28,11 @@ use Rattle.sg_ir.specs.Runs as ir
 use Rattle.sg_ir.specs.Runs.{Seen, Place, Access, CodeWrite, Moved, at_of, cell_value, own_value, named_by, runs}
 use Rattle.sg_ir.specs.Places.{place_at}
 use Rattle.sg_ir.specs.Named.{IsNamedAccess, AreNamed}
-use Rattle.sg_ir.specs.steps.Emits.{Computes, LeadsTo, Fetches}
+use Rattle.sg_ir.specs.steps.Emits.{Computes, LeadsToPlace, Fetches}
 use Rattle.sg_lower.specs.Lowered.{code_write}
 use Rattle.sg_lower.specs.steps.Basis.{Basis, is_owned}
-use Rattle.sg_lower.specs.steps.Fitting.{fits_owned, fits, is_own_index, read_expr}
-use Rattle.sg_lower.specs.steps.Agreeing.{inside_or_none, IsWorld, IsPoint, seen_of, Agrees, ShowsAll, Values, AllValues}
+use Rattle.sg_lower.specs.steps.Fitting.{fits_owned, can_be_lowered, is_own_index, typed_read}
+use Rattle.sg_lower.specs.steps.Agreeing.{inside_or_none, IsWorld, IsPoint, seen_of, AgreesWithIteration, ShowsAll, Values, AllValues}
 use Rattle.sg_lower.proofs.Fitted.{fits-Read}
 use Rattle.sg_lower.proofs.Simulating.{extends-trans, words_kept, agrees-kept, values-none, values-computed}
 use Rattle.sg_lower.proofs.OwnCells.{own_told, own_small, named_words}
@@ -75,19 +75,19 @@ module _ (basis : Basis) where
       let parts = and_parts (not basis.slicing) (is_own_index basis index) p in
       (not-true basis.slicing parts.0, parts.1)
 
-  pub own_coord : (world : World) (now : Moment) (moved : Moved) (at : Coord) (index : List TypedExpr) → IsPoint basis.vars at → Agrees basis at now moved → is_own_index basis index ≡ true
+  pub own_coord : (world : World) (now : Moment) (moved : Moved) (at : Coord) (index : List TypedExpr) → IsPoint basis.vars at → AgreesWithIteration basis at now moved → is_own_index basis index ≡ true
       → coord_of (map (expr_word world now) index) ≡ at
   own_coord world now moved at index point agrees named =
       ap coord_of (named_words basis world now basis.vars (part_words at) point.parts agrees.loop 0 index named) ∙ point.whole
 
   pub own_read_value : (given : Ty) (layout place : ℕ) (index : List TypedExpr) (to : ℕ) (old new : Names) (a z : List Inst) → is_owned basis.owned layout place ≡ true
       → ((shapes : List Shape) → Computes shapes (λ seen now. own_value seen layout place now) to old new a z)
-      → fits basis (read_expr given layout place index) ≡ true → Values basis (read_expr given layout place index) to old new a z
+      → can_be_lowered basis (typed_read given layout place index) ≡ true → Values basis (typed_read given layout place index) to old new a z
   own_read_value given layout place index to old new a z owned computes h =
-      let parts = and_parts (equals_some (axes_in basis.shapes layout) (length index)) (fits_owned basis layout place (is_own_index basis index) && list_all (fits basis) index) (sym (fits-Read basis given layout place index) ∙ h) in
-      let more = and_parts (fits_owned basis layout place (is_own_index basis index)) (list_all (fits basis) index) parts.1 in
+      let parts = and_parts (equals_some (axes_in basis.shapes layout) (length index)) (fits_owned basis layout place (is_own_index basis index) && list_all (can_be_lowered basis) index) (sym (fits-Read basis given layout place index) ∙ h) in
+      let more = and_parts (fits_owned basis layout place (is_own_index basis index)) (list_all (can_be_lowered basis) index) parts.1 in
       let keeps = owned_named layout place index owned more.0 in
-      values-computed basis [] [] (read_expr given layout place index) to old old new a a z (λ seen now. own_value seen layout place now) (values-none basis old a) (computes basis.shapes)
+      values-computed basis [] [] (typed_read given layout place index) to old old new a a z (λ seen now. own_value seen layout place now) (values-none basis old a) (computes basis.shapes)
       (λ world is at point now moved shows.
       let agrees = shows.agrees in
       let value = value-Read world now given layout place index in
@@ -96,7 +96,7 @@ module _ (basis : Basis) where
       let cell = flat.value_of world.shapes world.state layout place at in
       let same : own_value (seen_of world at) layout place moved ≡ value_or_own (own_write layout place now.writes) cell =
       ap (λ (writes : List CodeWrite). ir.value_or_own (ir.own_write layout place writes) cell) told ∙ own_told basis.shapes layout place now.writes cell in
-      let is_word : value_or_own (own_write layout place now.writes) cell ≡ expr_word world now (read_expr given layout place index) =
+      let is_word : value_or_own (own_write layout place now.writes) cell ≡ expr_word world now (typed_read given layout place index) =
       ap (λ (c : Coord). value_or_own (own_write layout place now.writes) (flat.value_of world.shapes world.state layout place c)) (sym here) ∙ sym value in
       (same ∙ is_word, subst IsWord is_word (own_small layout place now.writes cell (agrees.small_writes keeps.0) (is.small layout place at))))
 
@@ -106,8 +106,8 @@ module _ (basis : Basis) where
     pub place : moved.places p ≡ place_at basis.shapes layout (coord_of words)
 
   pub placed : (exprs : List TypedExpr) (regs : List ℕ) (layout p : ℕ) (old mid new : Names) (a b c : List Inst) → AllValues basis exprs regs old mid a b
-      → LeadsTo basis.shapes regs (λ seen now. place_at basis.shapes layout (named_by regs now)) p mid new b c
-      → (world : World) → IsWorld basis.shapes world → (at : Coord) → IsPoint basis.vars at → (now : Moment) (start : Moved) → Agrees basis at now (runs (seen_of world at) a start)
+      → LeadsToPlace basis.shapes regs (λ seen now. place_at basis.shapes layout (named_by regs now)) p mid new b c
+      → (world : World) → IsWorld basis.shapes world → (at : Coord) → IsPoint basis.vars at → (now : Moment) (start : Moved) → AgreesWithIteration basis at now (runs (seen_of world at) a start)
       → Placed at now (runs (seen_of world at) c start) regs (map (expr_word world now) exprs) layout p
   placed exprs regs layout p old mid new a b c all leads world is at point now start agrees =
       let seen = seen_of world at in
@@ -130,13 +130,13 @@ module _ (basis : Basis) where
   access_named at now moved regs words layout p it = it.place ∙ ap (λ (words : List ℕ). place_at basis.shapes layout (coord_of words)) (sym it.shows.hold)
 
   pub read_value : (given : Ty) (layout place : ℕ) (index : List TypedExpr) (regs : List ℕ) (p to : ℕ) (old m n new : Names) (a b c z : List Inst) → is_owned basis.owned layout place ≡ false
-      → (list_all (fits basis) index ≡ true → AllValues basis index regs old m a b)
-      → length regs ≡ length index → (equals_some (axes_in basis.shapes layout) (length regs) ≡ true → LeadsTo basis.shapes regs (λ seen now. place_at basis.shapes layout (named_by regs now)) p m n b c)
+      → (list_all (can_be_lowered basis) index ≡ true → AllValues basis index regs old m a b)
+      → length regs ≡ length index → (equals_some (axes_in basis.shapes layout) (length regs) ≡ true → LeadsToPlace basis.shapes regs (λ seen now. place_at basis.shapes layout (named_by regs now)) p m n b c)
       → ((shapes : List Shape) → Fetches shapes (λ seen now. cell_value seen layout place (at_of seen.shapes (now.places p))) (λ now. record { layout = layout; place = now.places p; at = named_by regs now }) to n new c z)
-      → fits basis (read_expr given layout place index) ≡ true → Values basis (read_expr given layout place index) to old new a z
+      → can_be_lowered basis (typed_read given layout place index) ≡ true → Values basis (typed_read given layout place index) to old new a z
   read_value given layout place index regs p to old m n new a b c z unowned has count to_place fetches h =
-      let parts = and_parts (equals_some (axes_in basis.shapes layout) (length index)) (fits_owned basis layout place (is_own_index basis index) && list_all (fits basis) index) (sym (fits-Read basis given layout place index) ∙ h) in
-      let more = and_parts (fits_owned basis layout place (is_own_index basis index)) (list_all (fits basis) index) parts.1 in
+      let parts = and_parts (equals_some (axes_in basis.shapes layout) (length index)) (fits_owned basis layout place (is_own_index basis index) && list_all (can_be_lowered basis) index) (sym (fits-Read basis given layout place index) ∙ h) in
+      let more = and_parts (fits_owned basis layout place (is_own_index basis index)) (list_all (can_be_lowered basis) index) parts.1 in
       let all = has more.1 in
       let leads = to_place (ap (equals_some (axes_in basis.shapes layout)) count ∙ parts.0) in
       let fetched = fetches basis.shapes in
@@ -155,7 +155,7 @@ module _ (basis : Basis) where
             ap (λ (found : Option Place). cell_value seen layout place (at_of seen.shapes found)) (it.place ∙ ap (λ (shapes : List Shape). place_at shapes layout (coord_of words)) (sym is.shapes_are))
             ∙ (ap (λ (found : Option Coord). cell_value seen layout place found) (is.reached layout (coord_of words))
             ∙ value_inside world.shapes world.state at layout place (coord_of words)) in
-            let is_word : flat.value_of world.shapes world.state layout place (coord_of words) ≡ expr_word world now (read_expr given layout place index) = sym none ∙ sym value in
+            let is_word : flat.value_of world.shapes world.state layout place (coord_of words) ≡ expr_word world now (typed_read given layout place index) = sym none ∙ sym value in
             record {
               agrees = agrees-kept basis at now (length n.regs) n.places reached (runs seen z start) (fetched.extends.keeps seen is.shapes_are start)
                   (subst (AreNamed basis.shapes) (sym (fetched.accessed seen is.shapes_are start)) (All-push (IsNamedAccess basis.shapes) reached.accesses (record { layout = layout; place = reached.places p; at = named_by regs reached }) it.shows.agrees.named (access_named at now reached regs words layout p it))) it.shows.agrees;
@@ -168,14 +168,14 @@ module _ (basis : Basis) where
 module _ (basis : Basis) (old new : Names) (a z : List Inst) where
   pub own_read_ok : (result : Result ℕ Memory) (given : Ty) (layout place : ℕ) (index : List TypedExpr) → is_owned basis.owned layout place ≡ true
       → IfOk result (λ to. (shapes : List Shape) → Computes shapes (λ seen now. own_value seen layout place now) to old new a z)
-      → IfOk result (λ to. fits basis (read_expr given layout place index) ≡ true → Values basis (read_expr given layout place index) to old new a z)
+      → IfOk result (λ to. can_be_lowered basis (typed_read given layout place index) ≡ true → Values basis (typed_read given layout place index) to old new a z)
   own_read_ok (Ok to) given layout place index owned computes = own_read_value basis given layout place index to old new a z owned computes
   own_read_ok (Err e) given layout place index owned computes = tt
 
   pub read_ok : (result : Result ℕ Memory) (given : Ty) (layout place : ℕ) (index : List TypedExpr) (regs : List ℕ) (p : ℕ) (m n : Names) (b c : List Inst) → is_owned basis.owned layout place ≡ false
-      → (list_all (fits basis) index ≡ true → AllValues basis index regs old m a b)
-      → length regs ≡ length index → (equals_some (axes_in basis.shapes layout) (length regs) ≡ true → LeadsTo basis.shapes regs (λ seen now. place_at basis.shapes layout (named_by regs now)) p m n b c)
+      → (list_all (can_be_lowered basis) index ≡ true → AllValues basis index regs old m a b)
+      → length regs ≡ length index → (equals_some (axes_in basis.shapes layout) (length regs) ≡ true → LeadsToPlace basis.shapes regs (λ seen now. place_at basis.shapes layout (named_by regs now)) p m n b c)
       → IfOk result (λ to. (shapes : List Shape) → Fetches shapes (λ seen now. cell_value seen layout place (at_of seen.shapes (now.places p))) (λ now. record { layout = layout; place = now.places p; at = named_by regs now }) to n new c z)
-      → IfOk result (λ to. fits basis (read_expr given layout place index) ≡ true → Values basis (read_expr given layout place index) to old new a z)
+      → IfOk result (λ to. can_be_lowered basis (typed_read given layout place index) ≡ true → Values basis (typed_read given layout place index) to old new a z)
   read_ok (Ok to) given layout place index regs p m n b c unowned has count leads fetches = read_value basis given layout place index regs p to old m n new a b c z unowned has count leads fetches
   read_ok (Err e) given layout place index regs p m n b c unowned has count leads fetches = tt

@@ -9,19 +9,19 @@ use Rattle.sg_types.specs.declared.typed.TypedExpr.{TypedExpr}
 use Rattle.sg_types.specs.declared.typed.Form.TheOpen.{TypedExpr-F}
 use Rattle.sg_types.specs.Expressions.{equals_some}
 use Rattle.sg_types.specs.TypeTable.{is_numeric, is_signed, bin_ty, un_ty, same_ty}
-use Rattle.sg_types.specs.WellTyped.{Setting, Judged, is_index, is_ty, field_in, axes_in, form_step, judged_expr, is_well_typed}
+use Rattle.sg_types.specs.WellTyped.{Surroundings, Judged, is_index, is_ty, field_in, axes_in, form_step, judged_expr, is_well_typed_expr}
 use Rattle.sg_types.proofs.Uses as folds
 use Rattle.sg_types.proofs.Uses.{by_exprs}
 use Rattle.sg_admit.specs.Clean.{Unclean, clean_step, is_clean}
-use Rattle.sg_admit.specs.Rules.{Seen, are_names, seen_step, reads_in, has_good_reads}
+use Rattle.sg_admit.specs.Rules.{SeenPart, are_names, seen_step, reads_in, has_good_reads}
 use Rattle.sg_lower.specs.steps.Basis.{Basis}
-use Rattle.sg_lower.specs.steps.Fitting.{Fitted, fits_owned, fit_step, fitted, fits, is_own_index}
+use Rattle.sg_lower.specs.steps.Fitting.{Fitted, fits_owned, fit_step, fitted, can_be_lowered, is_own_index}
 use Rattle.sg_lower.proofs.Fitted.{fits-Read, fits-Paren, fits-Un, fits-Bin, fits-Mulq, fits-Convert}
 
 abbrev pub its_fit : TypedExpr-F Fitted Fitted → Fitted
 its_fit expr = expr.form
 
-abbrev its_seen : TypedExpr-F Seen Seen → Seen
+abbrev its_seen : TypedExpr-F SeenPart SeenPart → SeenPart
 its_seen expr = expr.form
 
 abbrev pub its_clean : TypedExpr-F Bool Bool → Bool
@@ -30,36 +30,36 @@ its_clean expr = expr.form
 abbrev its_judged : TypedExpr-F (Ty → Bool) Judged → Judged
 its_judged expr = (expr.ty, expr.form expr.ty)
 
-abbrev name_in : Seen → Option ℕ
+abbrev name_in : SeenPart → Option ℕ
 name_in part = part.0
 
-abbrev good_in : Seen → Bool
+abbrev good_in : SeenPart → Bool
 good_in part = part.1
 
 abbrev well_in : Judged → Bool
 well_in part = part.1
 
-module _ (basis : Basis) (at : Setting) (shapes_are : at.shapes ≡ basis.shapes) (good : ℕ → ℕ → Bool → Bool)
+module _ (basis : Basis) (at : Surroundings) (shapes_are : at.shapes ≡ basis.shapes) (good : ℕ → ℕ → Bool → Bool)
     (owned : (layout place : ℕ) (named : Bool) → good layout place named ≡ true → fits_owned basis layout place named ≡ true) where
-  abbrev reads : TypedExpr → Seen
+  abbrev reads : TypedExpr → SeenPart
   reads = reads_in basis.vars good
 
   pub record Fit (expr : TypedExpr) : Type 0 where
     pub name : (reads expr).0 ≡ (fitted basis expr).0
-    pub fit : has_good_reads basis.vars good expr ≡ true → is_well_typed at expr ≡ true → fits basis expr ≡ true
+    pub fit : has_good_reads basis.vars good expr ≡ true → is_well_typed_expr at expr ≡ true → can_be_lowered basis expr ≡ true
 
   names_same : (index : List TypedExpr) → AllByRecursion Fit index → map name_in (map reads index) ≡ map (λ expr. (fitted basis expr).0) index
   names_same [] all = refl
   names_same (expr ∷ index) all =
       ap (λ (name : Option ℕ). name ∷ map name_in (map reads index)) all.0.name ∙ ap (λ (names : List (Option ℕ)). (fitted basis expr).0 ∷ names) (names_same index all.1)
 
-  parts_fit : (index : List TypedExpr) → AllByRecursion Fit index → list_all good_in (map reads index) ≡ true → list_all is_index (map (judged_expr at) index) ≡ true → list_all (fits basis) index ≡ true
+  parts_fit : (index : List TypedExpr) → AllByRecursion Fit index → list_all good_in (map reads index) ≡ true → list_all is_index (map (judged_expr at) index) ≡ true → list_all (can_be_lowered basis) index ≡ true
   parts_fit [] all g w = refl
   parts_fit (expr ∷ index) all g w =
       let gs = and_parts (reads expr).1 (list_all good_in (map reads index)) g in
       let ws = and_parts (is_index (judged_expr at expr)) (list_all is_index (map (judged_expr at) index)) w in
       let typed = and_parts (is_signed (judged_expr at expr).0) (judged_expr at expr).1 ws.0 in
-      and_from (fits basis expr) (list_all (fits basis) index) (all.0.fit gs.0 typed.1) (parts_fit index all.1 gs.1 ws.1)
+      and_from (can_be_lowered basis expr) (list_all (can_be_lowered basis) index) (all.0.fit gs.0 typed.1) (parts_fit index all.1 gs.1 ws.1)
 
   pub expr_fit : (expr : TypedExpr) → Fit expr
   expr_fit = by_exprs Fit
@@ -75,28 +75,28 @@ module _ (basis : Basis) (at : Setting) (shapes_are : at.shapes ≡ basis.shapes
             let axes = ap (λ (n : ℕ). equals_some (axes_in basis.shapes layout) n) (sym (length-map index (judged_expr at))) ∙ (ap (λ (shapes : List Shape). equals_some (axes_in shapes layout) (length (map (judged_expr at) index))) (sym shapes_are) ∙ us.0) in
             let named = owned layout place (is_own_index basis index) (ap (λ (names : List (Option ℕ)). good layout place (are_names basis.vars 0 names)) (sym (names_same index all)) ∙ gs.0) in
             fits-Read basis ty layout place index
-            ∙ and_from (equals_some (axes_in basis.shapes layout) (length index)) (fits_owned basis layout place (is_own_index basis index) && list_all (fits basis) index) axes
-            (and_from (fits_owned basis layout place (is_own_index basis index)) (list_all (fits basis) index) named (parts_fit index all gs.1 us.1));
+            ∙ and_from (equals_some (axes_in basis.shapes layout) (length index)) (fits_owned basis layout place (is_own_index basis index) && list_all (can_be_lowered basis) index) axes
+            (and_from (fits_owned basis layout place (is_own_index basis index)) (list_all (can_be_lowered basis) index) named (parts_fit index all gs.1 us.1));
       })
       (λ ty inner h. record {
         name = ap name_in (folds.fold-Paren (seen_step basis.vars good) its_seen ty inner) ∙ sym (ap name_in (folds.fold-Paren (fit_step basis) its_fit ty inner));
         fit = λ g w.
-            let ws = and_parts (same_ty (judged_expr at inner).0 ty) (is_well_typed at inner) (sym (ap well_in (folds.fold-Paren (form_step at) its_judged ty inner)) ∙ w) in
+            let ws = and_parts (same_ty (judged_expr at inner).0 ty) (is_well_typed_expr at inner) (sym (ap well_in (folds.fold-Paren (form_step at) its_judged ty inner)) ∙ w) in
             fits-Paren basis ty inner ∙ h.fit (sym (ap good_in (folds.fold-Paren (seen_step basis.vars good) its_seen ty inner)) ∙ g) ws.1;
       })
       (λ ty op operand h. record {
         name = ap name_in (folds.fold-Un (seen_step basis.vars good) its_seen ty op operand) ∙ sym (ap name_in (folds.fold-Un (fit_step basis) its_fit ty op operand));
         fit = λ g w.
-            let ws = and_parts (is_ty (un_ty op (judged_expr at operand).0) ty) (is_well_typed at operand) (sym (ap well_in (folds.fold-Un (form_step at) its_judged ty op operand)) ∙ w) in
+            let ws = and_parts (is_ty (un_ty op (judged_expr at operand).0) ty) (is_well_typed_expr at operand) (sym (ap well_in (folds.fold-Un (form_step at) its_judged ty op operand)) ∙ w) in
             fits-Un basis ty op operand ∙ h.fit (sym (ap good_in (folds.fold-Un (seen_step basis.vars good) its_seen ty op operand)) ∙ g) ws.1;
       })
       (λ ty op left right h k. record {
         name = ap name_in (folds.fold-Bin (seen_step basis.vars good) its_seen ty op left right) ∙ sym (ap name_in (folds.fold-Bin (fit_step basis) its_fit ty op left right));
         fit = λ g w.
             let gs = and_parts (reads left).1 (reads right).1 (sym (ap good_in (folds.fold-Bin (seen_step basis.vars good) its_seen ty op left right)) ∙ g) in
-            let ws = and_parts (is_ty (bin_ty op (judged_expr at left).0 (judged_expr at right).0) ty) (is_well_typed at left && is_well_typed at right) (sym (ap well_in (folds.fold-Bin (form_step at) its_judged ty op left right)) ∙ w) in
-            let us = and_parts (is_well_typed at left) (is_well_typed at right) ws.1 in
-            fits-Bin basis ty op left right ∙ and_from (fits basis left) (fits basis right) (h.fit gs.0 us.0) (k.fit gs.1 us.1);
+            let ws = and_parts (is_ty (bin_ty op (judged_expr at left).0 (judged_expr at right).0) ty) (is_well_typed_expr at left && is_well_typed_expr at right) (sym (ap well_in (folds.fold-Bin (form_step at) its_judged ty op left right)) ∙ w) in
+            let us = and_parts (is_well_typed_expr at left) (is_well_typed_expr at right) ws.1 in
+            fits-Bin basis ty op left right ∙ and_from (can_be_lowered basis left) (can_be_lowered basis right) (h.fit gs.0 us.0) (k.fit gs.1 us.1);
       })
       (λ ty a b shift h k l. record {
         name = ap name_in (folds.fold-Mulq (seen_step basis.vars good) its_seen ty a b shift) ∙ sym (ap name_in (folds.fold-Mulq (fit_step basis) its_fit ty a b shift));
@@ -106,18 +106,18 @@ module _ (basis : Basis) (at : Setting) (shapes_are : at.shapes ≡ basis.shapes
             let ws = and_parts (is_signed ty) (is_index (judged_expr at a) && (is_index (judged_expr at b) && is_index (judged_expr at shift))) (sym (ap well_in (folds.fold-Mulq (form_step at) its_judged ty a b shift)) ∙ w) in
             let us = and_parts (is_index (judged_expr at a)) (is_index (judged_expr at b) && is_index (judged_expr at shift)) ws.1 in
             let vs = and_parts (is_index (judged_expr at b)) (is_index (judged_expr at shift)) us.1 in
-            fits-Mulq basis ty a b shift ∙ and_from (fits basis a) (fits basis b && fits basis shift) (h.fit gs.0 (indexed a us.0)) (and_from (fits basis b) (fits basis shift) (k.fit gt.0 (indexed b vs.0)) (l.fit gt.1 (indexed shift vs.1)));
+            fits-Mulq basis ty a b shift ∙ and_from (can_be_lowered basis a) (can_be_lowered basis b && can_be_lowered basis shift) (h.fit gs.0 (indexed a us.0)) (and_from (can_be_lowered basis b) (can_be_lowered basis shift) (k.fit gt.0 (indexed b vs.0)) (l.fit gt.1 (indexed shift vs.1)));
       })
       (λ ty inner h. record {
         name = ap name_in (folds.fold-Convert (seen_step basis.vars good) its_seen ty inner) ∙ sym (ap name_in (folds.fold-Convert (fit_step basis) its_fit ty inner));
         fit = λ g w.
-            let ws = and_parts (is_numeric ty) (is_numeric (judged_expr at inner).0 && is_well_typed at inner) (sym (ap well_in (folds.fold-Convert (form_step at) its_judged ty inner)) ∙ w) in
-            let us = and_parts (is_numeric (judged_expr at inner).0) (is_well_typed at inner) ws.1 in
+            let ws = and_parts (is_numeric ty) (is_numeric (judged_expr at inner).0 && is_well_typed_expr at inner) (sym (ap well_in (folds.fold-Convert (form_step at) its_judged ty inner)) ∙ w) in
+            let us = and_parts (is_numeric (judged_expr at inner).0) (is_well_typed_expr at inner) ws.1 in
             fits-Convert basis ty inner ∙ h.fit (sym (ap good_in (folds.fold-Convert (seen_step basis.vars good) its_seen ty inner)) ∙ g) us.1;
       })
     where
-      indexed : (expr : TypedExpr) → is_index (judged_expr at expr) ≡ true → is_well_typed at expr ≡ true
-      indexed expr h = (and_parts (is_signed (judged_expr at expr).0) (is_well_typed at expr) h).1
+      indexed : (expr : TypedExpr) → is_index (judged_expr at expr) ≡ true → is_well_typed_expr at expr ≡ true
+      indexed expr h = (and_parts (is_signed (judged_expr at expr).0) (is_well_typed_expr at expr) h).1
 
 -- ---- clean expressions read no written field
 

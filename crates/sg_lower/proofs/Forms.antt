@@ -17,7 +17,7 @@ use Rattle.sg_ir.specs.declared.code.Inst.{Inst}
 use Rattle.sg_ir.specs.declared.names.Names.{Names}
 use Rattle.sg_ir.specs.steps.Emits.{Computes}
 use Rattle.sg_lower.specs.steps.Basis.{Basis}
-use Rattle.sg_lower.specs.steps.Fitting.{fits, read_expr}
+use Rattle.sg_lower.specs.steps.Fitting.{can_be_lowered, typed_read}
 use Rattle.sg_lower.specs.steps.Agreeing.{Values}
 use Rattle.sg_lower.proofs.Fitted.{fits-Paren, fits-Un, fits-Bin, fits-Mulq, fits-Convert}
 use Rattle.sg_lower.proofs.Simulating.{values-none, values-more, values-computed, values-same}
@@ -28,7 +28,7 @@ of_form P expr it is p = subst (λ (form : Form). P (record { ty = expr.ty; form
 
 module _ (basis : Basis) (to : ℕ) (old new : Names) (a z : List Inst) where
   abbrev HasValue : TypedExpr → Type 0
-  HasValue expr = fits basis expr ≡ true → Values basis expr to old new a z
+  HasValue expr = can_be_lowered basis expr ≡ true → Values basis expr to old new a z
 
   pub literal_value : (expr : TypedExpr) (word : ℕ) → expr.form ≡ form.Literal word → word < 2 ^ 32 → ((shapes : List Shape) → Computes shapes (λ seen now. word) to old new a z) → HasValue expr
   literal_value expr word is small computes = of_form HasValue expr (form.Literal word) is (λ h.
@@ -54,7 +54,7 @@ module _ (basis : Basis) (to : ℕ) (old new : Names) (a z : List Inst) where
       values-same basis (record { ty = expr.ty; form = form.Convert inner }) inner to old new a z (λ world now. value-Convert world now expr.ty inner) (has (sym (fits-Convert basis expr.ty inner) ∙ h)))
 
   pub un_value : (expr : TypedExpr) (op : UnOp) (operand : TypedExpr) → expr.form ≡ form.Un op operand → (r : ℕ) (mid : Names) (b : List Inst)
-      → (fits basis operand ≡ true → Values basis operand r old mid a b) → ((shapes : List Shape) → Computes shapes (λ seen now. applied_un op (now.regs r)) to mid new b z) → HasValue expr
+      → (can_be_lowered basis operand ≡ true → Values basis operand r old mid a b) → ((shapes : List Shape) → Computes shapes (λ seen now. applied_un op (now.regs r)) to mid new b z) → HasValue expr
   un_value expr op operand is r mid b has computes = of_form HasValue expr (form.Un op operand) is (λ h.
       let all = values-more basis [] [] operand r old old mid a a b (values-none basis old a) (has (sym (fits-Un basis expr.ty op operand) ∙ h)) in
       values-computed basis (operand ∷ []) (r ∷ []) (record { ty = expr.ty; form = form.Un op operand }) to old mid new a b z (λ seen now. applied_un op (now.regs r)) all (computes basis.shapes)
@@ -64,10 +64,10 @@ module _ (basis : Basis) (to : ℕ) (old new : Names) (a z : List Inst) where
       (ap (applied_un op) one ∙ sym value, subst IsWord (sym value) (is.applied_un op (expr_word world now operand)))))
 
   pub bin_value : (expr : TypedExpr) (op : BinOp) (left right : TypedExpr) → expr.form ≡ form.Bin op left right → (r s : ℕ) (m n : Names) (b c : List Inst)
-      → (fits basis left ≡ true → Values basis left r old m a b) → (fits basis right ≡ true → Values basis right s m n b c)
+      → (can_be_lowered basis left ≡ true → Values basis left r old m a b) → (can_be_lowered basis right ≡ true → Values basis right s m n b c)
       → ((shapes : List Shape) → Computes shapes (λ seen now. applied op left.ty (now.regs r) (now.regs s)) to n new c z) → HasValue expr
   bin_value expr op left right is r s m n b c has_left has_right computes = of_form HasValue expr (form.Bin op left right) is (λ h.
-      let parts = and_parts (fits basis left) (fits basis right) (sym (fits-Bin basis expr.ty op left right) ∙ h) in
+      let parts = and_parts (can_be_lowered basis left) (can_be_lowered basis right) (sym (fits-Bin basis expr.ty op left right) ∙ h) in
       let one = values-more basis [] [] left r old old m a a b (values-none basis old a) (has_left parts.0) in
       let all = values-more basis (left ∷ []) (r ∷ []) right s old m n a b c one (has_right parts.1) in
       values-computed basis (left ∷ right ∷ []) (r ∷ s ∷ []) (record { ty = expr.ty; form = form.Bin op left right }) to old n new a c z (λ seen now. applied op left.ty (now.regs r) (now.regs s)) all (computes basis.shapes)
@@ -81,11 +81,11 @@ module _ (basis : Basis) (to : ℕ) (old new : Names) (a z : List Inst) where
       )))
 
   pub mulq_value : (expr x y shift : TypedExpr) → expr.form ≡ form.Mulq x y shift → (r s t : ℕ) (k m n : Names) (b c d : List Inst)
-      → (fits basis x ≡ true → Values basis x r old k a b) → (fits basis y ≡ true → Values basis y s k m b c) → (fits basis shift ≡ true → Values basis shift t m n c d)
+      → (can_be_lowered basis x ≡ true → Values basis x r old k a b) → (can_be_lowered basis y ≡ true → Values basis y s k m b c) → (can_be_lowered basis shift ≡ true → Values basis shift t m n c d)
       → ((shapes : List Shape) → Computes shapes (λ seen now. mulq_of (now.regs r) (now.regs s) (now.regs t)) to n new d z) → HasValue expr
   mulq_value expr x y shift is r s t k m n b c d has_x has_y has_shift computes = of_form HasValue expr (form.Mulq x y shift) is (λ h.
-      let parts = and_parts (fits basis x) (fits basis y && fits basis shift) (sym (fits-Mulq basis expr.ty x y shift) ∙ h) in
-      let more = and_parts (fits basis y) (fits basis shift) parts.1 in
+      let parts = and_parts (can_be_lowered basis x) (can_be_lowered basis y && can_be_lowered basis shift) (sym (fits-Mulq basis expr.ty x y shift) ∙ h) in
+      let more = and_parts (can_be_lowered basis y) (can_be_lowered basis shift) parts.1 in
       let one = values-more basis [] [] x r old old k a a b (values-none basis old a) (has_x parts.0) in
       let two = values-more basis (x ∷ []) (r ∷ []) y s old k m a b c one (has_y more.0) in
       let all = values-more basis (x ∷ y ∷ []) (r ∷ s ∷ []) shift t old m n a c d two (has_shift more.1) in
@@ -104,7 +104,7 @@ module _ (basis : Basis) (to : ℕ) (old new : Names) (a z : List Inst) where
 -- the same of results
 module _ (basis : Basis) (old new : Names) (a z : List Inst) where
   abbrev HasValues : Result ℕ Memory → TypedExpr → Type 0
-  HasValues result expr = IfOk result (λ to. fits basis expr ≡ true → Values basis expr to old new a z)
+  HasValues result expr = IfOk result (λ to. can_be_lowered basis expr ≡ true → Values basis expr to old new a z)
 
   pub literal_ok : (result : Result ℕ Memory) (expr : TypedExpr) (word : ℕ) → expr.form ≡ form.Literal word → word < 2 ^ 32 → IfOk result (λ to. (shapes : List Shape) → Computes shapes (λ seen now. word) to old new a z) → HasValues result expr
   literal_ok (Ok to) expr word is small computes = literal_value basis to old new a z expr word is small computes
@@ -126,22 +126,22 @@ module _ (basis : Basis) (old new : Names) (a z : List Inst) where
   convert_ok (Ok to) expr inner is has = convert_value basis to old new a z expr inner is has
   convert_ok (Err e) expr inner is has = tt
 
-  pub read_form_ok : (result : Result ℕ Memory) (expr : TypedExpr) (layout place : ℕ) (index : List TypedExpr) → expr.form ≡ form.Read layout place index → HasValues result (read_expr expr.ty layout place index) → HasValues result expr
+  pub read_form_ok : (result : Result ℕ Memory) (expr : TypedExpr) (layout place : ℕ) (index : List TypedExpr) → expr.form ≡ form.Read layout place index → HasValues result (typed_read expr.ty layout place index) → HasValues result expr
   read_form_ok result expr layout place index is has = of_form (HasValues result) expr (form.Read layout place index) is has
 
   pub un_ok : (result : Result ℕ Memory) (expr : TypedExpr) (op : UnOp) (operand : TypedExpr) → expr.form ≡ form.Un op operand → (r : ℕ) (mid : Names) (b : List Inst)
-      → (fits basis operand ≡ true → Values basis operand r old mid a b) → IfOk result (λ to. (shapes : List Shape) → Computes shapes (λ seen now. applied_un op (now.regs r)) to mid new b z) → HasValues result expr
+      → (can_be_lowered basis operand ≡ true → Values basis operand r old mid a b) → IfOk result (λ to. (shapes : List Shape) → Computes shapes (λ seen now. applied_un op (now.regs r)) to mid new b z) → HasValues result expr
   un_ok (Ok to) expr op operand is r mid b has computes = un_value basis to old new a z expr op operand is r mid b has computes
   un_ok (Err e) expr op operand is r mid b has computes = tt
 
   pub bin_ok : (result : Result ℕ Memory) (expr : TypedExpr) (op : BinOp) (left right : TypedExpr) → expr.form ≡ form.Bin op left right → (r s : ℕ) (m n : Names) (b c : List Inst)
-      → (fits basis left ≡ true → Values basis left r old m a b) → (fits basis right ≡ true → Values basis right s m n b c)
+      → (can_be_lowered basis left ≡ true → Values basis left r old m a b) → (can_be_lowered basis right ≡ true → Values basis right s m n b c)
       → IfOk result (λ to. (shapes : List Shape) → Computes shapes (λ seen now. applied op left.ty (now.regs r) (now.regs s)) to n new c z) → HasValues result expr
   bin_ok (Ok to) expr op left right is r s m n b c has_left has_right computes = bin_value basis to old new a z expr op left right is r s m n b c has_left has_right computes
   bin_ok (Err e) expr op left right is r s m n b c has_left has_right computes = tt
 
   pub mulq_ok : (result : Result ℕ Memory) (expr x y shift : TypedExpr) → expr.form ≡ form.Mulq x y shift → (r s t : ℕ) (k m n : Names) (b c d : List Inst)
-      → (fits basis x ≡ true → Values basis x r old k a b) → (fits basis y ≡ true → Values basis y s k m b c) → (fits basis shift ≡ true → Values basis shift t m n c d)
+      → (can_be_lowered basis x ≡ true → Values basis x r old k a b) → (can_be_lowered basis y ≡ true → Values basis y s k m b c) → (can_be_lowered basis shift ≡ true → Values basis shift t m n c d)
       → IfOk result (λ to. (shapes : List Shape) → Computes shapes (λ seen now. mulq_of (now.regs r) (now.regs s) (now.regs t)) to n new d z) → HasValues result expr
   mulq_ok (Ok to) expr x y shift is r s t k m n b c d has_x has_y has_shift computes = mulq_value basis to old new a z expr x y shift is r s t k m n b c d has_x has_y has_shift computes
   mulq_ok (Err e) expr x y shift is r s t k m n b c d has_x has_y has_shift computes = tt

@@ -15,7 +15,7 @@ use Rattle.sg_types.specs.declared.typed.TypedStmt.{TypedStmt}
 use Rattle.sg_types.specs.Expressions.{equals_some}
 use Rattle.sg_types.specs.TypeTable.{is_signed, is_truth}
 use Rattle.sg_types.specs.Values.{is_own}
-use Rattle.sg_types.specs.WellTyped.{Visible, setting, is_local, is_ty, field_in, axes_in, is_well_typed, is_well_typed_range, Fitting, all_fit, kind_fits, fitting}
+use Rattle.sg_types.specs.WellTyped.{Visible, setting, is_local, is_ty, field_in, axes_in, is_well_typed_expr, is_well_typed_range, Fitting, all_fit, kind_fits, fitting}
 use Rattle.sg_types.specs.Numbers.{var_step, stmt_vars, block_vars}
 use Rattle.sg_types.proofs.Uses as folds
 use Rattle.sg_types.proofs.Uses.{by_exprs, by_stmts, all_stmts}
@@ -26,7 +26,7 @@ use Rattle.sg_admit.specs.Bounds.{is_constant_range}
 use Rattle.sg_admit.specs.Rules.{name_step, name_of, are_names, has_good_reads}
 use Rattle.sg_lower.specs.declared.lowering.Field.{Field}
 use Rattle.sg_lower.specs.steps.Basis.{Basis, is_owned}
-use Rattle.sg_lower.specs.steps.Fitting.{Fitted, fits_owned, fit_step, fitted, fits, is_own_index, stmt_fits}
+use Rattle.sg_lower.specs.steps.Fitting.{Fitted, fits_owned, fit_step, fitted, can_be_lowered, is_own_index, stmt_fits}
 use Rattle.sg_lower.proofs.Fitted.{fits-Let, fits-Assign, fits-Write, fits-If, fits-For}
 use Rattle.sg_lower.proofs.ExprFits.{its_fit, expr_fit, unwritten, clean_reads}
 use Rattle.sg_lower.proofs.LineWords.{lines-Let, lines-Assign, lines-Write, lines-If, lines-For, all_front, all_back}
@@ -91,7 +91,7 @@ module _ (shapes : List Shape) (types : List Ty) (owned : List Field) (vars : �
   abbrev pub Sound : Line → Type 0
   Sound line = SoundDeed line.deed
 
-  body_expr : (scope : List Visible) (expr : TypedExpr) → has_good_reads vars good expr ≡ true → is_well_typed (setting shapes types scope) expr ≡ true → fits body expr ≡ true
+  body_expr : (scope : List Visible) (expr : TypedExpr) → has_good_reads vars good expr ≡ true → is_well_typed_expr (setting shapes types scope) expr ≡ true → can_be_lowered body expr ≡ true
   body_expr scope expr = (expr_fit body (setting shapes types scope) refl good good_owned expr).fit
 
   unwritten_owned : (layout place : ℕ) (named : Bool) → not (unclean.fields layout place) ≡ true → fits_owned slice layout place named ≡ true
@@ -101,25 +101,25 @@ module _ (shapes : List Shape) (types : List Ty) (owned : List Field) (vars : �
       by_test false e = ap (λ (b : Bool). not b || (false && named)) e
       by_test true e = absurd (both_ways (unclean.fields layout place) (not-true (unclean.fields layout place) h) (own_written layout place e))
 
-  slice_expr : (scope : List Visible) (expr : TypedExpr) → is_clean unclean expr ≡ true → is_well_typed (setting shapes types scope) expr ≡ true → fits slice expr ≡ true
+  slice_expr : (scope : List Visible) (expr : TypedExpr) → is_clean unclean expr ≡ true → is_well_typed_expr (setting shapes types scope) expr ≡ true → can_be_lowered slice expr ≡ true
   slice_expr scope expr clean = (expr_fit slice (setting shapes types scope) refl (unwritten unclean vars) unwritten_owned expr).fit (clean_reads unclean vars expr clean)
 
   abbrev IsPart : List Visible → TypedExpr → Bool
-  IsPart scope part = is_signed part.ty && is_well_typed (setting shapes types scope) part
+  IsPart scope part = is_signed part.ty && is_well_typed_expr (setting shapes types scope) part
 
-  body_parts : (scope : List Visible) (index : List TypedExpr) → list_all (has_good_reads vars good) index ≡ true → list_all (IsPart scope) index ≡ true → list_all (fits body) index ≡ true
+  body_parts : (scope : List Visible) (index : List TypedExpr) → list_all (has_good_reads vars good) index ≡ true → list_all (IsPart scope) index ≡ true → list_all (can_be_lowered body) index ≡ true
   body_parts scope [] g w = refl
   body_parts scope (part ∷ index) g w =
       let gs = and_parts (has_good_reads vars good part) (list_all (has_good_reads vars good) index) g in
       let ws = and_parts (IsPart scope part) (list_all (IsPart scope) index) w in
-      and_from (fits body part) (list_all (fits body) index) (body_expr scope part gs.0 (and_parts (is_signed part.ty) (is_well_typed (setting shapes types scope) part) ws.0).1) (body_parts scope index gs.1 ws.1)
+      and_from (can_be_lowered body part) (list_all (can_be_lowered body) index) (body_expr scope part gs.0 (and_parts (is_signed part.ty) (is_well_typed_expr (setting shapes types scope) part) ws.0).1) (body_parts scope index gs.1 ws.1)
 
-  slice_parts : (scope : List Visible) (index : List TypedExpr) → list_all (is_clean unclean) index ≡ true → list_all (IsPart scope) index ≡ true → list_all (fits slice) index ≡ true
+  slice_parts : (scope : List Visible) (index : List TypedExpr) → list_all (is_clean unclean) index ≡ true → list_all (IsPart scope) index ≡ true → list_all (can_be_lowered slice) index ≡ true
   slice_parts scope [] g w = refl
   slice_parts scope (part ∷ index) g w =
       let gs = and_parts (is_clean unclean part) (list_all (is_clean unclean) index) g in
       let ws = and_parts (IsPart scope part) (list_all (IsPart scope) index) w in
-      and_from (fits slice part) (list_all (fits slice) index) (slice_expr scope part gs.0 (and_parts (is_signed part.ty) (is_well_typed (setting shapes types scope) part) ws.0).1) (slice_parts scope index gs.1 ws.1)
+      and_from (can_be_lowered slice part) (list_all (can_be_lowered slice) index) (slice_expr scope part gs.0 (and_parts (is_signed part.ty) (is_well_typed_expr (setting shapes types scope) part) ws.0).1) (slice_parts scope index gs.1 ws.1)
 
   -- no local in scope is a variable of the loop
   abbrev pub LocalsPast : List Visible → Type 0
@@ -169,24 +169,24 @@ module _ (shapes : List Shape) (types : List Ty) (owned : List Field) (vars : �
   lets number var value around lines scope past typed numbers =
       let v : vars ≤ var = (subst (AllByRecursion (λ v. vars ≤ v)) (folds.fold-Let var_step its_vars number var value) numbers).0 in
       let line = (subst (AllByRecursion Sound) (lines-Let number var value around) lines).0 in
-      let f = and_parts (is_well_typed (setting shapes types scope) value) _ (sym (ap (λ (fit : Fitting). (fit scope).0) (folds.fold-Let (kind_fits shapes types) its_typed number var value)) ∙ typed) in
+      let f = and_parts (is_well_typed_expr (setting shapes types scope) value) _ (sym (ap (λ (fit : Fitting). (fit scope).0) (folds.fold-Let (kind_fits shapes types) its_typed number var value)) ∙ typed) in
       record {
-        whole = fits-Let body number var value ∙ and_from (nat_le vars var) (fits body value) (le-leb vars var v) (body_expr scope value line.0 f.0);
+        whole = fits-Let body number var value ∙ and_from (nat_le vars var) (can_be_lowered body value) (le-leb vars var v) (body_expr scope value line.0 f.0);
         sliced = subst (λ (kept : List TypedStmt). list_all (stmt_fits slice) kept ≡ true) (sym (folds.fold-Let (slice_step walked unclean) its_slice number var value))
-            (kept_fits (not (unclean.vars var)) (stmt_of number (kind.Let var value)) (λ e. fits-Let slice number var value ∙ and_from (nat_le vars var) (fits slice value) (le-leb vars var v) (slice_expr scope value (line.1 (not-true (unclean.vars var) e)) f.0)));
+            (kept_fits (not (unclean.vars var)) (stmt_of number (kind.Let var value)) (λ e. fits-Let slice number var value ∙ and_from (nat_le vars var) (can_be_lowered slice value) (le-leb vars var v) (slice_expr scope value (line.1 (not-true (unclean.vars var) e)) f.0)));
         past = subst LocalsPast (sym (ap (λ (fit : Fitting). (fit scope).1) (folds.fold-Let (kind_fits shapes types) its_typed number var value))) (λ e. v, past);
       }
 
   assigns : (number var : ℕ) (value : TypedExpr) → Claim (stmt_of number (kind.Assign var value))
   assigns number var value around lines scope past typed numbers =
       let g = and_parts (is_local scope var) _ (sym (ap (λ (fit : Fitting). (fit scope).0) (folds.fold-Assign (kind_fits shapes types) its_typed number var value)) ∙ typed) in
-      let f = and_parts (is_well_typed (setting shapes types scope) value) _ g.1 in
+      let f = and_parts (is_well_typed_expr (setting shapes types scope) value) _ g.1 in
       let v : vars ≤ var = local_past scope var past g.0 in
       let line = (subst (AllByRecursion Sound) (lines-Assign number var value around) lines).0 in
       record {
-        whole = fits-Assign body number var value ∙ and_from (nat_le vars var) (fits body value) (le-leb vars var v) (body_expr scope value line.0 f.0);
+        whole = fits-Assign body number var value ∙ and_from (nat_le vars var) (can_be_lowered body value) (le-leb vars var v) (body_expr scope value line.0 f.0);
         sliced = subst (λ (kept : List TypedStmt). list_all (stmt_fits slice) kept ≡ true) (sym (folds.fold-Assign (slice_step walked unclean) its_slice number var value))
-            (kept_fits (not (unclean.vars var)) (stmt_of number (kind.Assign var value)) (λ e. fits-Assign slice number var value ∙ and_from (nat_le vars var) (fits slice value) (le-leb vars var v) (slice_expr scope value (line.1 (not-true (unclean.vars var) e)) f.0)));
+            (kept_fits (not (unclean.vars var)) (stmt_of number (kind.Assign var value)) (λ e. fits-Assign slice number var value ∙ and_from (nat_le vars var) (can_be_lowered slice value) (le-leb vars var v) (slice_expr scope value (line.1 (not-true (unclean.vars var) e)) f.0)));
         past = subst LocalsPast (sym (ap (λ (fit : Fitting). (fit scope).1) (folds.fold-Assign (kind_fits shapes types) its_typed number var value))) past;
       }
 
@@ -197,23 +197,23 @@ module _ (shapes : List Shape) (types : List Ty) (owned : List Field) (vars : �
   writes : (number layout place : ℕ) (index : List TypedExpr) (way : Way) (value : TypedExpr) → Claim (stmt_of number (kind.Write layout place index way value))
   writes number layout place index way value around lines scope past typed numbers =
       let line = (subst (AllByRecursion Sound) (lines-Write number layout place index way value around) lines).0 in
-      let g = and_parts (is_ty (field_in shapes layout place) value.ty && is_well_typed (setting shapes types scope) value) (equals_some (axes_in shapes layout) (length index) && list_all (IsPart scope) index)
+      let g = and_parts (is_ty (field_in shapes layout place) value.ty && is_well_typed_expr (setting shapes types scope) value) (equals_some (axes_in shapes layout) (length index) && list_all (IsPart scope) index)
       (sym (ap (λ (fit : Fitting). (fit scope).0) (folds.fold-Write (kind_fits shapes types) its_typed number layout place index way value)) ∙ typed) in
-      let f = and_parts (is_ty (field_in shapes layout place) value.ty) (is_well_typed (setting shapes types scope) value) g.0 in
+      let f = and_parts (is_ty (field_in shapes layout place) value.ty) (is_well_typed_expr (setting shapes types scope) value) g.0 in
       let i = and_parts (equals_some (axes_in shapes layout) (length index)) (list_all (IsPart scope) index) g.1 in
       record {
         whole = fits-Write body number layout place index way value
-            ∙ and_from ((equals_some (axes_in shapes layout) (length index) && list_all (fits body) index) && (false || (fits body value && (not (is_own way) || is_own_index body index)))) (not (is_own way) || is_owned owned layout place)
-            (and_from (equals_some (axes_in shapes layout) (length index) && list_all (fits body) index) (false || (fits body value && (not (is_own way) || is_own_index body index)))
-            (and_from (equals_some (axes_in shapes layout) (length index)) (list_all (fits body) index) i.0 (body_parts scope index line.0 i.1))
-            (and_from (fits body value) (not (is_own way) || is_own_index body index) (body_expr scope value line.1 f.1)
+            ∙ and_from ((equals_some (axes_in shapes layout) (length index) && list_all (can_be_lowered body) index) && (false || (can_be_lowered body value && (not (is_own way) || is_own_index body index)))) (not (is_own way) || is_owned owned layout place)
+            (and_from (equals_some (axes_in shapes layout) (length index) && list_all (can_be_lowered body) index) (false || (can_be_lowered body value && (not (is_own way) || is_own_index body index)))
+            (and_from (equals_some (axes_in shapes layout) (length index)) (list_all (can_be_lowered body) index) i.0 (body_parts scope index line.0 i.1))
+            (and_from (can_be_lowered body value) (not (is_own way) || is_own_index body index) (body_expr scope value line.1 f.1)
             (own_or (is_own way) (is_own_index body index) (λ own. ap (are_names vars 0) (names_fitted body index) ∙ (line.2 own).0))))
             (own_or (is_own way) (is_owned owned layout place) (λ own. (line.2 own).1));
         sliced = subst (λ (kept : List TypedStmt). list_all (stmt_fits slice) kept ≡ true) (sym (folds.fold-Write (slice_step walked unclean) its_slice number layout place index way value))
             (kept_fits (may_activate walked layout way) (stmt_of number (kind.Write layout place index way (no_value value))) (λ e.
             fits-Write slice number layout place index way (no_value value)
-            ∙ and_from ((equals_some (axes_in shapes layout) (length index) && list_all (fits slice) index) && true) (not (is_own way) || is_owned owned layout place)
-            (and_from (equals_some (axes_in shapes layout) (length index) && list_all (fits slice) index) true (and_from (equals_some (axes_in shapes layout) (length index)) (list_all (fits slice) index) i.0 (slice_parts scope index (line.3 e) i.1)) refl)
+            ∙ and_from ((equals_some (axes_in shapes layout) (length index) && list_all (can_be_lowered slice) index) && true) (not (is_own way) || is_owned owned layout place)
+            (and_from (equals_some (axes_in shapes layout) (length index) && list_all (can_be_lowered slice) index) true (and_from (equals_some (axes_in shapes layout) (length index)) (list_all (can_be_lowered slice) index) i.0 (slice_parts scope index (line.3 e) i.1)) refl)
             (own_or (is_own way) (is_owned owned layout place) (λ own. (line.2 own).1))));
         past = subst LocalsPast (sym (ap (λ (fit : Fitting). (fit scope).1) (folds.fold-Write (kind_fits shapes types) its_typed number layout place index way value))) past;
       }
@@ -223,20 +223,20 @@ module _ (shapes : List Shape) (types : List Ty) (owned : List Field) (vars : �
   ifs number condition block otherwise has_else on_block on_otherwise around lines scope past typed numbers =
       let all = subst (AllByRecursion Sound) (lines-If number condition block otherwise has_else around) lines in
       let inside = within_if condition around in
-      let f = and_parts (is_truth condition.ty && is_well_typed (setting shapes types scope) condition) ((all_fit (map (fitting shapes types) block) scope).0 && (all_fit (map (fitting shapes types) otherwise) scope).0)
+      let f = and_parts (is_truth condition.ty && is_well_typed_expr (setting shapes types scope) condition) ((all_fit (map (fitting shapes types) block) scope).0 && (all_fit (map (fitting shapes types) otherwise) scope).0)
       (sym (ap (λ (fit : Fitting). (fit scope).0) (folds.fold-If (kind_fits shapes types) its_typed number condition block otherwise has_else)) ∙ typed) in
-      let t = and_parts (is_truth condition.ty) (is_well_typed (setting shapes types scope) condition) f.0 in
+      let t = and_parts (is_truth condition.ty) (is_well_typed_expr (setting shapes types scope) condition) f.0 in
       let b = and_parts (all_fit (map (fitting shapes types) block) scope).0 (all_fit (map (fitting shapes types) otherwise) scope).0 f.1 in
       let n = subst (AllByRecursion (λ v. vars ≤ v)) (folds.fold-If var_step its_vars number condition block otherwise has_else) numbers in
       let one = block_claim block on_block inside (all_front Sound (block_lines block inside) (block_lines otherwise inside) all.1) scope past b.0 (all_front (λ v. vars ≤ v) (block_vars block) (block_vars otherwise) n) in
       let two = block_claim otherwise on_otherwise inside (all_back Sound (block_lines block inside) (block_lines otherwise inside) all.1) scope past b.1 (all_back (λ v. vars ≤ v) (block_vars block) (block_vars otherwise) n) in
       record {
         whole = fits-If body number condition block otherwise has_else
-            ∙ and_from (fits body condition) (list_all (stmt_fits body) block && list_all (stmt_fits body) otherwise) (body_expr scope condition all.0 t.1) (and_from (list_all (stmt_fits body) block) (list_all (stmt_fits body) otherwise) one.whole two.whole);
+            ∙ and_from (can_be_lowered body condition) (list_all (stmt_fits body) block && list_all (stmt_fits body) otherwise) (body_expr scope condition all.0 t.1) (and_from (list_all (stmt_fits body) block) (list_all (stmt_fits body) otherwise) one.whole two.whole);
         sliced = subst (λ (kept : List TypedStmt). list_all (stmt_fits slice) kept ≡ true) (sym (folds.fold-If (slice_step walked unclean) its_slice number condition block otherwise has_else))
             (kept_fits (is_clean unclean condition) (stmt_of number (kind.If condition (block_slice walked unclean block) (block_slice walked unclean otherwise) has_else)) (λ e.
             fits-If slice number condition (block_slice walked unclean block) (block_slice walked unclean otherwise) has_else
-            ∙ and_from (fits slice condition) (list_all (stmt_fits slice) (block_slice walked unclean block) && list_all (stmt_fits slice) (block_slice walked unclean otherwise)) (slice_expr scope condition e t.1)
+            ∙ and_from (can_be_lowered slice condition) (list_all (stmt_fits slice) (block_slice walked unclean block) && list_all (stmt_fits slice) (block_slice walked unclean otherwise)) (slice_expr scope condition e t.1)
             (and_from (list_all (stmt_fits slice) (block_slice walked unclean block)) (list_all (stmt_fits slice) (block_slice walked unclean otherwise)) one.sliced two.sliced)));
         past = subst LocalsPast (sym (ap (λ (fit : Fitting). (fit scope).1) (folds.fold-If (kind_fits shapes types) its_typed number condition block otherwise has_else))) past;
       }

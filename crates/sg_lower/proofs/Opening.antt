@@ -11,14 +11,14 @@ use Rattle.sg_ir.specs.declared.code.Inst.{Inst}
 use Rattle.sg_ir.specs.Runs.{iteration_start}
 use Rattle.sg_ir.specs.Named.{IsNamedAccess}
 use Rattle.sg_lower.specs.steps.Basis.{Basis}
-use Rattle.sg_lower.specs.steps.Agreeing.{IsPoint, seen_of, Agrees, Steps, Tells}
+use Rattle.sg_lower.specs.steps.Agreeing.{IsPoint, seen_of, AgreesWithIteration, Steps, Tells}
 
 none_either : {X : Type 0} (b : Bool) (none : List X) → none ≡ (if b then none else none)
 none_either true none = refl
 none_either false none = refl
 
 module _ (basis : Basis) where
-  pub opening_agrees : (world : World) (at : Coord) → IsPoint basis.vars at → Agrees basis at (first_moment at) (iteration_start (seen_of world at))
+  pub opening_agrees : (world : World) (at : Coord) → IsPoint basis.vars at → AgreesWithIteration basis at (first_moment at) (iteration_start (seen_of world at))
   opening_agrees world at point = record {
     vars = λ var. refl;
     writes = none_either basis.slicing [];

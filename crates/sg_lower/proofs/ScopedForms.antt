@@ -10,7 +10,7 @@ use Rattle.sg_types.specs.declared.typed.Form.TheOpen.{TypedExpr-F}
 use Rattle.sg_types.specs.declared.typed.TypedRange.{TypedRange}
 use Rattle.sg_types.specs.Expressions.{equals_some}
 use Rattle.sg_types.specs.TypeTable.{is_numeric, is_signed, same_ty, bin_ty, un_ty}
-use Rattle.sg_types.specs.WellTyped.{Visible, Setting, setting, is_visible, is_ty, field_in, axes_in, Judged, is_index, form_step, judged_expr, is_well_typed, is_well_typed_range}
+use Rattle.sg_types.specs.WellTyped.{Visible, Surroundings, setting, is_visible, is_ty, field_in, axes_in, Judged, is_index, form_step, judged_expr, is_well_typed_expr, is_well_typed_range}
 use Rattle.sg_types.proofs.Uses as folds
 use Rattle.sg_types.proofs.Uses.{by_exprs}
 use Rattle.sg_admit.specs.Clean.{Unclean, clean_step, is_clean}
@@ -52,14 +52,14 @@ module _ (unclean : Unclean) where
 
 module _ (shapes : List Shape) (types : List Ty) (unclean : Unclean) (scope other : List Visible)
     (seen : (var : ℕ) → unclean.vars var ≡ false → is_visible scope var ≡ true → is_visible other var ≡ true) where
-  abbrev here : Setting
+  abbrev here : Surroundings
   here = setting shapes types scope
 
-  abbrev there : Setting
+  abbrev there : Surroundings
   there = setting shapes types other
 
   abbrev Moves : TypedExpr → Type 0
-  Moves expr = is_clean unclean expr ≡ true → is_well_typed here expr ≡ true → is_well_typed there expr ≡ true
+  Moves expr = is_clean unclean expr ≡ true → is_well_typed_expr here expr ≡ true → is_well_typed_expr there expr ≡ true
 
   type_same : (expr : TypedExpr) → (judged_expr here expr).0 ≡ (judged_expr there expr).0
   type_same expr = judged_ty here expr ∙ sym (judged_ty there expr)
@@ -133,13 +133,13 @@ module _ (shapes : List Shape) (types : List Ty) (unclean : Unclean) (scope othe
   parts_move (expr ∷ index) c h =
       let d = and_parts (is_clean unclean expr) (list_all (is_clean unclean) index) c in
       let p = and_parts (is_part here expr) (list_all (is_part here) index) h in
-      let q = and_parts (is_signed expr.ty) (is_well_typed here expr) p.0 in
-      and_from (is_part there expr) (list_all (is_part there) index) (and_from (is_signed expr.ty) (is_well_typed there expr) q.0 (expr_moves expr d.0 q.1)) (parts_move index d.1 p.1)
+      let q = and_parts (is_signed expr.ty) (is_well_typed_expr here expr) p.0 in
+      and_from (is_part there expr) (list_all (is_part there) index) (and_from (is_signed expr.ty) (is_well_typed_expr there expr) q.0 (expr_moves expr d.0 q.1)) (parts_move index d.1 p.1)
 
   bound_moves : (bound : TypedExpr) → is_constant bound ≡ true → is_part here bound ≡ true → is_part there bound ≡ true
   bound_moves bound c h =
-      let p = and_parts (is_signed bound.ty) (is_well_typed here bound) h in
-      and_from (is_signed bound.ty) (is_well_typed there bound) p.0 (expr_moves bound (constant_clean unclean bound c) p.1)
+      let p = and_parts (is_signed bound.ty) (is_well_typed_expr here bound) h in
+      and_from (is_signed bound.ty) (is_well_typed_expr there bound) p.0 (expr_moves bound (constant_clean unclean bound c) p.1)
 
   pub range_moves : (range : TypedRange) → is_constant_range range ≡ true → is_well_typed_range here range ≡ true → is_well_typed_range there range ≡ true
   range_moves range c h =

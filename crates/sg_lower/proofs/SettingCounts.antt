@@ -12,7 +12,7 @@ use Rattle.sg_types.specs.declared.typed.TypedRange.{TypedRange}
 use Rattle.sg_types.specs.declared.typed.TypedKind.TheVariants as kind
 use Rattle.sg_types.specs.declared.typed.TypedStmt.{TypedStmt}
 use Rattle.sg_types.specs.TypeTable as table
-use Rattle.sg_types.specs.WellTyped.{Visible, setting, is_local, is_ty, is_well_typed, is_well_typed_range, Fitting, all_fit, kind_fits, fitting}
+use Rattle.sg_types.specs.WellTyped.{Visible, setting, is_local, is_ty, is_well_typed_expr, is_well_typed_range, Fitting, all_fit, kind_fits, fitting}
 use Rattle.sg_types.specs.Numbers.{var_step, stmt_vars, block_vars}
 use Rattle.sg_types.proofs.Uses as folds
 use Rattle.sg_types.proofs.Uses.{all_stmts}
@@ -94,7 +94,7 @@ module _ (shapes : List Shape) (types : List Ty) (v : ℕ) where
   assigns number var value around = counts_of _ _ _ _ _ _ (lines-Assign number var value around) (folds.fold-Assign var_step its_vars number var value) (folds.fold-Assign (kind_fits shapes types) its_typed number var value)
       (record {
         turns = zero_le 0;
-        sets = λ scope typed fresh same. (assigned scope var (and_parts (is_local scope var) (is_well_typed (setting shapes types scope) value && is_ty (slice_get types var) value.ty) typed).0 fresh, fresh);
+        sets = λ scope typed fresh same. (assigned scope var (and_parts (is_local scope var) (is_well_typed_expr (setting shapes types scope) value && is_ty (slice_get types var) value.ty) typed).0 fresh, fresh);
       })
 
   writes : (number layout place : ℕ) (index : List TypedExpr) (way : Way) (value : TypedExpr) → Claim (stmt_of number (kind.Write layout place index way value))
@@ -118,7 +118,7 @@ module _ (shapes : List Shape) (types : List Ty) (v : ℕ) where
       (record {
         turns = sum_le _ _ _ _ _ _ turned declared few few_more;
         sets = λ scope typed fresh same.
-            let p = and_parts (table.is_truth condition.ty && is_well_typed (setting shapes types scope) condition) ((all_fit (map (fitting shapes types) block) scope).0 && (all_fit (map (fitting shapes types) otherwise) scope).0) typed in
+            let p = and_parts (table.is_truth condition.ty && is_well_typed_expr (setting shapes types scope) condition) ((all_fit (map (fitting shapes types) block) scope).0 && (all_fit (map (fitting shapes types) otherwise) scope).0) typed in
             let q = and_parts (all_fit (map (fitting shapes types) block) scope).0 (all_fit (map (fitting shapes types) otherwise) scope).0 p.1 in
             let first = (one.sets scope q.0 fresh (first_same _ _ _ _ _ _ turned declared few few_more same)).0 in
             let second = (two.sets scope q.1 fresh (second_same _ _ _ _ _ _ turned declared few few_more same)).0 in

@@ -11,7 +11,7 @@ use Rattle.sg_types.specs.declared.typed.TypedStmt.{TypedStmt}
 use Rattle.sg_admit.specs.Lines.{Line, within_if, within_loop, stmt_lines, block_lines}
 use Rattle.sg_ir.specs.declared.code.Inst.{Inst, fold-Inst}
 use Rattle.sg_ir.specs.declared.code.Inst.TheVariants as v
-use Rattle.sg_ir.specs.WellTyped.{Setting, sets_step, var_number, set_vars, has_no_twice}
+use Rattle.sg_ir.specs.WellTyped.{SetName, sets_step, var_number, set_vars, has_no_twice}
 use Rattle.sg_ir.proofs.Uses.{fold-Set, set_vars-append}
 use Rattle.sg_lower.specs.steps.Fitting.{write_stmt}
 use Rattle.sg_lower.specs.steps.Typing.{deed_sets, line_sets, SetsStmt, SetsBlock}
@@ -25,14 +25,14 @@ inst_sets : (vars : List ℕ) (inst : Inst) (a b z : List Inst) → set_vars b �
 inst_sets vars inst a b z same pushed is =
     ap set_vars pushed ∙ (set_vars-append b (inst ∷ []) ∙ (ap (λ (l : List ℕ). l ++ set_vars (inst ∷ [])) same ∙ ap (λ (l : List ℕ). set_vars a ++ l) is))
 
-pub none_set : (inst : Inst) → fold-Inst (List Setting) sets_step inst ≡ [] → set_vars (inst ∷ []) ≡ []
-none_set inst is = ap (λ (ss : List Setting). flat_map var_number (ss ++ [])) is
+pub none_set : (inst : Inst) → fold-Inst (List SetName) sets_step inst ≡ [] → set_vars (inst ∷ []) ≡ []
+none_set inst is = ap (λ (ss : List SetName). flat_map var_number (ss ++ [])) is
 
 of_lines : (xs ys : List Line) (vars : List ℕ) (a z : List Inst) → xs ≡ ys → line_sets ys ≡ vars → set_vars z ≡ set_vars a ++ vars → set_vars z ≡ set_vars a ++ line_sets xs
 of_lines xs ys vars a z same is sets = sets ∙ ap (λ (l : List ℕ). set_vars a ++ l) (sym (ap line_sets same ∙ is))
 
 set_sets : (var r : ℕ) → set_vars (v.Set var r ∷ []) ≡ var ∷ []
-set_sets var r = ap (λ (ss : List Setting). flat_map var_number (ss ++ [])) (fold-Set sets_step var r)
+set_sets var r = ap (λ (ss : List SetName). flat_map var_number (ss ++ [])) (fold-Set sets_step var r)
 
 pub sets_let : (stmt : TypedStmt) (var : ℕ) (value : TypedExpr) (r : ℕ) (a b z : List Inst) → stmt.kind ≡ kind.Let var value → set_vars b ≡ set_vars a → z ≡ b ++ v.Set var r ∷ [] → SetsStmt stmt a z
 sets_let stmt var value r a b z is same pushed = of_kind (λ (it : TypedStmt). SetsStmt it a z) stmt (kind.Let var value) is (λ around.

@@ -6,12 +6,12 @@ use Rattle.sg_words.specs.declared.operators.Ty.{Ty}
 use Rattle.sg_words.specs.declared.memory.Memory.{Memory}
 use Rattle.sg_ir.specs.declared.code.Inst.{Inst, fold-Inst}
 use Rattle.sg_ir.specs.declared.names.Names.{Names}
-use Rattle.sg_ir.specs.WellTyped.{Setting, SetsReg, sets_step, var_number, set_vars}
+use Rattle.sg_ir.specs.WellTyped.{SetName, SetsReg, sets_step, var_number, set_vars}
 use Rattle.sg_ir.specs.steps.Emits.{PutsReg}
 use Rattle.sg_ir.proofs.Uses.{set_vars-append}
 
-pub vars_kept : (result : Result ℕ Memory) (given : Ty) (inst : ℕ → Inst) (mid new : Names) (a b z : List Inst) → ((to : ℕ) → fold-Inst (List Setting) sets_step (inst to) ≡ SetsReg to ∷ []) → set_vars b ≡ set_vars a
+pub vars_kept : (result : Result ℕ Memory) (given : Ty) (inst : ℕ → Inst) (mid new : Names) (a b z : List Inst) → ((to : ℕ) → fold-Inst (List SetName) sets_step (inst to) ≡ SetsReg to ∷ []) → set_vars b ≡ set_vars a
     → IfOk result (λ to. PutsReg given inst to mid new b z) → IfOk result (λ to. set_vars z ≡ set_vars a)
 vars_kept (Ok to) given inst mid new a b z sets before puts =
-    ap set_vars puts.block ∙ (set_vars-append b (inst to ∷ []) ∙ (ap (λ (ss : List Setting). set_vars b ++ flat_map var_number (ss ++ [])) (sets to) ∙ (append-nil (set_vars b) ∙ before)))
+    ap set_vars puts.block ∙ (set_vars-append b (inst to ∷ []) ∙ (ap (λ (ss : List SetName). set_vars b ++ flat_map var_number (ss ++ [])) (sets to) ∙ (append-nil (set_vars b) ∙ before)))
 vars_kept (Err e) given inst mid new a b z sets before puts = tt

@@ -12,7 +12,7 @@ use Rattle.sg_ir.specs.Runs.{Seen, Moved, runs}
 use Rattle.sg_ir.specs.Named.{AreNamed}
 use Rattle.sg_ir.specs.steps.Emits.{Keeps, Extends, Computes}
 use Rattle.sg_lower.specs.steps.Basis.{Basis}
-use Rattle.sg_lower.specs.steps.Agreeing.{IsWorld, IsPoint, seen_of, Agrees, ShowsAll, Values, AllValues}
+use Rattle.sg_lower.specs.steps.Agreeing.{IsWorld, IsPoint, seen_of, AgreesWithIteration, ShowsAll, Values, AllValues}
 
 -- ---- one extension after another
 
@@ -54,7 +54,7 @@ words_kept r_end p_end before after (r ∷ regs) named keeps =
 
 -- ---- agreement
 
-pub agrees-kept : (basis : Basis) (at : Coord) (now : Moment) (r_end p_end : ℕ) (before after : Moved) → Keeps r_end p_end before after → AreNamed basis.shapes after.accesses → Agrees basis at now before → Agrees basis at now after
+pub agrees-kept : (basis : Basis) (at : Coord) (now : Moment) (r_end p_end : ℕ) (before after : Moved) → Keeps r_end p_end before after → AreNamed basis.shapes after.accesses → AgreesWithIteration basis at now before → AgreesWithIteration basis at now after
 agrees-kept basis at now r_end p_end before after keeps named agrees = record {
   vars = λ var. ap (λ (vars : ℕ → ℕ). vars var) keeps.vars ∙ agrees.vars var;
   writes = keeps.writes ∙ agrees.writes;

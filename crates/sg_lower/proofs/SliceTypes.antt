@@ -13,7 +13,7 @@ use Rattle.sg_types.specs.declared.typed.TypedKind.TheVariants as kind
 use Rattle.sg_types.specs.declared.typed.TypedStmt.{TypedStmt}
 use Rattle.sg_types.specs.Expressions.{equals_some}
 use Rattle.sg_types.specs.TypeTable.{is_numeric, is_truth}
-use Rattle.sg_types.specs.WellTyped.{Visible, Setting, setting, is_visible, is_local, is_ty, field_in, axes_in, Judged, form_step, is_well_typed, is_well_typed_range, Fitting, all_fit, kind_fits, fitting}
+use Rattle.sg_types.specs.WellTyped.{Visible, Surroundings, setting, is_visible, is_local, is_ty, field_in, axes_in, Judged, form_step, is_well_typed_expr, is_well_typed_range, Fitting, all_fit, kind_fits, fitting}
 use Rattle.sg_types.specs.Numbers.{var_step, stmt_vars, block_vars}
 use Rattle.sg_types.proofs.Uses as folds
 use Rattle.sg_types.proofs.Uses.{all_stmts}
@@ -196,12 +196,12 @@ module _ (shapes : List Shape) (types : List Ty) (walked : Option ℕ) (unclean 
       let line = (subst (AllByRecursion (Needs walked unclean)) (lines-Let number var value around) lines).0 in
       let S = setting shapes types scope in
       let T = setting shapes types other in
-      let f = and_parts (is_well_typed S value) (is_ty (slice_get types var) value.ty) (sym (ap (λ (it : Fitting). (it scope).0) (folds.fold-Let (kind_fits shapes types) its_typed number var value)) ∙ typed) in
+      let f = and_parts (is_well_typed_expr S value) (is_ty (slice_get types var) value.ty) (sym (ap (λ (it : Fitting). (it scope).0) (folds.fold-Let (kind_fits shapes types) its_typed number var value)) ∙ typed) in
       let stmt = stmt_of number (kind.Let var value) in
       sliced_of stmt stmt (not (unclean.vars var)) scope other _ _ (folds.fold-Let (slice_step walked unclean) its_slice number var value)
       (folds.fold-Let (kind_fits shapes types) its_typed number var value) (folds.fold-Let (kind_fits shapes types) its_typed number var value)
       (λ e. (
-        and_from (is_well_typed T value) (is_ty (slice_get types var) value.ty) (expr_moves shapes types unclean scope other c.seen value (line (not-true (unclean.vars var) e)) f.0) f.1,
+        and_from (is_well_typed_expr T value) (is_ty (slice_get types var) value.ty) (expr_moves shapes types unclean scope other c.seen value (line (not-true (unclean.vars var) e)) f.0) f.1,
         covers_one (record { var = var; is_loop = false }) scope other c,
       ))
       (λ e. covers_dirty var scope other (not-false (unclean.vars var) e) c)
@@ -215,14 +215,14 @@ module _ (shapes : List Shape) (types : List Ty) (walked : Option ℕ) (unclean 
       let line = (subst (AllByRecursion (Needs walked unclean)) (lines-Assign number var value around) lines).0 in
       let S = setting shapes types scope in
       let T = setting shapes types other in
-      let g = and_parts (is_local scope var) (is_well_typed S value && is_ty (slice_get types var) value.ty) (sym (ap (λ (it : Fitting). (it scope).0) (folds.fold-Assign (kind_fits shapes types) its_typed number var value)) ∙ typed) in
-      let f = and_parts (is_well_typed S value) (is_ty (slice_get types var) value.ty) g.1 in
+      let g = and_parts (is_local scope var) (is_well_typed_expr S value && is_ty (slice_get types var) value.ty) (sym (ap (λ (it : Fitting). (it scope).0) (folds.fold-Assign (kind_fits shapes types) its_typed number var value)) ∙ typed) in
+      let f = and_parts (is_well_typed_expr S value) (is_ty (slice_get types var) value.ty) g.1 in
       let stmt = stmt_of number (kind.Assign var value) in
       sliced_of stmt stmt (not (unclean.vars var)) scope other _ _ (folds.fold-Assign (slice_step walked unclean) its_slice number var value)
       (folds.fold-Assign (kind_fits shapes types) its_typed number var value) (folds.fold-Assign (kind_fits shapes types) its_typed number var value)
       (λ e. (
-        and_from (is_local other var) (is_well_typed T value && is_ty (slice_get types var) value.ty) (c.local var (not-true (unclean.vars var) e) g.0)
-            (and_from (is_well_typed T value) (is_ty (slice_get types var) value.ty) (expr_moves shapes types unclean scope other c.seen value (line (not-true (unclean.vars var) e)) f.0) f.1),
+        and_from (is_local other var) (is_well_typed_expr T value && is_ty (slice_get types var) value.ty) (c.local var (not-true (unclean.vars var) e) g.0)
+            (and_from (is_well_typed_expr T value) (is_ty (slice_get types var) value.ty) (expr_moves shapes types unclean scope other c.seen value (line (not-true (unclean.vars var) e)) f.0) f.1),
         c,
       ))
       (λ e. c)
@@ -231,7 +231,7 @@ module _ (shapes : List Shape) (types : List Ty) (walked : Option ℕ) (unclean 
   its_judged expr = (expr.ty, expr.form expr.ty)
 
   -- what stands for a value is well typed
-  no_value_typed : (at : Setting) (value : TypedExpr) → is_well_typed at (no_value value) ≡ true
+  no_value_typed : (at : Surroundings) (value : TypedExpr) → is_well_typed_expr at (no_value value) ≡ true
   no_value_typed at value = ap (λ (it : Judged). it.1) (folds.fold-Literal (form_step at) its_judged value.ty 0) ∙ or_true (is_numeric value.ty)
 
   writes : (number layout place : ℕ) (index : List TypedExpr) (way : Way) (value : TypedExpr) → Claim (stmt_of number (kind.Write layout place index way value))
@@ -239,16 +239,16 @@ module _ (shapes : List Shape) (types : List Ty) (walked : Option ℕ) (unclean 
       let line = (subst (AllByRecursion (Needs walked unclean)) (lines-Write number layout place index way value around) lines).0 in
       let S = setting shapes types scope in
       let T = setting shapes types other in
-      let g = and_parts (is_ty (field_in shapes layout place) value.ty && is_well_typed S value) (equals_some (axes_in shapes layout) (length index) && list_all (is_part S) index)
+      let g = and_parts (is_ty (field_in shapes layout place) value.ty && is_well_typed_expr S value) (equals_some (axes_in shapes layout) (length index) && list_all (is_part S) index)
       (sym (ap (λ (it : Fitting). (it scope).0) (folds.fold-Write (kind_fits shapes types) its_typed number layout place index way value)) ∙ typed) in
-      let f = and_parts (is_ty (field_in shapes layout place) value.ty) (is_well_typed S value) g.0 in
+      let f = and_parts (is_ty (field_in shapes layout place) value.ty) (is_well_typed_expr S value) g.0 in
       let i = and_parts (equals_some (axes_in shapes layout) (length index)) (list_all (is_part S) index) g.1 in
       sliced_of (stmt_of number (kind.Write layout place index way value)) (stmt_of number (kind.Write layout place index way (no_value value))) (may_activate walked layout way) scope other _ _
       (folds.fold-Write (slice_step walked unclean) its_slice number layout place index way value)
       (folds.fold-Write (kind_fits shapes types) its_typed number layout place index way value) (folds.fold-Write (kind_fits shapes types) its_typed number layout place index way (no_value value))
       (λ e. (
-        and_from (is_ty (field_in shapes layout place) value.ty && is_well_typed T (no_value value)) (equals_some (axes_in shapes layout) (length index) && list_all (is_part T) index)
-            (and_from (is_ty (field_in shapes layout place) value.ty) (is_well_typed T (no_value value)) f.0 (no_value_typed T value))
+        and_from (is_ty (field_in shapes layout place) value.ty && is_well_typed_expr T (no_value value)) (equals_some (axes_in shapes layout) (length index) && list_all (is_part T) index)
+            (and_from (is_ty (field_in shapes layout place) value.ty) (is_well_typed_expr T (no_value value)) f.0 (no_value_typed T value))
             (and_from (equals_some (axes_in shapes layout) (length index)) (list_all (is_part T) index) i.0 (parts_move shapes types unclean scope other c.seen index (line e) i.1)),
         c,
       ))
@@ -260,9 +260,9 @@ module _ (shapes : List Shape) (types : List Ty) (walked : Option ℕ) (unclean 
       let inside = within_if condition around in
       let S = setting shapes types scope in
       let T = setting shapes types other in
-      let f = and_parts (is_truth condition.ty && is_well_typed S condition) ((fit block scope).0 && (fit otherwise scope).0)
+      let f = and_parts (is_truth condition.ty && is_well_typed_expr S condition) ((fit block scope).0 && (fit otherwise scope).0)
       (sym (ap (λ (it : Fitting). (it scope).0) (folds.fold-If (kind_fits shapes types) its_typed number condition block otherwise has_else)) ∙ typed) in
-      let t = and_parts (is_truth condition.ty) (is_well_typed S condition) f.0 in
+      let t = and_parts (is_truth condition.ty) (is_well_typed_expr S condition) f.0 in
       let b = and_parts (fit block scope).0 (fit otherwise scope).0 f.1 in
       let one = block_claim block on_block inside (all_front (Needs walked unclean) (block_lines block inside) (block_lines otherwise inside) all.1) scope other c b.0 in
       let two = block_claim otherwise on_otherwise inside (all_back (Needs walked unclean) (block_lines block inside) (block_lines otherwise inside) all.1) scope other c b.1 in
@@ -272,8 +272,8 @@ module _ (shapes : List Shape) (types : List Ty) (walked : Option ℕ) (unclean 
       (folds.fold-If (slice_step walked unclean) its_slice number condition block otherwise has_else)
       (folds.fold-If (kind_fits shapes types) its_typed number condition block otherwise has_else) (folds.fold-If (kind_fits shapes types) its_typed number condition x y has_else)
       (λ e. (
-        and_from (is_truth condition.ty && is_well_typed T condition) ((fit x other).0 && (fit y other).0)
-            (and_from (is_truth condition.ty) (is_well_typed T condition) t.0 (expr_moves shapes types unclean scope other c.seen condition e t.1)) (and_from (fit x other).0 (fit y other).0 one.typed two.typed),
+        and_from (is_truth condition.ty && is_well_typed_expr T condition) ((fit x other).0 && (fit y other).0)
+            (and_from (is_truth condition.ty) (is_well_typed_expr T condition) t.0 (expr_moves shapes types unclean scope other c.seen condition e t.1)) (and_from (fit x other).0 (fit y other).0 one.typed two.typed),
         c,
       ))
       (λ e. c)

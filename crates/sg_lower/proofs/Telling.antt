@@ -14,7 +14,7 @@ use Rattle.sg_ir.specs.Runs.{CodeWrite, CodeWant, Moved}
 use Rattle.sg_ir.specs.Named.{AreNamed}
 use Rattle.sg_lower.specs.Lowered.{code_write, want_of}
 use Rattle.sg_lower.specs.steps.Basis.{Basis, is_owned}
-use Rattle.sg_lower.specs.steps.Agreeing.{told_writes, told_wants, Agrees}
+use Rattle.sg_lower.specs.steps.Agreeing.{told_writes, told_wants, AgreesWithIteration}
 
 pub word_small : (z : ℤ) → IsWord (word_of z)
 word_small (pos n) = omega arith
@@ -25,7 +25,7 @@ either_small true x y h g = h
 either_small false x y h g = g
 
 module _ (basis : Basis) (at : Coord) where
-  pub agrees-set : (now : Moment) (moved : Moved) (var word : ℕ) → basis.vars ≤ var → IsWord word → Agrees basis at now moved → Agrees basis at (set_var var word now) (ir.set_var var word moved)
+  pub agrees-set : (now : Moment) (moved : Moved) (var word : ℕ) → basis.vars ≤ var → IsWord word → AgreesWithIteration basis at now moved → AgreesWithIteration basis at (set_var var word now) (ir.set_var_word var word moved)
   agrees-set now moved var word past small agrees = record {
     vars = λ v. ap (λ (old : ℕ). if v == var then word else old) (agrees.vars v);
     writes = agrees.writes;
@@ -68,7 +68,7 @@ module _ (basis : Basis) (at : Coord) where
 
   pub agrees-written : (now : Moment) (before after : Moved) (write : Write) → basis.slicing ≡ false → (is_own write.way ≡ true → is_owned basis.owned write.layout write.place ≡ true) → IsWord write.value
       → after.vars ≡ before.vars → after.writes ≡ before.writes ++ code_write basis.shapes write ∷ [] → after.wants ≡ before.wants → AreNamed basis.shapes after.accesses
-      → Agrees basis at now before → Agrees basis at (add_write write now) after
+      → AgreesWithIteration basis at now before → AgreesWithIteration basis at (add_write write now) after
   agrees-written now before after write body own small vars writes wants named agrees = record {
     vars = λ var. ap (λ (vars : ℕ → ℕ). vars var) vars ∙ agrees.vars var;
     writes = writes ∙ told-more now.writes write before.writes body agrees.writes;
@@ -91,7 +91,7 @@ module _ (basis : Basis) (at : Coord) where
 
   pub agrees-wanted : (now : Moment) (before after : Moved) (write : Write) → basis.slicing ≡ true → (is_own write.way ≡ true → is_owned basis.owned write.layout write.place ≡ true)
       → after.vars ≡ before.vars → after.writes ≡ before.writes → after.wants ≡ before.wants ++ want_of write ∷ [] → AreNamed basis.shapes after.accesses
-      → Agrees basis at now before → Agrees basis at (add_write write now) after
+      → AgreesWithIteration basis at now before → AgreesWithIteration basis at (add_write write now) after
   agrees-wanted now before after write slice own vars writes wants named agrees = record {
     vars = λ var. ap (λ (vars : ℕ → ℕ). vars var) vars ∙ agrees.vars var;
     writes = writes ∙ (agrees.writes ∙ writes-same now.writes (now.writes ++ write ∷ []) slice);

@@ -12,10 +12,10 @@ use Rattle.sg_types.specs.declared.typed.TypedExpr.{TypedExpr}
 use Rattle.sg_types.specs.declared.typed.Form.TheOpen.{TypedExpr-F}
 use Rattle.sg_types.specs.TypeTable as table
 use Rattle.sg_types.specs.TypeTable.{is_numeric, is_signed, same_ty, given_if, arithmetic_ty, shift_ty, comparison_ty, logic_ty, bin_ty, un_ty}
-use Rattle.sg_types.specs.WellTyped.{Setting, Judged, form_step, judged_expr, is_ty, is_index}
+use Rattle.sg_types.specs.WellTyped.{Surroundings, Judged, form_step, judged_expr, is_ty, is_index}
 use Rattle.sg_types.proofs.Uses as folds
 use Rattle.sg_types.proofs.Uses.{by_exprs}
-use Rattle.sg_ir.specs.WellTyped.{is_truth, is_of, takes_truth, gives_truth, is_lnot}
+use Rattle.sg_ir.specs.WellTyped.{is_truth, is_truth_as, takes_truth, gives_truth, is_lnot}
 use Rattle.sg_lower.specs.steps.Typing.{is_part}
 
 pub same_is : (x y : Ty) → same_ty x y ≡ true → x ≡ y
@@ -51,7 +51,7 @@ truth_is ty.Bool h = refl
 pub condition_is : (x : Ty) → table.is_truth x ≡ true → is_truth x ≡ true
 condition_is = truth_is
 
-pub of_itself : (x : Ty) → is_of (is_truth x) (Some x) ≡ true
+pub of_itself : (x : Ty) → is_truth_as (is_truth x) (Some x) ≡ true
 of_itself ty.I32 = refl
 of_itself ty.U32 = refl
 of_itself ty.Bool = refl
@@ -127,7 +127,7 @@ its_judged expr = (expr.ty, expr.form expr.ty)
 abbrev type_in : Judged → Ty
 type_in part = part.0
 
-pub judged_ty : (at : Setting) (expr : TypedExpr) → (judged_expr at expr).0 ≡ expr.ty
+pub judged_ty : (at : Surroundings) (expr : TypedExpr) → (judged_expr at expr).0 ≡ expr.ty
 judged_ty at = by_exprs (λ expr. (judged_expr at expr).0 ≡ expr.ty)
     (λ ty word. ap type_in (folds.fold-Literal (form_step at) its_judged ty word))
     (λ ty word. ap type_in (folds.fold-Constant (form_step at) its_judged ty word))
@@ -139,9 +139,9 @@ judged_ty at = by_exprs (λ expr. (judged_expr at expr).0 ≡ expr.ty)
     (λ ty x y w h k l. ap type_in (folds.fold-Mulq (form_step at) its_judged ty x y w))
     (λ ty inner h. ap type_in (folds.fold-Convert (form_step at) its_judged ty inner))
 
-pub part_is : (at : Setting) (expr : TypedExpr) → is_index (judged_expr at expr) ≡ is_part at expr
+pub part_is : (at : Surroundings) (expr : TypedExpr) → is_index (judged_expr at expr) ≡ is_part at expr
 part_is at expr = ap (λ (t : Ty). is_signed t && (judged_expr at expr).1) (judged_ty at expr)
 
-pub parts_are : (at : Setting) (index : List TypedExpr) → list_all is_index (map (judged_expr at) index) ≡ list_all (is_part at) index
+pub parts_are : (at : Surroundings) (index : List TypedExpr) → list_all is_index (map (judged_expr at) index) ≡ list_all (is_part at) index
 parts_are at [] = refl
 parts_are at (expr ∷ index) = ap (λ (b : Bool). b && list_all is_index (map (judged_expr at) index)) (part_is at expr) ∙ ap (λ (b : Bool). is_part at expr && b) (parts_are at index)

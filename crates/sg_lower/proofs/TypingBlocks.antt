@@ -14,7 +14,7 @@ use Rattle.sg_types.specs.declared.typed.TypedRange.{TypedRange}
 use Rattle.sg_types.specs.declared.typed.TypedKind.TheVariants as kind
 use Rattle.sg_types.specs.declared.typed.TypedStmt.{TypedStmt}
 use Rattle.sg_types.specs.TypeTable as table
-use Rattle.sg_types.specs.WellTyped.{Visible, setting, is_ty, is_well_typed, is_well_typed_range, Fitting, all_fit, kind_fits, fitting}
+use Rattle.sg_types.specs.WellTyped.{Visible, setting, is_ty, is_well_typed_expr, is_well_typed_range, Fitting, all_fit, kind_fits, fitting}
 use Rattle.sg_types.proofs.Uses as folds
 use Rattle.sg_admit.specs.Lines.{Line, within_if, within_loop, stmt_lines, block_lines}
 use Rattle.sg_ir.specs.declared.code.Inst.{Inst, fold-Inst}
@@ -24,7 +24,7 @@ use Rattle.sg_ir.specs.WellTyped as ir
 use Rattle.sg_ir.specs.WellTyped.{Frame, Scope, with_var, reads, holds_of, is_i32, judges, judged, sets_step, reg_number, place_number, settings, set_regs, set_places}
 use Rattle.sg_ir.specs.steps.Types.{Begins}
 use Rattle.sg_ir.proofs.Uses.{fold-If, fold-For, judges-If, judges-For, goes_on-trans, final-before}
-use Rattle.sg_lower.specs.steps.Typing.{Ready, HasWord, AddsExpr, AddsSet, Once, AddsStmt, AddsBlock}
+use Rattle.sg_lower.specs.steps.Typing.{Ready, HoldsWordOf, AddsExpr, AddsSet, Once, AddsStmt, AddsBlock}
 use Rattle.sg_lower.proofs.LineWords.{lines-If, lines-For, all_front, all_back}
 use Rattle.sg_lower.proofs.Stepping.{of_kind}
 use Rattle.sg_lower.proofs.KernelFits.{its_typed}
@@ -34,20 +34,20 @@ use Rattle.sg_lower.proofs.TypingLines.{at_start, value_first, with_var_ready}
 use Rattle.sg_lower.proofs.UsingLines.{lines_more}
 
 -- what an `if` sets is what its blocks set, and a `for` sets its variable and what its block sets
-inner_sets : (block : List Inst) → flat_map (λ (ss : List ir.Setting). ss) (map (fold-Inst (List ir.Setting) sets_step) block) ≡ settings block
-inner_sets block = flat_map-map (λ (ss : List ir.Setting). ss) (fold-Inst (List ir.Setting) sets_step) block
+inner_sets : (block : List Inst) → flat_map (λ (ss : List ir.SetName). ss) (map (fold-Inst (List ir.SetName) sets_step) block) ≡ settings block
+inner_sets block = flat_map-map (λ (ss : List ir.SetName). ss) (fold-Inst (List ir.SetName) sets_step) block
 
-pub if_sets : (number : ir.Setting → List ℕ) (r : ℕ) (yes_code no_code : List Inst) → flat_map number (settings (v.If r yes_code no_code ∷ [])) ≡ flat_map number (settings yes_code) ++ flat_map number (settings no_code)
+pub if_sets : (number : ir.SetName → List ℕ) (r : ℕ) (yes_code no_code : List Inst) → flat_map number (settings (v.If r yes_code no_code ∷ [])) ≡ flat_map number (settings yes_code) ++ flat_map number (settings no_code)
 if_sets number r yes_code no_code =
     ap (flat_map number)
-    (append-nil (fold-Inst (List ir.Setting) sets_step (v.If r yes_code no_code))
+    (append-nil (fold-Inst (List ir.SetName) sets_step (v.If r yes_code no_code))
     ∙ (fold-If sets_step r yes_code no_code
-    ∙ (ap (λ (ss : List ir.Setting). ss ++ flat_map (λ (it : List ir.Setting). it) (map (fold-Inst (List ir.Setting) sets_step) no_code)) (inner_sets yes_code) ∙ ap (λ (ss : List ir.Setting). settings yes_code ++ ss) (inner_sets no_code))))
+    ∙ (ap (λ (ss : List ir.SetName). ss ++ flat_map (λ (it : List ir.SetName). it) (map (fold-Inst (List ir.SetName) sets_step) no_code)) (inner_sets yes_code) ∙ ap (λ (ss : List ir.SetName). settings yes_code ++ ss) (inner_sets no_code))))
     ∙ flat_map-append number (settings yes_code) (settings no_code)
 
-pub for_sets : (number : ir.Setting → List ℕ) (var : ℕ) (lo hi : ℤ) (code : List Inst) → flat_map number (settings (v.For var lo hi code ∷ [])) ≡ number (ir.SetsVar var) ++ flat_map number (settings code)
+pub for_sets : (number : ir.SetName → List ℕ) (var : ℕ) (lo hi : ℤ) (code : List Inst) → flat_map number (settings (v.For var lo hi code ∷ [])) ≡ number (ir.SetsVar var) ++ flat_map number (settings code)
 for_sets number var lo hi code =
-    ap (flat_map number) (append-nil (fold-Inst (List ir.Setting) sets_step (v.For var lo hi code)) ∙ (fold-For sets_step var lo hi code ∙ ap (λ (ss : List ir.Setting). ir.SetsVar var ∷ ss) (inner_sets code)))
+    ap (flat_map number) (append-nil (fold-Inst (List ir.SetName) sets_step (v.For var lo hi code)) ∙ (fold-For sets_step var lo hi code ∙ ap (λ (ss : List ir.SetName). ir.SetsVar var ∷ ss) (inner_sets code)))
 
 begins-both : (old mid new : Names) → Begins old mid → Begins mid new → Begins old new
 begins-both old mid new one two = record { types = one.types ++ two.types; regs = two.regs ∙ (ap (λ (ts : List Ty). ts ++ two.types) one.regs ∙ append_assoc old.regs one.types two.types) }
@@ -95,13 +95,13 @@ module _ (shapes : List Shape) where
       let first = block_lines block inside in
       let second = block_lines otherwise inside in
       subst (λ (fit : Fitting). (fit visible).0 ≡ true → AddsSet shapes (at_start shapes types visible own) (Ready (setting shapes types (fit visible).1)) old n a z) (sym (folds.fold-If (kind_fits shapes types) its_typed stmt.number condition block otherwise has_else)) (λ h.
-      let p = and_parts (table.is_truth condition.ty && is_well_typed S condition) ((all_fit (map (fitting shapes types) block) visible).0 && (all_fit (map (fitting shapes types) otherwise) visible).0) h in
-      let c = and_parts (table.is_truth condition.ty) (is_well_typed S condition) p.0 in
+      let p = and_parts (table.is_truth condition.ty && is_well_typed_expr S condition) ((all_fit (map (fitting shapes types) block) visible).0 && (all_fit (map (fitting shapes types) otherwise) visible).0) h in
+      let c = and_parts (table.is_truth condition.ty) (is_well_typed_expr S condition) p.0 in
       let q = and_parts (all_fit (map (fitting shapes types) block) visible).0 (all_fit (map (fitting shapes types) otherwise) visible).0 p.1 in
       let Y = on_yes types visible inside q.0 in
       let N = on_no types visible inside q.1 in
-      let takes : Frame → Scope → Type 0 = λ at scope. HasWord r condition.ty at scope × at_start shapes types visible own at scope in
-      set_trans shapes (at_start shapes types visible own) takes takes (Ready S) old k n a b z (value_first shapes types visible own (HasWord r condition.ty) old k a b (has S refl c.1))
+      let takes : Frame → Scope → Type 0 = λ at scope. HoldsWordOf r condition.ty at scope × at_start shapes types visible own at scope in
+      set_trans shapes (at_start shapes types visible own) takes takes (Ready S) old k n a b z (value_first shapes types visible own (HoldsWordOf r condition.ty) old k a b (has S refl c.1))
       (set_inst shapes takes (Ready S) (v.If r yes_code no_code) k n b z pushed (begins-both k m n Y.begins N.begins)
       (goes_on-trans (length k.regs) (length m.regs) (length n.regs) [] (set_regs yes_code) (set_regs (v.If r yes_code no_code ∷ [])) Y.set_regs (goes_behind (length m.regs) (length n.regs) (set_regs yes_code) (set_regs no_code) (set_regs (v.If r yes_code no_code ∷ [])) N.set_regs (if_sets reg_number r yes_code no_code)))
       (goes_on-trans k.places m.places n.places [] (set_places yes_code) (set_places (v.If r yes_code no_code ∷ [])) Y.set_places (goes_behind m.places n.places (set_places yes_code) (set_places no_code) (set_places (v.If r yes_code no_code ∷ [])) N.set_places (if_sets place_number r yes_code no_code)))

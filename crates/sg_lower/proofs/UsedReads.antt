@@ -6,7 +6,7 @@ use Rattle.sg_types.specs.declared.typed.TypedExpr.{TypedExpr}
 use Rattle.sg_types.specs.declared.typed.Form.TheOpen.{TypedExpr-F}
 use Rattle.sg_types.proofs.Uses as folds
 use Rattle.sg_types.proofs.Uses.{by_exprs}
-use Rattle.sg_admit.specs.Rules.{Seen, seen_step, reads_in, has_good_reads}
+use Rattle.sg_admit.specs.Rules.{SeenPart, seen_step, reads_in, has_good_reads}
 use Rattle.sg_ir.specs.Apt.{Use, Writes, Reads, ReadsOwn}
 use Rattle.sg_lower.specs.declared.lowering.Field.{Field}
 use Rattle.sg_lower.specs.steps.Basis.{is_owned}
@@ -15,13 +15,13 @@ use Rattle.sg_lower.specs.steps.Using.{read_uses, use_step, expr_uses, all_uses}
 abbrev its_uses : TypedExpr-F (List Use) (List Use) → List Use
 its_uses expr = expr.form
 
-abbrev its_seen : TypedExpr-F Seen Seen → Seen
+abbrev its_seen : TypedExpr-F SeenPart SeenPart → SeenPart
 its_seen expr = expr.form
 
-abbrev good_in : Seen → Bool
+abbrev good_in : SeenPart → Bool
 good_in part = part.1
 
-abbrev name_in : Seen → Option ℕ
+abbrev name_in : SeenPart → Option ℕ
 name_in part = part.0
 
 pub all_append : {X : Type 0} (P : X → Type 0) (xs ys : List X) → AllByRecursion P xs → AllByRecursion P ys → AllByRecursion P (xs ++ ys)

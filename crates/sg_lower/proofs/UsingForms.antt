@@ -19,7 +19,7 @@ use Rattle.sg_ir.specs.steps.Emits.{PutsReg}
 use Rattle.sg_ir.proofs.Uses.{fold-Const, fold-Var, fold-Bin, fold-Un, fold-Mulq, fold-ReadCell, fold-OwnRead, uses-append}
 use Rattle.sg_lower.specs.declared.lowering.Field.{Field}
 use Rattle.sg_lower.specs.steps.Basis.{is_owned}
-use Rattle.sg_lower.specs.steps.Fitting.{read_expr}
+use Rattle.sg_lower.specs.steps.Fitting.{typed_read}
 use Rattle.sg_lower.specs.steps.Using.{read_uses, use_step, expr_uses, all_uses, Uses}
 use Rattle.sg_lower.proofs.Forms.{of_form}
 
@@ -51,7 +51,7 @@ abbrev its_form : TypedExpr-F (List Use) (List Use) → List Use
 its_form expr = expr.form
 
 module _ (owned : List Field) where
-  pub uses-Read : (given : Ty) (layout place : ℕ) (index : List TypedExpr) → expr_uses owned (read_expr given layout place index) ≡ read_uses (is_owned owned layout place) layout place (all_uses owned index)
+  pub uses-Read : (given : Ty) (layout place : ℕ) (index : List TypedExpr) → expr_uses owned (typed_read given layout place index) ≡ read_uses (is_owned owned layout place) layout place (all_uses owned index)
   uses-Read given layout place index =
       folds.fold-Read (use_step owned) its_form given layout place index
       ∙ ap (read_uses (is_owned owned layout place) layout place) (flat_map-map (λ (uses : List Use). uses) (expr_uses owned) index)
@@ -112,14 +112,14 @@ module _ (owned : List Field) (result : Result ℕ Memory) (new : Names) (a z : 
       (quiet_ok result (expr_uses owned x ++ (expr_uses owned y ++ expr_uses owned w)) given (λ reg. v.Mulq reg r s t) mid new a d z (λ to. fold-Mulq uses_step to r s t)
       (uses-trans (expr_uses owned x) (expr_uses owned y ++ expr_uses owned w) a b d one (uses-trans (expr_uses owned y) (expr_uses owned w) b c d two three)) puts))
 
-  pub read_form_uses : (expr : TypedExpr) (layout place : ℕ) (index given : List TypedExpr) → expr.form ≡ form.Read layout place index → given ≡ index → IsUsedBy (read_expr expr.ty layout place given) → IsUsedBy expr
+  pub read_form_uses : (expr : TypedExpr) (layout place : ℕ) (index given : List TypedExpr) → expr.form ≡ form.Read layout place index → given ≡ index → IsUsedBy (typed_read expr.ty layout place given) → IsUsedBy expr
   read_form_uses expr layout place index given is same has = of_form IsUsedBy expr (form.Read layout place index) is
-      (subst (λ (list : List TypedExpr). IsUsedBy (read_expr expr.ty layout place list)) same has)
+      (subst (λ (list : List TypedExpr). IsUsedBy (typed_read expr.ty layout place list)) same has)
 
   pub own_read_uses : (given : Ty) (layout place : ℕ) (index : List TypedExpr) (old : Names) → is_owned owned layout place ≡ true → IfOk result (λ to. PutsReg given (λ reg. v.OwnRead reg layout place) to old new a z)
-      → IsUsedBy (read_expr given layout place index)
+      → IsUsedBy (typed_read given layout place index)
   own_read_uses given layout place index old own puts =
-      same_uses (expr_uses owned (read_expr given layout place index)) (ReadsOwn layout place ∷ [])
+      same_uses (expr_uses owned (typed_read given layout place index)) (ReadsOwn layout place ∷ [])
       (uses-Read owned given layout place index ∙ ap (λ (b : Bool). read_uses b layout place (all_uses owned index)) own) (by_result result puts)
     where
       by_result : (it : Result ℕ Memory) → IfOk it (λ to. PutsReg given (λ reg. v.OwnRead reg layout place) to old new a z) → IfOk it (λ to. Uses (ReadsOwn layout place ∷ []) a z)
@@ -127,9 +127,9 @@ module _ (owned : List Field) (result : Result ℕ Memory) (new : Names) (a z : 
       by_result (Err e) h = tt
 
   pub cell_read_uses : (given : Ty) (layout place : ℕ) (index : List TypedExpr) (regs : List ℕ) (p : ℕ) (mid : Names) (b c : List Inst) → is_owned owned layout place ≡ false → Uses (all_uses owned index) a b → uses_in c ≡ uses_in b
-      → IfOk result (λ to. PutsReg given (λ reg. v.ReadCell reg p layout place regs) to mid new c z) → IsUsedBy (read_expr given layout place index)
+      → IfOk result (λ to. PutsReg given (λ reg. v.ReadCell reg p layout place regs) to mid new c z) → IsUsedBy (typed_read given layout place index)
   cell_read_uses given layout place index regs p mid b c own has quiet puts =
-      same_uses (expr_uses owned (read_expr given layout place index)) (all_uses owned index ++ Reads layout place ∷ [])
+      same_uses (expr_uses owned (typed_read given layout place index)) (all_uses owned index ++ Reads layout place ∷ [])
       (uses-Read owned given layout place index ∙ ap (λ (b : Bool). read_uses b layout place (all_uses owned index)) own) (by_result result puts)
     where
       by_result : (it : Result ℕ Memory) → IfOk it (λ to. PutsReg given (λ reg. v.ReadCell reg p layout place regs) to mid new c z) → IfOk it (λ to. Uses (all_uses owned index ++ Reads layout place ∷ []) a z)

@@ -25,7 +25,7 @@ use Rattle.sg_flat.specs.Kernel.{is_inside_of}
 use Rattle.sg_types.specs.Values.{coord_of}
 use Rattle.sg_types.specs.Iterations.{part_words}
 use Rattle.sg_ir.specs.Runs.{at_of}
-use Rattle.sg_ir.specs.Places.{place_in, place_at}
+use Rattle.sg_ir.specs.Places.{place_of_coord, place_at}
 use Rattle.sg_lower.specs.steps.Agreeing.{inside_or_none, IsWorld, IsPoint}
 use Rattle.sg_lower.proofs.Telling.{word_small}
 
@@ -71,10 +71,10 @@ module _ (inside_test : InsideTest) (paths : (shape : Shape) → CoordinateOfPat
 
       by_shape : (found : Option Shape) → slice_get shapes layout ≡ found → at_of shapes (place_at shapes layout at) ≡ inside_or_none shapes layout at
       by_shape None there =
-          ap (λ (found : Option Shape). at_of shapes (place_in layout at found)) there
+          ap (λ (found : Option Shape). at_of shapes (place_of_coord layout at found)) there
           ∙ sym (ap (λ (found : Option Shape). if is_inside_of found at then Some at else None) there)
       by_shape (Some shape) there =
-          ap (λ (found : Option Shape). at_of shapes (place_in layout at found)) there
+          ap (λ (found : Option Shape). at_of shapes (place_of_coord layout at found)) there
           ∙ (by_test shape there (is_inside (bounds_of_shape shape) at) refl
           ∙ sym (ap (λ (found : Option Shape). if is_inside_of found at then Some at else None) there))
 

@@ -19,7 +19,7 @@ use Rattle.sg_admit.specs.Rules.{Facts, facts_of, deed_ways, ways_in, is_of_fiel
 use Rattle.sg_admit.specs.Laws.{KeepsAll}
 use Rattle.sg_lower.specs.declared.lowering.Field.{Field}
 use Rattle.sg_lower.specs.steps.Basis.{Basis, is_owned}
-use Rattle.sg_lower.specs.steps.Fitting.{fits, stmt_fits}
+use Rattle.sg_lower.specs.steps.Fitting.{can_be_lowered, stmt_fits}
 use Rattle.sg_lower.specs.steps.Using.{line_uses}
 use Rattle.sg_lower.proofs.Fitted.{fits-Write, fits-If, fits-For}
 use Rattle.sg_lower.proofs.LineWords.{lines-Let, lines-Assign, lines-Write, lines-If, lines-For, all_mapped}
@@ -85,7 +85,7 @@ module _ (basis : Basis) where
 
   ifs : (number : ℕ) (condition : TypedExpr) (block otherwise : List TypedStmt) (has_else : Bool) → AllByRecursion Claim block → AllByRecursion Claim otherwise → Claim (stmt_of number (kind.If condition block otherwise has_else))
   ifs number condition block otherwise has_else on_block on_otherwise around h =
-      let p = and_parts (fits basis condition) (list_all (stmt_fits basis) block && list_all (stmt_fits basis) otherwise) (sym (fits-If basis number condition block otherwise has_else) ∙ h) in
+      let p = and_parts (can_be_lowered basis condition) (list_all (stmt_fits basis) block && list_all (stmt_fits basis) otherwise) (sym (fits-If basis number condition block otherwise has_else) ∙ h) in
       let q = and_parts (list_all (stmt_fits basis) block) (list_all (stmt_fits basis) otherwise) p.1 in
       let inside = within_if condition around in
       subst (AllByRecursion HasAxes) (sym (lines-If number condition block otherwise has_else around))

@@ -1,8 +1,8 @@
 ghost use Rattle.std.specs.Prelude.{◌≡◌, ◌<◌, length, All, IfOk, true};
 ghost use Rattle.std.specs.List.{list_all};
-ghost use Rattle.sg_ir.specs.steps.Emits.{Grows};
+ghost use Rattle.sg_ir.specs.steps.Emits.{NamesGrow};
 ghost use Rattle.sg_lower.specs.steps.Basis.{basis_of};
-ghost use Rattle.sg_lower.specs.steps.Fitting.{fits, read_expr};
+ghost use Rattle.sg_lower.specs.steps.Fitting.{can_be_lowered, typed_read};
 ghost use Rattle.sg_lower.specs.steps.Agreeing.{Values, AllValues};
 ghost use Rattle.sg_ir.specs.WellTyped.{set_vars};
 ghost use Rattle.sg_lower.specs.steps.Typing.{AddsExpr, AddsIndex};
@@ -28,8 +28,8 @@ impl Lowering {
         names: &mut Names,
         block: &mut Items<Inst>,
     ) -> Result<u32, Memory>
-        ensures grows { IfOk result (λ to. Grows names.old names.new × (to < length names.new.regs)) }
-        ensures values { IfOk result (λ to. fits (basis_of layouts.now self.now) expr.now ≡ true →
+        ensures grows { IfOk result (λ to. NamesGrow names.old names.new × (to < length names.new.regs)) }
+        ensures values { IfOk result (λ to. can_be_lowered (basis_of layouts.now self.now) expr.now ≡ true →
             Values (basis_of layouts.now self.now) expr.now to names.old names.new block.old block.new) }
         ensures uses { IfOk result (λ to. Uses (expr_uses self.now.owned expr.now) block.old block.new) }
         ensures typed { IfOk result (λ to. AddsExpr layouts.now.list expr.now to names.old names.new block.old block.new) }
@@ -88,11 +88,11 @@ impl Lowering {
         names: &mut Names,
         block: &mut Items<Inst>,
     ) -> Result<u32, Memory>
-        ensures grows { IfOk result (λ to. Grows names.old names.new × (to < length names.new.regs)) }
-        ensures values { IfOk result (λ to. fits (basis_of layouts.now self.now) (read_expr ty layout place index.now) ≡ true →
-            Values (basis_of layouts.now self.now) (read_expr ty layout place index.now) to names.old names.new block.old block.new) }
-        ensures uses { IfOk result (λ to. Uses (expr_uses self.now.owned (read_expr ty layout place index.now)) block.old block.new) }
-        ensures typed { IfOk result (λ to. AddsExpr layouts.now.list (read_expr ty layout place index.now) to names.old names.new block.old block.new) }
+        ensures grows { IfOk result (λ to. NamesGrow names.old names.new × (to < length names.new.regs)) }
+        ensures values { IfOk result (λ to. can_be_lowered (basis_of layouts.now self.now) (typed_read ty layout place index.now) ≡ true →
+            Values (basis_of layouts.now self.now) (typed_read ty layout place index.now) to names.old names.new block.old block.new) }
+        ensures uses { IfOk result (λ to. Uses (expr_uses self.now.owned (typed_read ty layout place index.now)) block.old block.new) }
+        ensures typed { IfOk result (λ to. AddsExpr layouts.now.list (typed_read ty layout place index.now) to names.old names.new block.old block.new) }
         ensures vars { IfOk result (λ to. set_vars block.new ≡ set_vars block.old) }
     {
         if self.is_owned(layout, place) {
@@ -113,9 +113,9 @@ impl Lowering {
         names: &mut Names,
         block: &mut Items<Inst>,
     ) -> Result<Items<u32>, Memory>
-        ensures grows { IfOk result (λ regs. Grows names.old names.new × All (λ r. r < length names.new.regs) regs) }
+        ensures grows { IfOk result (λ regs. NamesGrow names.old names.new × All (λ r. r < length names.new.regs) regs) }
         ensures count { IfOk result (λ regs. length regs ≡ length index.now) }
-        ensures values { IfOk result (λ regs. list_all (fits (basis_of layouts.now self.now)) index.now ≡ true →
+        ensures values { IfOk result (λ regs. list_all (can_be_lowered (basis_of layouts.now self.now)) index.now ≡ true →
             AllValues (basis_of layouts.now self.now) index.now regs names.old names.new block.old block.new) }
         ensures uses { IfOk result (λ regs. Uses (all_uses self.now.owned index.now) block.old block.new) }
         ensures typed { IfOk result (λ regs. AddsIndex layouts.now.list index.now regs names.old names.new block.old block.new) }

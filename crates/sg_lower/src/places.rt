@@ -6,7 +6,7 @@ ghost use Rattle.sg_ir.specs.Runs.{named_by};
 ghost use Rattle.sg_ir.specs.Places.{place_at};
 ghost use Rattle.sg_ir.specs.WellTyped.{set_vars};
 ghost use Rattle.sg_ir.specs.Apt.{uses_in};
-ghost use Rattle.sg_ir.specs.steps.Emits.{Grows, LeadsTo};
+ghost use Rattle.sg_ir.specs.steps.Emits.{NamesGrow, LeadsToPlace};
 ghost use Rattle.sg_ir.specs.steps.Types.{Adds, CanRead};
 ghost use Rattle.sg_lower.specs.steps.Typing.{IsCell};
 
@@ -26,8 +26,8 @@ pub(crate) fn named_place(
     index: &[u32],
 ) -> Result<u32, Memory>
     requires named { All (λ r. r < length names.old.regs) index.now }
-    ensures grows { IfOk result (λ to. Grows names.old names.new × (to < names.new.places)) }
-    ensures leads { IfOk result (λ to. equals_some (axes_in layouts.now.list layout) (length index.now) ≡ true → LeadsTo layouts.now.list index.now
+    ensures grows { IfOk result (λ to. NamesGrow names.old names.new × (to < names.new.places)) }
+    ensures leads { IfOk result (λ to. equals_some (axes_in layouts.now.list layout) (length index.now) ≡ true → LeadsToPlace layouts.now.list index.now
         (λ seen now. place_at layouts.now.list layout (named_by index.now now)) to names.old names.new block.old block.new) }
     ensures uses { IfOk result (λ to. uses_in block.new ≡ uses_in block.old) }
     ensures vars { IfOk result (λ to. set_vars block.new ≡ set_vars block.old) }

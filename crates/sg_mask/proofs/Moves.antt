@@ -11,7 +11,7 @@ use Rattle.atomic_table.specs.Table.{State, Me, step, keeps, Allows, Splits, Joi
 use Rattle.sg_words.specs.declared.race.Worker.{Worker}
 use Rattle.sg_words.specs.Counts.{times_in, bit_in}
 use Rattle.sg_words.specs.RaceMachine.{nobody, after_split, other_half, after_join, after_mark}
-use Rattle.sg_words.specs.RaceInvariant.{weight, has_marked}
+use Rattle.sg_words.specs.RaceInvariant.{handed_share, has_marked}
 use Rattle.sg_words.proofs.Uses.{kept-mark, kept-enrol, kept-join, stands, set_other_at, alone}
 use Rattle.sg_mask.specs.MaskRace.{setting_of, race_of, Racing, marks}
 use Rattle.sg_mask.specs.Marking.{AreMarked}
@@ -80,7 +80,7 @@ pub copied-all : (words from : List ℕ) (n : ℕ) → take n words ≡ take n f
 copied-all words from n e a b = sym (take-whole words n a) ∙ e ∙ take-whole from n b
 
 pub are_marked : (key start : List ℕ) (words : List ℕ) (views : List Worker) (id : ℕ) (v : Worker) (masks : List ℕ) → key ≡ start → Racing key words views → get_elem? views id ≡ some v
-    → weight v ≡ 16 → masks ≡ words → AreMarked start v.marked masks
+    → handed_share v ≡ 16 → masks ≡ words → AreMarked start v.marked masks
 are_marked key start words views id v masks told racing at all is =
     let r : Racing start words views = subst (λ k. Racing k words views) told racing in
     subst (λ l. AreMarked start v.marked l) (sym is) (record {

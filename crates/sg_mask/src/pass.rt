@@ -2,7 +2,7 @@
 ghost use Rattle.std.specs.Prelude.{◌≡◌, ℕ, ◌*◌, ◌%◌, ◌^◌, ◌<◌, ◌≤◌, [], length, take, IfOk};
 ghost use Rattle.std.specs.Mem.Slots.{slots_items, slots_len, IsFull};
 ghost use Rattle.sg_words.specs.RaceMachine.{newcomer, after_split, other_half, after_join, after_mark};
-ghost use Rattle.sg_words.specs.RaceInvariant.{weight};
+ghost use Rattle.sg_words.specs.RaceInvariant.{handed_share};
 ghost use Rattle.sg_mask.specs.Marking.{old_masks, worker_of, IsSeatOf, AreMarked};
 
 use crate::rule::{Half, Mark};
@@ -63,7 +63,7 @@ impl MaskPass {
     /// Ends the pass by a seat into which all others were joined: the words with the old bits and the marked ones.
     pub fn finish(self, seat: MarkSeat) -> Result<Items<u64>, Memory>
         requires own { IsSeatOf self seat }
-        requires all { weight (worker_of seat) ≡ 16 }
+        requires all { handed_share (worker_of seat) ≡ 16 }
         ensures { IfOk result (λ masks. AreMarked (old_masks self) (worker_of seat).marked masks) }
     {
         let MaskPass { table, mut masks } = self;

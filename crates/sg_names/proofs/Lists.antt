@@ -4,12 +4,12 @@ use Rattle.std.proofs.Common.{sym, ap, ◌∙◌}
 use Rattle.std.specs.List.{list_any, flat_map}
 use Rattle.std.proofs.lemmas.List.Folds.{list_any-append}
 use Rattle.sg_ast.specs.declared.token.Name.{Name}
-use Rattle.sg_ast.specs.Stmt.{joined}
+use Rattle.sg_ast.specs.Stmt.{joined_lists}
 
 -- an element of a list of lists passes where one of a list in it does
-pub list_any-joined : {X : Type 0} (test : Name → Bool) (f : X → List Name) (xs : List X) → list_any test (joined (map f xs)) ≡ list_any (λ x. list_any test (f x)) xs
+pub list_any-joined : {X : Type 0} (test : Name → Bool) (f : X → List Name) (xs : List X) → list_any test (joined_lists (map f xs)) ≡ list_any (λ x. list_any test (f x)) xs
 list_any-joined test f [] = refl
-list_any-joined test f (x ∷ xs) = list_any-append test (f x) (joined (map f xs)) ∙ ap (λ more. list_any test (f x) || more) (list_any-joined test f xs)
+list_any-joined test f (x ∷ xs) = list_any-append test (f x) (joined_lists (map f xs)) ∙ ap (λ more. list_any test (f x) || more) (list_any-joined test f xs)
 
 pub list_any-flat_map : {X : Type 0} (test : Name → Bool) (f : X → List Name) (xs : List X) → list_any test (flat_map f xs) ≡ list_any (λ x. list_any test (f x)) xs
 list_any-flat_map test f [] = refl

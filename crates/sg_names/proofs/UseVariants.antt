@@ -15,7 +15,7 @@ use Rattle.sg_ast.specs.declared.stmt.Stmt.{Stmt}
 use Rattle.sg_ast.specs.declared.stmt.Stmt.TheVariants as s
 use Rattle.sg_ast.specs.declared.command.Command.{Command}
 use Rattle.sg_ast.specs.declared.command.Command.TheVariants as c
-use Rattle.sg_ast.specs.Stmt.{joined}
+use Rattle.sg_ast.specs.Stmt.{joined_lists}
 use Rattle.sg_names.specs.Uses.{reads_of, reads_step, range_reads, else_fields, stmt_fields, fields_step, command_layouts, command_layouts_step, command_fields, command_fields_step, command_kernels, command_kernels_step, size_names, optional_size_names, node_sizes, domain_layouts, domain_fields}
 use Rattle.sg_ast.specs.declared.layout.NodeDecl.{NodeDecl}
 use Rattle.sg_ast.specs.declared.layout.LayoutDecl.{LayoutDecl}
@@ -86,11 +86,11 @@ module _ (test : Name → Bool) where
   else_any-fields (Some block) = list_any-joined test stmt_fields block
 
   fields_any-parts : (condition : Expr) (then : List Stmt) (otherwise : Option (List Stmt))
-      → list_any test (reads_of condition ++ (joined (map stmt_fields then) ++ else_fields (option_map (map stmt_fields) otherwise)))
+      → list_any test (reads_of condition ++ (joined_lists (map stmt_fields then) ++ else_fields (option_map (map stmt_fields) otherwise)))
       ≡ (reads_any condition || (list_any fields_any then || else_any fields_any otherwise))
   fields_any-parts condition then otherwise =
-      list_any-append test (reads_of condition) (joined (map stmt_fields then) ++ else_fields (option_map (map stmt_fields) otherwise))
-      ∙ ap (λ more. reads_any condition || more) (list_any-append test (joined (map stmt_fields then)) (else_fields (option_map (map stmt_fields) otherwise))
+      list_any-append test (reads_of condition) (joined_lists (map stmt_fields then) ++ else_fields (option_map (map stmt_fields) otherwise))
+      ∙ ap (λ more. reads_any condition || more) (list_any-append test (joined_lists (map stmt_fields then)) (else_fields (option_map (map stmt_fields) otherwise))
       ∙ (ap (λ some. some || list_any test (else_fields (option_map (map stmt_fields) otherwise))) (list_any-joined test stmt_fields then)
       ∙ ap (λ more. list_any fields_any then || more) (else_any-fields otherwise)))
 
@@ -107,7 +107,7 @@ module _ (test : Name → Bool) where
       → fields_any (s.For name range body) ≡ (list_any test (range_reads range) || list_any fields_any body)
   fields_any-For name range body =
       (ap (list_any test) (fold-For_stmt fields_step name range body)
-      ∙ (list_any-append test (range_reads range) (joined (map stmt_fields body))
+      ∙ (list_any-append test (range_reads range) (joined_lists (map stmt_fields body))
       ∙ ap (λ more. list_any test (range_reads range) || more) (list_any-joined test stmt_fields body)))
 
   layouts_any-Times : (number : ℕ) (body : List Command) → list_any test (command_layouts (c.Times number body)) ≡ list_any (λ inner. list_any test (command_layouts inner)) body

@@ -66,8 +66,8 @@ layout name axes extent fields =
     record { name = name; axes = axes; nodes = dense extent ∷ []; fields = map (λ field. record { name = field; ty = ty.I32 }) fields }
 
 -- kernel NAME { for i in LAYOUT { } }
-abbrev pub walk : Name → Name → Item
-walk name walked = item.Kernel (record { name = name; vars = i ∷ []; domain = domain.Layout walked; body = [] })
+abbrev pub walking_kernel : Name → Name → Item
+walking_kernel name walked = item.Kernel (record { name = name; vars = i ∷ []; domain = domain.Layout walked; body = [] })
 
 abbrev pub program : List Item → Program
 program items = record { items = items; lines = [] }
@@ -85,18 +85,18 @@ word_of_unsigned_seven = refl
 minus_seven_unsigned : constant_of (record { name = n; minus = true; value = 7; unsigned = true }) ≡ record { word = 4294967289; ty = ty.U32 }
 minus_seven_unsigned = refl
 
-abbrev pub least : Bool → ConstDecl
-least minus = record { name = n; minus = minus; value = 2147483648; unsigned = false }
+abbrev pub least_const : Bool → ConstDecl
+least_const minus = record { name = n; minus = minus; value = 2147483648; unsigned = false }
 
-word_of_least : constant_of (least false) ≡ record { word = 2147483648; ty = ty.I32 }
+word_of_least : constant_of (least_const false) ≡ record { word = 2147483648; ty = ty.I32 }
 word_of_least = refl
 
-least_is_its_negative : constant_of (least true) ≡ constant_of (least false)
+least_is_its_negative : constant_of (least_const true) ≡ constant_of (least_const false)
 least_is_its_negative = refl
 
 -- const N = 7; layout A(i) { dense(i: N); field f: i32; } kernel k { for i in A { } } layout B(i, j) { dense(i: 4); field g: i32; }
-abbrev pub whole : Program
-whole = program (item.Const (seven n) ∷ item.Layout (layout a (i ∷ []) (size.Name n) (f ∷ [])) ∷ walk k a ∷ item.Layout (layout b (i ∷ j ∷ []) four (g ∷ [])) ∷ [])
+abbrev pub whole_program : Program
+whole_program = program (item.Const (seven n) ∷ item.Layout (layout a (i ∷ []) (size.Name n) (f ∷ [])) ∷ walking_kernel k a ∷ item.Layout (layout b (i ∷ j ∷ []) four (g ∷ [])) ∷ [])
 
 abbrev pub tables_of_whole : Tables
 tables_of_whole = record {
@@ -107,7 +107,7 @@ tables_of_whole = record {
   kernels = k ∷ [];
 }
 
-whole_has_tables : tables_of whole ≡ Ok tables_of_whole
+whole_has_tables : tables_of whole_program ≡ Ok tables_of_whole
 whole_has_tables = refl
 
 second_field : field_named tables_of_whole g ≡ Some (record { number = 1; layout = 1; place = 0; ty = ty.I32 })
@@ -128,7 +128,7 @@ later_constant = refl
 unsigned_size : tables_of (program (item.Const (unsigned_seven n) ∷ item.Layout (layout a (i ∷ []) (size.Name n) (f ∷ [])) ∷ [])) ≡ Err (Unknown 2)
 unsigned_size = refl
 
-kernel_over_a_field : tables_of (program (item.Layout (layout a (i ∷ []) four (f ∷ [])) ∷ walk k f ∷ [])) ≡ Err (Unknown 2)
+kernel_over_a_field : tables_of (program (item.Layout (layout a (i ∷ []) four (f ∷ [])) ∷ walking_kernel k f ∷ [])) ≡ Err (Unknown 2)
 kernel_over_a_field = refl
 
 -- a name is not known in the item that declares it
@@ -138,7 +138,7 @@ own_layout_as_size = refl
 own_field_as_size : tables_of (program (item.Layout (layout a (i ∷ []) (size.Name f) (f ∷ [])) ∷ [])) ≡ Err (Unknown 1)
 own_field_as_size = refl
 
-kernel_over_itself : tables_of (program (walk k k ∷ [])) ≡ Err (Unknown 1)
+kernel_over_itself : tables_of (program (walking_kernel k k ∷ [])) ≡ Err (Unknown 1)
 kernel_over_itself = refl
 
 unknown_comes_first : tables_of (program (item.Layout (layout a (i ∷ []) four (f ∷ [])) ∷ item.Layout (layout a (i ∷ []) (size.Name n) (f ∷ [])) ∷ [])) ≡ Err (Unknown 2)
@@ -221,7 +221,7 @@ odd_shape : shape_of with_minus_seven odd ≡ record {
 odd_shape = refl
 
 abbrev pub with_least : Tables
-with_least = record { constants = record { name = n; constant = constant_of (least true) } ∷ []; layouts = []; fields = []; kernels = [] }
+with_least = record { constants = record { name = n; constant = constant_of (least_const true) } ∷ []; layouts = []; fields = []; kernels = [] }
 
 size_of_least : size_number with_least (size.Name n) ≡ negsuc 2147483647
 size_of_least = refl

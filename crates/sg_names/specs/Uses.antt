@@ -12,7 +12,7 @@ use Rattle.sg_ast.specs.declared.stmt.Stmt.TheOpen.{Stmt-F}
 use Rattle.sg_ast.specs.declared.layout.SizeDecl.{SizeDecl}
 use Rattle.sg_ast.specs.declared.layout.SizeDecl.TheVariants as size
 use Rattle.sg_ast.specs.declared.layout.NodeDecl.{NodeDecl}
-use Rattle.sg_ast.specs.Stmt.{joined}
+use Rattle.sg_ast.specs.Stmt.{joined_lists}
 use Rattle.sg_ast.specs.declared.kernel.DomainDecl.{DomainDecl}
 use Rattle.sg_ast.specs.declared.kernel.DomainDecl.TheVariants as domain
 use Rattle.sg_ast.specs.declared.command.Command.{Command, fold-Command}
@@ -26,11 +26,11 @@ abbrev pub reads_step : Expr-F (List Name) → List Name
 reads_step (e.Number value unsigned) = []
 reads_step (e.Truth truth) = []
 reads_step (e.Name name) = []
-reads_step (e.Read field index) = field ∷ joined index
+reads_step (e.Read field index) = field ∷ joined_lists index
 reads_step (e.Paren inner) = inner
 reads_step (e.Un op operand) = operand
 reads_step (e.Bin op left right) = left ++ right
-reads_step (e.Call callee arguments) = joined arguments
+reads_step (e.Call callee arguments) = joined_lists arguments
 
 -- the fields that an expression reads, in indices too
 abbrev pub reads_of : Expr → List Name
@@ -43,15 +43,15 @@ range_reads range = reads_of range.lo ++ reads_of range.hi
 -- the fields of the statements after an `else`, where there is one
 abbrev pub else_fields : Option (List (List Name)) → List Name
 else_fields None = []
-else_fields (Some parts) = joined parts
+else_fields (Some parts) = joined_lists parts
 
 -- one layer of a statement, where the fields that the statements in it read and write are given
 abbrev pub fields_step : Stmt-F (List Name) → List Name
 fields_step (s.Let name value) = reads_of value
 fields_step (s.Assign name value) = reads_of value
 fields_step (s.Write field index how value) = field ∷ (flat_map reads_of index ++ reads_of value)
-fields_step (s.If condition then otherwise) = reads_of condition ++ (joined then ++ else_fields otherwise)
-fields_step (s.For name range body) = range_reads range ++ joined body
+fields_step (s.If condition then otherwise) = reads_of condition ++ (joined_lists then ++ else_fields otherwise)
+fields_step (s.For name range body) = range_reads range ++ joined_lists body
 
 -- the fields that a statement reads or writes
 abbrev pub stmt_fields : Stmt → List Name
@@ -85,7 +85,7 @@ node_sizes node = flat_map (λ axis. size_names axis.size) node.axes ++ (optiona
 abbrev pub command_layouts_step : Command-F (List Name) → List Name
 command_layouts_step (c.Load field) = []
 command_layouts_step (c.Run kernel) = []
-command_layouts_step (c.Times number body) = joined body
+command_layouts_step (c.Times number body) = joined_lists body
 command_layouts_step (c.Dump field) = []
 command_layouts_step (c.Image field lo hi) = []
 command_layouts_step (c.Stats layout) = layout ∷ []
@@ -96,7 +96,7 @@ command_layouts_step (c.Clear layout) = layout ∷ []
 abbrev pub command_fields_step : Command-F (List Name) → List Name
 command_fields_step (c.Load field) = field ∷ []
 command_fields_step (c.Run kernel) = []
-command_fields_step (c.Times number body) = joined body
+command_fields_step (c.Times number body) = joined_lists body
 command_fields_step (c.Dump field) = field ∷ []
 command_fields_step (c.Image field lo hi) = field ∷ []
 command_fields_step (c.Stats layout) = []
@@ -107,7 +107,7 @@ command_fields_step (c.Clear layout) = []
 abbrev pub command_kernels_step : Command-F (List Name) → List Name
 command_kernels_step (c.Load field) = []
 command_kernels_step (c.Run kernel) = kernel ∷ []
-command_kernels_step (c.Times number body) = joined body
+command_kernels_step (c.Times number body) = joined_lists body
 command_kernels_step (c.Dump field) = []
 command_kernels_step (c.Image field lo hi) = []
 command_kernels_step (c.Stats layout) = []

@@ -48,11 +48,11 @@ reads_too_long : Reads got.TooLong [] (reading_at (Some (7 ∷ 8 ∷ [])) 1)
 reads_too_long = refl
 
 -- the bytes of a whole file are at most the limit
-abbrev pub Fits : Got → List ℕ → ℕ → Type 0
-Fits got.All bytes limit = length bytes ≤ limit
-Fits got.TooLong bytes limit = Unit {0}
-Fits got.Failed bytes limit = Unit {0}
-Fits got.Memory bytes limit = Unit {0}
+abbrev pub FitsLimit : Got → List ℕ → ℕ → Type 0
+FitsLimit got.All bytes limit = length bytes ≤ limit
+FitsLimit got.TooLong bytes limit = Unit {0}
+FitsLimit got.Failed bytes limit = Unit {0}
+FitsLimit got.Memory bytes limit = Unit {0}
 
 -- the count of faults rose where the read failed, and stays at every other answer
 abbrev pub ReadCause : Got → ℕ → ℕ → Type 0

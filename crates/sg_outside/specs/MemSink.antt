@@ -19,15 +19,15 @@ PutsExactly (put.Failed taken) listed part = (listed ≡ true) × (taken ≡ par
 PutsExactly put.Memory listed part = Unit {0}
 
 -- how much of a piece an answer tells as taken
-abbrev pub taken_of : Put → List ℕ → List ℕ
-taken_of put.All piece = piece
-taken_of (put.Failed taken) piece = take taken piece
-taken_of put.Memory piece = []
+abbrev pub bytes_taken : Put → List ℕ → List ℕ
+bytes_taken put.All piece = piece
+bytes_taken (put.Failed taken) piece = take taken piece
+bytes_taken put.Memory piece = []
 
 -- after a put: what it took of the piece, one more put, one more fault where it failed, and all else as before
 abbrev pub after_put : Put → List ℕ → SinkInMemory → SinkInMemory
 after_put answer piece sink =
-    record sink { bytes = sink.bytes ++ taken_of answer piece; puts = one_more sink.puts; faults = faults_after answer sink.faults }
+    record sink { bytes = sink.bytes ++ bytes_taken answer piece; puts = one_more sink.puts; faults = faults_after answer sink.faults }
 
 after_put_failed : after_put (put.Failed 1) (8 ∷ 9 ∷ []) (record { bytes = 7 ∷ []; failing = 1 ∷ []; most = 1; puts = 0; faults = 0 })
     ≡ record { bytes = 7 ∷ 8 ∷ []; failing = 1 ∷ []; most = 1; puts = 1; faults = 1 }

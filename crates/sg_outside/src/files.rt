@@ -1,6 +1,6 @@
 ghost use Rattle.std.specs.Prelude.{◌≡◌, ℕ, ◌≤◌, List, Option, Some};
 ghost use Rattle.sg_outside.specs.Counts.{one_more};
-ghost use Rattle.sg_outside.specs.Files.{Held, reading, Reads, Fits, ReadCause, asked_too, faults_after};
+ghost use Rattle.sg_outside.specs.Files.{Held, reading, Reads, FitsLimit, ReadCause, asked_too, faults_after};
 
 /// How a read of a file ended.
 #[derive(Clone, Copy, Debug, PartialEq, Eq)]
@@ -47,7 +47,7 @@ pub trait Files {
     fn read(&mut self, name: &str, limit: u64, into: &mut Vec<u8>) -> Got
         ensures bytes { (held : Held) → holds self.old ≡ Some held →
             Reads result into.new.items (reading held name.now limit) }
-        ensures fits { Fits result into.new.items limit }
+        ensures fits { FitsLimit result into.new.items limit }
         ensures holds { holds self.new ≡ holds self.old }
         ensures asked { asked self.new ≡ asked_too (asked self.old) name.now }
         ensures reads { reads self.new ≡ one_more (reads self.old) }

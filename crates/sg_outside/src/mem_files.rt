@@ -1,7 +1,7 @@
 ghost use Rattle.std.specs.Prelude.{◌≡◌, ℕ, ◌≤◌, ◌↔◌, ◌⊎◌, List, Option, Some, None, true, map, option_map, IfSome, vec_capacity};
 ghost use Rattle.std.specs.FinMap.{get};
 ghost use Rattle.sg_outside.specs.Counts.{one_more, is_listed};
-ghost use Rattle.sg_outside.specs.Files.{Held, Bytes, reading, reading_at, Reads, Fits, ReadCause, asked_too};
+ghost use Rattle.sg_outside.specs.Files.{Held, Bytes, reading, reading_at, Reads, FitsLimit, ReadCause, asked_too};
 ghost use Rattle.sg_outside.specs.MemFiles.{entry_of, bytes_named, held_of, next_reading, ReadsExactly, after_read};
 
 use super::files::{Files, Got};
@@ -81,7 +81,7 @@ impl Files for MemFiles {
     fn read(&mut self, name: &str, limit: u64, into: &mut Vec<u8>) -> Got
         ensures bytes { (held : Held) → Some (held_of self.old) ≡ Some held →
             Reads result into.new.items (reading held name.now limit) }
-        ensures fits { Fits result into.new.items limit }
+        ensures fits { FitsLimit result into.new.items limit }
         ensures holds { Some (held_of self.new) ≡ Some (held_of self.old) }
         ensures asked { None ≡ asked_too None name.now }
         ensures reads { self.new.reads ≡ one_more self.old.reads }

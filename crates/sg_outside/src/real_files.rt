@@ -1,6 +1,6 @@
 ghost use Rattle.std.specs.Prelude.{◌≡◌, ◌≢◌, ℕ, ◌<◌, ◌≤◌, List, IfOk, Some, None, length};
 ghost use Rattle.sg_outside.specs.Counts.{one_more};
-ghost use Rattle.sg_outside.specs.Files.{Reads, reading_at, Fits, faults_after};
+ghost use Rattle.sg_outside.specs.Files.{Reads, reading_at, FitsLimit, faults_after};
 
 use super::files::{Files, Got};
 use std::io::{ErrorKind, Read};
@@ -43,7 +43,7 @@ impl<'a, R: rt::Files> RealFiles<'a, R> {
 
     /// A read, with its counts. After `TooLong` the buffer shows that there are more bytes than the limit.
     fn read_counted(&mut self, name: &str, limit: u64, into: &mut Vec<u8>) -> Got
-        ensures fits { Fits result into.new.items limit }
+        ensures fits { FitsLimit result into.new.items limit }
         ensures past_limit { result ≡ Got.TooLong → limit < length into.new.items }
         ensures counted { self.new ≡ record self.old {
           faults = faults_after result self.old.faults;
@@ -78,7 +78,7 @@ impl<'a, R: rt::Files> Files for RealFiles<'a, R> {
 }
 
 fn read_named<R: rt::Files>(rt: &R, name: &str, limit: u64, into: &mut Vec<u8>) -> io::Result<Got>
-    ensures fits { IfOk result (λ got. Fits got into.new.items limit) }
+    ensures fits { IfOk result (λ got. FitsLimit got into.new.items limit) }
     ensures past_limit { IfOk result (λ got. got ≡ Got.TooLong → limit < length into.new.items) }
 {
     read_whole(fs::open(rt, name)?, limit, into)
@@ -88,7 +88,7 @@ fn read_named<R: rt::Files>(rt: &R, name: &str, limit: u64, into: &mut Vec<u8>) 
 fn read_whole<F: Read + Drop>(file: F, limit: u64, into: &mut Vec<u8>) -> io::Result<Got>
     ensures told { IfOk result (λ got. (bytes : List ℕ) → F.remaining file ≡ Some bytes →
         Reads got into.new.items (reading_at (Some bytes) limit)) }
-    ensures fits { IfOk result (λ got. Fits got into.new.items limit) }
+    ensures fits { IfOk result (λ got. FitsLimit got into.new.items limit) }
     ensures past_limit { IfOk result (λ got. got ≡ Got.TooLong → limit < length into.new.items) }
     ensures answered { IfOk result (λ got. (got ≢ Got.Failed) × (got ≢ Got.Memory)) }
 {

@@ -17,22 +17,22 @@ use Rattle.sg_ast.specs.Grammar.{is_bound, is_simple, is_command}
 use Rattle.sg_ast.proofs.Uses.{by_command_variant, command_tokens-Load, command_tokens-Run, command_tokens-Dump, command_tokens-Stats, command_tokens-Prune, command_tokens-Clear, is_simple-Load, is_simple-Run, is_simple-Times, is_simple-Dump, is_simple-Image, is_simple-Stats, is_simple-Prune, is_simple-Clear, is_command-Load, is_command-Run, is_command-Times, is_command-Dump, is_command-Image, is_command-Stats, is_command-Prune, is_command-Clear}
 use Rattle.sg_parser.specs.steps.Front.{after_sign, next_name, list_to_end}
 use Rattle.sg_words.specs.Options.{only_if}
-use Rattle.sg_parser.specs.steps.ReadItem.{next_plain, ending, is_marked, next_magnitude, whole_on, next_whole, read_named, read_image, name_command, word_simple, read_simple, read_times}
+use Rattle.sg_parser.specs.steps.ReadItem.{next_plain, ending, has_right_suffix, next_magnitude, whole_on, next_whole, read_named, read_image, name_command, word_simple, read_simple, read_times}
 use Rattle.sg_parser.proofs.StepLemmas.{bind_some, only_if_some, after_sign_is, next_name_is}
 use Rattle.sg_parser.proofs.ListLemmas.{IsSoundReader, repeated_sound}
 use Rattle.sg_parser.proofs.StmtSound.{made_is}
 use Rattle.sg_parser.proofs.ItemParts.{IsGood, all_pass, image_parts, times_parts, plain_sound, ending_sound}
 use Rattle.sg_ast.specs.Limits.{max_number}
 
-marked_is : (unsigned : Bool) (value : ℕ) → is_marked unsigned value ≡ true → unsigned ≡ nat_lt (max_number false) value
+marked_is : (unsigned : Bool) (value : ℕ) → has_right_suffix unsigned value ≡ true → unsigned ≡ nat_lt (max_number false) value
 marked_is true value h = sym h
 marked_is false value h = sym (not-true (nat_lt (max_number false) value) h)
 
 magnitude_sound : (tokens rest : List Token) (n : ℕ) → next_magnitude tokens ≡ Some (n, rest) → (is_number n true ≡ true) × (tokens ≡ magnitude_token n ∷ rest)
 magnitude_sound [] rest n h = absurd (cc)
 magnitude_sound (t.Number value unsigned ∷ more) rest n h =
-    let p = only_if_some (is_marked unsigned value && is_number value true) (Some (value, more)) (n, rest) h in
-    let q = and_parts (is_marked unsigned value) (is_number value true) p.0 in
+    let p = only_if_some (has_right_suffix unsigned value && is_number value true) (Some (value, more)) (n, rest) h in
+    let q = and_parts (has_right_suffix unsigned value) (is_number value true) p.0 in
     made_is (λ (n : ℕ) (rest : List Token). (is_number n true ≡ true) × (t.Number value unsigned ∷ more ≡ magnitude_token n ∷ rest)) value n more rest
     (q.1, ap (λ mark. t.Number value mark ∷ more) (marked_is unsigned value q.0)) p.1
 magnitude_sound (_ ∷ more) rest n h = absurd (cc)

@@ -25,7 +25,7 @@ use Rattle.sg_ast.specs.Grammar.{is_formed, is_infix, arity, is_expr}
 use Rattle.sg_ast.proofs.Uses.{tokens_of-Number, tokens_of-Truth, tokens_of-Name, tokens_of-Read, tokens_of-Paren, tokens_of-Un, tokens_of-Bin, tokens_of-Call, depth-Number, depth-Truth, depth-Name, depth-Read, depth-Paren, depth-Un, depth-Bin, depth-Call, level-Number, level-Truth, level-Name, level-Read, level-Paren, level-Un, level-Bin, level-Call, levelled-Number, levelled-Truth, levelled-Name, levelled-Read, levelled-Paren, levelled-Un, levelled-Bin, levelled-Call, is_formed-Number, is_formed-Truth, is_formed-Name, is_formed-Read, is_formed-Paren, is_formed-Un, is_formed-Bin, is_formed-Call, op_level-un_level}
 use Rattle.sg_parser.specs.steps.Front.{Reader, after_sign, next_op, comma_list}
 use Rattle.sg_words.specs.Options.{only_if, ◌>>=◌}
-use Rattle.sg_parser.specs.steps.ReadExpr.{goes_on, read_indices, read_name_expr, read_name_expr_on, read_call_expr, paren_expr, unary_expr, word_expr, sign_expr, prefix, climb, climb_on, expr_at}
+use Rattle.sg_parser.specs.steps.ReadExpr.{operator_goes_on, read_indices, read_name_expr, read_name_expr_on, read_call_expr, paren_expr, unary_expr, word_expr, sign_expr, prefix, climb, climb_on, expr_at}
 use Rattle.sg_parser.proofs.StepLemmas.{bind_some, only_if_some, after_sign_is, next_op_is}
 use Rattle.sg_parser.proofs.ListLemmas.{IsSoundReader, listed_sound}
 
@@ -204,7 +204,7 @@ module _ (d : ℕ) (expr : ℕ → Reader Expr) (sound : IsSound d expr) where
   prefix_sound (t.Sign sign ∷ tokens) a rest h = signed_sound sign tokens a rest h
 
   -- what an operator that goes on says of its operand
-  on_parts : (least : ℕ) (left : Expr) (op : BinOp) → goes_on least left op ≡ true → (least ≤ op_level op) × (left_needs op ≤ level left)
+  on_parts : (least : ℕ) (left : Expr) (op : BinOp) → operator_goes_on least left op ≡ true → (least ≤ op_level op) × (left_needs op ≤ level left)
   on_parts least left op h =
       let p = and_parts (nat_le least (op_level op)) (nat_le (left_needs op) (level left)) h in
       (leb-true least (op_level op) p.0, leb-true (left_needs op) (level left) p.1)
@@ -222,7 +222,7 @@ module _ (d : ℕ) (expr : ℕ → Reader Expr) (sound : IsSound d expr) where
     joined op right left_over after is parts = rw (is, parts, tokens_of-Bin op left right, append_assoc (tokens_of left) (op_token op ∷ tokens_of right) left_over) refl
 
     on : ((made : Expr) (after : List Token) (a : Expr) (rest : List Token) → Fit least (suc d) made → climb expr (suc d) least turns made after ≡ Some (a, rest) → Taken least (suc d) (tokens_of made ++ after) a rest)
-        → (op : BinOp) (after : List Token) → next_op tokens ≡ Some (op, after) → (on : Bool) → goes_on least left op ≡ on
+        → (op : BinOp) (after : List Token) → next_op tokens ≡ Some (op, after) → (on : Bool) → operator_goes_on least left op ≡ on
         → (if on then only_if (nat_lt (depth left) (suc d)) (expr (right_needs op) after >>= λ right. climb expr (suc d) least turns (e.Bin op left right.0) right.1) else Some (left, tokens)) ≡ Some (a, rest)
         → Taken least (suc d) (tokens_of left ++ tokens) a rest
     on more op after is false does h = stop h
@@ -247,7 +247,7 @@ module _ (d : ℕ) (expr : ℕ → Reader Expr) (sound : IsSound d expr) where
         → (next : Option (BinOp × List Token)) → next_op tokens ≡ next → climb_on expr (suc d) least (climb expr (suc d) least turns) left tokens next ≡ Some (a, rest)
         → Taken least (suc d) (tokens_of left ++ tokens) a rest
     go more None is h = stop h
-    go more (Some next) is h = on more next.0 next.1 is (goes_on least left next.0) refl h
+    go more (Some next) is h = on more next.0 next.1 is (operator_goes_on least left next.0) refl h
 
   -- one layer more
   pub layer_sound : (least : ℕ) (tokens : List Token) (a : Expr) (rest : List Token) → least ≤ un_level

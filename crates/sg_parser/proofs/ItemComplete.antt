@@ -33,7 +33,7 @@ use Rattle.sg_ast.specs.declared.program.Item.{Item}
 use Rattle.sg_ast.specs.declared.program.Item.TheVariants as item
 use Rattle.sg_ast.specs.Token.{is_name, is_number}
 use Rattle.sg_ast.specs.Expr.{with_commas, each_more, tokens_of, depth, levelled}
-use Rattle.sg_ast.specs.Stmt.{joined, range_tokens, block_tokens, stmt_tokens, nesting}
+use Rattle.sg_ast.specs.Stmt.{joined_lists, range_tokens, block_tokens, stmt_tokens, nesting}
 use Rattle.sg_ast.specs.Layout.{size_token, axis_tokens, kind_token, bound_by, node_tokens, ty_token, field_tokens, layout_tokens}
 use Rattle.sg_ast.specs.Kernel.{domain_tokens, kernel_tokens}
 use Rattle.sg_ast.specs.Command.{magnitude_token, bound_tokens, command_tokens}
@@ -45,7 +45,7 @@ use Rattle.sg_parser.specs.steps.Front.{after_sign, after_word, next_name}
 use Rattle.sg_words.specs.Options.{◌>>=◌}
 use Rattle.sg_parser.specs.steps.ReadExpr.{read_expr}
 use Rattle.sg_parser.specs.steps.ReadStmt.{read_range, read_block}
-use Rattle.sg_parser.specs.steps.ReadItem.{read_const_value, read_const, next_size, read_axis, next_kind, has_chunk, has_cap, next_bound, node_head, read_bounds, read_node, next_ty, read_field, before_field, layout_head, layout_body, read_layout, lone_name, read_domain, kernel_head, kernel_loop, read_kernel, is_marked, next_magnitude, next_whole, read_named, read_image, name_command, read_simple, read_times, read_item}
+use Rattle.sg_parser.specs.steps.ReadItem.{read_const_value, read_const, next_size, read_axis, next_kind, has_chunk, declares_cap, next_bound, node_head, read_bounds, read_node, next_ty, read_field, before_field, layout_head, layout_body, read_layout, lone_name, read_domain, kernel_head, kernel_loop, read_kernel, has_right_suffix, next_magnitude, next_whole, read_named, read_image, name_command, read_simple, read_times, read_item}
 use Rattle.sg_parser.proofs.StepLemmas.{bind_some, only_if_true, after_sign_is, next_name_is}
 use Rattle.sg_parser.proofs.ListLemmas.{listed_complete, repeated_complete}
 use Rattle.sg_parser.proofs.ExprComplete.{Ends, ends_sign, ends_comma, ends_brace}
@@ -100,7 +100,7 @@ bound_complete word true (Some x) rest is good found = rw (found (size_token x �
 bound_complete word false None rest is good found = refl
 bound_complete word _ _ rest is good found = absurd (cc)
 
-bounds_to : (k : NodeKind) (chunk cap : Option SizeDecl) → has_bounds k chunk cap ≡ true → (fits_bound (has_chunk k) chunk ≡ true) × (fits_bound (has_cap k) cap ≡ true)
+bounds_to : (k : NodeKind) (chunk cap : Option SizeDecl) → has_bounds k chunk cap ≡ true → (fits_bound (has_chunk k) chunk ≡ true) × (fits_bound (declares_cap k) cap ≡ true)
 bounds_to kind.Dense None None h = (refl, refl)
 bounds_to kind.Bitmasked None None h = (refl, refl)
 bounds_to kind.Pointer None (Some cap) h = (refl, h)
@@ -123,7 +123,7 @@ node_complete a rest good any =
       kind_complete a.kind (t.Sign s.OpenParen ∷ (with_commas (map axis_tokens a.axes) ++ close)),
       listed_complete AxisDecl read_axis axis_tokens (IsGood is_axis) Anything axis_complete (λ more. tt) a.axes close (leb-true 1 (length a.axes) r.0) (each_pass is_axis a.axes q.1) tt (omega arith) refl,
       bound_complete w.Chunk (has_chunk a.kind) a.chunk cap refl o.0 (λ more. refl),
-      bound_complete w.Cap (has_cap a.kind) a.cap (t.Sign s.Semicolon ∷ rest) refl o.1 (λ more. refl),
+      bound_complete w.Cap (declares_cap a.kind) a.cap (t.Sign s.Semicolon ∷ rest) refl o.1 (λ more. refl),
       r.1,
     ) refl
 
@@ -146,7 +146,7 @@ node_no_field kind.Pointer more = refl
 node_no_field kind.Hash more = refl
 node_no_field kind.Dynamic more = refl
 
-fields_begin : (fields : List FieldDecl) (more : List Token) → 1 ≤ length fields → before_field (joined (map field_tokens fields) ++ more) ≡ Some (joined (map field_tokens fields) ++ more)
+fields_begin : (fields : List FieldDecl) (more : List Token) → 1 ≤ length fields → before_field (joined_lists (map field_tokens fields) ++ more) ≡ Some (joined_lists (map field_tokens fields) ++ more)
 fields_begin [] more some = absurd (omega arith)
 fields_begin (a ∷ fields) more some = refl
 
@@ -163,14 +163,14 @@ layout_complete a rest good =
     let some = leb-true 1 (length a.fields) x.0 in
     let counts = and_from (nat_le (length a.axes) most_listed_axes) _ o.1 (and_from (nat_le 1 (length a.nodes) && nat_le (length a.nodes) most_listed_nodes) (nat_le 1 (length a.fields)) v.0 x.0) in
     let last : List Token = t.Sign s.CloseBrace ∷ rest in
-    let fields : List Token = joined (map field_tokens a.fields) ++ last in
-    let close : List Token = t.Sign s.CloseParen ∷ t.Sign s.OpenBrace ∷ (joined (map node_tokens a.nodes) ++ fields) in
+    let fields : List Token = joined_lists (map field_tokens a.fields) ++ last in
+    let close : List Token = t.Sign s.CloseParen ∷ t.Sign s.OpenBrace ∷ (joined_lists (map node_tokens a.nodes) ++ fields) in
     ap read_item (layout_parts a rest)
     ∙ rw (
       q.0,
       listed_complete Name next_name name_token (IsGood is_name) Anything name_complete (λ more. tt) a.axes close (leb-true 1 (length a.axes) o.0) (each_pass is_name a.axes r.1) tt (omega arith) refl,
       repeated_complete NodeDecl read_node node_tokens (IsGood is_node) Anything node_complete before_field (λ x more good. tt) (λ x more good. node_no_field x.kind _) (λ x good. omega arith) a.nodes fields fields (each_pass is_node a.nodes v.1) tt
-          (omega (arith, length-append (joined (map field_tokens a.fields)) last)) (fields_begin a.fields last some),
+          (omega (arith, length-append (joined_lists (map field_tokens a.fields)) last)) (fields_begin a.fields last some),
       repeated_complete FieldDecl read_field field_tokens (IsGood is_field_decl) Anything field_complete (after_sign s.CloseBrace) (λ x more good. tt) (λ x more good. refl) (λ x good. omega arith) a.fields last rest (each_pass is_field_decl a.fields x.1) tt (omega arith) refl,
       counts,
     ) refl
@@ -230,7 +230,7 @@ kernel_complete a rest good =
     let u = and_parts (is_domain a.domain) (list_all is_stmt a.body && nat_le (nesting a.body) max_nesting) p.1 in
     let v = and_parts (list_all is_stmt a.body) (nat_le (nesting a.body) max_nesting) u.1 in
     let last : List Token = t.Sign s.CloseBrace ∷ rest in
-    let inside : List Token = joined (map stmt_tokens a.body) ++ t.Sign s.CloseBrace ∷ last in
+    let inside : List Token = joined_lists (map stmt_tokens a.body) ++ t.Sign s.CloseBrace ∷ last in
     let over : List Token = t.Word w.In ∷ (domain_tokens a.domain ++ t.Sign s.OpenBrace ∷ inside) in
     let body : block_tokens a.body ++ last ≡ t.Sign s.OpenBrace ∷ inside = block_parts a.body last in
     let block : read_block (t.Sign s.OpenBrace ∷ inside) ≡ Some (a.body, last) = ap read_block (sym body) ∙ block_at_complete max_nesting a.body last (record { good = v.0; shallow = leb-true (nesting a.body) max_nesting v.1 }) in
@@ -244,12 +244,12 @@ kernel_complete a rest good =
     ) refl
 
 -- commands
-marked_from : (value : ℕ) (mark : Bool) → nat_lt (max_number false) value ≡ mark → is_marked mark value ≡ true
+marked_from : (value : ℕ) (mark : Bool) → nat_lt (max_number false) value ≡ mark → has_right_suffix mark value ≡ true
 marked_from value true is = is
 marked_from value false is = not_from_false (nat_lt (max_number false) value) is
 
 magnitude_complete : (value : ℕ) (rest : List Token) → is_number value true ≡ true → next_magnitude (magnitude_token value ∷ rest) ≡ Some (value, rest)
-magnitude_complete value rest good = only_if_true (is_marked (nat_lt (max_number false) value) value && is_number value true) (Some (value, rest)) (and_from (is_marked (nat_lt (max_number false) value) value) (is_number value true) (marked_from value (nat_lt (max_number false) value) refl) good)
+magnitude_complete value rest good = only_if_true (has_right_suffix (nat_lt (max_number false) value) value && is_number value true) (Some (value, rest)) (and_from (has_right_suffix (nat_lt (max_number false) value) value) (is_number value true) (marked_from value (nat_lt (max_number false) value) refl) good)
 
 whole_complete : (a : ℤ) (rest : List Token) → is_bound a ≡ true → next_whole (bound_tokens a ++ rest) ≡ Some (a, rest)
 unfolding next_whole
@@ -308,7 +308,7 @@ command_some = by_command_variant (λ a. 1 ≤ length (command_tokens a))
     (λ layout. rw (command_tokens-Clear layout) (omega arith))
 
 times_complete : (number : ℕ) (body : List Command) (rest : List Token) → is_command (command.Times number body) ≡ true
-    → read_times (t.Number number false ∷ t.Sign s.OpenBrace ∷ (joined (map command_tokens body) ++ t.Sign s.CloseBrace ∷ rest)) ≡ Some (command.Times number body, rest)
+    → read_times (t.Number number false ∷ t.Sign s.OpenBrace ∷ (joined_lists (map command_tokens body) ++ t.Sign s.CloseBrace ∷ rest)) ≡ Some (command.Times number body, rest)
 unfolding read_times
 times_complete number body rest h =
     let p = and_parts (is_number number false) (one_or_more is_simple body) (sym (is_command-Times number body) ∙ h) in

@@ -18,7 +18,7 @@ use Rattle.sg_ast.specs.declared.command.Command.{Command}
 use Rattle.sg_ast.specs.declared.command.Command.TheVariants as command
 use Rattle.sg_ast.specs.Token.{is_name, is_number}
 use Rattle.sg_ast.specs.Expr.{with_commas}
-use Rattle.sg_ast.specs.Stmt.{joined, block_tokens}
+use Rattle.sg_ast.specs.Stmt.{joined_lists, block_tokens}
 use Rattle.sg_ast.specs.Layout.{names_tokens, size_token, axis_tokens, kind_token, bound_by, node_tokens, field_tokens, layout_tokens}
 use Rattle.sg_ast.specs.Kernel.{domain_tokens, kernel_tokens}
 use Rattle.sg_ast.specs.Command.{bound_tokens, command_tokens}
@@ -60,7 +60,7 @@ node_parts node rest = simp append_assoc
 
 pub layout_parts : (layout : LayoutDecl) (rest : List Token) → layout_tokens layout ++ rest
     ≡ t.Word w.Layout ∷ t.Name layout.name ∷ t.Sign s.OpenParen ∷ (with_commas (map name_token layout.axes) ++ t.Sign s.CloseParen ∷ t.Sign s.OpenBrace
-    ∷ (joined (map node_tokens layout.nodes) ++ (joined (map field_tokens layout.fields) ++ t.Sign s.CloseBrace ∷ rest)))
+    ∷ (joined_lists (map node_tokens layout.nodes) ++ (joined_lists (map field_tokens layout.fields) ++ t.Sign s.CloseBrace ∷ rest)))
 layout_parts layout rest = simp append_assoc
 
 pub kernel_parts : (kernel : KernelDecl) (rest : List Token) → kernel_tokens kernel ++ rest
@@ -77,8 +77,8 @@ pub image_parts : (field : Name) (lo hi : ℤ) (rest : List Token) → command_t
 image_parts field lo hi rest = rw (command_tokens-Image field lo hi) (simp append_assoc)
 
 pub times_parts : (number : ℕ) (body : List Command) (rest : List Token) → command_tokens (command.Times number body) ++ rest
-    ≡ t.Word w.Times ∷ t.Number number false ∷ t.Sign s.OpenBrace ∷ (joined (map command_tokens body) ++ t.Sign s.CloseBrace ∷ rest)
-times_parts number body rest = rw (command_tokens-Times number body, append_assoc (joined (map command_tokens body)) (t.Sign s.CloseBrace ∷ []) rest) refl
+    ≡ t.Word w.Times ∷ t.Number number false ∷ t.Sign s.OpenBrace ∷ (joined_lists (map command_tokens body) ++ t.Sign s.CloseBrace ∷ rest)
+times_parts number body rest = rw (command_tokens-Times number body, append_assoc (joined_lists (map command_tokens body)) (t.Sign s.CloseBrace ∷ []) rest) refl
 
 -- the small steps
 pub number_sound : (tokens rest : List Token) (x : ℕ × Bool) → next_number tokens ≡ Some (x, rest) → (is_number x.0 x.1 ≡ true) × (tokens ≡ t.Number x.0 x.1 ∷ rest)

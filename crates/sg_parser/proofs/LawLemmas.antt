@@ -7,7 +7,7 @@ use Rattle.sg_ast.specs.declared.token.Token.{Token}
 use Rattle.sg_ast.specs.declared.token.Spanned.{Spanned}
 use Rattle.sg_ast.specs.declared.program.Item.{Item}
 use Rattle.sg_ast.specs.declared.program.Program.{Program}
-use Rattle.sg_ast.specs.Stmt.{joined}
+use Rattle.sg_ast.specs.Stmt.{joined_lists}
 use Rattle.sg_ast.specs.Program.{item_tokens, program_tokens}
 use Rattle.sg_ast.specs.Grammar.{is_item}
 use Rattle.sg_ast.specs.Items.{ends_item, open_after, in_front, cut_by, items_of, first_line, item_lines}
@@ -19,12 +19,12 @@ use Rattle.sg_parser.specs.Parsed.{item_of, item_or_fault, program_from}
 use Rattle.sg_parser.specs.Laws.{SpellsItem, ParsedIsSpelled, SpelledIsParsed, FirstFaultIsNamed, TreeIsOne}
 use Rattle.sg_parser.proofs.ParsedLemmas.{token_of, spelled_is, is_spelled, kinds-take}
 
-joined-in_front : (ends : Bool) (x : Spanned) (cuts : List (List Spanned)) → joined (map kinds (in_front ends x cuts)) ≡ x.token ∷ joined (map kinds cuts)
+joined-in_front : (ends : Bool) (x : Spanned) (cuts : List (List Spanned)) → joined_lists (map kinds (in_front ends x cuts)) ≡ x.token ∷ joined_lists (map kinds cuts)
 joined-in_front true x cuts = refl
 joined-in_front false x [] = refl
 joined-in_front false x (cut ∷ cuts) = refl
 
-joined-cuts : (braces : ℕ) (xs : List Spanned) → joined (map kinds (cut_by token_of braces xs)) ≡ kinds xs
+joined-cuts : (braces : ℕ) (xs : List Spanned) → joined_lists (map kinds (cut_by token_of braces xs)) ≡ kinds xs
 joined-cuts braces [] = refl
 joined-cuts braces (x ∷ xs) = joined-in_front (ends_item braces x.token) x (cut_by token_of (open_after braces x.token) xs) ∙ ap (λ k. x.token ∷ k) (joined-cuts (open_after braces x.token) xs)
 
@@ -34,7 +34,7 @@ record Accepted (items : List Item) (lines : List ℕ) (cuts : List (List Spanne
   all : program.items ≡ items ++ more
   places : program.lines ≡ lines ++ map first_line cuts
   good : list_all is_item more ≡ true
-  parts : joined (map item_tokens more) ≡ joined (map kinds cuts)
+  parts : joined_lists (map item_tokens more) ≡ joined_lists (map kinds cuts)
 
 same_ok : (a b : Program) → ◌≡◌ {A = Result Program ParseFault} (Ok a) (Ok b) → a ≡ b
 same_ok a b h = cc
@@ -57,7 +57,7 @@ on_found number items lines (cut ∷ cuts) program h = go (item_of cut) refl h (
         all = a.all ∙ append_assoc items (item ∷ []) a.more;
         places = a.places ∙ append_assoc lines (first_line cut ∷ []) (map first_line cuts);
         good = and_from (is_item item) (list_all is_item a.more) p.0 a.good;
-        parts = ap (λ k. k ++ joined (map item_tokens a.more)) (sym p.1) ∙ ap (λ k. kinds cut ++ k) a.parts;
+        parts = ap (λ k. k ++ joined_lists (map item_tokens a.more)) (sym p.1) ∙ ap (λ k. kinds cut ++ k) a.parts;
       }
 
 pub parsed_spelled : ParsedIsSpelled
@@ -65,7 +65,7 @@ parsed_spelled tokens program h =
     let a = on_found 1 [] [] (items_of tokens) program h in
     record {
       of_grammar = ap (λ items. list_all is_item items) a.all ∙ a.good;
-      tokens_are = ap (λ items. joined (map item_tokens items)) a.all ∙ a.parts ∙ joined-cuts 0 tokens;
+      tokens_are = ap (λ items. joined_lists (map item_tokens items)) a.all ∙ a.parts ∙ joined-cuts 0 tokens;
       lines_are = a.places;
     }
 
@@ -81,7 +81,7 @@ kinds-drop n (x ∷ xs) (f ∷ front) rest h is =
 abbrev accepted : List Item → List ℕ → Result Program ParseFault
 accepted items lines = Ok (record { items = items; lines = lines })
 
-only_from : (more : List Item) (tokens : List Spanned) → list_all is_item more ≡ true → kinds tokens ≡ joined (map item_tokens more) → (number : ℕ) (items : List Item) (lines : List ℕ)
+only_from : (more : List Item) (tokens : List Spanned) → list_all is_item more ≡ true → kinds tokens ≡ joined_lists (map item_tokens more) → (number : ℕ) (items : List Item) (lines : List ℕ)
     → program_from number items lines (items_of tokens) ≡ Ok (record { items = items ++ more; lines = lines ++ item_lines tokens })
 unfolding program_from
 only_from [] [] good h number items lines = rw (append-nil items, append-nil lines) refl
@@ -91,8 +91,8 @@ only_from (a ∷ more) tokens good h number items lines =
     let n : ℕ = length (item_tokens a) in
     let front : List Spanned = take n tokens in
     let rest : List Spanned = drop n tokens in
-    let is : kinds front ≡ item_tokens a = kinds-take n tokens (item_tokens a) (joined (map item_tokens more)) h refl in
-    let left : kinds rest ≡ joined (map item_tokens more) = kinds-drop n tokens (item_tokens a) (joined (map item_tokens more)) h refl in
+    let is : kinds front ≡ item_tokens a = kinds-take n tokens (item_tokens a) (joined_lists (map item_tokens more)) h refl in
+    let left : kinds rest ≡ joined_lists (map item_tokens more) = kinds-drop n tokens (item_tokens a) (joined_lists (map item_tokens more)) h refl in
     let cut : items_of tokens ≡ front ∷ items_of rest = ap items_of (sym (take-append-drop n tokens)) ∙ cut_by-item token_of a front rest p.0 is in
     let next = only_from more rest p.1 left (number + 1) (items ++ a ∷ []) (lines ++ first_line front ∷ []) in
     let spells = is_spelled front a p.0 is in

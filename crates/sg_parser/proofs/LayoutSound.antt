@@ -23,12 +23,12 @@ use Rattle.sg_ast.specs.declared.program.Item.{Item}
 use Rattle.sg_ast.specs.declared.program.Item.TheVariants as item
 use Rattle.sg_ast.specs.Token.{is_name}
 use Rattle.sg_ast.specs.Expr.{with_commas}
-use Rattle.sg_ast.specs.Stmt.{joined}
+use Rattle.sg_ast.specs.Stmt.{joined_lists}
 use Rattle.sg_ast.specs.Layout.{axis_tokens, kind_token, bound_by, node_tokens, ty_token, field_tokens}
 use Rattle.sg_ast.specs.Program.{item_tokens}
 use Rattle.sg_ast.specs.Grammar.{one_to, one_or_more, is_size, is_axis, has_bounds, is_node, is_field_ty, is_field_decl, is_item}
 use Rattle.sg_parser.specs.steps.Front.{after_sign, after_word, next_name, comma_list, list_to_end}
-use Rattle.sg_parser.specs.steps.ReadItem.{ending, next_size, read_axis, next_kind, has_chunk, has_cap, next_bound, node_head, read_bounds, read_node, next_ty, read_field, before_field, layout_head, layout_body, read_layout}
+use Rattle.sg_parser.specs.steps.ReadItem.{ending, next_size, read_axis, next_kind, has_chunk, declares_cap, next_bound, node_head, read_bounds, read_node, next_ty, read_field, before_field, layout_head, layout_body, read_layout}
 use Rattle.sg_parser.proofs.StepLemmas.{bind_some, only_if_some, after_sign_is, after_word_is, next_name_is}
 use Rattle.sg_parser.proofs.ListLemmas.{IsSoundReader, listed_sound, repeated_sound}
 use Rattle.sg_parser.proofs.StmtSound.{made_is, made_two}
@@ -66,7 +66,7 @@ fits_bound true (Some size) = is_size size
 fits_bound false None = true
 fits_bound _ _ = false
 
-bounds_from : (k : NodeKind) (chunk cap : Option SizeDecl) → fits_bound (has_chunk k) chunk ≡ true → fits_bound (has_cap k) cap ≡ true → has_bounds k chunk cap ≡ true
+bounds_from : (k : NodeKind) (chunk cap : Option SizeDecl) → fits_bound (has_chunk k) chunk ≡ true → fits_bound (declares_cap k) cap ≡ true → has_bounds k chunk cap ≡ true
 bounds_from kind.Dense None None p q = refl
 bounds_from kind.Bitmasked None None p q = refl
 bounds_from kind.Pointer None (Some cap) p q = q
@@ -110,10 +110,10 @@ node_bounds_sound : (k : NodeKind) (tokens : List Token) (chunk cap : Option Siz
 unfolding read_bounds
 node_bounds_sound k tokens chunk cap rest h =
     let p = bind_some (next_bound w.Chunk (has_chunk k) tokens) _ (chunk, cap, rest) h in
-    let q = bind_some (next_bound w.Cap (has_cap k) p.0.1) _ (chunk, cap, rest) p.2 in
+    let q = bind_some (next_bound w.Cap (declares_cap k) p.0.1) _ (chunk, cap, rest) p.2 in
     let r = bind_some (after_sign s.Semicolon q.0.1) _ (chunk, cap, rest) q.2 in
     let first = bound_sound w.Chunk (has_chunk k) tokens p.0.1 p.0.0 p.1 in
-    let second = bound_sound w.Cap (has_cap k) p.0.1 q.0.1 q.0.0 q.1 in
+    let second = bound_sound w.Cap (declares_cap k) p.0.1 q.0.1 q.0.0 q.1 in
     let end = after_sign_is s.Semicolon q.0.1 r.0 r.1 in
     made_two (IsNodeBounds k tokens) p.0.0 chunk q.0.0 cap r.0 rest
     (bounds_from k p.0.0 q.0.0 first.0 second.0, first.1 ∙ ap (λ more. bound_by w.Chunk p.0.0 ++ more) (second.1 ∙ ap (λ more. bound_by w.Cap q.0.0 ++ more) end)) r.2
@@ -191,7 +191,7 @@ layout_head_sound tokens name axes rest h =
 -- `NODES FIELDS }`, and what is behind it
 abbrev IsLayoutBody : List Token → List NodeDecl → List FieldDecl → List Token → Type 0
 IsLayoutBody tokens nodes fields rest = AllByRecursion (IsGood is_node) nodes × AllByRecursion (IsGood is_field_decl) fields
-    × (tokens ≡ joined (map node_tokens nodes) ++ (joined (map field_tokens fields) ++ t.Sign s.CloseBrace ∷ rest))
+    × (tokens ≡ joined_lists (map node_tokens nodes) ++ (joined_lists (map field_tokens fields) ++ t.Sign s.CloseBrace ∷ rest))
 
 layout_body_sound : (tokens : List Token) (nodes : List NodeDecl) (fields : List FieldDecl) (rest : List Token) → layout_body tokens ≡ Some (nodes, fields, rest) → IsLayoutBody tokens nodes fields rest
 unfolding layout_body
@@ -203,7 +203,7 @@ layout_body_sound tokens nodes fields rest h =
     let left = before_field_is first.0 p.0.1 first.3 in
     let end = after_sign_is s.CloseBrace second.0 q.0.1 second.3 in
     made_two (IsLayoutBody tokens) p.0.0 nodes q.0.0 fields q.0.1 rest
-    (first.1, second.1, first.2 ∙ ap (λ k. joined (map node_tokens p.0.0) ++ k) (left ∙ second.2 ∙ ap (λ k. joined (map field_tokens q.0.0) ++ k) end)) q.2
+    (first.1, second.1, first.2 ∙ ap (λ k. joined_lists (map node_tokens p.0.0) ++ k) (left ∙ second.2 ∙ ap (λ k. joined_lists (map field_tokens q.0.0) ++ k) end)) q.2
 
 pub layout_sound : (tokens : List Token) (a : Item) (rest : List Token) → read_layout tokens ≡ Some (a, rest) → (is_item a ≡ true) × (t.Word w.Layout ∷ tokens ≡ item_tokens a ++ rest)
 unfolding read_layout

@@ -7,7 +7,7 @@ use Rattle.sg_ast.specs.declared.token.Sign.TheVariants as s
 use Rattle.sg_ast.specs.declared.token.Token.{Token}
 use Rattle.sg_ast.specs.declared.token.Token.TheVariants as t
 use Rattle.sg_ast.specs.Expr.{with_commas, each_more}
-use Rattle.sg_ast.specs.Stmt.{joined}
+use Rattle.sg_ast.specs.Stmt.{joined_lists}
 use Rattle.sg_parser.specs.steps.Front.{Reader, after_sign, comma_list_on, comma_list_from, comma_list, list_to_end_on, list_to_end_from, list_to_end}
 use Rattle.sg_words.specs.Options.{◌>>=◌}
 use Rattle.sg_parser.proofs.StepLemmas.{bind_some, after_sign_is}
@@ -30,7 +30,7 @@ pub record RepeatTaken {A : Type 0} (spelled : A → List Token) (Good : A → T
   pub tail : List Token
   pub together : all ≡ found ++ items
   pub good : AllByRecursion Good items
-  pub parts : tokens ≡ joined (map spelled items) ++ tail
+  pub parts : tokens ≡ joined_lists (map spelled items) ++ tail
   pub ends : end tail ≡ Some rest
 
 module _ (A : Type 0) (one : Reader A) (spelled : A → List Token) (Good : A → Type 0) (sound : IsSoundReader spelled Good one) where
@@ -89,7 +89,7 @@ module _ (A : Type 0) (one : Reader A) (spelled : A → List Token) (Good : A �
           tail = m.tail;
           together = m.together ∙ append_assoc found (p.0.0 ∷ []) m.items;
           good = (taken.0, m.good);
-          parts = taken.1 ∙ ap (λ r. spelled p.0.0 ++ r) m.parts ∙ sym (append_assoc (spelled p.0.0) (joined (map spelled m.items)) m.tail);
+          parts = taken.1 ∙ ap (λ r. spelled p.0.0 ++ r) m.parts ∙ sym (append_assoc (spelled p.0.0) (joined_lists (map spelled m.items)) m.tail);
           ends = m.ends;
         }
 
@@ -98,7 +98,7 @@ module _ (A : Type 0) (one : Reader A) (spelled : A → List Token) (Good : A �
   listed_sound tokens all rest h = let m = listed_from_sound (length tokens) [] tokens all rest h in rw m.together (m.some, m.good, m.parts)
 
   pub repeated_sound : (end : List Token → Option (List Token)) (tokens : List Token) (all : List A) (rest : List Token) → list_to_end end one tokens ≡ Some (all, rest)
-      → (tail : List Token) × AllByRecursion Good all × (tokens ≡ joined (map spelled all) ++ tail) × (end tail ≡ Some rest)
+      → (tail : List Token) × AllByRecursion Good all × (tokens ≡ joined_lists (map spelled all) ++ tail) × (end tail ≡ Some rest)
   repeated_sound end tokens all rest h = let m = repeated_from_sound end (length tokens) [] tokens all rest h in rw m.together (m.tail, m.good, m.parts, m.ends)
 
 -- a list has no more items than tokens, where each item has one
@@ -136,29 +136,29 @@ module _ (A : Type 0) (one : Reader A) (spelled : A → List Token) (Good : A �
       → ((x : A) (more : List Token) → Good x → end (spelled x ++ more) ≡ None)
       → (turns : ℕ) (found items : List A) (tail rest : List Token)
       → length items < turns → AllByRecursion Good items → Stops tail → end tail ≡ Some rest
-      → list_to_end_from end one turns found (joined (map spelled items) ++ tail) ≡ Some (found ++ items, rest)
+      → list_to_end_from end one turns found (joined_lists (map spelled items) ++ tail) ≡ Some (found ++ items, rest)
   unfolding list_to_end_from
   repeated_from_complete end stops_more no_end zero found items tail rest enough good stops ends = absurd (omega arith)
   repeated_from_complete end stops_more no_end (suc turns) found [] tail rest enough good stops ends = rw (ends, append-nil found) refl
   repeated_from_complete end stops_more no_end (suc turns) found (x ∷ items) tail rest enough good stops ends =
-      rw (append_assoc (spelled x) (joined (map spelled items)) tail, no_end x (joined (map spelled items) ++ tail) good.0, complete x (joined (map spelled items) ++ tail) good.0 (follows items good.1))
+      rw (append_assoc (spelled x) (joined_lists (map spelled items)) tail, no_end x (joined_lists (map spelled items) ++ tail) good.0, complete x (joined_lists (map spelled items) ++ tail) good.0 (follows items good.1))
       (repeated_from_complete end stops_more no_end turns (found ++ x ∷ []) items tail rest (omega arith) good.1 stops ends
       ∙ ap (λ (all : List A). Some (all, rest)) (append_assoc found (x ∷ []) items)) where
-        follows : (items : List A) → AllByRecursion Good items → Stops (joined (map spelled items) ++ tail)
+        follows : (items : List A) → AllByRecursion Good items → Stops (joined_lists (map spelled items) ++ tail)
         follows [] h = stops
-        follows (y ∷ ys) h = rw (append_assoc (spelled y) (joined (map spelled ys)) tail) (stops_more y (joined (map spelled ys) ++ tail) h.0)
+        follows (y ∷ ys) h = rw (append_assoc (spelled y) (joined_lists (map spelled ys)) tail) (stops_more y (joined_lists (map spelled ys) ++ tail) h.0)
 
-  some_joined : ((x : A) → Good x → 1 ≤ length (spelled x)) → (items : List A) → AllByRecursion Good items → length items ≤ length (joined (map spelled items))
+  some_joined : ((x : A) → Good x → 1 ≤ length (spelled x)) → (items : List A) → AllByRecursion Good items → length items ≤ length (joined_lists (map spelled items))
   some_joined some [] good = omega arith
-  some_joined some (x ∷ items) good = omega (arith, some x good.0, some_joined some items good.1, length-append (spelled x) (joined (map spelled items)))
+  some_joined some (x ∷ items) good = omega (arith, some x good.0, some_joined some items good.1, length-append (spelled x) (joined_lists (map spelled items)))
 
   pub repeated_complete : (end : List Token → Option (List Token)) → ((x : A) (more : List Token) → Good x → Stops (spelled x ++ more))
       → ((x : A) (more : List Token) → Good x → end (spelled x ++ more) ≡ None) → ((x : A) → Good x → 1 ≤ length (spelled x))
       → (items : List A) (tail rest : List Token) → AllByRecursion Good items → Stops tail → 1 ≤ length tail → end tail ≡ Some rest
-      → list_to_end end one (joined (map spelled items) ++ tail) ≡ Some (items, rest)
+      → list_to_end end one (joined_lists (map spelled items) ++ tail) ≡ Some (items, rest)
   repeated_complete end stops_more no_end some items tail rest good stops left ends =
-      repeated_from_complete end stops_more no_end (length (joined (map spelled items) ++ tail)) [] items tail rest
-      (omega (arith, some_joined some items good, length-append (joined (map spelled items)) tail)) good stops ends
+      repeated_from_complete end stops_more no_end (length (joined_lists (map spelled items) ++ tail)) [] items tail rest
+      (omega (arith, some_joined some items good, length-append (joined_lists (map spelled items)) tail)) good stops ends
 
 -- facts of all items, one after the other
 pub all_map : {A : Type 0} (P Q : A → Type 0) → ((x : A) → P x → Q x) → (items : List A) → AllByRecursion P items → AllByRecursion Q items

@@ -17,7 +17,7 @@ use Rattle.sg_ast.specs.declared.stmt.Stmt.{Stmt}
 use Rattle.sg_ast.specs.declared.stmt.Stmt.TheVariants as stmt
 use Rattle.sg_ast.specs.Token.{is_name}
 use Rattle.sg_ast.specs.Expr.{tokens_of, largest}
-use Rattle.sg_ast.specs.Stmt.{joined, range_tokens, way_tokens, stmt_tokens, block_tokens, stmt_nesting}
+use Rattle.sg_ast.specs.Stmt.{joined_lists, range_tokens, way_tokens, stmt_tokens, block_tokens, stmt_nesting}
 use Rattle.sg_ast.specs.Limits.{max_depth}
 use Rattle.sg_ast.specs.Grammar.{is_expr, one_or_more, is_range, is_stmt}
 use Rattle.sg_ast.proofs.Uses.{by_stmt_variant, stmt_tokens-Let, stmt_tokens-Assign, stmt_tokens-Write, stmt_tokens-If, stmt_tokens-For, stmt_nesting-If, stmt_nesting-For, is_stmt-Let, is_stmt-Assign, is_stmt-Write, is_stmt-If, is_stmt-For}
@@ -89,7 +89,7 @@ module _ (d : ℕ) (block : Reader (List Stmt)) (complete : (body : List Stmt) (
       ) refl
 
   block_begins : (body : List Stmt) (rest : List Token) → Ends 1 (block_tokens body ++ rest)
-  block_begins body rest = rw (block_parts body rest) (ends_brace 1 (joined (map stmt_tokens body) ++ t.Sign s.CloseBrace ∷ rest))
+  block_begins body rest = rw (block_parts body rest) (ends_brace 1 (joined_lists (map stmt_tokens body) ++ t.Sign s.CloseBrace ∷ rest))
 
   if_complete : (condition : Expr) (chosen : List Stmt) (otherwise : Option (List Stmt)) (rest : List Token) → GoodStmt d (stmt.If condition chosen otherwise) → NoElse rest
       → statement block (stmt_tokens (stmt.If condition chosen otherwise) ++ rest) ≡ Some (stmt.If condition chosen otherwise, rest)
@@ -162,7 +162,7 @@ unfolding block_at
 block_at_complete zero body rest fit = let below = fit.shallow in absurd (omega arith)
 block_at_complete (suc d) body rest fit =
     let below = fit.shallow in
-    rw (append_assoc (joined (map stmt_tokens body)) (t.Sign s.CloseBrace ∷ []) rest)
+    rw (append_assoc (joined_lists (map stmt_tokens body)) (t.Sign s.CloseBrace ∷ []) rest)
     (repeated_complete Stmt (statement (block_at d)) stmt_tokens (GoodStmt d) NoElse (statement_complete d (block_at d) (block_at_complete d))
     (after_sign s.CloseBrace) (λ x more good. stmt_no_else x more) (λ x more good. stmt_no_brace x more) (λ x good. stmt_some x)
     body (t.Sign s.CloseBrace ∷ rest) rest (all_stmts d body fit.good (omega arith)) refl (omega arith) refl)

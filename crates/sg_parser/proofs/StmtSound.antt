@@ -19,7 +19,7 @@ use Rattle.sg_ast.specs.declared.stmt.Stmt.{Stmt}
 use Rattle.sg_ast.specs.declared.stmt.Stmt.TheVariants as stmt
 use Rattle.sg_ast.specs.Token.{is_name}
 use Rattle.sg_ast.specs.Expr.{tokens_of, with_commas, largest}
-use Rattle.sg_ast.specs.Stmt.{joined, range_tokens, way_tokens, else_tokens, stmt_tokens, block_tokens, stmt_nesting, nesting}
+use Rattle.sg_ast.specs.Stmt.{joined_lists, range_tokens, way_tokens, else_tokens, stmt_tokens, block_tokens, stmt_nesting, nesting}
 use Rattle.sg_ast.specs.Limits.{max_depth}
 use Rattle.sg_ast.specs.Grammar.{is_expr, one_or_more, is_range, is_stmt}
 use Rattle.sg_ast.proofs.Uses.{stmt_tokens-Let, stmt_tokens-Assign, stmt_tokens-Write, stmt_tokens-If, stmt_tokens-For, stmt_nesting-Let, stmt_nesting-Assign, stmt_nesting-Write, stmt_nesting-If, stmt_nesting-For, is_stmt-Let, is_stmt-Assign, is_stmt-Write, is_stmt-If, is_stmt-For}
@@ -82,8 +82,8 @@ pub for_parts : (name : Name) (range : RangeDecl) (body : List Stmt) (rest : Lis
     ≡ t.Word w.For ∷ t.Name name ∷ t.Word w.In ∷ (range_tokens range ++ (block_tokens body ++ rest))
 for_parts name range body rest = rw (stmt_tokens-For name range body, append_assoc (range_tokens range) (block_tokens body) rest) refl
 
-pub block_parts : (body : List Stmt) (rest : List Token) → block_tokens body ++ rest ≡ t.Sign s.OpenBrace ∷ (joined (map stmt_tokens body) ++ t.Sign s.CloseBrace ∷ rest)
-block_parts body rest = ap (λ r. t.Sign s.OpenBrace ∷ r) (append_assoc (joined (map stmt_tokens body)) (t.Sign s.CloseBrace ∷ []) rest)
+pub block_parts : (body : List Stmt) (rest : List Token) → block_tokens body ++ rest ≡ t.Sign s.OpenBrace ∷ (joined_lists (map stmt_tokens body) ++ t.Sign s.CloseBrace ∷ rest)
+block_parts body rest = ap (λ r. t.Sign s.OpenBrace ∷ r) (append_assoc (joined_lists (map stmt_tokens body)) (t.Sign s.CloseBrace ∷ []) rest)
 
 pub expr_sound : IsSoundReader tokens_of GoodExpr read_expr
 expr_sound tokens a rest h = let taken = expr_at_sound max_depth 1 tokens a rest (lit≤ tt) h in (expr_of_fit a taken.fit, taken.parts)

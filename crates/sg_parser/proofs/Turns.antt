@@ -9,7 +9,7 @@ use Rattle.sg_ast.specs.declared.expr.Expr.{Expr}
 use Rattle.sg_ast.specs.declared.expr.Expr.TheVariants as e
 use Rattle.sg_ast.specs.Expr.{depth, largest, right_needs}
 use Rattle.sg_parser.specs.steps.Front.{Reader, after_sign, next_op, comma_list_from, list_to_end_from}
-use Rattle.sg_parser.specs.steps.ReadExpr.{goes_on, climb}
+use Rattle.sg_parser.specs.steps.ReadExpr.{operator_goes_on, climb}
 
 -- a list with commas: on behind a comma, done where there is none, stuck where no item is read
 pub listed_turn : {A : Type 0} (one : Reader A) (m n : ℕ) (found : List A) (tokens : List Token) (x : A) (mid behind : List Token)
@@ -38,7 +38,7 @@ deepest-push (first ∷ trees) tree = omega (arith, deepest-push trees tree)
 -- an operator behind what was read so far
 module _ (expr : ℕ → Reader Expr) (limit least : ℕ) where
   pub climb_turn : (m n : ℕ) (left right : Expr) (op : BinOp) (tokens behind rest : List Token)
-      → m ≡ suc n → next_op tokens ≡ Some (op, behind) → goes_on least left op ≡ true → depth left < limit → expr (right_needs op) behind ≡ Some (right, rest)
+      → m ≡ suc n → next_op tokens ≡ Some (op, behind) → operator_goes_on least left op ≡ true → depth left < limit → expr (right_needs op) behind ≡ Some (right, rest)
       → climb expr limit least m left tokens ≡ climb expr limit least n (e.Bin op left right) rest
   unfolding climb
   climb_turn m n left right op tokens behind rest is next on small read =
@@ -46,7 +46,7 @@ module _ (expr : ℕ → Reader Expr) (limit least : ℕ) where
       rw (is, next, on, within, read) refl
 
   pub climb_stuck : (m n : ℕ) (left : Expr) (op : BinOp) (tokens behind : List Token)
-      → m ≡ suc n → next_op tokens ≡ Some (op, behind) → goes_on least left op ≡ true → depth left < limit → expr (right_needs op) behind ≡ None
+      → m ≡ suc n → next_op tokens ≡ Some (op, behind) → operator_goes_on least left op ≡ true → depth left < limit → expr (right_needs op) behind ≡ None
       → climb expr limit least m left tokens ≡ None
   unfolding climb
   climb_stuck m n left op tokens behind is next on small read =
@@ -54,7 +54,7 @@ module _ (expr : ℕ → Reader Expr) (limit least : ℕ) where
       rw (is, next, on, within, read) refl
 
   pub climb_deep : (m n : ℕ) (left : Expr) (op : BinOp) (tokens behind : List Token)
-      → m ≡ suc n → next_op tokens ≡ Some (op, behind) → goes_on least left op ≡ true → limit ≤ depth left
+      → m ≡ suc n → next_op tokens ≡ Some (op, behind) → operator_goes_on least left op ≡ true → limit ≤ depth left
       → climb expr limit least m left tokens ≡ None
   unfolding climb
   climb_deep m n left op tokens behind is next on large =
@@ -62,7 +62,7 @@ module _ (expr : ℕ → Reader Expr) (limit least : ℕ) where
       rw (is, next, on, within) refl
 
   pub climb_off : (m n : ℕ) (left : Expr) (op : BinOp) (tokens behind : List Token)
-      → m ≡ suc n → next_op tokens ≡ Some (op, behind) → goes_on least left op ≡ false → climb expr limit least m left tokens ≡ Some (left, tokens)
+      → m ≡ suc n → next_op tokens ≡ Some (op, behind) → operator_goes_on least left op ≡ false → climb expr limit least m left tokens ≡ Some (left, tokens)
   unfolding climb
   climb_off m n left op tokens behind is next off = rw (is, next, off) refl
 

@@ -15,7 +15,7 @@ use std::alloc::Global;
 
 /// Whether a number of a bound has a `u` exactly where it is past the limit without one.
 fn is_marked(unsigned: bool, value: u32) -> bool
-    ensures { result ≡ read.is_marked unsigned value }
+    ensures { result ≡ read.has_right_suffix unsigned value }
 {
     let is_large = MAX_SIGNED < value;
     if unsigned { is_large } else { !is_large }

@@ -76,7 +76,7 @@ fn level(tree: &Expr) -> u8
 
 /// Whether an operator joins what was read so far to what follows.
 fn goes_on(least: u8, left: &Expr, op: BinOp) -> bool
-    ensures { result ≡ read.goes_on least left.now op }
+    ensures { result ≡ read.operator_goes_on least left.now op }
 {
     least <= op_level(op) && left_needs(op) <= level(left)
 }

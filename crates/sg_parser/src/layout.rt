@@ -91,7 +91,7 @@ fn has_chunk(kind: NodeKind) -> bool
 }
 
 fn has_cap(kind: NodeKind) -> bool
-    ensures { result ≡ read.has_cap kind }
+    ensures { result ≡ read.declares_cap kind }
 {
     match kind {
         NodeKind::Dense | NodeKind::Bitmasked => false,

@@ -10,8 +10,8 @@ use lib.ListN.{get_elem?}
 use Rattle.sg_words.specs.declared.race.Worker.{Worker}
 use Rattle.sg_words.specs.Counts.{one, once_below, times_in, pairs, firsts}
 use Rattle.sg_words.specs.RaceMachine.{Race}
-use Rattle.sg_words.specs.RaceInvariant.{MeetsRaceInvariant, weight, made_at, holds_ticket, has_seen, has_made, has_linked, links_from}
-use Rattle.sg_words.specs.RaceLaws.{IsFresh}
+use Rattle.sg_words.specs.RaceInvariant.{MeetsRaceInvariant, handed_share, made_at, holds_ticket, has_seen, has_made, has_linked, links_from}
+use Rattle.sg_words.specs.RaceLaws.{IsFreshSetting}
 use Rattle.sg_words.proofs.Uses.{alone, stands, le-total, part-of, made-ticket, new_links_differ, spares_never_fill, pair_cases, first_cases, total-le, total-append}
 use Rattle.sg_pointer.proofs.Racing.{made-held, sum_below, sum-same, sum-add, spread}
 use Rattle.sg_pointer.specs.declared.rule.Start.{Start}
@@ -56,7 +56,7 @@ full-links : (i : ℕ) (words : List ℕ) → links_from (λ _. 0) 0 i words ≡
 full-links i [] = refl
 full-links i (w ∷ ws) = let r = full-links (i + 1) ws in omega arith
 
-pub settled : (start : Start) (v : Worker) (links : List ℕ) (count : ℕ) (dry : Bool) → IsFreshStock start.links start.stock → 0 < v.share → weight v ≡ 16 → length links ≡ length start.links
+pub settled : (start : Start) (v : Worker) (links : List ℕ) (count : ℕ) (dry : Bool) → IsFreshStock start.links start.stock → 0 < v.share → handed_share v ≡ 16 → length links ≡ length start.links
     → Ended start v links count → dry ≡ is_dry v → Settled start.links start.stock v links dry
 settled start v links count dry fresh live all long end is_dry' =
     let g = setting_of start in
@@ -65,7 +65,7 @@ settled start v links count dry fresh live all long end is_dry' =
     let at = end.3 in
     let ws = end.0 in
     let id = end.1 in
-    let fresh' : IsFresh g 0 = record { distinct = fresh.distinct; unlinked = λ t i below _. fresh.unlinked t i below } in
+    let fresh' : IsFreshSetting g 0 = record { distinct = fresh.distinct; unlinked = λ t i below _. fresh.unlinked t i below } in
     record {
       long = long;
       stay = k.slots_stay.1;
@@ -228,7 +228,7 @@ made-pair t xs h =
     let le = le-total (λ (x : ℕ × ℕ). one ((x.0 == p.1.0) && (x.1 == t))) xs p.0 p.1 p.2 in
     (p.1.0, omega arith)
 
-module _ (start : Start) (v : Worker) (links : List ℕ) (count : ℕ) (test : ℕ → Bool) (fresh : IsFreshStock start.links start.stock) (live : 0 < v.share) (all : weight v ≡ 16)
+module _ (start : Start) (v : Worker) (links : List ℕ) (count : ℕ) (test : ℕ → Bool) (fresh : IsFreshStock start.links start.stock) (live : 0 < v.share) (all : handed_share v ≡ 16)
     (long : length links ≡ length start.links) (end : Ended start v links count) (is : (x : ℕ) → test x ≡ nat_lt 0 (times_in x (taken_of start.links links))) where
   -- the tickets of the last seat are all tickets
   all-tickets : (t : ℕ) → holds_ticket (λ _. 0) 0 t v ≡ once_below t (min count (length start.stock))

@@ -2,7 +2,7 @@
 ghost use Rattle.std.specs.Prelude.{◌≡◌, ℕ, ◌+◌, ◌^◌, ◌<◌, ◌≤◌, false, min, nat_lt, length, take, IfOk, slice_index, slice_index_or};
 ghost use Rattle.std.specs.Mem.Slots.{slots_items, slots_len, IsFull};
 ghost use Rattle.sg_words.specs.Counts.{times_in};
-ghost use Rattle.sg_words.specs.RaceInvariant.{weight};
+ghost use Rattle.sg_words.specs.RaceInvariant.{handed_share};
 ghost use Rattle.sg_pointer.specs.Asking.{AreLinks, is_dry};
 ghost use Rattle.sg_pointer.specs.Finishing.{Settled, AreSpares, taken_of};
 ghost use Rattle.sg_pointer.specs.steps.Ending.{Ended, outside};
@@ -36,7 +36,7 @@ impl PointerPass {
     /// Ends the pass by a seat into which all others were joined.
     pub fn finish(self, alloc: Global, seat: AskSeat) -> Result<Linked, Memory>
         requires own { IsSeatOf self seat }
-        requires all { weight (worker_of seat) ≡ 16 }
+        requires all { handed_share (worker_of seat) ≡ 16 }
         ensures settled { IfOk result (λ linked. Settled (old_links self) (stock_of self) (worker_of seat) linked.links linked.dry) }
         ensures taken { IfOk result (λ linked. linked.taken ≡ taken_of (old_links self) linked.links) }
         ensures spares { IfOk result (λ linked. AreSpares (stock_of self) (worker_of seat) linked.spares) }

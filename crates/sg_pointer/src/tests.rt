@@ -2,7 +2,7 @@ ghost use Rattle.std.specs.Prelude.{◌≡◌, ◌+◌, ◌-◌, ◌<◌, ◌≤
 ghost use Rattle.std.specs.List.{range_with_len};
 ghost use Rattle.std.specs.Thread.{IsSync};
 ghost use Rattle.sg_words.specs.RaceMachine.{newcomer, after_split, other_half};
-ghost use Rattle.sg_words.specs.RaceInvariant.{weight};
+ghost use Rattle.sg_words.specs.RaceInvariant.{handed_share};
 ghost use Rattle.sg_pointer.specs.Asking.{SameTeam};
 ghost use Rattle.sg_pointer.specs.Seats.{old_links, worker_of, IsSeatOf};
 
@@ -123,7 +123,7 @@ fn pass_of_hundred(alloc: Global, count: u32) -> Result<(PointerPass, AskSeat), 
     ensures seat { IfOk result (λ r. IsSeatOf r.0 r.1) }
     ensures slots { IfOk result (λ r. length (old_links r.0) ≡ 100) }
     ensures share { IfOk result (λ r. (worker_of r.1).share ≡ 16) }
-    ensures weight { IfOk result (λ r. weight (worker_of r.1) ≡ 16) }
+    ensures weight { IfOk result (λ r. handed_share (worker_of r.1) ≡ 16) }
 {
     let links = hundred_slots(alloc)?;
     let stock = numbers(alloc, count)?;
@@ -135,7 +135,7 @@ fn ask_round(pass: &PointerPass, mut seat: AskSeat, first: usize, answers: &mut 
     requires own { IsSeatOf pass.now seat }
     requires slots { length (old_links pass.now) ≡ 100 }
     ensures own { IsSeatOf pass.now result }
-    ensures weight { weight (worker_of result) ≡ weight (worker_of seat) }
+    ensures weight { handed_share (worker_of result) ≡ handed_share (worker_of seat) }
 {
     for i in 0..answers.len() {
         answers[i] = pass.ask(&mut seat, first.wrapping_add(i) % 100);
@@ -156,7 +156,7 @@ fn race<R: Threads + Sync>(
     requires slots { length (old_links pass.now) ≡ 100 }
     requires share { workers ≤ (worker_of seat).share }
     ensures own { IsSeatOf pass.now result }
-    ensures weight { weight (worker_of result) ≡ weight (worker_of seat) }
+    ensures weight { handed_share (worker_of result) ≡ handed_share (worker_of seat) }
 {
     if workers < 2 {
         return ask_round(pass, seat, first, answers);
@@ -168,11 +168,11 @@ fn race<R: Threads + Sync>(
         rt,
         move || -> AskSeat
             requires { IsSync R.row × IsSeatOf pass.now seat × (length (old_links pass.now) ≡ 100) × (workers - half ≤ (worker_of seat).share) × (half ≤ workers) }
-            ensures { IsSeatOf pass.entry.now result × (weight (worker_of result) ≡ weight (worker_of seat)) }
+            ensures { IsSeatOf pass.entry.now result × (handed_share (worker_of result) ≡ handed_share (worker_of seat)) }
         { race(rt, pass, seat, workers - half, first, mine) },
         move || -> AskSeat
             requires { IsSync R.row × IsSeatOf pass.now other × (length (old_links pass.now) ≡ 100) × (half ≤ (worker_of other).share) }
-            ensures { IsSeatOf pass.entry.now result × (weight (worker_of result) ≡ weight (worker_of other)) }
+            ensures { IsSeatOf pass.entry.now result × (handed_share (worker_of result) ≡ handed_share (worker_of other)) }
         {
             race(
                 rt,

@@ -1,5 +1,5 @@
 -- What an answer of compiling says of its parts.
-use Rattle.std.proofs.Common.{◌≡◌, ℕ, suc, ◌≤◌, Bool, true, false, List, [], ◌∷◌, map, length, Option, Some, None, Result, Ok, Err, IfOk, refl, sym, ap, ◌∙◌, subst, arith}
+use Rattle.std.proofs.Common.{◌≡◌, ℕ, suc, ◌≤◌, Bool, true, false, List, [], ◌∷◌, length, Option, Some, None, Result, Ok, Err, IfOk, refl, sym, ap, ◌∙◌, subst, arith}
 use Rattle.std.specs.Prelude.{if◌then◌else◌, ◌&&◌, nat_le, nat_lt, option_map}
 use Rattle.std.specs.List.{AllByRecursion, list_all, range_with_len}
 use Rattle.std.proofs.lemmas.Bool.{leb-true, and_parts}
@@ -15,18 +15,15 @@ use Rattle.sg_ast.specs.declared.kernel.KernelDecl.{KernelDecl}
 use Rattle.sg_ast.specs.declared.program.Program.{Program}
 use Rattle.sg_ast.specs.declared.program.Item.{Item}
 use Rattle.sg_ast.specs.declared.program.Item.TheVariants as item
-use Rattle.sg_ast.specs.declared.layout.NodeDecl.{NodeDecl}
-use Rattle.sg_ast.specs.declared.token.Name.{Name}
 use Rattle.sg_layout.specs.declared.shape.Shape.{Shape}
 use Rattle.sg_layout.specs.declared.layout.LayoutFault.{LayoutFault}
 use Rattle.sg_layout.specs.declared.layout.LayoutFault.TheVariants as layout_fault
 use Rattle.sg_layout.specs.Axes.{bounds_of_shape}
-use Rattle.sg_layout.specs.Rules.{checked, checked_by, is_small, first_node_fault}
+use Rattle.sg_layout.specs.Rules.{checked_shape, checked_by, is_small, first_node_fault}
 use Rattle.sg_layout.specs.StorageWords.{total_words}
 use Rattle.sg_layout.specs.Limits.{most_words}
 use Rattle.sg_names.specs.Tables.{Tables}
-use Rattle.sg_names.specs.Shapes.{shape_of, node_kind, node_shape}
-use Rattle.sg_names.specs.Laws.{layout_decls, kernel_decls}
+use Rattle.sg_names.specs.Laws.{kernel_decls}
 use Rattle.sg_types.specs.declared.typed.Typed.{Typed}
 use Rattle.sg_types.specs.declared.typed.TypedKernel.{TypedKernel}
 use Rattle.sg_types.specs.WellTyped.{is_well_typed_kernel}
@@ -73,7 +70,7 @@ told_none tell (Some x) e = absurd (cc)
 -- ---- layouts
 
 -- a shape that keeps the rules is the layout
-pub checked_same : (shape layout : Shape) → checked shape ≡ Ok layout → layout ≡ shape
+pub checked_same : (shape layout : Shape) → checked_shape shape ≡ Ok layout → layout ≡ shape
 checked_same shape layout h = by_nodes (first_node_fault shape.axes 1 shape.nodes) h where
   by_size : (small : Bool) → (if small then Ok shape else Err layout_fault.TooLarge) ≡ Ok layout → layout ≡ shape
   by_size true e = cc
@@ -86,9 +83,9 @@ checked_same shape layout h = by_nodes (first_node_fault shape.axes 1 shape.node
 pub layouts_same : (n : ℕ) (shapes layouts : List Shape) → checked_layouts n shapes ≡ Ok layouts → layouts ≡ shapes
 layouts_same n [] layouts e = cc
 layouts_same n (shape ∷ shapes) layouts e =
-    let first = bound_ok (fault_as (refusal.Layout n) (checked shape)) (λ layout. checked_layouts (suc n) shapes >>= (λ layouts. Ok (layout ∷ layouts))) layouts e in
+    let first = bound_ok (fault_as (refusal.Layout n) (checked_shape shape)) (λ layout. checked_layouts (suc n) shapes >>= (λ layouts. Ok (layout ∷ layouts))) layouts e in
     let rest = bound_ok (checked_layouts (suc n) shapes) (λ layouts. Ok (first.x ∷ layouts)) layouts first.gives in
-    let head : first.x ≡ shape = checked_same shape first.x (as_ok (refusal.Layout n) (checked shape) first.x first.is) in
+    let head : first.x ≡ shape = checked_same shape first.x (as_ok (refusal.Layout n) (checked_shape shape) first.x first.is) in
     let tail : rest.x ≡ shapes = layouts_same (suc n) shapes rest.x rest.is in
     cc
 

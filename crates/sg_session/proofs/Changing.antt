@@ -1,5 +1,5 @@
 -- A store that changes, and what all stores stand for then.
-use Rattle.std.proofs.Common.{◌≡◌, ℕ, zero, suc, List, [], ◌∷◌, map, Option, Some, None, refl, sym, ap, ◌∙◌, subst}
+use Rattle.std.proofs.Common.{◌≡◌, ℕ, zero, suc, List, [], ◌∷◌, Some, refl, sym, ap, ◌∙◌, subst}
 use Rattle.std.specs.Prelude.{slice_get, slice_set}
 use Rattle.std.specs.List.{AllZip}
 use Rattle.sg_layout.specs.declared.shape.Shape.{Shape}
@@ -9,7 +9,7 @@ use Rattle.sg_store.specs.StoreWords.{StoreWords}
 use Rattle.sg_store.specs.StandsFor.{StandsFor}
 use Rattle.sg_exec.specs.Standing.{StandForState, shapes_of}
 use Rattle.sg_session.specs.Commands.{changed_at, without_text, layout_made}
-use Rattle.sg_session.specs.Performed.{Leaves, HasState}
+use Rattle.sg_session.specs.Performed.{LeavesMeaning, HasState}
 
 -- a store has changed to another of its shape, as its layout changes
 pub record HasChanged (change : Shape → FlatLayout → FlatLayout) (store now : StoreWords) : Type 0 where
@@ -47,7 +47,7 @@ state_changed change layouts stores state k store now stand there changed = reco
 
 -- what the change leaves
 pub change_left : (change : Shape → FlatLayout → FlatLayout) (layouts : List Shape) (stores : List StoreWords) (state : FlatState) (k : ℕ) (store now : StoreWords) (text : List ℕ) → text ≡ [] → StandForState layouts stores state → slice_get stores k ≡ Some store → HasChanged change store now
-    → Leaves layouts (slice_set stores k now) text (layout_made change layouts state k)
+    → LeavesMeaning layouts (slice_set stores k now) text (layout_made change layouts state k)
 change_left change layouts stores state k store now text none stand there changed = record {
   left = without_text (record { layouts = changed_at change layouts state.layouts k });
   is = refl;

@@ -1,5 +1,5 @@
 -- Lowered code is that of its kernel.
-use Rattle.std.proofs.Common.{◌≡◌, ℕ, ◌+◌, ◌<◌, ◌≤◌, Bool, true, false, not, ◌&&◌, List, [], ◌∷◌, ◌++◌, map, length, take, get_or, Option, Some, None, Result, Ok, Err, IfOk, refl, sym, ap, ◌∙◌, subst}
+use Rattle.std.proofs.Common.{◌≡◌, ℕ, ◌+◌, ◌<◌, ◌≤◌, Bool, true, false, not, ◌&&◌, List, [], ◌∷◌, ◌++◌, map, length, take, get_or, Option, Result, Ok, Err, IfOk, refl, sym, ap, ◌∙◌, subst}
 use Rattle.std.specs.Prelude.{cond, Contains}
 use Rattle.std.specs.List.{AllByRecursion, AllZip, filter}
 use Rattle.std.proofs.lemmas.List.{take_more}
@@ -33,7 +33,7 @@ use Rattle.sg_ir.specs.Apt as apt
 use Rattle.sg_ir.specs.Apt.{IsApt, walks}
 use Rattle.sg_ir.specs.Named.{IsNamed}
 use Rattle.sg_lower.specs.Lowered.{code_write, want_of, WritesAsKernel, WantsAsKernel, PointsAreWhole}
-use Rattle.sg_exec.specs.Running.{place_of, wants_left, write_at, located, seen_at, code_turn, code_effects}
+use Rattle.sg_exec.specs.Running.{coord_of_write, wants_left, write_at, located, seen_at, code_turn, code_effects}
 use Rattle.sg_session.specs.Compiled.{IsSharedAndTrimmed, IsCodeOf, world_of}
 use Rattle.sg_session.specs.steps.Kernels.{IsLowerable, IsLoweredOf, AreSimplified}
 
@@ -73,7 +73,7 @@ module _ (shapes : List Shape) (world : World) (d : TypedDomain) (at : Coord) wh
   -- one write more, by whether it may activate
   one_more : (write : Write) (writes : List Write) (b : Bool) → may write ≡ b → (is_own write.way ≡ true → write.at ≡ at)
       → located (domain_of world d) at (wanted writes) (map (code_write shapes) writes) ≡ writes
-      → write_at (code_write shapes write) (place_of b (map want_of (cond b (write ∷ filter may writes) (filter may writes))) at)
+      → write_at (code_write shapes write) (coord_of_write b (map want_of (cond b (write ∷ filter may writes) (filter may writes))) at)
       ∷ located (domain_of world d) at (wants_left b (map want_of (cond b (write ∷ filter may writes) (filter may writes)))) (map (code_write shapes) writes) ≡ write ∷ writes
   one_more write writes true is stands rest = ap (λ (ws : List Write). write ∷ ws) rest
   one_more write writes false is stands rest =
@@ -84,7 +84,7 @@ module _ (shapes : List Shape) (world : World) (d : TypedDomain) (at : Coord) wh
       → located (domain_of world d) at (wanted writes) (map (code_write shapes) writes) ≡ writes
   located_whole [] all = refl
   located_whole (write ∷ writes) all =
-      ap (λ (b : Bool). write_at (code_write shapes write) (place_of b (wanted (write ∷ writes)) at) ∷ located (domain_of world d) at (wants_left b (wanted (write ∷ writes))) (map (code_write shapes) writes))
+      ap (λ (b : Bool). write_at (code_write shapes write) (coord_of_write b (wanted (write ∷ writes)) at) ∷ located (domain_of world d) at (wants_left b (wanted (write ∷ writes))) (map (code_write shapes) writes))
       (activates_same shapes world d write)
       ∙ one_more write writes (may write) refl all.0 (located_whole writes all.1)
 

@@ -46,7 +46,7 @@ use Rattle.sg_session.specs.declared.tasks.Stage.TheVariants.{Once, Times}
 use Rattle.sg_session.specs.CommandRules.{shape_of_field, has_two_axes, is_large, breaks_simple, some_breaks, breaks_layer, is_large_simple, some_is_large, is_large_layer, layer_refusal, commands_refusal}
 use Rattle.sg_session.specs.Tasks.{simple_task, body_tasks, layer_stage, stages_of}
 use Rattle.sg_session.specs.Limits.{most_times}
-use Rattle.sg_session.specs.Compiled.{CheckedProgram, CompiledProgram, Compiles, IsCodeOf, field_numbered, IsField, IsDrawn, IsTask, IsStage, IsCompiled, unfolded}
+use Rattle.sg_session.specs.Compiled.{CheckedProgram, CompiledProgram, Compiles, IsCodeOf, field_numbered, IsField, IsImageTask, IsTask, IsStage, IsCompiled, unfolded_tasks}
 use Rattle.sg_session.specs.Compiling.{layouts_of, kernels_of, compiled_with, compiled_parts}
 use Rattle.sg_session.proofs.Lists.{count_map}
 use Rattle.sg_session.proofs.Answered.{layouts_kept, lowerable, typed_ready, kernels_kept, parts_kept}
@@ -113,7 +113,7 @@ module _ (names : Tables) (value : CompiledProgram) (knows : Knows names value) 
 
   -- the field of an image is that of its layout
   drawn : (field : Name) (lo hi : ℤ) → breaks_simple names value.layouts (c.Image field lo hi) ≡ false → is_large_simple names value.layouts (c.Image field lo hi) ≡ false → is_simple_layer (c.Image field lo hi) ≡ true
-      → (at : FieldAt) → field_named names field ≡ Some at → IsDrawn value at lo hi
+      → (at : FieldAt) → field_named names field ≡ Some at → IsImageTask value at lo hi
   drawn field lo hi fine small good at found =
       let shape : shape_of_field names value.layouts field ≡ slice_get value.layouts at.layout = ap (λ (o : Option FieldAt). option_and_then (λ a. slice_get value.layouts a.layout) o) found in
       let parts = neither_holds (not (has_two_axes (shape_of_field names value.layouts field))) (not (int_lt lo hi)) fine in
@@ -206,12 +206,12 @@ module _ (names : Tables) (value : CompiledProgram) (knows : Knows names value) 
       (λ stage found. stage_known n (out-Command command) stage parts.0 g.0 found) (stages_known (suc n) items g.1 parts.1)
 
 -- the tasks of stages that are of the program are
-pub tasks_kept : (value : CompiledProgram) (stages : List Stage) → AllByRecursion (IsStage value) stages → AllByRecursion (IsTask value) (unfolded stages)
+pub tasks_kept : (value : CompiledProgram) (stages : List Stage) → AllByRecursion (IsStage value) stages → AllByRecursion (IsTask value) (unfolded_tasks stages)
 tasks_kept value [] all = tt
 tasks_kept value (Once task ∷ stages) all = (all.0, tasks_kept value stages all.1)
 tasks_kept value (Times number tasks ∷ stages) all =
     let here = all.0 in
-    all_joined (IsTask value) (repeat number tasks) (unfolded stages) (all_repeated (IsTask value) number tasks here.2) (tasks_kept value stages all.1)
+    all_joined (IsTask value) (repeat number tasks) (unfolded_tasks stages) (all_repeated (IsTask value) number tasks here.2) (tasks_kept value stages all.1)
 
 -- ---- the whole
 
@@ -341,10 +341,10 @@ pub layouts_fit : (program : Program) (names : Tables) (layouts : List Shape) �
 layouts_fit program names layouts law named e = subst (λ (ls : List Shape). TablesFit names ls) (sym (layouts_kept names program layouts e).0) (law program names named)
 
 -- the tasks of a compiled program are of it
-pub tasks_there : (value : CompiledProgram) (stages : List Stage) (result : Result (List Task) Memory) → IsCompiled value → stages ≡ value.commands → IfOk result (λ tasks. tasks ≡ unfolded stages)
+pub tasks_there : (value : CompiledProgram) (stages : List Stage) (result : Result (List Task) Memory) → IsCompiled value → stages ≡ value.commands → IfOk result (λ tasks. tasks ≡ unfolded_tasks stages)
     → IfOk result (AllByRecursion (IsTask value))
 tasks_there value stages (Ok tasks) kept same is =
-    subst (λ (ts : List Task). AllByRecursion (IsTask value) ts) (sym (is ∙ ap unfolded same)) (tasks_kept value value.commands kept.commands)
+    subst (λ (ts : List Task). AllByRecursion (IsTask value) ts) (sym (is ∙ ap unfolded_tasks same)) (tasks_kept value value.commands kept.commands)
 tasks_there value stages (Err why) kept same is = tt
 
 -- each kernel has a name, and is neutral or not

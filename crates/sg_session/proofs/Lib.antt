@@ -1,4 +1,5 @@
 mod Lists
+mod BoundFiles
 mod Performing
 mod Told
 mod Openings

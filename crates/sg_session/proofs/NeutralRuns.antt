@@ -9,7 +9,7 @@ use Rattle.sg_coord.specs.Coord.{Inside}
 use Rattle.sg_layout.specs.declared.shape.Shape.{Shape}
 use Rattle.sg_layout.specs.Axes.{bounds_of_shape}
 use Rattle.sg_layout.specs.Closure.{points}
-use Rattle.sg_layout.specs.Rules.{checked}
+use Rattle.sg_layout.specs.Rules.{checked_shape}
 use Rattle.sg_flat.specs.declared.effects.Domain.{Domain}
 use Rattle.sg_flat.specs.declared.effects.Turn.{Turn}
 use Rattle.sg_flat.specs.declared.effects.Write.{Write}
@@ -84,7 +84,7 @@ pub record IsFit (shapes : List Shape) (kernel : TypedKernel) : Type 0 where
 
 -- each layout keeps the rules
 abbrev pub KeepRules : List Shape → Type 0
-KeepRules = AllByRecursion (λ shape. checked shape ≡ Ok shape)
+KeepRules = AllByRecursion (λ shape. checked_shape shape ≡ Ok shape)
 
 axes_from : (found : Option Shape) (shape : Shape) (vars : ℕ) → found ≡ Some shape → equals_some (option_map (λ (it : Shape). it.axes) found) vars ≡ true → shape.axes ≡ vars
 axes_from found shape vars is h = eqb-true shape.axes vars (ap (λ (f : Option Shape). equals_some (option_map (λ (it : Shape). it.axes) f) vars) (sym is) ∙ h)
@@ -127,7 +127,7 @@ module _ (laws : FlatLaws) (shapes shapes' : List Shape) (state state' : FlatSta
       let there = shape_at number pair is in
       let vars : shape.axes ≡ kernel.vars = axes_from (slice_get shapes number) shape kernel.vars there axes in
       let few : shape.axes ≤ 3 = subst (λ (n : ℕ). n ≤ 3) (sym vars) fit.few in
-      let whole = inside_whole laws.numbers_have_words shape at (all_at (λ (it : Shape). checked it ≡ Ok it) shapes number shape there rules) few inside in
+      let whole = inside_whole laws.numbers_have_words shape at (all_at (λ (it : Shape). checked_shape it ≡ Ok it) shapes number shape there rules) few inside in
       writes_nothing number kernel.vars one at (whole.0 ∙ (inside.same_axes ∙ vars)) whole.1 (λ place. value_here number pair is place at ∙ zeros place) kernel guarded fit.plain
 
   walk_same : (number : ℕ) → is_guarded_body number kernel.vars kernel.body ≡ true → equals_some (axes_in shapes number) kernel.vars ≡ true

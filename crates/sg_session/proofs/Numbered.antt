@@ -11,7 +11,7 @@ use Rattle.sg_ast.specs.declared.command.Command.TheOpen as c
 use Rattle.sg_ast.specs.declared.command.Command.TheOpen.{Command-F}
 use Rattle.sg_ast.specs.declared.program.Item.{Item}
 use Rattle.sg_ast.specs.declared.program.Item.TheVariants as item
-use Rattle.sg_ast.specs.Stmt.{joined}
+use Rattle.sg_ast.specs.Stmt.{joined_lists}
 use Rattle.sg_ast.specs.Token.{same_name}
 use Rattle.sg_names.specs.declared.fault.NameFault.TheVariants.{Unknown, Twice, TooMany}
 use Rattle.sg_names.specs.declared.fault.NameFault.{NameFault}
@@ -229,14 +229,14 @@ module _ (before names : Tables) (grows : Grows before names) where
   once_simple (c.Clear layout) e = tt
   once_simple (c.Times number body) e = absurd (cc)
 
-  body_kept : (body : List Command) → list_all is_simple body ≡ true → list_any (is_no_layout before) (joined (map command_layouts body)) ≡ false → list_any (is_no_field before) (joined (map command_fields body)) ≡ false
-      → list_any (is_no_kernel before) (joined (map command_kernels body)) ≡ false
+  body_kept : (body : List Command) → list_all is_simple body ≡ true → list_any (is_no_layout before) (joined_lists (map command_layouts body)) ≡ false → list_any (is_no_field before) (joined_lists (map command_fields body)) ≡ false
+      → list_any (is_no_kernel before) (joined_lists (map command_kernels body)) ≡ false
       → AllZip (λ command task. IsTaskOf names (out-Command command) task) body (body_tasks names body)
   body_kept [] simple layouts fields kernels = tt
   body_kept (command ∷ body) simple layouts fields kernels =
-      let l = any_parts (is_no_layout before) (command_layouts command) (joined (map command_layouts body)) layouts in
-      let f = any_parts (is_no_field before) (command_fields command) (joined (map command_fields body)) fields in
-      let k = any_parts (is_no_kernel before) (command_kernels command) (joined (map command_kernels body)) kernels in
+      let l = any_parts (is_no_layout before) (command_layouts command) (joined_lists (map command_layouts body)) layouts in
+      let f = any_parts (is_no_field before) (command_fields command) (joined_lists (map command_fields body)) fields in
+      let k = any_parts (is_no_kernel before) (command_kernels command) (joined_lists (map command_kernels body)) kernels in
       let b = both_true (is_simple command) (list_all is_simple body) simple in
       let here = task_of command (record { layouts = l.0; fields = f.0; kernels = k.0 }) (once_simple (out-Command command) b.0) in
       subst (λ (o : Option Task). AllZip (λ command task. IsTaskOf names (out-Command command) task) (command ∷ body) (cons_option o (body_tasks names body)))

@@ -1,5 +1,5 @@
 -- From what a run or a dump over stores answers to what a task makes of a state.
-use Rattle.std.proofs.Common.{◌≡◌, ℕ, zero, suc, ◌<◌, List, [], ◌∷◌, map, length, Option, Some, None, Result, Ok, Err, IfOk, refl, sym, ap, ◌∙◌, subst, arith}
+use Rattle.std.proofs.Common.{◌≡◌, ℕ, zero, suc, ◌<◌, List, [], ◌∷◌, map, length, Option, Some, Result, Ok, Err, IfOk, refl, sym, ap, ◌∙◌, subst, arith}
 use Rattle.std.specs.Prelude.{slice_get, option_map, OnErr}
 use Rattle.std.specs.List.{AllZip}
 use Rattle.std.specs.Result.{IsOkAnd}
@@ -25,7 +25,7 @@ use Rattle.sg_exec.specs.Running.{run_meaning}
 use Rattle.sg_session.specs.declared.refusal.RunRefusal.{RunRefusal}
 use Rattle.sg_session.specs.declared.refusal.RunRefusal.TheVariants as refusal
 use Rattle.sg_session.specs.Commands.{without_text, after_code, text_of_field, run_made, dump_made}
-use Rattle.sg_session.specs.Performed.{Leaves, HasState, Performs}
+use Rattle.sg_session.specs.Performed.{LeavesMeaning, HasState}
 use Rattle.sg_session.proofs.Lists.{then_some, count_map}
 
 -- ---- the state that stores stand for
@@ -56,7 +56,7 @@ shape_at layouts stores state k store stand e =
 -- ---- runs and loads
 
 leaves_by : (layouts : List Shape) (after : List StoreWords) (text : List ℕ) (tell : RunFault → RunRefusal) (meaning : Result FlatState RunFault)
-    → text ≡ [] → IsOkAnd meaning (StandForState layouts after) → Leaves layouts after text (fault_as tell meaning >>= (λ state. Ok (without_text state)))
+    → text ≡ [] → IsOkAnd meaning (StandForState layouts after) → LeavesMeaning layouts after text (fault_as tell meaning >>= (λ state. Ok (without_text state)))
 leaves_by layouts after text tell (Ok state) none h = record { left = without_text state; is = refl; stand = h; text_is = none }
 leaves_by layouts after text tell (Err fault) none h = absurd h
 
@@ -74,7 +74,7 @@ dump_done layouts stores place k store (Err why) at h = tt
 -- what a dump answers
 pub dump_performs : (layouts : List Shape) (stores : List StoreWords) (at : FieldAt) (result : Result Text Memory)
     → IfOk result (λ text. (state : FlatState) → StandForState layouts stores state → text.bytes ≡ text_of_field at.place (slice_get layouts at.layout) (slice_get state.layouts at.layout))
-    → IfOk result (λ text. (state : FlatState) → StandForState layouts stores state → Leaves layouts stores text.bytes (dump_made layouts state at))
+    → IfOk result (λ text. (state : FlatState) → StandForState layouts stores state → LeavesMeaning layouts stores text.bytes (dump_made layouts state at))
 dump_performs layouts stores at (Ok text) h = λ state stand. record {
   left = record { state = state; text = text_of_field at.place (slice_get layouts at.layout) (slice_get state.layouts at.layout) };
   is = refl;
@@ -96,9 +96,9 @@ module _ (layouts inner : List Shape) (kernels : List KernelCode) (kernel : ℕ)
   over state stand = subst (λ (ls : List Shape). StandForState ls stores state) (sym same) stand
 
   pub run_done_over : (text : List ℕ) → text ≡ [] → ((state : FlatState) → StandForState inner stores state → IsOkAnd (run_meaning inner state code) (StandForState inner after))
-      → (state : FlatState) → StandForState layouts stores state → Leaves layouts after text (run_made kernel (after_code layouts state (slice_get kernels kernel)))
+      → (state : FlatState) → StandForState layouts stores state → LeavesMeaning layouts after text (run_made kernel (after_code layouts state (slice_get kernels kernel)))
   run_done_over text none h state stand =
-      subst (Leaves layouts after text) (sym (means state))
+      subst (LeavesMeaning layouts after text) (sym (means state))
       (leaves_by layouts after text (refusal.Run (Some kernel)) (run_meaning inner state code) none
       (subst (λ (ls : List Shape). IsOkAnd (run_meaning inner state code) (StandForState ls after)) same (h state (over state stand))))
 

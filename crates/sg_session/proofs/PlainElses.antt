@@ -25,8 +25,8 @@ use Rattle.sg_types.specs.declared.typed.TypedKernel.{TypedKernel}
 use Rattle.sg_types.specs.TypeTable.{same_ty}
 use Rattle.sg_types.specs.Scopes.{Known, local_named}
 use Rattle.sg_types.specs.Expressions.{all_some, is_signed_expr, typed_expr}
-use Rattle.sg_types.specs.Statements.{part_or_code, first_code, assign_wrongs, assign_kind, assign_part, write_wrongs, write_kind, way_of, write_part, let_part, if_part, for_part}
-use Rattle.sg_types.specs.Statements.{Reached, stmt_fault, next_statement, with_variable, Step, in_turn, in_block, in_else, numbered_stmt, if_step, typed_stmt_step, typed_stmt, typed_block}
+use Rattle.sg_types.specs.Statements.{part_or_code, first_code, assign_wrongs, assign_kind, assign_part, write_wrongs, write_kind, declared_way, write_part, let_part, if_part, for_part}
+use Rattle.sg_types.specs.Statements.{Reached, stmt_fault, next_statement, with_variable, TypingStep, in_turn, in_block, in_else, numbered_stmt, if_step, typed_stmt_step, typed_stmt, typed_block}
 use Rattle.sg_types.specs.Programs.{loop_part, first_reached, typed_kernel}
 use Rattle.sg_flat.specs.declared.effects.Way.{Way}
 use Rattle.sg_types.specs.declared.typed.TypedDomain.{TypedDomain}
@@ -93,12 +93,12 @@ assign_plain (Some local) value it e =
 write_plain : (how : WayDecl) (field : Option FieldAt) (index : Option (List TypedExpr)) (value : Option TypedExpr) (it : TypedKind) → write_kind how field index value ≡ Some it → IsPlain it
 write_plain how None index value it e = absurd (cc)
 write_plain how (Some at) index value it e =
-    let first = chosen (λ (is : List TypedExpr). option_map (λ (typed : TypedExpr). kind.Write at.layout at.place is (way_of how) typed) (only_where (λ typed. same_ty typed.ty at.ty) value))
+    let first = chosen (λ (is : List TypedExpr). option_map (λ (typed : TypedExpr). kind.Write at.layout at.place is (declared_way how) typed) (only_where (λ typed. same_ty typed.ty at.ty) value))
     (option_and_then (λ (is : List TypedExpr). if list_all is_signed_expr is then Some is else None) index) it e in
-    let found = mapped (λ (typed : TypedExpr). kind.Write at.layout at.place first.0 (way_of how) typed) (only_where (λ typed. same_ty typed.ty at.ty) value) it first.1 in
-    subst IsPlain found.1 (plain_write at.layout at.place first.0 (way_of how) found.0)
+    let found = mapped (λ (typed : TypedExpr). kind.Write at.layout at.place first.0 (declared_way how) typed) (only_where (λ typed. same_ty typed.ty at.ty) value) it first.1 in
+    subst IsPlain found.1 (plain_write at.layout at.place first.0 (declared_way how) found.0)
 
-else_plain : (otherwise : Option (List Step)) (at : Reached) (done : List TypedStmt × Bool × Reached) → in_else otherwise at ≡ Ok done → done.1 ≡ false → done.0 ≡ []
+else_plain : (otherwise : Option (List TypingStep)) (at : Reached) (done : List TypedStmt × Bool × Reached) → in_else otherwise at ≡ Ok done → done.1 ≡ false → done.0 ≡ []
 else_plain None at done e h = let same : ([], false, at) ≡ done = cc in ap (λ (d : List TypedStmt × Bool × Reached). d.0) (sym same)
 else_plain (Some steps) at done e h =
     let inner = bound_ok (in_block steps at) (λ (d : List TypedStmt × Reached). Ok (d.0, true, d.1)) done e in
@@ -109,7 +109,7 @@ module _ (known : Known) where
   abbrev StaysPlain : Stmt → Type 0
   StaysPlain statement = (at : Reached) (done : TypedStmt × Reached) → typed_stmt known statement at ≡ Ok done → IsPlain done.0.kind
 
-  if_plain : (condition : Expr) (block : List Step) (otherwise : Option (List Step)) (at : Reached) (done : TypedStmt × Reached) → if_step known condition block otherwise at ≡ Ok done → IsPlain done.0.kind
+  if_plain : (condition : Expr) (block : List TypingStep) (otherwise : Option (List TypingStep)) (at : Reached) (done : TypedStmt × Reached) → if_step known condition block otherwise at ≡ Ok done → IsPlain done.0.kind
   if_plain condition block otherwise at done e =
       let typed = bound_ok (stmt_fault known at.number (if_part known at.scope condition))
       (λ (typed : TypedExpr). in_block block (next_statement at) >>= (λ inside. in_else otherwise inside.1 >>= (λ behind. Ok (numbered_stmt at (kind.If typed inside.0 behind.0 behind.1) behind.2)))) done e in
@@ -121,17 +121,17 @@ module _ (known : Known) where
   plain_stmt : (statement : Stmt) → StaysPlain statement
   plain_stmt = by_stmt_variant StaysPlain
       (λ name value at done e.
-      let is = ap (λ (step : Step). step at) (sym (fold-Let_stmt (typed_stmt_step known) name value)) ∙ e in
+      let is = ap (λ (step : TypingStep). step at) (sym (fold-Let_stmt (typed_stmt_step known) name value)) ∙ e in
       let typed = bound_ok (stmt_fault known at.number (let_part known at.scope name value)) (λ (typed : TypedExpr). Ok (numbered_stmt at (kind.Let (length_of at) typed) (with_variable name typed.ty false (next_statement at)))) done is in
       of_kind at (with_variable name typed.x.ty false (next_statement at)) (kind.Let (length_of at) typed.x) done typed.gives (plain_let (length_of at) typed.x))
       (λ name value at done e.
-      let is = ap (λ (step : Step). step at) (sym (fold-Assign_stmt (typed_stmt_step known) name value)) ∙ e in
+      let is = ap (λ (step : TypingStep). step at) (sym (fold-Assign_stmt (typed_stmt_step known) name value)) ∙ e in
       let typed = bound_ok (stmt_fault known at.number (assign_part known at.scope name value)) (λ (typed : TypedKind). Ok (numbered_stmt at typed (next_statement at))) done is in
       let part = as_ok _ (assign_part known at.scope name value) typed.x typed.is in
       of_kind at _ typed.x done typed.gives
       (assign_plain (local_named at.scope name) (typed_expr known at.scope value) typed.x (judged (first_code (assign_wrongs known at.scope name value)) (assign_kind (local_named at.scope name) (typed_expr known at.scope value)) typed.x part)))
       (λ field index how value at done e.
-      let is = ap (λ (step : Step). step at) (sym (fold-Write_stmt (typed_stmt_step known) field index how value)) ∙ e in
+      let is = ap (λ (step : TypingStep). step at) (sym (fold-Write_stmt (typed_stmt_step known) field index how value)) ∙ e in
       let typed = bound_ok (stmt_fault known at.number (write_part known at.scope field index how value)) (λ (typed : TypedKind). Ok (numbered_stmt at typed (next_statement at))) done is in
       let part = as_ok _ (write_part known at.scope field index how value) typed.x typed.is in
       of_kind at _ typed.x done typed.gives
@@ -139,7 +139,7 @@ module _ (known : Known) where
       (judged (first_code (write_wrongs known at.scope field index how value)) (write_kind how (field_named known.tables field) (all_some (map (typed_expr known at.scope) index)) (typed_expr known at.scope value)) typed.x part)))
       (λ condition block otherwise at done e. by_else condition block otherwise at done e)
       (λ name range body at done e.
-      let is = ap (λ (step : Step). step at) (sym (fold-For_stmt (typed_stmt_step known) name range body)) ∙ e in
+      let is = ap (λ (step : TypingStep). step at) (sym (fold-For_stmt (typed_stmt_step known) name range body)) ∙ e in
       let typed = bound_ok (stmt_fault known at.number (for_part known at.scope name range))
       (λ (typed : TypedRange). in_turn (map (typed_stmt known) body) (loop_reached name at) >>= (λ done. Ok (numbered_stmt at (kind.For (length_of at) typed done.0) (record done.1 { scope = at.scope })))) done is in
       let inside = bound_ok (in_turn (map (typed_stmt known) body) (loop_reached name at)) (λ (inside : List TypedStmt × Reached). Ok (numbered_stmt at (kind.For (length_of at) typed.x inside.0) (record inside.1 { scope = at.scope }))) done typed.gives in
@@ -147,9 +147,9 @@ module _ (known : Known) where
     where
       by_else : (condition : Expr) (block : List Stmt) (otherwise : Option (List Stmt)) → StaysPlain (stmt.If condition block otherwise)
       by_else condition block None at done e =
-          if_plain condition (map (typed_stmt known) block) None at done (ap (λ (step : Step). step at) (sym (fold-If_stmt (typed_stmt_step known) condition block)) ∙ e)
+          if_plain condition (map (typed_stmt known) block) None at done (ap (λ (step : TypingStep). step at) (sym (fold-If_stmt (typed_stmt_step known) condition block)) ∙ e)
       by_else condition block (Some otherwise) at done e =
-          if_plain condition (map (typed_stmt known) block) (Some (map (typed_stmt known) otherwise)) at done (ap (λ (step : Step). step at) (sym (fold-If_else_stmt (typed_stmt_step known) condition block otherwise)) ∙ e)
+          if_plain condition (map (typed_stmt known) block) (Some (map (typed_stmt known) otherwise)) at done (ap (λ (step : TypingStep). step at) (sym (fold-If_else_stmt (typed_stmt_step known) condition block otherwise)) ∙ e)
 
   plain_turn : (statements : List Stmt) (at : Reached) (done : List TypedStmt × Reached) → in_turn (map (typed_stmt known) statements) at ≡ Ok done → HasPlainElses done.0
   plain_turn [] at done e = let same : ([], at) ≡ done = cc in subst (λ (d : List TypedStmt × Reached). HasPlainElses d.0) same tt

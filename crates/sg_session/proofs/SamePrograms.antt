@@ -17,7 +17,7 @@ use Rattle.sg_lexer.specs.Lexing.{tokens}
 use Rattle.sg_parser.specs.Parsed.{program_of}
 use Rattle.sg_parser.specs.Laws.{ParsedIsSpelled}
 use Rattle.sg_layout.specs.declared.shape.Shape.{Shape}
-use Rattle.sg_layout.specs.Rules.{checked}
+use Rattle.sg_layout.specs.Rules.{checked_shape}
 use Rattle.sg_layout.specs.StorageWords.{total_words}
 use Rattle.sg_layout.specs.Limits.{most_words}
 use Rattle.sg_names.specs.Declares.{commands_in, declare, fields_from}
@@ -39,7 +39,7 @@ use Rattle.sg_session.specs.declared.tasks.Stage.{Stage}
 use Rattle.sg_session.specs.Tasks.{item_stage, stages_of}
 use Rattle.sg_session.specs.Compiled.{CheckedProgram}
 use Rattle.sg_session.specs.Compiling.{checked_layouts, few_words, layouts_of, admitted_kernels, kernels_of, compiled_parts, compiled_with, compiled_tree, compiled_program, spelled_program}
-use Rattle.sg_session.specs.Independence.{DifferInNodes, AreAlike}
+use Rattle.sg_session.specs.Independence.{DifferInNodes, AreSameUpToNodes}
 use Rattle.sg_session.specs.steps.Kernels.{IsLowerable}
 use Rattle.sg_session.proofs.Answered.{bound_ok, as_ok, checked_same, layouts_kept, kernel_kept, lowerable, typed_ready, kernels_kept, HasParts, parts_kept}
 use Rattle.sg_session.proofs.GuardedBodies.{HasPlainElses}
@@ -163,10 +163,10 @@ few_ok false x y e = absurd (cc)
 layouts_keep : (n : ℕ) (shapes layouts : List Shape) → checked_layouts n shapes ≡ Ok layouts → KeepRules layouts
 layouts_keep n [] layouts e = let none : [] ≡ layouts = cc in subst KeepRules none tt
 layouts_keep n (shape ∷ shapes) layouts e =
-    let first = bound_ok (fault_as (refusal.Layout n) (checked shape)) (λ layout. checked_layouts (suc n) shapes >>= (λ layouts. Ok (layout ∷ layouts))) layouts e in
+    let first = bound_ok (fault_as (refusal.Layout n) (checked_shape shape)) (λ layout. checked_layouts (suc n) shapes >>= (λ layouts. Ok (layout ∷ layouts))) layouts e in
     let rest = bound_ok (checked_layouts (suc n) shapes) (λ layouts. Ok (first.x ∷ layouts)) layouts first.gives in
-    let good : checked shape ≡ Ok first.x = as_ok (refusal.Layout n) (checked shape) first.x first.is in
-    let head : checked first.x ≡ Ok first.x = ap checked (checked_same shape first.x good) ∙ good in
+    let good : checked_shape shape ≡ Ok first.x = as_ok (refusal.Layout n) (checked_shape shape) first.x first.is in
+    let head : checked_shape first.x ≡ Ok first.x = ap checked_shape (checked_same shape first.x good) ∙ good in
     let made : first.x ∷ rest.x ≡ layouts = cc in
     subst KeepRules made (head, layouts_keep (suc n) shapes rest.x rest.is)
 
@@ -285,7 +285,7 @@ program_kept law file program compiled spelled e =
       is = sym (ap (λ (r : Result Program Refusal). r >>= compiled_tree) spelled) ∙ e;
     }
 
-pub programs_same : TextLaws → (file file' : List ℕ) (first second : CheckedProgram) → AreAlike file file' first second → HaveSameParts first second
+pub programs_same : TextLaws → (file file' : List ℕ) (first second : CheckedProgram) → AreSameUpToNodes file file' first second → HaveSameParts first second
 programs_same laws file file' first second alike =
     let one = program_kept laws.parsed file alike.one first alike.one_is alike.first_is in
     let other = program_kept laws.parsed file' alike.other second alike.other_is alike.second_is in

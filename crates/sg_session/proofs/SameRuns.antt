@@ -9,7 +9,7 @@ use Rattle.sg_flat.specs.declared.state.FlatState.{FlatState}
 use Rattle.sg_flat.specs.State.{opening_layout, opening}
 use Rattle.sg_outside.specs.Files.{Reading}
 use Rattle.sg_session.specs.declared.tasks.Task.{Task}
-use Rattle.sg_session.specs.Compiled.{CheckedProgram, unfolded}
+use Rattle.sg_session.specs.Compiled.{CheckedProgram, unfolded_tasks}
 use Rattle.sg_session.specs.Commands.{Left, task_meaning}
 use Rattle.sg_session.specs.Independence.{left_by, last_after, RunsNeutral, AllLeaveSame, LayoutsDontMatter}
 use Rattle.sg_session.proofs.Answered.{bound_ok}
@@ -76,9 +76,9 @@ module _ (laws : FlatLaws) (first second : CheckedProgram) (parts : HaveSamePart
 pub layouts_dont_matter : FlatLaws → TextLaws → LayoutsDontMatter
 layouts_dont_matter laws texts file file' first second readings lefts rights alike neutral e e' =
     let parts = programs_same texts file file' first second alike in
-    let tasks : unfolded first.commands ≡ unfolded second.commands = ap unfolded parts.commands in
-    let run : left_by second readings 0 (unfolded first.commands) (opening second.layouts) ≡ Ok rights = ap (λ (ts : List Task). left_by second readings 0 ts (opening second.layouts)) tasks ∙ e' in
-    let all = follow laws first second parts readings 0 (unfolded first.commands) (opening first.layouts) (opening second.layouts) lefts rights (opening_same first.layouts second.layouts alike.extents parts.types) neutral e run in
+    let tasks : unfolded_tasks first.commands ≡ unfolded_tasks second.commands = ap unfolded_tasks parts.commands in
+    let run : left_by second readings 0 (unfolded_tasks first.commands) (opening second.layouts) ≡ Ok rights = ap (λ (ts : List Task). left_by second readings 0 ts (opening second.layouts)) tasks ∙ e' in
+    let all = follow laws first second parts readings 0 (unfolded_tasks first.commands) (opening first.layouts) (opening second.layouts) lefts rights (opening_same first.layouts second.layouts alike.extents parts.types) neutral e run in
     record {
       names = parts.names;
       tasks = tasks;

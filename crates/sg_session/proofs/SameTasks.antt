@@ -34,7 +34,7 @@ use Rattle.sg_session.specs.declared.refusal.RunRefusal.TheVariants as refusal
 use Rattle.sg_session.specs.declared.tasks.Task.{Task}
 use Rattle.sg_session.specs.declared.tasks.Task.TheVariants.{Load, Run, Dump, Image, Stats, Prune, Clear}
 use Rattle.sg_session.specs.Compiled.{CheckedProgram}
-use Rattle.sg_session.specs.Commands.{Left, without_text, after_kernel, grid_refusal, bounds_or_none, row_write, field_writes, loaded, after_load, image_of_field, changed_at, cleared, task_meaning}
+use Rattle.sg_session.specs.Commands.{Left, without_text, after_kernel, grid_refusal, bounds_or_none, row_write, field_writes, loaded_state, after_load, image_of_field, changed_at, cleared_layout, task_meaning}
 use Rattle.sg_session.specs.Independence.{RunsNeutral, is_image}
 use Rattle.sg_session.proofs.Answered.{bound_ok, as_ok}
 use Rattle.sg_session.proofs.Lists.{all_at}
@@ -187,7 +187,7 @@ writes_read shapes shapes' state state' at bytes writes writes' same e e' =
     let both : ◌≡◌ {A = Result (List Write) GridFault} (Ok writes) (Ok writes') = sym e ∙ (read ∙ e') in cc
 
 loaded_same : FlatLaws → (shapes shapes' : List Shape) (state state' after after' : FlatState) (at : FieldAt) (bytes : List ℕ) → AreSame shapes shapes' state state'
-    → loaded shapes state at bytes ≡ Ok after → loaded shapes' state' at bytes ≡ Ok after' → AreSame shapes shapes' after after'
+    → loaded_state shapes state at bytes ≡ Ok after → loaded_state shapes' state' at bytes ≡ Ok after' → AreSame shapes shapes' after after'
 loaded_same laws shapes shapes' state state' after after' at bytes same e e' =
     let rows = bound_ok (fault_as (grid_refusal at.number) (field_writes shapes at bytes)) (λ (rows : List Write). fault_as (refusal.Run None) (load_meaning shapes state rows)) after e in
     let rows' = bound_ok (fault_as (grid_refusal at.number) (field_writes shapes' at bytes)) (λ (rows : List Write). fault_as (refusal.Run None) (load_meaning shapes' state' rows)) after' e' in
@@ -280,7 +280,7 @@ module _ (laws : FlatLaws) (first second : CheckedProgram) (rules : KeepRules fi
   task_same state state' (Prune layout) reading left right same neutral e e' =
       plain (Prune layout) _ _ left right (changed_same pruned (pair_pruned laws) first.layouts second.layouts state state' layout same) (ok_same e) (ok_same e')
   task_same state state' (Clear layout) reading left right same neutral e e' =
-      plain (Clear layout) _ _ left right (changed_same cleared (λ pair is. pair_opening pair.one_shape pair.other_shape is.bounds is.types) first.layouts second.layouts state state' layout same) (ok_same e) (ok_same e')
+      plain (Clear layout) _ _ left right (changed_same cleared_layout (λ pair is. pair_opening pair.one_shape pair.other_shape is.bounds is.types) first.layouts second.layouts state state' layout same) (ok_same e) (ok_same e')
   task_same state state' (Image field lo hi) reading left right same neutral e e' =
       let drawn = image_same first.layouts second.layouts state state' same field.layout field.place lo hi in
       subst (λ (l : Left). Same first.layouts second.layouts (Image field lo hi) l right) (ok_same e)

@@ -1,5 +1,5 @@
 -- From the images and counts of stores to those of the state that they stand for.
-use Rattle.std.proofs.Common.{◌≡◌, ℕ, ◌<◌, ℤ, List, map, length, Option, Some, None, Result, Ok, Err, IfOk, refl, sym, ap, ◌∙◌, subst, arith}
+use Rattle.std.proofs.Common.{◌≡◌, ℕ, ◌<◌, ℤ, List, map, length, Option, Some, Result, Ok, Err, IfOk, sym, ap, ◌∙◌, subst, arith}
 use Rattle.std.specs.Prelude.{slice_get}
 use Rattle.sg_words.specs.declared.memory.Memory.{Memory}
 use Rattle.sg_words.specs.declared.text.Text.{Text}
@@ -14,7 +14,6 @@ use Rattle.sg_image.specs.Counts.{stats_text}
 use Rattle.sg_exec.specs.Standing.{StandForState}
 use Rattle.sg_words.specs.declared.memory.Stop.{Stop}
 use Rattle.sg_names.specs.declared.tables.FieldAt.{FieldAt}
-use Rattle.sg_names.specs.Tables.{Tables}
 use Rattle.sg_session.specs.declared.refusal.RunRefusal.{RunRefusal}
 use Rattle.sg_session.specs.Commands.{image_of_field, image_made, counts_of_layout}
 use Rattle.sg_session.specs.Performed.{HasState, Performs}

@@ -19,7 +19,7 @@ use Rattle.sg_layout.specs.declared.shape.Shape.{Shape}
 use Rattle.sg_layout.specs.declared.shape.Size.{Size}
 use Rattle.sg_layout.specs.Axes.{bounds_of_shape, count_of, extent_in, extent_over}
 use Rattle.sg_coord.specs.Limits.{most_extent, most_points}
-use Rattle.sg_layout.specs.Rules.{has_few_axes, names_axes_once, first_node_fault, is_small, checked}
+use Rattle.sg_layout.specs.Rules.{has_few_axes, names_axes_once, first_node_fault, is_small, checked_shape}
 use Rattle.sg_layout.proofs.Uses.{faultless_head, faultless_tail}
 use Rattle.sg_types.specs.Values.{coord_of}
 use Rattle.sg_types.specs.Iterations.{part_words}
@@ -80,7 +80,7 @@ record KeepsSizes (shape : Shape) : Type 0 where
   b : (bounds_of_shape shape).b ≤ most_extent
   c : (bounds_of_shape shape).c ≤ most_extent
 
-keeps_sizes : (shape : Shape) → checked shape ≡ Ok shape → KeepsSizes shape
+keeps_sizes : (shape : Shape) → checked_shape shape ≡ Ok shape → KeepsSizes shape
 keeps_sizes shape e =
     let bounds = bounds_of_shape shape in
     let parts = fault_or-ok (first_node_fault shape.axes 1 shape.nodes) (if is_small (bounds_of_shape shape) then Ok shape else Err TooLarge) shape e in
@@ -105,7 +105,7 @@ inside_word numbers_have_words (negsuc k) extent low high few = absurd (omega (a
 zero_part : (z : ℤ) (extent : ℕ) → pos 0 ≤ℤ z → z <ℤ pos extent → extent ≡ 1 → pos 0 ≡ z
 zero_part z extent low high one = omega (arith, ints)
 
-pub inside_whole : ((z : ℤ) → NumberHasWord ty.I32 z) → (shape : Shape) (at : Coord) → checked shape ≡ Ok shape → shape.axes ≤ 3 → Inside (bounds_of_shape shape) at → IsWhole at
+pub inside_whole : ((z : ℤ) → NumberHasWord ty.I32 z) → (shape : Shape) (at : Coord) → checked_shape shape ≡ Ok shape → shape.axes ≤ 3 → Inside (bounds_of_shape shape) at → IsWhole at
 inside_whole numbers_have_words shape at e few inside =
     let is = keeps_sizes shape e in
     let bounds = bounds_of_shape shape in

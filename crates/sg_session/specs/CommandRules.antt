@@ -14,7 +14,8 @@ use Rattle.sg_layout.specs.Axes.{bounds_of_shape}
 use Rattle.sg_names.specs.Tables.{Tables, field_named}
 use Rattle.sg_session.specs.declared.refusal.Refusal.{Refusal}
 use Rattle.sg_session.specs.declared.refusal.Refusal.TheVariants as refusal
-use Rattle.sg_session.specs.Limits.{most_times, most_image_points}
+use Rattle.sg_image.specs.Limits.{most_image_points}
+use Rattle.sg_session.specs.Limits.{most_times}
 
 -- the layout of the field of a name
 abbrev pub shape_of_field : Tables → List Shape → Name → Option Shape

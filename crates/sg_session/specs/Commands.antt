@@ -1,9 +1,8 @@
 -- What a command makes of a flat state, and the text that it gives.
-use Rattle.std.specs.Prelude.{ℕ, zero, suc, ℤ, List, [], ◌∷◌, Option, Some, None, Result, Ok, Err, slice_get, find, map, option_map, option_and_then, string_bytes}
+use Rattle.std.specs.Prelude.{ℕ, zero, suc, ℤ, List, [], ◌∷◌, Option, Some, None, Result, Ok, Err, slice_get, map}
 use Rattle.sg_words.specs.Results.{◌>>=◌, fault_as}
 use Rattle.sg_coord.specs.Bounds.{Bounds}
 use Rattle.sg_ast.specs.declared.token.Name.{Name}
-use Rattle.sg_ast.specs.Token.{same_name}
 use Rattle.sg_layout.specs.declared.shape.Shape.{Shape}
 use Rattle.sg_layout.specs.Axes.{bounds_of_shape}
 use Rattle.sg_flat.specs.declared.effects.RunFault.{RunFault}
@@ -13,7 +12,7 @@ use Rattle.sg_flat.specs.declared.effects.Write.{Write}
 use Rattle.sg_flat.specs.declared.effects.Way.TheVariants.{Own}
 use Rattle.sg_names.specs.declared.tables.FieldAt.{FieldAt}
 use Rattle.sg_flat.specs.Kernel.{kernel_meaning}
-use Rattle.sg_names.specs.Tables.{Tables, field_name_of, layout_name_of}
+use Rattle.sg_names.specs.Tables.{Tables, layout_name_of}
 use Rattle.sg_types.specs.Iterations.{kernel_effects}
 use Rattle.sg_admit.specs.declared.admitted.Admitted.{Admitted}
 use Rattle.sg_grid.specs.declared.grid.GridFault.{GridFault}
@@ -28,32 +27,11 @@ use Rattle.sg_store.specs.Pruning.{pruned}
 use Rattle.sg_ir.specs.declared.code.KernelCode.{KernelCode}
 use Rattle.sg_exec.specs.Running.{load_meaning, run_meaning}
 use Rattle.sg_outside.specs.Files.{Reading, Bytes, TooMany, Missing}
-use Rattle.sg_session.specs.declared.binds.Bind.{Bind}
 use Rattle.sg_session.specs.declared.refusal.RunRefusal.{RunRefusal}
 use Rattle.sg_session.specs.declared.refusal.RunRefusal.TheVariants as refusal
 use Rattle.sg_session.specs.declared.tasks.Task.{Task}
 use Rattle.sg_session.specs.declared.tasks.Task.TheVariants.{Load, Run, Dump, Image, Stats, Prune, Clear}
 use Rattle.sg_session.specs.Compiled.{CheckedProgram, CompiledProgram, world_of}
-
--- ---- the files of fields
-
--- the file that a name is bound to: that of its first binding
-abbrev pub file_bound : List Bind → Name → Option (List ℕ)
-file_bound binds name = option_map (λ bind. string_bytes bind.file) (find (λ bind. same_name name bind.name) binds)
-
--- the file of a field
-abbrev pub file_of_field : Tables → List Bind → FieldAt → Option (List ℕ)
-file_of_field names binds at = option_and_then (file_bound binds) (field_name_of names at.number)
-
--- the file that a task reads: only a load reads one
-abbrev pub file_of : Tables → List Bind → Task → Option (List ℕ)
-file_of names binds (Load field) = file_of_field names binds field
-file_of names binds (Run kernel) = None
-file_of names binds (Dump field) = None
-file_of names binds (Image field lo hi) = None
-file_of names binds (Stats layout) = None
-file_of names binds (Prune layout) = None
-file_of names binds (Clear layout) = None
 
 -- ---- what a task makes of a state
 
@@ -100,8 +78,8 @@ field_writes layouts at bytes = do
   Ok (map (row_write at.layout at.place) rows)
 
 -- the load of bytes: the listed coordinates are written, each with its value, and activated
-abbrev pub loaded : List Shape → FlatState → FieldAt → List ℕ → Result FlatState RunRefusal
-loaded layouts state at bytes = do
+abbrev pub loaded_state : List Shape → FlatState → FieldAt → List ℕ → Result FlatState RunRefusal
+loaded_state layouts state at bytes = do
   rows ← fault_as (grid_refusal at.number) (field_writes layouts at bytes)
   fault_as (refusal.Run None) (load_meaning layouts state rows)
 
@@ -109,7 +87,7 @@ loaded layouts state at bytes = do
 abbrev pub after_load : List Shape → FlatState → FieldAt → Reading → Result FlatState RunRefusal
 after_load layouts state at Missing = Err (refusal.Read at.number)
 after_load layouts state at TooMany = Err (refusal.GridBytes at.number)
-after_load layouts state at (Bytes bytes) = loaded layouts state at bytes
+after_load layouts state at (Bytes bytes) = loaded_state layouts state at bytes
 
 -- the dump of a field of a layout that may be there
 abbrev pub text_of_field : ℕ → Option Shape → Option FlatLayout → List ℕ
@@ -163,8 +141,8 @@ abbrev pub layout_made : (Shape → FlatLayout → FlatLayout) → List Shape �
 layout_made change layouts state layout = Ok (without_text (record { layouts = changed_at change layouts state.layouts layout }))
 
 -- a layout without values, in which only that is active which is so without any write
-abbrev pub cleared : Shape → FlatLayout → FlatLayout
-cleared shape flat = opening_layout shape
+abbrev pub cleared_layout : Shape → FlatLayout → FlatLayout
+cleared_layout shape flat = opening_layout shape
 
 -- What a task makes of a state, and its text; or its refusal, which leaves the state. The run of the kernel of a number is given; what
 -- the read of its file gave counts for a load.
@@ -175,7 +153,7 @@ made_of names layouts ran state (Dump field) reading = dump_made layouts state f
 made_of names layouts ran state (Image field lo hi) reading = image_made layouts state field lo hi
 made_of names layouts ran state (Stats layout) reading = stats_made names layouts state layout
 made_of names layouts ran state (Prune layout) reading = layout_made pruned layouts state layout
-made_of names layouts ran state (Clear layout) reading = layout_made cleared layouts state layout
+made_of names layouts ran state (Clear layout) reading = layout_made cleared_layout layouts state layout
 
 -- what a task of a program means: each kernel has the effects of its iterations
 abbrev pub task_meaning : CheckedProgram → FlatState → Task → Reading → Result Left RunRefusal

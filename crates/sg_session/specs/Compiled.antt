@@ -79,7 +79,7 @@ pub record IsField (compiled : CompiledProgram) (at : FieldAt) : Type 0 where
   pub placed : field_in compiled.layouts at.layout at.place ≡ Some at.ty
 
 -- an image is of a field whose layout has 2 axes and not too many points, between bounds that rise and lie between -2^32 and 2^32
-pub record IsDrawn (compiled : CompiledProgram) (at : FieldAt) (lo hi : ℤ) : Type 0 where
+pub record IsImageTask (compiled : CompiledProgram) (at : FieldAt) (lo hi : ℤ) : Type 0 where
   pub field : IsField compiled at
   pub plane : has_two_axes (slice_get compiled.layouts at.layout) ≡ true
   pub small : is_large (slice_get compiled.layouts at.layout) ≡ false
@@ -92,7 +92,7 @@ abbrev pub IsTask : CompiledProgram → Task → Type 0
 IsTask compiled (Load field) = IsField compiled field
 IsTask compiled (Run kernel) = kernel < length compiled.kernels
 IsTask compiled (Dump field) = IsField compiled field
-IsTask compiled (Image field lo hi) = IsDrawn compiled field lo hi
+IsTask compiled (Image field lo hi) = IsImageTask compiled field lo hi
 IsTask compiled (Stats layout) = layout < length compiled.layouts
 IsTask compiled (Prune layout) = layout < length compiled.layouts
 IsTask compiled (Clear layout) = layout < length compiled.layouts
@@ -103,7 +103,7 @@ IsStage compiled (Once task) = IsTask compiled task
 IsStage compiled (Times number tasks) = (1 ≤ number) × (number ≤ most_times) × AllByRecursion (IsTask compiled) tasks
 
 -- the numbers in names are those of layouts, of their fields, and of kernels
-pub record AreNumbers (compiled : CompiledProgram) : Type 0 where
+pub record HasNumberedNames (compiled : CompiledProgram) : Type 0 where
   pub layouts : length compiled.names.layouts ≡ length compiled.layouts
   pub kernels : length compiled.names.kernels ≡ length compiled.kernels
   pub fields : (number : ℕ) (at : FieldAt) → field_numbered compiled.names number ≡ Some at → (at.number ≡ number) × IsField compiled at
@@ -111,7 +111,7 @@ pub record AreNumbers (compiled : CompiledProgram) : Type 0 where
 -- what every compiled program keeps
 pub record IsCompiled (compiled : CompiledProgram) : Type 0 where
   pub few_words : total_words compiled.layouts ≤ most_words
-  pub numbers : AreNumbers compiled
+  pub numbers : HasNumberedNames compiled
   pub neutral : length compiled.neutral ≡ length compiled.kernels
   pub kernels : AllByRecursion (IsRunnable compiled.layouts) compiled.kernels
   pub commands : AllByRecursion (IsStage compiled) compiled.commands
@@ -122,5 +122,5 @@ stage_tasks (Once task) = task ∷ []
 stage_tasks (Times number tasks) = repeat number tasks
 
 -- the tasks of all commands, with each `times` unfolded
-abbrev pub unfolded : List Stage → List Task
-unfolded commands = flat_map stage_tasks commands
+abbrev pub unfolded_tasks : List Stage → List Task
+unfolded_tasks commands = flat_map stage_tasks commands

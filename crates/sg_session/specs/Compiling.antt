@@ -1,5 +1,5 @@
 -- What a file is compiled to, or why it is refused before any of its commands runs: the first cause in the one order.
-use Rattle.std.specs.Prelude.{◌≡◌, ℕ, suc, nat_le, if◌then◌else◌, List, [], ◌∷◌, map, option_map, Result, Ok, Err}
+use Rattle.std.specs.Prelude.{◌≡◌, ℕ, suc, nat_le, if◌then◌else◌, List, [], ◌∷◌, map, Result, Ok, Err}
 use Rattle.std.specs.Result.{IsOkAnd}
 use Rattle.sg_words.specs.declared.memory.Stop.{Stop}
 use Rattle.sg_words.specs.declared.memory.Stop.TheVariants as stop
@@ -8,7 +8,7 @@ use Rattle.sg_ast.specs.declared.program.Program.{Program}
 use Rattle.sg_lexer.specs.Lexing.{tokens}
 use Rattle.sg_parser.specs.Parsed.{program_of}
 use Rattle.sg_layout.specs.declared.shape.Shape.{Shape}
-use Rattle.sg_layout.specs.Rules.{checked}
+use Rattle.sg_layout.specs.Rules.{checked_shape}
 use Rattle.sg_layout.specs.StorageWords.{total_words}
 use Rattle.sg_layout.specs.Limits.{most_words}
 use Rattle.sg_names.specs.Tables.{Tables}
@@ -35,7 +35,7 @@ spelled_program bytes = do
 abbrev pub checked_layouts : ℕ → List Shape → Result (List Shape) Refusal
 checked_layouts number [] = Ok []
 checked_layouts number (shape ∷ shapes) = do
-  layout ← fault_as (refusal.Layout number) (checked shape)
+  layout ← fault_as (refusal.Layout number) (checked_shape shape)
   layouts ← checked_layouts (suc number) shapes
   Ok (layout ∷ layouts)
 

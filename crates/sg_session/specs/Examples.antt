@@ -1,5 +1,5 @@
 -- Worked equations.
-use Rattle.std.specs.Prelude.{◌≡◌, refl, true, [], ◌∷◌, Some, None, pos, codes}
+use Rattle.std.specs.Prelude.{◌≡◌, refl, [], ◌∷◌, Some, None, pos, codes}
 use Rattle.sg_ast.specs.declared.command.Command.TheOpen as c
 use Rattle.sg_names.specs.Tables.{no_tables}
 use Rattle.sg_grid.specs.declared.grid.GridFault.TheVariants as grid
@@ -9,7 +9,7 @@ use Rattle.sg_session.specs.declared.tasks.Task.TheVariants.{Run}
 use Rattle.sg_session.specs.declared.tasks.Stage.TheVariants.{Once, Times}
 use Rattle.sg_session.specs.CommandRules.{layer_refusal}
 use Rattle.sg_session.specs.Commands.{grid_refusal}
-use Rattle.sg_session.specs.Compiled.{unfolded}
+use Rattle.sg_session.specs.Compiled.{unfolded_tasks}
 
 -- `times 0` breaks a rule, `times 1000` doesn't, and `times 1001` passes the limit
 no_turn : layer_refusal no_tables [] 3 (c.Times 0 []) ≡ Some (refusal.Command 3)
@@ -26,7 +26,7 @@ no_image : layer_refusal no_tables [] 2 (c.Image (record { text = codes "x" }) (
 no_image = refl
 
 -- `times 2 { run k; run m; } run n;`
-turn_by_turn : unfolded (Times 2 (Run 0 ∷ Run 1 ∷ []) ∷ Once (Run 2) ∷ []) ≡ Run 0 ∷ Run 1 ∷ Run 0 ∷ Run 1 ∷ Run 2 ∷ []
+turn_by_turn : unfolded_tasks (Times 2 (Run 0 ∷ Run 1 ∷ []) ∷ Once (Run 2) ∷ []) ≡ Run 0 ∷ Run 1 ∷ Run 0 ∷ Run 1 ∷ Run 2 ∷ []
 turn_by_turn = refl
 
 -- too many rows are no bad line

@@ -25,7 +25,7 @@ use Rattle.sg_session.specs.declared.refusal.RunRefusal.{RunRefusal}
 use Rattle.sg_session.specs.declared.tasks.Task.{Task}
 use Rattle.sg_session.specs.declared.tasks.Task.TheVariants.{Load, Run, Dump, Image, Stats, Prune, Clear}
 use Rattle.sg_session.specs.declared.tasks.Stage.TheVariants.{Once}
-use Rattle.sg_session.specs.Compiled.{CheckedProgram, unfolded}
+use Rattle.sg_session.specs.Compiled.{CheckedProgram, unfolded_tasks}
 use Rattle.sg_session.specs.Compiling.{spelled_program, compiled_program}
 use Rattle.sg_session.specs.Commands.{Left, without_text, task_meaning}
 
@@ -38,7 +38,7 @@ DifferInNodes one other = one ≡ other
 
 -- The bytes of two files spell programs that differ in the nodes of their layouts alone, which have the same extents. Each file keeps all rules,
 -- with these parts. The lines on which items stand may differ too.
-pub record AreAlike (file file' : List ℕ) (first second : CheckedProgram) : Type 0 where
+pub record AreSameUpToNodes (file file' : List ℕ) (first second : CheckedProgram) : Type 0 where
   pub one : Program
   pub other : Program
   pub one_is : spelled_program file ≡ Ok one
@@ -60,8 +60,8 @@ left_by program readings place (task ∷ tasks) state = do
   Ok (left ∷ more)
 
 -- what each command of a program leaves, from the opening state on, where none is refused
-abbrev pub run_of : CheckedProgram → (ℕ → Reading) → Result (List Left) RunRefusal
-run_of program readings = left_by program readings 0 (unfolded program.commands) (opening program.layouts)
+abbrev pub left_by_program : CheckedProgram → (ℕ → Reading) → Result (List Left) RunRefusal
+left_by_program program readings = left_by program readings 0 (unfolded_tasks program.commands) (opening program.layouts)
 
 -- the state behind all of them
 abbrev pub last_after : FlatState → List Left → FlatState
@@ -69,8 +69,8 @@ last_after state [] = state
 last_after state (left ∷ more) = last_after left.state more
 
 -- the last state of a run
-abbrev pub last_of : CheckedProgram → List Left → FlatState
-last_of program lefts = last_after (opening program.layouts) lefts
+abbrev pub last_state : CheckedProgram → List Left → FlatState
+last_state program lefts = last_after (opening program.layouts) lefts
 
 -- ---- the law
 
@@ -83,6 +83,7 @@ RunsNeutral program _ = Unit {0}
 abbrev pub HaveSameValues : List Shape → List Shape → FlatState → FlatState → Type 0
 HaveSameValues shapes shapes' state state' = (layout place : ℕ) (at : Coord) → value_of shapes state layout place at ≡ value_of shapes' state' layout place at
 
+-- the task draws an image
 abbrev pub is_image : Task → Bool
 is_image (Image field lo hi) = true
 is_image _ = false
@@ -102,17 +103,17 @@ AllLeaveSame shapes shapes' _ _ _ = ⊥
 -- have the last ones
 pub record RunsLeaveSame (first second : CheckedProgram) (lefts rights : List Left) : Type 0 where
   pub names : first.names ≡ second.names
-  pub tasks : unfolded first.commands ≡ unfolded second.commands
-  pub each : AllLeaveSame first.layouts second.layouts (unfolded first.commands) lefts rights
-  pub last : HaveSameValues first.layouts second.layouts (last_of first lefts) (last_of second rights)
+  pub tasks : unfolded_tasks first.commands ≡ unfolded_tasks second.commands
+  pub each : AllLeaveSame first.layouts second.layouts (unfolded_tasks first.commands) lefts rights
+  pub last : HaveSameValues first.layouts second.layouts (last_state first lefts) (last_state second rights)
 
 -- The programs of two files that differ in the nodes of their layouts alone are run over the same other files, and no command of either is
 -- refused. Where every kernel that is run is neutral, they leave the same values after each command, and draw the same images. What is active
 -- may differ.
 abbrev pub LayoutsDontMatter : Type 0
 LayoutsDontMatter = (file file' : List ℕ) (first second : CheckedProgram) (readings : ℕ → Reading) (lefts rights : List Left) →
-    AreAlike file file' first second → AllByRecursion (RunsNeutral first) (unfolded first.commands) →
-    run_of first readings ≡ Ok lefts → run_of second readings ≡ Ok rights → RunsLeaveSame first second lefts rights
+    AreSameUpToNodes file file' first second → AllByRecursion (RunsNeutral first) (unfolded_tasks first.commands) →
+    left_by_program first readings ≡ Ok lefts → left_by_program second readings ≡ Ok rights → RunsLeaveSame first second lefts rights
 
 -- ---- examples: a line of 4 points, as a whole and in blocks of 2
 abbrev node_of : Kind → ℕ → ℕ → NodeShape
@@ -149,12 +150,12 @@ abbrev leaves_line : List ℕ → List (ℕ × ℕ) → Left
 leaves_line parts words = without_text (record { layouts = record { active = map on_line parts; fields = words ∷ [] } ∷ [] })
 
 -- the values are the same, and what is active isn't: over one dense node all points always are
-over_the_whole : run_of (loads_and_frees whole_line) two_rows
+over_the_whole : left_by_program (loads_and_frees whole_line) two_rows
     ≡ Ok (leaves_line (0 ∷ 1 ∷ 2 ∷ 3 ∷ []) ((2, 7) ∷ []) ∷ leaves_line (0 ∷ 1 ∷ 2 ∷ 3 ∷ []) ((2, 7) ∷ []) ∷ leaves_line (0 ∷ 1 ∷ 2 ∷ 3 ∷ []) [] ∷ [])
 unfolding rows_of head_at row_in row_at coordinate_at further_part_at number_before number_at count_at rest_after digits
 over_the_whole = refl
 
-over_blocks : run_of (loads_and_frees line_in_blocks) two_rows
+over_blocks : left_by_program (loads_and_frees line_in_blocks) two_rows
     ≡ Ok (leaves_line (0 ∷ 1 ∷ 2 ∷ 3 ∷ []) ((2, 7) ∷ []) ∷ leaves_line (2 ∷ 3 ∷ []) ((2, 7) ∷ []) ∷ leaves_line [] [] ∷ [])
 unfolding rows_of head_at row_in row_at coordinate_at further_part_at number_before number_at count_at rest_after digits
 over_blocks = refl

@@ -2,6 +2,7 @@ pub mod Limits
 pub mod CommandRules
 pub mod Tasks
 pub mod Compiled
+pub mod Bindings
 pub mod Spelled
 pub mod Compiling
 pub mod Commands

@@ -13,11 +13,11 @@ use Rattle.sg_outside.specs.Counts.{one_more, Rose}
 use Rattle.sg_outside.specs.Files.{Held, Reading, Missing, reading, asked_too}
 use Rattle.sg_session.specs.declared.refusal.RunRefusal.{RunRefusal}
 use Rattle.sg_session.specs.declared.refusal.RunRefusal.TheVariants as refusal
-use Rattle.sg_session.specs.declared.binds.Bind.{Bind}
 use Rattle.sg_session.specs.declared.tasks.Task.{Task}
 use Rattle.sg_session.specs.declared.tasks.Task.TheVariants.{Load, Run, Dump, Image, Stats, Prune, Clear}
 use Rattle.sg_session.specs.Compiled.{CompiledProgram}
-use Rattle.sg_session.specs.Commands.{Left, file_of_field}
+use Rattle.sg_session.specs.Bindings.{Binding, file_of_field}
+use Rattle.sg_session.specs.Commands.{Left}
 
 -- some flat state of these layouts is what the stores stand for
 abbrev pub HasState : List Shape → List StoreWords → Type 0
@@ -29,7 +29,7 @@ pub record SessionParts : Type 0 where
   pub stores : List StoreWords
 
 -- the stores stand for what the meaning leaves, and the text is its text
-pub record Leaves (layouts : List Shape) (stores : List StoreWords) (text : List ℕ) (meaning : Result Left RunRefusal) : Type 0 where
+pub record LeavesMeaning (layouts : List Shape) (stores : List StoreWords) (text : List ℕ) (meaning : Result Left RunRefusal) : Type 0 where
   pub left : Left
   pub is : meaning ≡ Ok left
   pub stand : StandForState layouts stores left.state
@@ -38,7 +38,7 @@ pub record Leaves (layouts : List Shape) (stores : List StoreWords) (text : List
 -- what a step answered is what its command means: with Ok its text, and the stores stand for the state after it; a refusal is that of the
 -- meaning; want of memory is free
 abbrev pub Performs : List Shape → List StoreWords → Result Text (Stop RunRefusal) → Result Left RunRefusal → Type 0
-Performs layouts stores (Ok text) meaning = Leaves layouts stores text.bytes meaning
+Performs layouts stores (Ok text) meaning = LeavesMeaning layouts stores text.bytes meaning
 Performs layouts stores (Err stop.Memory) meaning = Unit {0}
 Performs layouts stores (Err (stop.Refused refusal)) meaning = meaning ≡ Err refusal
 
@@ -65,11 +65,11 @@ asked_after None asked = asked
 asked_after (Some name) asked = asked_too asked name
 
 -- a load's field has a file
-abbrev pub HasFile : Tables → List Bind → Task → Type 0
-HasFile names binds (Load field) = IsSome (file_of_field names binds field)
-HasFile names binds (Run kernel) = Unit {0}
-HasFile names binds (Dump field) = Unit {0}
-HasFile names binds (Image field lo hi) = Unit {0}
-HasFile names binds (Stats layout) = Unit {0}
-HasFile names binds (Prune layout) = Unit {0}
-HasFile names binds (Clear layout) = Unit {0}
+abbrev pub HasFile : Tables → List Binding → Task → Type 0
+HasFile names bindings (Load field) = IsSome (file_of_field names bindings field)
+HasFile names bindings (Run kernel) = Unit {0}
+HasFile names bindings (Dump field) = Unit {0}
+HasFile names bindings (Image field lo hi) = Unit {0}
+HasFile names bindings (Stats layout) = Unit {0}
+HasFile names bindings (Prune layout) = Unit {0}
+HasFile names bindings (Clear layout) = Unit {0}

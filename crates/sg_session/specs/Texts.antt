@@ -11,17 +11,17 @@ neutral_word true = codes "neutral"
 neutral_word false = codes "layout-bound"
 
 -- the line of a kernel
-abbrev pub kernel_line : Name → Bool → List ℕ
-kernel_line name neutral = codes "kernel " ++ (name.text ++ (32 ∷ (neutral_word neutral ++ 10 ∷ [])))
+abbrev pub check_line : Name → Bool → List ℕ
+check_line name neutral = codes "kernel " ++ (name.text ++ (32 ∷ (neutral_word neutral ++ 10 ∷ [])))
 
 -- the lines of kernels, in order
-abbrev pub kernel_lines : List Name → List Bool → List ℕ
-kernel_lines (name ∷ names) (neutral ∷ more) = kernel_line name neutral ++ kernel_lines names more
-kernel_lines _ _ = []
+abbrev pub check_lines : List Name → List Bool → List ℕ
+check_lines (name ∷ names) (neutral ∷ more) = check_line name neutral ++ check_lines names more
+check_lines _ _ = []
 
 -- the text of a program with these names, by whether each kernel is neutral
 abbrev pub check_text : Tables → List Bool → List ℕ
-check_text names neutral = kernel_lines names.kernels neutral
+check_text names neutral = check_lines names.kernels neutral
 
 -- the lines of a kernel's code: of its slice, and of the code
 abbrev pub lines_of_kernel : Name → KernelCode → List ℕ
@@ -37,6 +37,6 @@ abbrev pub lower_text : Tables → List KernelCode → List ℕ
 lower_text names kernels = lines_of_kernels names.kernels kernels
 
 -- ---- examples
-two_kernels : kernel_lines (record { text = codes "k" } ∷ record { text = codes "m" } ∷ []) (true ∷ false ∷ [])
+two_kernels : check_lines (record { text = codes "k" } ∷ record { text = codes "m" } ∷ []) (true ∷ false ∷ [])
     ≡ codes "kernel k neutral\nkernel m layout-bound\n"
 two_kernels = refl

@@ -21,7 +21,7 @@ pub fn check_text(alloc: Global, compiled: &Compiled) -> Result<Text, Memory>
 /// Adds the lines of all kernels. More than a u32 counts are never in memory.
 fn push_lines(bytes: &mut Vec<u8>, names: &Names, neutral: &[bool]) -> Result<(), Memory>
     requires { length neutral.now ≡ length names.now.kernels }
-    ensures { OnOk result (bytes.new.items ≡ bytes.old.items ++ spec.kernel_lines names.now.kernels neutral.now) }
+    ensures { OnOk result (bytes.new.items ≡ bytes.old.items ++ spec.check_lines names.now.kernels neutral.now) }
 {
     for number in 0..neutral.len() {
         if number > u32::MAX as usize {
@@ -34,7 +34,7 @@ fn push_lines(bytes: &mut Vec<u8>, names: &Names, neutral: &[bool]) -> Result<()
 
 /// Adds the line of a kernel.
 fn push_line(bytes: &mut Vec<u8>, name: &Name, neutral: bool) -> Result<(), Memory>
-    ensures { OnOk result (bytes.new.items ≡ bytes.old.items ++ spec.kernel_line name.now neutral) }
+    ensures { OnOk result (bytes.new.items ≡ bytes.old.items ++ spec.check_line name.now neutral) }
 {
     bytes.extend_from_slice(b"kernel ")?;
     bytes.extend_from_slice(name.text.as_slice())?;

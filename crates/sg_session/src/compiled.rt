@@ -1,6 +1,6 @@
 ghost use Rattle.std.specs.Prelude.{◌≡◌, ◌++◌, OnOk, IfOk};
 ghost use Rattle.std.specs.List.{AllByRecursion, repeat};
-ghost use Rattle.sg_session.specs.Compiled.{stage_tasks, unfolded};
+ghost use Rattle.sg_session.specs.Compiled.{stage_tasks, unfolded_tasks};
 
 use crate::tasks::{Stage, Task};
 use sg_ir::KernelCode;
@@ -39,21 +39,21 @@ impl Model for Compiled {
 impl Compiled {
     ghost use Rattle.std.specs.Prelude.{IfOk};
     ghost use Rattle.std.specs.List.{AllByRecursion};
-    ghost use Rattle.sg_session.specs.Compiled.{unfolded, IsTask, IsCompiled};
+    ghost use Rattle.sg_session.specs.Compiled.{unfolded_tasks, IsTask, IsCompiled};
 
     /// The tasks of all commands in order, with each `times` unfolded: at most 64,000.
     pub fn tasks(&self, alloc: Global) -> Result<Items<Task>, Memory>
-        ensures tasks { IfOk result (λ tasks. tasks ≡ unfolded self.now.commands) }
+        ensures tasks { IfOk result (λ tasks. tasks ≡ unfolded_tasks self.now.commands) }
         ensures there { IfOk result (AllByRecursion (IsTask self.now)) }
         ensures compiled { IsCompiled self.now }
     {
-        unfolded(alloc, self.commands.as_slice())
+        unfolded_tasks(alloc, self.commands.as_slice())
     }
 }
 
 /// The tasks of commands, with each `times` unfolded.
-fn unfolded(alloc: Global, commands: &[Stage]) -> Result<Items<Task>, Memory>
-    ensures { IfOk result (λ tasks. tasks ≡ unfolded commands.now) }
+fn unfolded_tasks(alloc: Global, commands: &[Stage]) -> Result<Items<Task>, Memory>
+    ensures { IfOk result (λ tasks. tasks ≡ unfolded_tasks commands.now) }
 {
     let mut tasks = Items::new(alloc);
     for stage in commands {

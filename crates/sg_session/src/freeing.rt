@@ -4,7 +4,7 @@ ghost use Rattle.std.specs.Prelude.{◌≡◌, ◌<◌, false, length, OnErr};
 ghost use Rattle.sg_flat.specs.declared.state.FlatState.{FlatState};
 ghost use Rattle.sg_exec.specs.Standing.{StandForState};
 ghost use Rattle.sg_store.specs.Pruning.{pruned};
-ghost use Rattle.sg_session.specs.Commands.{layout_made, cleared};
+ghost use Rattle.sg_session.specs.Commands.{layout_made, cleared_layout};
 ghost use Rattle.sg_session.specs.Performed.{HasState, Performs};
 ghost use Rattle.sg_session.specs.steps.Reads.{is_read_refusal};
 
@@ -46,7 +46,7 @@ pub fn clear(
     requires layout { layout < length compiled.now.layouts }
     requires stand { HasState compiled.now.layouts stores.old.list }
     ensures performed { (state : FlatState) → StandForState compiled.now.layouts stores.old.list state →
-        Performs compiled.now.layouts stores.new.list result (layout_made cleared compiled.now.layouts state layout) }
+        Performs compiled.now.layouts stores.new.list result (layout_made cleared_layout compiled.now.layouts state layout) }
     ensures stand { HasState compiled.now.layouts stores.new.list }
     ensures read { is_read_refusal result ≡ false }
     ensures stays { OnErr result (stores.new ≡ stores.old) }

@@ -6,16 +6,16 @@ ghost use Rattle.sg_flat.specs.declared.state.FlatState.{FlatState};
 ghost use Rattle.sg_exec.specs.Standing.{StandForState};
 ghost use Rattle.sg_outside.specs.Files.{Held, Reading, Bytes};
 ghost use Rattle.sg_session.specs.Compiled.{IsField};
-ghost use Rattle.sg_session.specs.Commands.{file_bound, file_of_field, field_writes, grid_refusal, row_write, load_made};
+ghost use Rattle.sg_session.specs.Bindings.{binding_read, file_of_field};
+ghost use Rattle.sg_session.specs.Commands.{field_writes, grid_refusal, row_write, load_made};
 ghost use Rattle.sg_session.specs.Performed.{Performs, reading_of, StepCause, reads_after, asked_after};
 ghost use Rattle.sg_words.specs.Answers.{Answers};
 ghost use Rattle.sg_session.specs.steps.Reads.{is_read_refusal};
 
-use crate::binds::Binds;
+use crate::binds::{Binds, file_bound};
 use crate::compiled::Compiled;
 use crate::perform::no_text;
 use crate::refusal::RunRefusal;
-use sg_ast::Name;
 use sg_exec::load_rows;
 use sg_flat::{Way, Write};
 use sg_grid::{GridFault, GridRow, read_grid};
@@ -40,17 +40,17 @@ pub fn load<R: Threads + Sync, F: Files>(
     files: &mut F,
 ) -> Result<Text, Stop<RunRefusal>>
     requires field { IsField compiled.now at }
-    requires bound { IsSome (file_of_field compiled.now.names binds.now.list at) }
+    requires bound { IsSome (file_of_field compiled.now.names (map binding_read binds.now.list) at) }
     ensures told { (held : Held) → F.holds files.old ≡ Some held → (state : FlatState) →
         StandForState compiled.now.layouts stores.old.list state →
         Performs compiled.now.layouts stores.new.list result (load_made compiled.now.layouts state at
-        (reading_of held (file_of_field compiled.now.names binds.now.list at) result)) }
+        (reading_of held (file_of_field compiled.now.names (map binding_read binds.now.list) at) result)) }
     ensures performed { (state : FlatState) → StandForState compiled.now.layouts stores.old.list state →
         (given : Reading) × Performs compiled.now.layouts stores.new.list result (load_made compiled.now.layouts state at given) }
     ensures stays { OnErr result (stores.new ≡ stores.old) }
     ensures holds { F.holds files.new ≡ F.holds files.old }
-    ensures asked { F.asked files.new ≡ asked_after (file_of_field compiled.now.names binds.now.list at) (F.asked files.old) }
-    ensures reads { F.reads files.new ≡ reads_after (file_of_field compiled.now.names binds.now.list at) (F.reads files.old) }
+    ensures asked { F.asked files.new ≡ asked_after (file_of_field compiled.now.names (map binding_read binds.now.list) at) (F.asked files.old) }
+    ensures reads { F.reads files.new ≡ reads_after (file_of_field compiled.now.names (map binding_read binds.now.list) at) (F.reads files.old) }
     ensures cause { StepCause result (F.faults files.old) (F.faults files.new) }
     ensures never_falls { F.faults files.old ≤ F.faults files.new }
 {
@@ -69,21 +69,9 @@ pub fn load<R: Threads + Sync, F: Files>(
 /// The file that a field is read from.
 fn file_of_field<'a>(compiled: &Compiled, binds: &'a Binds, at: FieldAt) -> Option<&'a str>
     requires { IsField compiled.now at }
-    ensures { option_copied result ≡ file_of_field compiled.now.names binds.now.list at }
+    ensures { option_copied result ≡ file_of_field compiled.now.names (map binding_read binds.now.list) at }
 {
     file_bound(binds, compiled.names.field_name(at.number))
-}
-
-/// The file that a name is bound to.
-fn file_bound<'a>(binds: &'a Binds, name: &Name) -> Option<&'a str>
-    ensures { option_copied result ≡ file_bound binds.now.list name.now }
-{
-    let bind = binds
-        .list
-        .as_slice()
-        .iter()
-        .find(|bind| name.is(&bind.name))?;
-    Some(bind.file.as_str())
 }
 
 /// Loads the grid that these bytes are.

@@ -4,7 +4,7 @@ ghost use Rattle.std.specs.Prelude.{◌≡◌, ◌≤◌, ◌<◌, ◌+◌, ◌^
 ghost use Rattle.sg_words.specs.Answers.{Answers, AnswersAs};
 ghost use Rattle.sg_words.specs.Results.{fault_as};
 ghost use Rattle.sg_ast.specs.Limits.{most_tokens};
-ghost use Rattle.sg_layout.specs.Rules.{is_declared, checked};
+ghost use Rattle.sg_layout.specs.Rules.{is_declared, checked_shape};
 ghost use Rattle.sg_names.specs.Laws.{layout_decls};
 ghost use Rattle.sg_names.specs.Names.{tables_of};
 ghost use Rattle.sg_names.specs.Shapes.{shape_of};
@@ -86,7 +86,7 @@ fn checked_layout(
     decl: &LayoutDecl,
 ) -> Result<Layout, Stop<Refusal>>
     requires { is_declared (shape_of names.now decl.now) ≡ true }
-    ensures { Answers result (fault_as (refusal.Layout number) (checked (shape_of names.now decl.now))) }
+    ensures { Answers result (fault_as (refusal.Layout number) (checked_shape (shape_of names.now decl.now))) }
 {
     let shape = names.shape(alloc, decl)?;
     match check_layout(alloc, &shape) {

@@ -24,7 +24,7 @@ pub mod tasks;
 mod tests;
 mod views;
 
-pub use binds::{Bind, Binds};
+pub use binds::{Bind, Binds, file_bound};
 pub use check::check_text;
 pub use compilation::compile;
 pub use compiled::Compiled;

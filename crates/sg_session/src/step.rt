@@ -15,12 +15,13 @@ use std::alloc::Global;
 use std::thread::Threads;
 
 impl Session {
-    ghost use Rattle.std.specs.Prelude.{◌≡◌, ◌≤◌, Some, OnErr};
+    ghost use Rattle.std.specs.Prelude.{◌≡◌, ◌≤◌, Some, OnErr, map};
     ghost use Rattle.sg_flat.specs.declared.state.FlatState.{FlatState};
     ghost use Rattle.sg_outside.specs.Files.{Held, Reading};
     ghost use Rattle.sg_exec.specs.Standing.{StandForState};
     ghost use Rattle.sg_session.specs.Compiled.{IsTask};
-    ghost use Rattle.sg_session.specs.Commands.{file_of, compiled_meaning};
+    ghost use Rattle.sg_session.specs.Bindings.{binding_read, file_of_task};
+    ghost use Rattle.sg_session.specs.Commands.{compiled_meaning};
     ghost use Rattle.sg_session.specs.Performed.{Performs, reading_of, StepCause, HasFile, reads_after, asked_after};
 
     /// Performs a task and gives its text, or its refusal. After any answer but `Ok` the stores are as before. A load reads its file
@@ -37,7 +38,7 @@ impl Session {
         gate: &G,
     ) -> Result<Text, Stop<RunRefusal>>
         requires there { IsTask self.old.compiled task }
-        requires bound { HasFile self.old.compiled.names binds.now.list task }
+        requires bound { HasFile self.old.compiled.names (map binding_read binds.now.list) task }
         requires some { 1 ≤ workers }
         requires few { workers ≤ 16 }
 
@@ -46,7 +47,7 @@ impl Session {
         ensures told { (held : Held) → F.holds files.old ≡ Some held → (state : FlatState) →
             StandForState self.old.compiled.layouts self.old.stores state →
             Performs self.old.compiled.layouts self.new.stores result (compiled_meaning self.old.compiled state task
-            (reading_of held (file_of self.old.compiled.names binds.now.list task) result)) }
+            (reading_of held (file_of_task self.old.compiled.names (map binding_read binds.now.list) task) result)) }
         // Where they tell nothing, some reading of the file is what the load means.
         ensures performed { (state : FlatState) → StandForState self.old.compiled.layouts self.old.stores state →
             (given : Reading) × Performs self.old.compiled.layouts self.new.stores result (compiled_meaning self.old.compiled state task given) }
@@ -54,8 +55,8 @@ impl Session {
         ensures stays { OnErr result (self.new.stores ≡ self.old.stores) }
 
         ensures holds { F.holds files.new ≡ F.holds files.old }
-        ensures asked { F.asked files.new ≡ asked_after (file_of self.old.compiled.names binds.now.list task) (F.asked files.old) }
-        ensures reads { F.reads files.new ≡ reads_after (file_of self.old.compiled.names binds.now.list task) (F.reads files.old) }
+        ensures asked { F.asked files.new ≡ asked_after (file_of_task self.old.compiled.names (map binding_read binds.now.list) task) (F.asked files.old) }
+        ensures reads { F.reads files.new ≡ reads_after (file_of_task self.old.compiled.names (map binding_read binds.now.list) task) (F.reads files.old) }
         ensures cause { StepCause result (F.faults files.old) (F.faults files.new) }
         ensures never_falls { F.faults files.old ≤ F.faults files.new }
     {

@@ -4,7 +4,7 @@ ghost use Rattle.std.specs.Prelude.{◌≡◌, ◌<◌, length, slice_get, IfOk}
 ghost use Rattle.sg_flat.specs.declared.state.FlatState.{FlatState};
 ghost use Rattle.sg_names.specs.Tables.{layout_name_of};
 ghost use Rattle.sg_exec.specs.Standing.{StandForState};
-ghost use Rattle.sg_session.specs.Compiled.{IsDrawn};
+ghost use Rattle.sg_session.specs.Compiled.{IsImageTask};
 ghost use Rattle.sg_session.specs.Commands.{image_made, image_of_field, stats_made, counts_of_layout};
 ghost use Rattle.sg_session.specs.Performed.{HasState, Performs};
 
@@ -24,7 +24,7 @@ pub fn draw(
     lo: i64,
     hi: i64,
 ) -> Result<Text, Stop<RunRefusal>>
-    requires drawn { IsDrawn compiled.now at lo hi }
+    requires drawn { IsImageTask compiled.now at lo hi }
     requires stand { HasState compiled.now.layouts stores.now.list }
     ensures { (state : FlatState) → StandForState compiled.now.layouts stores.now.list state →
         Performs compiled.now.layouts stores.now.list result (image_made compiled.now.layouts state at lo hi) }
@@ -44,7 +44,7 @@ fn image(
     lo: i64,
     hi: i64,
 ) -> Result<Text, Memory>
-    requires drawn { IsDrawn compiled.now at lo hi }
+    requires drawn { IsImageTask compiled.now at lo hi }
     requires stand { HasState compiled.now.layouts stores.now.list }
     ensures { IfOk result (λ text. (state : FlatState) → StandForState compiled.now.layouts stores.now.list state →
         text.bytes ≡ image_of_field at.place lo hi (slice_get compiled.now.layouts at.layout) (slice_get state.layouts at.layout)) }

@@ -10,7 +10,7 @@ use Rattle.sg_ir.specs.declared.code.Inst.TheVariants as v
 use Rattle.sg_ir.specs.Blocks.{End, Link, link_step, link, block_of}
 use Rattle.sg_ir.specs.Span.{sets}
 use Rattle.sg_ir.proofs.Uses.{fold-Const, fold-Set, fold-If, fold-For}
-use Rattle.sg_simplify.specs.steps.Counted.{flag, words_step, has_words}
+use Rattle.sg_simplify.specs.steps.Counted.{one_where, words_step, has_words}
 use Rattle.sg_simplify.specs.steps.Tally.{tally, TellsCounts}
 use Rattle.sg_simplify.proofs.Tallying.{block_more}
 
@@ -32,9 +32,9 @@ words-more (x ∷ xs) inst all one =
 no-more : (n : ℕ) → n + 0 ≡ n
 no-more n = omega arith
 
-pub set-count : (types : List Ty) (inst : Inst) (var from x : ℕ) → inst ≡ v.Set var from → flag (var == x) ≡ sets x (link types inst End)
+pub set-count : (types : List Ty) (inst : Inst) (var from x : ℕ) → inst ≡ v.Set var from → one_where (var == x) ≡ sets x (link types inst End)
 set-count types inst var from x is =
-    sym (ap (λ it. sets x (link types it End)) is ∙ ap (λ (l : Link). sets x (l End)) (fold-Set (link_step types) var from) ∙ no-more (flag (var == x)))
+    sym (ap (λ it. sets x (link types it End)) is ∙ ap (λ (l : Link). sets x (l End)) (fold-Set (link_step types) var from) ∙ no-more (one_where (var == x)))
 
 pub if-count : (types : List Ty) (inst : Inst) (cond : ℕ) (block otherwise : List Inst) (x n : ℕ) → inst ≡ v.If cond block otherwise →
     n + sets x (block_of types block) + sets x (block_of types otherwise) ≡ n + sets x (link types inst End)
@@ -44,9 +44,9 @@ if-count types inst cond block otherwise x n is =
     omega arith
 
 pub for-count : (types : List Ty) (inst : Inst) (var : ℕ) (lo hi : ℤ) (body : List Inst) (x n : ℕ) → inst ≡ v.For var lo hi body →
-    n + flag (var == x) + sets x (block_of types body) ≡ n + sets x (link types inst End)
+    n + one_where (var == x) + sets x (block_of types body) ≡ n + sets x (link types inst End)
 for-count types inst var lo hi body x n is =
-    let e : sets x (link types inst End) ≡ flag (var == x) + (sets x (block_of types body) + 0) =
+    let e : sets x (link types inst End) ≡ one_where (var == x) + (sets x (block_of types body) + 0) =
     ap (λ it. sets x (link types it End)) is ∙ ap (λ (l : Link). sets x (l End)) (fold-For (link_step types) var lo hi body) in
     omega arith
 

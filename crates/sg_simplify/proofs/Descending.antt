@@ -19,7 +19,7 @@ use Rattle.sg_ir.specs.declared.op.Op.TheVariants as op
 use Rattle.sg_ir.specs.declared.op.Step.TheVariants as step
 use Rattle.sg_ir.specs.declared.op.Descent.{Descent}
 use Rattle.sg_simplify.specs.declared.made.Made.{Made}
-use Rattle.sg_simplify.specs.Pass.{Given, Making, taken, stepped, checked, part, joined, offset, descent_of, descended, placed_in, placed}
+use Rattle.sg_simplify.specs.Pass.{Given, Making, taken, stepped, checks_made, part, offset_made, offset, descent_of, descended, placed_in, place_made}
 use Rattle.sg_simplify.specs.steps.Made.{pass_of, next_of, Goes, AreWide, check_in}
 use Rattle.sg_simplify.proofs.Making.{longer-none, goes-here, goes-on, goes-from}
 
@@ -64,23 +64,23 @@ wide-shape shape accepted good = record { good = all_good shape accepted; small 
         omega arith
 
 -- checks
-pub checked-none : (axis : ℕ) (extents index : List ℕ) (place : ℕ) (made : Made) (x : List Inst) → length extents < 1 → (go : ℕ → Making) → Goes made made x x (checked axis extents index place go) (go place)
-checked-none axis [] index place made x none go = goes-here made made x (checked axis [] index place go) (go place) (longer-none made) refl
+pub checked-none : (axis : ℕ) (extents index : List ℕ) (place : ℕ) (made : Made) (x : List Inst) → length extents < 1 → (go : ℕ → Making) → Goes made made x x (checks_made axis extents index place go) (go place)
+checked-none axis [] index place made x none go = goes-here made made x (checks_made axis [] index place go) (go place) (longer-none made) refl
 checked-none axis (extent ∷ extents) index place made x none go = absurd (omega arith)
 
-pub checked-no-index : (axis : ℕ) (extents index : List ℕ) (place : ℕ) (made : Made) (x : List Inst) → length index < 1 → (go : ℕ → Making) → Goes made made x x (checked axis extents index place go) (go place)
-checked-no-index axis [] index place made x none go = goes-here made made x (checked axis [] index place go) (go place) (longer-none made) refl
-checked-no-index axis (extent ∷ extents) [] place made x none go = goes-here made made x (checked axis (extent ∷ extents) [] place go) (go place) (longer-none made) refl
+pub checked-no-index : (axis : ℕ) (extents index : List ℕ) (place : ℕ) (made : Made) (x : List Inst) → length index < 1 → (go : ℕ → Making) → Goes made made x x (checks_made axis extents index place go) (go place)
+checked-no-index axis [] index place made x none go = goes-here made made x (checks_made axis [] index place go) (go place) (longer-none made) refl
+checked-no-index axis (extent ∷ extents) [] place made x none go = goes-here made made x (checks_made axis (extent ∷ extents) [] place go) (go place) (longer-none made) refl
 checked-no-index axis (extent ∷ extents) (r ∷ index) place made x none go = absurd (omega arith)
 
 pub checked-next : (axis extent first place next to : ℕ) (extents more index rest : List ℕ) (old mid new : Made) (x y z : List Inst) → extents ≡ extent ∷ more → index ≡ first ∷ rest →
-    ((go : ℕ → Making) → Goes old mid x y (check_in axis extent first place go) (go next)) → ((go : ℕ → Making) → Goes mid new y z (checked (axis + 1) more rest next go) (go to)) →
-    (go : ℕ → Making) → Goes old new x z (checked axis extents index place go) (go to)
+    ((go : ℕ → Making) → Goes old mid x y (check_in axis extent first place go) (go next)) → ((go : ℕ → Making) → Goes mid new y z (checks_made (axis + 1) more rest next go) (go to)) →
+    (go : ℕ → Making) → Goes old new x z (checks_made axis extents index place go) (go to)
 checked-next axis extent first place next to extents more index rest old mid new x y z is are one others go =
-    let further : ℕ → Making = λ p. checked (suc axis) more rest p go in
-    let last : Goes mid new y z (further next) (go to) = subst (λ n. Goes mid new y z (checked n more rest next go) (go to)) (omega arith) (others go) in
-    let whole : Goes old new x z (checked axis (extent ∷ more) (first ∷ rest) place go) (go to) = goes-on old mid new x y z (checked axis (extent ∷ more) (first ∷ rest) place go) (further next) (go to) (one further) last in
-    subst (λ (it : List ℕ). Goes old new x z (checked axis it index place go) (go to)) (sym is) (subst (λ (it : List ℕ). Goes old new x z (checked axis (extent ∷ more) it place go) (go to)) (sym are) whole)
+    let further : ℕ → Making = λ p. checks_made (suc axis) more rest p go in
+    let last : Goes mid new y z (further next) (go to) = subst (λ n. Goes mid new y z (checks_made n more rest next go) (go to)) (omega arith) (others go) in
+    let whole : Goes old new x z (checks_made axis (extent ∷ more) (first ∷ rest) place go) (go to) = goes-on old mid new x y z (checks_made axis (extent ∷ more) (first ∷ rest) place go) (further next) (go to) (one further) last in
+    subst (λ (it : List ℕ). Goes old new x z (checks_made axis it index place go) (go to)) (sym is) (subst (λ (it : List ℕ). Goes old new x z (checks_made axis (extent ∷ more) it place go) (go to)) (sym are) whole)
 
 -- the part of an index
 pub part-goes : (given : Given) (node : NodeShape) (later : List NodeShape) (axis from div size to : ℕ) (index : List ℕ) (old new : Made) (x y : List Inst) → div ≡ extent_over later axis → size ≡ extent_in node.sizes axis → index ≡ [] →
@@ -94,28 +94,28 @@ part-goes given node later axis from div size to index old new x y over within n
 
 -- offsets
 pub joined-none : (given : Given) (node : NodeShape) (later : List NodeShape) (axis : ℕ) (index : List ℕ) (high : ℕ) (made : Made) (x : List Inst) → length index < 1 → (go : ℕ → Making) →
-    Goes made made x x (joined given node later axis index high go) (go high)
-joined-none given node later axis [] high made x none go = goes-here made made x (joined given node later axis [] high go) (go high) (longer-none made) refl
+    Goes made made x x (offset_made given node later axis index high go) (go high)
+joined-none given node later axis [] high made x none go = goes-here made made x (offset_made given node later axis [] high go) (go high) (longer-none made) refl
 joined-none given node later axis (r ∷ index) high made x none go = absurd (omega arith)
 
 pub joined-next : (given : Given) (node : NodeShape) (later : List NodeShape) (axis first high low size next following to : ℕ) (index rest none : List ℕ) (old mid last new : Made) (w x y z : List Inst) → index ≡ first ∷ rest →
     size ≡ extent_in node.sizes axis → none ≡ [] → following ≡ axis + 1 →
     ((go : ℕ → Making) → Goes old mid w x (part given node later axis first go) (go low)) →
     ((go : ℕ → Making) → Goes mid last x y (taken given ty.U32 (op.Offset high size low) none go) (go next)) →
-    ((go : ℕ → Making) → Goes last new y z (joined given node later following rest next go) (go to)) →
-    (go : ℕ → Making) → Goes old new w z (joined given node later axis index high go) (go to)
+    ((go : ℕ → Making) → Goes last new y z (offset_made given node later following rest next go) (go to)) →
+    (go : ℕ → Making) → Goes old new w z (offset_made given node later axis index high go) (go to)
 joined-next given node later axis first high low size next following to index rest none old mid last new w x y z are within empty follows one two others go =
-    subst (λ (it : List ℕ). Goes old new w z (joined given node later axis it high go) (go to)) (sym are)
-    (goes-on old mid new w x z (joined given node later axis (first ∷ rest) high go) (offsets low) (go to) (one offsets)
+    subst (λ (it : List ℕ). Goes old new w z (offset_made given node later axis it high go) (go to)) (sym are)
+    (goes-on old mid new w x z (offset_made given node later axis (first ∷ rest) high go) (offsets low) (go to) (one offsets)
     (goes-on mid last new x y z (offsets low) (further next) (go to)
     (goes-from mid last x y (offsets low) (taken given ty.U32 (op.Offset high size low) none further) (further next)
     (ap (λ s. taken given ty.U32 (op.Offset high s low) [] further (pass_of mid) (next_of mid)) (sym within)
     ∙ ap (λ regs. taken given ty.U32 (op.Offset high size low) regs further (pass_of mid) (next_of mid)) (sym empty))
     (two further))
-    (subst (λ n. Goes last new y z (joined given node later n rest next go) (go to)) (omega arith) (others go))))
+    (subst (λ n. Goes last new y z (offset_made given node later n rest next go) (go to)) (omega arith) (others go))))
   where
     further : ℕ → Making
-    further o = joined given node later (suc axis) rest o go
+    further o = offset_made given node later (suc axis) rest o go
 
     offsets : ℕ → Making
     offsets l = taken given ty.U32 (op.Offset high (extent_in node.sizes axis) l) [] further
@@ -125,10 +125,10 @@ offset-none given node later [] made x none go = goes-here made made x (offset g
 offset-none given node later (r ∷ index) made x none go = absurd (omega arith)
 
 pub offset-goes : (given : Given) (node : NodeShape) (later : List NodeShape) (first high to : ℕ) (index rest : List ℕ) (old mid new : Made) (x y z : List Inst) → index ≡ first ∷ rest →
-    ((go : ℕ → Making) → Goes old mid x y (part given node later 1 first go) (go high)) → ((go : ℕ → Making) → Goes mid new y z (joined given node later 2 rest high go) (go to)) →
+    ((go : ℕ → Making) → Goes old mid x y (part given node later 1 first go) (go high)) → ((go : ℕ → Making) → Goes mid new y z (offset_made given node later 2 rest high go) (go to)) →
     (go : ℕ → Making) → Goes old new x z (offset given node later index go) (go to)
 offset-goes given node later first high to index rest old mid new x y z are one others go =
-    let further : ℕ → Making = λ h. joined given node later 2 rest h go in
+    let further : ℕ → Making = λ h. offset_made given node later 2 rest h go in
     subst (λ (it : List ℕ). Goes old new x z (offset given node later it go) (go to)) (sym are)
     (goes-on old mid new x y z (offset given node later (first ∷ rest) go) (further high) (go to) (one further) (others go))
 
@@ -158,24 +158,24 @@ descended-next given nodes later node number place o next to index descent old m
     steps k = stepped (step.Down (descent_of node.kind) place number k) further
 
 -- the whole
-pub placed-none : (given : Given) (layout : ℕ) (index : List ℕ) (made : Made) (x : List Inst) → slice_get given.shapes layout ≡ None → (go : ℕ → Making) → Goes made made x x (placed given layout index go) (go 0)
+pub placed-none : (given : Given) (layout : ℕ) (index : List ℕ) (made : Made) (x : List Inst) → slice_get given.shapes layout ≡ None → (go : ℕ → Making) → Goes made made x x (place_made given layout index go) (go 0)
 placed-none given layout index made x none go =
-    goes-here made made x (placed given layout index go) (go 0) (longer-none made) (ap (λ there. placed_in given there layout index go (pass_of made) (next_of made)) none)
+    goes-here made made x (place_made given layout index go) (go 0) (longer-none made) (ap (λ there. placed_in given there layout index go (pass_of made) (next_of made)) none)
 
 pub placed-goes : (given : Given) (shape : Shape) (layout root inside to : ℕ) (index extents : List ℕ) (nodes : List NodeShape) (old mid last new : Made) (w x y z : List Inst) → slice_get given.shapes layout ≡ Some shape →
     extents ≡ extents_in (bounds_of_shape shape) → nodes ≡ shape.nodes → ((go : ℕ → Making) → Goes old mid w x (stepped (step.Root layout) go) (go root)) →
-    ((go : ℕ → Making) → Goes mid last x y (checked 0 extents index root go) (go inside)) →
+    ((go : ℕ → Making) → Goes mid last x y (checks_made 0 extents index root go) (go inside)) →
     ((go : ℕ → Making) → Goes last new y z (descended given nodes 1 index inside go) (go to)) →
-    (go : ℕ → Making) → Goes old new w z (placed given layout index go) (go to)
+    (go : ℕ → Making) → Goes old new w z (place_made given layout index go) (go to)
 placed-goes given shape layout root inside to index extents nodes old mid last new w x y z there are same one two three go =
-    goes-from old new w z (placed given layout index go) (stepped (step.Root layout) checks) (go to) (ap (λ it. placed_in given it layout index go (pass_of old) (next_of old)) there)
+    goes-from old new w z (place_made given layout index go) (stepped (step.Root layout) checks) (go to) (ap (λ it. placed_in given it layout index go (pass_of old) (next_of old)) there)
     (goes-on old mid new w x z (stepped (step.Root layout) checks) (checks root) (go to) (one checks)
     (goes-on mid last new x y z (checks root) (further inside) (go to)
-    (goes-from mid last x y (checks root) (checked 0 extents index root further) (further inside) (ap (λ it. checked 0 it index root further (pass_of mid) (next_of mid)) (sym are)) (two further))
+    (goes-from mid last x y (checks root) (checks_made 0 extents index root further) (further inside) (ap (λ it. checks_made 0 it index root further (pass_of mid) (next_of mid)) (sym are)) (two further))
     (subst (λ (it : List NodeShape). Goes last new y z (descended given it 1 index inside go) (go to)) same (three go))))
   where
     further : ℕ → Making
     further p = descended given shape.nodes 1 index p go
 
     checks : ℕ → Making
-    checks k = checked 0 (extents_in (bounds_of_shape shape)) index k further
+    checks k = checks_made 0 (extents_in (bounds_of_shape shape)) index k further

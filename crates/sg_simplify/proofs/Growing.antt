@@ -14,12 +14,12 @@ use Rattle.sg_ir.specs.declared.op.Step.{Step}
 use Rattle.sg_ir.specs.declared.op.Step.TheVariants as step
 use Rattle.sg_ir.specs.Blocks.{Block, End, Word, Spot, Cell, Do, Branch, Loop, SetVar, WriteOwn, Contribute, Wish}
 use Rattle.sg_ir.specs.declared.span.Span.{Span}
-use Rattle.sg_ir.specs.Span.{whole}
+use Rattle.sg_ir.specs.Span.{whole_i32}
 use Rattle.sg_ir.specs.Shared.{same_op, same_step, is_pure}
 use Rattle.sg_ir.specs.Trimmed.{is_within}
 use Rattle.sg_ir.specs.steps.InScope.{InScope, and_reg, and_place, IsScoped}
 use Rattle.sg_ir.specs.Places.{extents_in}
-use Rattle.sg_simplify.specs.Pass.{Given, Pass, Next, Making, name_of, with_name, with_reg, with_place, type_of, span_in, span_of, renamed, and_op, and_step, fresh, taken_at, taken, numbered, stepped_at, stepped, check_at, checked, joined, offset, descent_of, descended, placed_in, placed, looped, simplified}
+use Rattle.sg_simplify.specs.Pass.{Given, Pass, Next, Making, made_name, with_name, next_with_reg, next_with_place, given_type, span_in, span_of, renamed, and_op, and_step, fresh, taken_at, taken, numbered, stepped_at, stepped, check_at, checks_made, offset_made, offset, descent_of, descended, placed_in, place_made, looped, simplified}
 use Rattle.sg_simplify.specs.steps.Ruled.{Grown}
 use Rattle.sg_simplify.proofs.Tables.{length_push, get_kept, names_put}
 
@@ -34,26 +34,26 @@ grown_on scope a b c first second = let m = first.regs in let p = first.places i
   names = λ r is. second.names r is ∙ first.names r is;
 }
 
-grown_reg : (scope : InScope) (start next : Next) (type : Ty) (span : Span) → Grown scope start next → Grown scope start (with_reg type span next)
+grown_reg : (scope : InScope) (start next : Next) (type : Ty) (span : Span) → Grown scope start next → Grown scope start (next_with_reg type span next)
 grown_reg scope start next type span h = let m = h.regs in let p = h.places in let more : length (next.spans ++ span ∷ []) ≡ suc (length next.spans) = length_push next.spans span in record {
   regs = omega arith;
   places = omega arith;
-  spans = λ r below. get_kept next.spans span whole r (omega (arith, below)) ∙ h.spans r below;
+  spans = λ r below. get_kept next.spans span whole_i32 r (omega (arith, below)) ∙ h.spans r below;
   names = h.names;
 }
 
-grown_place : (scope : InScope) (start next : Next) → Grown scope start next → Grown scope start (with_place next)
+grown_place : (scope : InScope) (start next : Next) → Grown scope start next → Grown scope start (next_with_place next)
 grown_place scope start next h = let p = h.places in record { regs = h.regs; places = omega arith; spans = h.spans; names = h.names }
 
 -- the name of a register, and of the others, behind one that is given
-pub name_here : (next : Next) (to t : ℕ) → name_of (with_name to t next) to ≡ t
+pub name_here : (next : Next) (to t : ℕ) → made_name (with_name to t next) to ≡ t
 name_here next to t = ap (λ o. unwrap_or o to) (names_put next.names to t to) ∙ by_test (to == to) (grind arith)
   where
     by_test : (test : Bool) → test ≡ true → unwrap_or (if test then Some t else lookup (nat_eq to) next.names) to ≡ t
     by_test true e = refl
     by_test false e = absurd (cc)
 
-pub name_other : (next : Next) (to t r : ℕ) → (r == to) ≡ false → name_of (with_name to t next) r ≡ name_of next r
+pub name_other : (next : Next) (to t r : ℕ) → (r == to) ≡ false → made_name (with_name to t next) r ≡ made_name next r
 name_other next to t r e = ap (λ o. unwrap_or o r) (names_put next.names to t r ∙ ap (λ (test : Bool). if test then Some t else lookup (nat_eq r) next.names) e)
 
 grown_name : (scope : InScope) (start next : Next) (to t : ℕ) → scope.regs to ≡ false → Grown scope start next → Grown scope start (with_name to t next)
@@ -85,14 +85,14 @@ module _ (given : Given) (scope : InScope) (start : Next) where
   Grows go = (t : ℕ) (pass : Pass) (next : Next) → Grown scope start next → Grown scope start (go t pass next).1
 
   fresh_grows : (type : Ty) (how : Op) (index : List ℕ) (go : ℕ → Making) → Grows go → (pass : Pass) (next : Next) → Grown scope start next → Grown scope start (fresh given type how index go pass next).1
-  fresh_grows type how index go grows pass next h = grows (length next.spans) pass (with_reg type (span_of given pass next how) next) (grown_reg scope start next type (span_of given pass next how) h)
+  fresh_grows type how index go grows pass next h = grows (length next.spans) pass (next_with_reg type (span_of given pass next how) next) (grown_reg scope start next type (span_of given pass next how) h)
 
   taken_grows : (type : Ty) (how : Op) (index : List ℕ) (go : ℕ → Making) → Grows go → (pass : Pass) (next : Next) → Grown scope start next → Grown scope start (taken given type how index go pass next).1
   taken_grows type how index go grows pass next h = by_found (lookup (same_op how) pass.ops)
     where
       by_found : (o : Option ℕ) → Grown scope start (taken_at given type how index go o pass next).1
       by_found (Some t) = grows t pass next h
-      by_found None = grows (length next.spans) (and_op how (length next.spans) pass) (with_reg type (span_of given pass next how) next) (grown_reg scope start next type (span_of given pass next how) h)
+      by_found None = grows (length next.spans) (and_op how (length next.spans) pass) (next_with_reg type (span_of given pass next how) next) (grown_reg scope start next type (span_of given pass next how) h)
 
   numbered_grows : (pure : Bool) (type : Ty) (how : Op) (go : ℕ → Making) → Grows go → (pass : Pass) (next : Next) → Grown scope start next → Grown scope start (numbered pure given type how go pass next).1
   numbered_grows true type how go grows pass next h = taken_grows type how [] go grows pass next h
@@ -103,29 +103,29 @@ module _ (given : Given) (scope : InScope) (start : Next) where
     where
       by_found : (o : Option ℕ) → Grown scope start (stepped_at how go o pass next).1
       by_found (Some t) = grows t pass next h
-      by_found None = grows next.places (and_step how next.places pass) (with_place next) (grown_place scope start next h)
+      by_found None = grows next.places (and_step how next.places pass) (next_with_place next) (grown_place scope start next h)
 
-  checked_grows : (extents : List ℕ) (axis : ℕ) (index : List ℕ) (place : ℕ) (go : ℕ → Making) → Grows go → (pass : Pass) (next : Next) → Grown scope start next → Grown scope start (checked axis extents index place go pass next).1
+  checked_grows : (extents : List ℕ) (axis : ℕ) (index : List ℕ) (place : ℕ) (go : ℕ → Making) → Grows go → (pass : Pass) (next : Next) → Grown scope start next → Grown scope start (checks_made axis extents index place go pass next).1
   checked_grows [] axis index place go grows pass next h = grows place pass next h
   checked_grows (extent ∷ extents) axis [] place go grows pass next h = grows place pass next h
   checked_grows (extent ∷ extents) axis (r ∷ index) place go grows pass next h = by_test (is_within extent (span_in next r)) (λ p now later k. checked_grows extents (suc axis) index p go grows now later k)
     where
-      by_test : (test : Bool) → Grows (λ p. checked (suc axis) extents index p go)
-          → Grown scope start (check_at test (step.Check place axis extent r) place (λ p. checked (suc axis) extents index p go) pass next).1
+      by_test : (test : Bool) → Grows (λ p. checks_made (suc axis) extents index p go)
+          → Grown scope start (check_at test (step.Check place axis extent r) place (λ p. checks_made (suc axis) extents index p go) pass next).1
       by_test true more = more place pass next h
-      by_test false more = stepped_grows (step.Check place axis extent r) (λ p. checked (suc axis) extents index p go) more pass next h
+      by_test false more = stepped_grows (step.Check place axis extent r) (λ p. checks_made (suc axis) extents index p go) more pass next h
 
-  joined_grows : (node : NodeShape) (later : List NodeShape) (index : List ℕ) (axis high : ℕ) (go : ℕ → Making) → Grows go → (pass : Pass) (next : Next) → Grown scope start next → Grown scope start (joined given node later axis index high go pass next).1
+  joined_grows : (node : NodeShape) (later : List NodeShape) (index : List ℕ) (axis high : ℕ) (go : ℕ → Making) → Grows go → (pass : Pass) (next : Next) → Grown scope start next → Grown scope start (offset_made given node later axis index high go pass next).1
   joined_grows node later [] axis high go grows pass next h = grows high pass next h
   joined_grows node later (r ∷ index) axis high go grows pass next h =
-      taken_grows ty.U32 (op.Extract (extent_over later axis) (extent_in node.sizes axis) r) [] (λ low. taken given ty.U32 (op.Offset high (extent_in node.sizes axis) low) [] (λ o. joined given node later (suc axis) index o go))
-      (λ low now further k. taken_grows ty.U32 (op.Offset high (extent_in node.sizes axis) low) [] (λ o. joined given node later (suc axis) index o go)
+      taken_grows ty.U32 (op.Extract (extent_over later axis) (extent_in node.sizes axis) r) [] (λ low. taken given ty.U32 (op.Offset high (extent_in node.sizes axis) low) [] (λ o. offset_made given node later (suc axis) index o go))
+      (λ low now further k. taken_grows ty.U32 (op.Offset high (extent_in node.sizes axis) low) [] (λ o. offset_made given node later (suc axis) index o go)
       (λ o now' further' k'. joined_grows node later index (suc axis) o go grows now' further' k') now further k) pass next h
 
   offset_grows : (node : NodeShape) (later : List NodeShape) (index : List ℕ) (go : ℕ → Making) → Grows go → (pass : Pass) (next : Next) → Grown scope start next → Grown scope start (offset given node later index go pass next).1
   offset_grows node later [] go grows pass next h = grows 0 pass next h
   offset_grows node later (r ∷ index) go grows pass next h =
-      taken_grows ty.U32 (op.Extract (extent_over later 1) (extent_in node.sizes 1) r) [] (λ high. joined given node later 2 index high go) (λ high now further k. joined_grows node later index 2 high go grows now further k) pass next h
+      taken_grows ty.U32 (op.Extract (extent_over later 1) (extent_in node.sizes 1) r) [] (λ high. offset_made given node later 2 index high go) (λ high now further k. joined_grows node later index 2 high go grows now further k) pass next h
 
   descended_grows : (nodes : List NodeShape) (number : ℕ) (index : List ℕ) (place : ℕ) (go : ℕ → Making) → Grows go → (pass : Pass) (next : Next) → Grown scope start next → Grown scope start (descended given nodes number index place go pass next).1
   descended_grows [] number index place go grows pass next h = grows place pass next h
@@ -134,13 +134,13 @@ module _ (given : Given) (scope : InScope) (start : Next) where
       (λ o now further k. stepped_grows (step.Down (descent_of node.kind) place number o) (λ p. descended given later (suc number) index p go)
       (λ p now' further' k'. descended_grows later (suc number) index p go grows now' further' k') now further k) pass next h
 
-  placed_grows : (layout : ℕ) (index : List ℕ) (go : ℕ → Making) → Grows go → (pass : Pass) (next : Next) → Grown scope start next → Grown scope start (placed given layout index go pass next).1
+  placed_grows : (layout : ℕ) (index : List ℕ) (go : ℕ → Making) → Grows go → (pass : Pass) (next : Next) → Grown scope start next → Grown scope start (place_made given layout index go pass next).1
   placed_grows layout index go grows pass next h = by_found (slice_get given.shapes layout)
     where
       by_found : (found : Option Shape) → Grown scope start (placed_in given found layout index go pass next).1
       by_found None = grows 0 pass next h
       by_found (Some shape) =
-          stepped_grows (step.Root layout) (λ r. checked 0 (extents_in (bounds_of_shape shape)) index r (λ p. descended given shape.nodes 1 index p go))
+          stepped_grows (step.Root layout) (λ r. checks_made 0 (extents_in (bounds_of_shape shape)) index r (λ p. descended given shape.nodes 1 index p go))
           (λ r now further k. checked_grows (extents_in (bounds_of_shape shape)) 0 index r (λ p. descended given shape.nodes 1 index p go)
           (λ p now' further' k'. descended_grows shape.nodes 1 index p go grows now' further' k') now further k) pass next h
 
@@ -148,21 +148,21 @@ module _ (given : Given) where
   pub simplified_grows : (block : Block) (scope : InScope) → IsScoped scope block → (pass : Pass) (next : Next) → Grown scope next (simplified given block pass next).1
   simplified_grows End scope scoped pass next = grown_same scope next
   simplified_grows (Word to how rest) scope scoped pass next =
-      numbered_grows given scope next (is_pure given.single how) (type_of given to) (renamed next how) (λ t now later. simplified given rest now (with_name to t later))
+      numbered_grows given scope next (is_pure given.single how) (given_type given to) (renamed next how) (λ t now later. simplified given rest now (with_name to t later))
       (λ t now later h. grown_on scope next (with_name to t later) (simplified given rest now (with_name to t later)).1 (grown_name scope next later to t scoped.2 h)
       (grown_fewer scope to (with_name to t later) (simplified given rest now (with_name to t later)).1 (simplified_grows rest (and_reg to scope) scoped.3 now (with_name to t later)))) pass next (grown_same scope next)
   simplified_grows (Spot to how rest) scope scoped pass next =
       let h = simplified_grows rest (and_place to scope) scoped.3 pass next in record { regs = h.regs; places = h.places; spans = h.spans; names = h.names }
   simplified_grows (Cell to place layout field index rest) scope scoped pass next =
-      placed_grows given scope next layout (map (name_of next) index)
-      (λ p. taken given (type_of given to) (op.Read p layout field) (map (name_of next) index) (λ t now later. simplified given rest now (with_name to t later)))
-      (λ p now further k. taken_grows given scope next (type_of given to) (op.Read p layout field) (map (name_of next) index) (λ t now later. simplified given rest now (with_name to t later))
+      placed_grows given scope next layout (map (made_name next) index)
+      (λ p. taken given (given_type given to) (op.Read p layout field) (map (made_name next) index) (λ t now later. simplified given rest now (with_name to t later)))
+      (λ p now further k. taken_grows given scope next (given_type given to) (op.Read p layout field) (map (made_name next) index) (λ t now later. simplified given rest now (with_name to t later))
       (λ t now' later h. grown_on scope next (with_name to t later) (simplified given rest now' (with_name to t later)).1 (grown_name scope next later to t scoped.1 h)
       (grown_fewer scope to (with_name to t later) (simplified given rest now' (with_name to t later)).1 (simplified_grows rest (and_reg to scope) scoped.2 now' (with_name to t later)))) now further k) pass next (grown_same scope next)
   simplified_grows (Do (SetVar var from) rest) scope scoped pass next = simplified_grows rest scope scoped.2 pass next
   simplified_grows (Do (WriteOwn layout field from stmt) rest) scope scoped pass next = simplified_grows rest scope scoped.2 pass next
   simplified_grows (Do (Contribute how layout field place from index stmt) rest) scope scoped pass next =
-      placed_grows given scope next layout (map (name_of next) index) _
+      placed_grows given scope next layout (map (made_name next) index) _
       (λ p now later h. grown_on scope next later (simplified given rest now later).1 h (simplified_grows rest scope scoped.2 now later)) pass next (grown_same scope next)
   simplified_grows (Do (Wish layout index stmt) rest) scope scoped pass next = simplified_grows rest scope scoped.2 pass next
   simplified_grows (Branch cond block otherwise rest) scope scoped pass next =

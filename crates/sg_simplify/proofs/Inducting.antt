@@ -10,7 +10,7 @@ use Rattle.sg_ir.specs.declared.code.Inst.TheVariants as v
 use Rattle.sg_ir.proofs.Uses.{by_inst}
 use Rattle.sg_ir.proofs.Uses.{largest, depth_step, depth}
 use Rattle.sg_ir.proofs.Uses.{fold-If, fold-For}
-use Rattle.sg_simplify.specs.steps.Serves.{Each}
+use Rattle.sg_simplify.specs.steps.Serves.{EachByRecursion}
 
 module _ (P : Inst → Type 0)
     (on_const : (to word : ℕ) → P (v.Const to word))
@@ -32,9 +32,9 @@ module _ (P : Inst → Type 0)
     (on_ownwrite : (layout field from stmt : ℕ) → P (v.OwnWrite layout field from stmt))
     (on_acc : (how : AccOp) (layout field place from : ℕ) (index : List ℕ) (stmt : ℕ) → P (v.Acc how layout field place from index stmt))
     (on_want : (layout : ℕ) (index : List ℕ) (stmt : ℕ) → P (v.Want layout index stmt))
-    (on_if : (cond : ℕ) (block otherwise : List Inst) → Each P block → Each P otherwise → P (v.If cond block otherwise))
-    (on_for : (var : ℕ) (lo hi : ℤ) (body : List Inst) → Each P body → P (v.For var lo hi body)) where
-  each_below : (n : ℕ) → ((inst : Inst) → depth inst < n → P inst) → (insts : List Inst) → largest (map depth insts) < n → Each P insts
+    (on_if : (cond : ℕ) (block otherwise : List Inst) → EachByRecursion P block → EachByRecursion P otherwise → P (v.If cond block otherwise))
+    (on_for : (var : ℕ) (lo hi : ℤ) (body : List Inst) → EachByRecursion P body → P (v.For var lo hi body)) where
+  each_below : (n : ℕ) → ((inst : Inst) → depth inst < n → P inst) → (insts : List Inst) → largest (map depth insts) < n → EachByRecursion P insts
   each_below n each [] below = tt
   each_below n each (inst ∷ insts) below = (each inst (omega (arith, below)), each_below n each insts (omega (arith, below)))
 
@@ -71,6 +71,6 @@ module _ (P : Inst → Type 0)
   pub inductively : (inst : Inst) → P inst
   inductively inst = by_depth (suc (depth inst)) inst (omega arith)
 
-  pub of_each : (insts : List Inst) → Each P insts
+  pub of_each : (insts : List Inst) → EachByRecursion P insts
   of_each [] = tt
   of_each (inst ∷ insts) = (inductively inst, of_each insts)

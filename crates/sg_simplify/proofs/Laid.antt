@@ -10,11 +10,11 @@ use Rattle.sg_layout.specs.Axes.{bounds_of_shape}
 use Rattle.sg_layout.specs.PathLaws.{PathIsSlot, WholePathIsOffsets}
 use Rattle.sg_ir.proofs.Uses.{walk-leads}
 use Rattle.sg_ir.proofs.Uses.{whole_slot}
-use Rattle.sg_simplify.specs.steps.Counted.{AreLaid}
+use Rattle.sg_simplify.specs.steps.Counted.{CanBeWalked}
 use Rattle.sg_simplify.proofs.Naming.{each_all}
 
 pub are_laid : (shapes : List Shape) → ((layout : ℕ) (shape : Shape) → slice_get shapes layout ≡ Some shape → IsAccepted shape × IsBounds (bounds_of_shape shape)) → InsideTest
-    → ((shape : Shape) → PathIsSlot shape) → ((shape : Shape) → WholePathIsOffsets shape) → AreLaid shapes
+    → ((shape : Shape) → PathIsSlot shape) → ((shape : Shape) → WholePathIsOffsets shape) → CanBeWalked shapes
 are_laid shapes checked test is_slot whole layout shape there =
     let good = checked layout shape there in
     (good.1.some_axis, λ words long each. walk-leads shapes layout shape words there good.0 good.1 test (whole_slot shape good.0 (is_slot shape) (whole shape)) long (each_all IsWord words each))

@@ -8,8 +8,8 @@ use Rattle.sg_ir.specs.Blocks.{Block, Link, chained, link}
 use Rattle.sg_simplify.proofs.Reading.{append-none, map-append, chained-append}
 use Rattle.sg_simplify.specs.declared.made.Made.{Made}
 use Rattle.sg_simplify.specs.declared.made.Reg.{Reg}
-use Rattle.sg_simplify.specs.Pass.{Given, Pass, Next, Making, after, set_word, fresh, with_reg, span_of}
-use Rattle.sg_simplify.specs.steps.Made.{pass_of, next_of, types_of, onto, Longer, Continues, Goes, AddsReg, HasTruth, TruthIs}
+use Rattle.sg_simplify.specs.Pass.{Given, Pass, Next, Making, put_in_front, set_word, fresh, next_with_reg, span_of}
+use Rattle.sg_simplify.specs.steps.Made.{pass_of, next_of, types_of, onto, Longer, Continues, Goes, AddsMadeReg, HasTruth, TruthIs}
 
 -- one instruction more
 onto-one : (types : List Ty) (insts : List Inst) (inst : Inst) (made : Block × Next) → onto types (insts ++ inst ∷ []) made ≡ onto types insts (link types inst made.0, made.1)
@@ -65,7 +65,7 @@ goes-to a b c x y A R S longer goes same = goes-on a b c x y y A R S goes (goes-
 
 -- an instruction is put out
 pub goes-put : (old new : Made) (x y : List Inst) (inst : Inst) (L : Link) (A R : Making) → Longer old new → y ≡ x ++ inst ∷ [] →
-    ((more : List Ty) (rest : Block) → link (types_of new ++ more) inst rest ≡ L rest) → A (pass_of old) (next_of old) ≡ after L (R (pass_of new) (next_of new)) → Goes old new x y A R
+    ((more : List Ty) (rest : Block) → link (types_of new ++ more) inst rest ≡ L rest) → A (pass_of old) (next_of old) ≡ put_in_front L (R (pass_of new) (next_of new)) → Goes old new x y A R
 goes-put old new x y inst L A R longer put links same = record { longer = longer; continues = on }
   where
     on : Continues old new x y A R
@@ -90,7 +90,7 @@ same-length made = go made.regs
     go (reg ∷ regs) = ap suc (go regs)
 
 -- a new register
-pub fresh-goes : (given : Given) (type : Ty) (how : Op) (index : List ℕ) (to : ℕ) (old new : Made) (x y : List Inst) (inst : Inst) → HasTruth type how → AddsReg given type how to old new →
+pub fresh-goes : (given : Given) (type : Ty) (how : Op) (index : List ℕ) (to : ℕ) (old new : Made) (x y : List Inst) (inst : Inst) → HasTruth type how → AddsMadeReg given type how to old new →
     ((regs : List Ty) → TruthIs regs to how → (rest : Block) → link regs inst rest ≡ set_word to how index rest) → y ≡ x ++ inst ∷ [] →
     (go : ℕ → Making) → Goes old new x y (fresh given type how index go) (go to)
 fresh-goes given type how index to old new x y inst truth adds links put go =
@@ -121,8 +121,8 @@ fresh-goes given type how index to old new x y inst truth adds links put go =
     linked : (more : List Ty) (rest : Block) → link (types_of new ++ more) inst rest ≡ set_word to how index rest
     linked more rest = links (types_of new ++ more) (subst (λ t. HasTruth t how) (sym (its_type more)) truth) rest
 
-    same : fresh given type how index go (pass_of old) (next_of old) ≡ after (set_word to how index) (go to (pass_of new) (next_of new))
+    same : fresh given type how index go (pass_of old) (next_of old) ≡ put_in_front (set_word to how index) (go to (pass_of new) (next_of new))
     same =
-        ap (λ r. after (set_word r how index) (go r (pass_of old) (with_reg type (span_of given (pass_of old) (next_of old) how) (next_of old)))) (sym adds.number)
-        ∙ ap (λ next. after (set_word to how index) (go to (pass_of old) next)) (sym adds.next)
-        ∙ ap (λ pass. after (set_word to how index) (go to pass (next_of new))) (sym adds.known)
+        ap (λ r. put_in_front (set_word r how index) (go r (pass_of old) (next_with_reg type (span_of given (pass_of old) (next_of old) how) (next_of old)))) (sym adds.number)
+        ∙ ap (λ next. put_in_front (set_word to how index) (go to (pass_of old) next)) (sym adds.next)
+        ∙ ap (λ pass. put_in_front (set_word to how index) (go to pass (next_of new))) (sym adds.known)

@@ -18,7 +18,7 @@ use Rattle.sg_ir.specs.Runs.{Seen, iteration_start, iteration}
 use Rattle.sg_ir.specs.Named.{IsNamed, AreNamed}
 use Rattle.sg_ir.specs.Blocks.{Block, block_of}
 use Rattle.sg_ir.specs.SpanLaws.{StateIsWords}
-use Rattle.sg_ir.specs.steps.Scoped.{Moment, first_room, run}
+use Rattle.sg_ir.specs.steps.Scoped.{RunMoment, first_room, run}
 use Rattle.sg_ir.specs.steps.Flat.{moment_of}
 use Rattle.sg_ir.specs.steps.InScope.{nothing, IsScoped}
 use Rattle.sg_ir.proofs.Uses.{op_exact, step_exact}
@@ -80,7 +80,7 @@ module _
       let second = forms_alike seen made_types made made_scoped in
       let runs : run seen (block_of made_types made) first_room start ≡ run seen block first_room start = ap (λ (b : Block). run seen b first_room start) is ∙ good.runs in
       record {
-        writes = second.writes ∙ (ap (λ (m : Moment). m.writes) runs ∙ sym first.writes);
-        wants = second.wants ∙ (ap (λ (m : Moment). m.wants) runs ∙ sym first.wants);
+        writes = second.writes ∙ (ap (λ (m : RunMoment). m.writes) runs ∙ sym first.writes);
+        wants = second.wants ∙ (ap (λ (m : RunMoment). m.wants) runs ∙ sym first.wants);
         named = named_told seen made_types made made_scoped made_names;
       }

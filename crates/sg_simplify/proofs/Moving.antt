@@ -9,10 +9,10 @@ use Rattle.sg_ir.specs.declared.op.Op.TheVariants as op
 use Rattle.sg_ir.specs.Runs.{Seen, put}
 use Rattle.sg_ir.specs.Blocks.{Block, End, Word, Spot, Cell, Do, Branch, Loop, SetVar, WriteOwn, Contribute, Wish}
 use Rattle.sg_ir.specs.Span.{sets}
-use Rattle.sg_ir.specs.SpanLaws.{Fits}
-use Rattle.sg_ir.specs.steps.Scoped.{Moment, Room, room_reg, room_place, op_word, step_place, acted, at_turn, run}
+use Rattle.sg_ir.specs.SpanLaws.{FitsSpans}
+use Rattle.sg_ir.specs.steps.Scoped.{RunMoment, Room, room_reg, room_place, op_word, step_place, moment_after_act, at_turn, run}
 use Rattle.sg_simplify.specs.Pass.{Given, Pass, Next, vars_of}
-use Rattle.sg_simplify.specs.steps.Serves.{Each, OpStays, OpHolds, Holds}
+use Rattle.sg_simplify.specs.steps.Serves.{EachByRecursion, OpStays, OpHolds, HoldsInRoom}
 use Rattle.sg_simplify.proofs.Tables.{each_map}
 
 -- ---- variables that a block doesn't set
@@ -43,26 +43,26 @@ pub none_of_three : (a b c : ℕ) → a + (b + c) ≡ 0 → a + (b + 0) ≡ 0
 none_of_three a b c h = omega (arith, h)
 
 -- what is known, for a shorter block and a later moment
-abbrev pub Moves : Block → Block → Moment → Moment → Type 0
+abbrev pub Moves : Block → Block → RunMoment → RunMoment → Type 0
 Moves block rest now reached = (var : ℕ) → sets var block ≡ 0 → (sets var rest ≡ 0) × (reached.vars var ≡ now.vars var)
 
 module _ (seen : Seen) where
-  turns_leave : (var set : ℕ) (body : Block) (room : Room) → flag (set == var) ≡ 0 → ((now : Moment) → (run seen body room now).vars var ≡ now.vars var) → (turns : List ℤ) (now : Moment)
+  turns_leave : (var set : ℕ) (body : Block) (room : Room) → flag (set == var) ≡ 0 → ((now : RunMoment) → (run seen body room now).vars var ≡ now.vars var) → (turns : List ℤ) (now : RunMoment)
       → (fold (λ reached turn. run seen body room (at_turn set turn reached)) now turns).vars var ≡ now.vars var
   turns_leave var set body room off each [] now = refl
   turns_leave var set body room off each (turn ∷ turns) now =
       turns_leave var set body room off each turns (run seen body room (at_turn set turn now)) ∙ (each (at_turn set turn now) ∙ put_other set var (word_of turn) now.vars off)
 
-  pub run_leaves : (var : ℕ) (block : Block) (room : Room) (now : Moment) → sets var block ≡ 0 → (run seen block room now).vars var ≡ now.vars var
+  pub run_leaves : (var : ℕ) (block : Block) (room : Room) (now : RunMoment) → sets var block ≡ 0 → (run seen block room now).vars var ≡ now.vars var
   run_leaves var End room now h = refl
   run_leaves var (Word to how rest) room now h = run_leaves var rest (room_reg to (op_word seen room now how) room) now h
   run_leaves var (Spot to how rest) room now h = run_leaves var rest (room_place to (step_place seen room how) room) now h
   run_leaves var (Cell to place layout field index rest) room now h = run_leaves var rest (room_reg to (op_word seen room now (op.Read place layout field)) room) now h
   run_leaves var (Do (SetVar set from) rest) room now h =
-      run_leaves var rest room (acted seen room (SetVar set from) now) (last_none _ (sets var rest) h) ∙ put_other set var (room.regs from) now.vars (first_none _ (sets var rest) h)
-  run_leaves var (Do (WriteOwn layout field from stmt) rest) room now h = run_leaves var rest room (acted seen room (WriteOwn layout field from stmt) now) (last_none _ (sets var rest) h)
-  run_leaves var (Do (Contribute how layout field place from index stmt) rest) room now h = run_leaves var rest room (acted seen room (Contribute how layout field place from index stmt) now) (last_none _ (sets var rest) h)
-  run_leaves var (Do (Wish layout index stmt) rest) room now h = run_leaves var rest room (acted seen room (Wish layout index stmt) now) (last_none _ (sets var rest) h)
+      run_leaves var rest room (moment_after_act seen room (SetVar set from) now) (last_none _ (sets var rest) h) ∙ put_other set var (room.regs from) now.vars (first_none _ (sets var rest) h)
+  run_leaves var (Do (WriteOwn layout field from stmt) rest) room now h = run_leaves var rest room (moment_after_act seen room (WriteOwn layout field from stmt) now) (last_none _ (sets var rest) h)
+  run_leaves var (Do (Contribute how layout field place from index stmt) rest) room now h = run_leaves var rest room (moment_after_act seen room (Contribute how layout field place from index stmt) now) (last_none _ (sets var rest) h)
+  run_leaves var (Do (Wish layout index stmt) rest) room now h = run_leaves var rest room (moment_after_act seen room (Wish layout index stmt) now) (last_none _ (sets var rest) h)
   run_leaves var (Branch cond block otherwise rest) room now h =
       run_leaves var rest room (if room.regs cond == 0 then run seen otherwise room now else run seen block room now) (last_none (sets var otherwise) (sets var rest) (last_none (sets var block) _ h))
       ∙ by_test (room.regs cond == 0) (run_leaves var block room now (first_none (sets var block) _ h)) (run_leaves var otherwise room now (first_none (sets var otherwise) (sets var rest) (last_none (sets var block) _ h)))
@@ -77,7 +77,7 @@ module _ (seen : Seen) where
       ∙ turns_leave var set body room (first_none (flag (set == var)) (sets var body + sets var rest) h)
       (λ reached. run_leaves var body room reached (first_none (sets var body) (sets var rest) more)) (numbers lo hi) now
 
-  stays_moved : (block rest : Block) (now reached : Moment) → Moves block rest now reached → (how : Op) → OpStays block how → OpStays rest how
+  stays_moved : (block rest : Block) (now reached : RunMoment) → Moves block rest now reached → (how : Op) → OpStays block how → OpStays rest how
   stays_moved block rest now reached moves (op.Const word truth) h = tt
   stays_moved block rest now reached moves (op.Var var) h = (moves var h).0
   stays_moved block rest now reached moves (op.Bin how kind a b) h = tt
@@ -88,7 +88,7 @@ module _ (seen : Seen) where
   stays_moved block rest now reached moves (op.Read place layout field) h = tt
   stays_moved block rest now reached moves (op.OwnRead layout field) h = absurd h
 
-  word_moved : (block rest : Block) (now reached : Moment) → Moves block rest now reached → (room : Room) (how : Op) → OpStays block how → op_word seen room now how ≡ op_word seen room reached how
+  word_moved : (block rest : Block) (now reached : RunMoment) → Moves block rest now reached → (room : Room) (how : Op) → OpStays block how → op_word seen room now how ≡ op_word seen room reached how
   word_moved block rest now reached moves room (op.Const word truth) h = refl
   word_moved block rest now reached moves room (op.Var var) h = sym (moves var h).1
   word_moved block rest now reached moves room (op.Bin how kind a b) h = refl
@@ -99,8 +99,8 @@ module _ (seen : Seen) where
   word_moved block rest now reached moves room (op.Read place layout field) h = refl
   word_moved block rest now reached moves room (op.OwnRead layout field) h = absurd h
 
-  pub ops_moved : (block rest : Block) (next : Next) (room : Room) (now reached : Moment) → Moves block rest now reached → (entries : List (Op × ℕ))
-      → Each (OpHolds seen block next room now) entries → Each (OpHolds seen rest next room reached) entries
+  pub ops_moved : (block rest : Block) (next : Next) (room : Room) (now reached : RunMoment) → Moves block rest now reached → (entries : List (Op × ℕ))
+      → EachByRecursion (OpHolds seen block next room now) entries → EachByRecursion (OpHolds seen rest next room reached) entries
   ops_moved block rest next room now reached moves entries =
       each_map (OpHolds seen block next room now) (OpHolds seen rest next room reached)
       (λ entry h. record {
@@ -111,6 +111,6 @@ module _ (seen : Seen) where
         lies = h.lies;
       }) entries
 
-  pub holds_moved : (given : Given) (block rest : Block) (known : Pass) (next : Next) (room : Room) (now reached : Moment) → Moves block rest now reached → Fits (vars_of given known) reached
-      → Holds seen given block known next room now → Holds seen given rest known next room reached
+  pub holds_moved : (given : Given) (block rest : Block) (known : Pass) (next : Next) (room : Room) (now reached : RunMoment) → Moves block rest now reached → FitsSpans (vars_of given known) reached
+      → HoldsInRoom seen given block known next room now → HoldsInRoom seen given rest known next room reached
   holds_moved given block rest known next room now reached moves fits h = record { ops = ops_moved block rest next room now reached moves known.ops h.ops; steps = h.steps; words = h.words; fits = fits }

@@ -9,37 +9,37 @@ use Rattle.sg_layout.specs.declared.shape.Shape.{Shape}
 use Rattle.sg_flat.specs.Domain.{numbers}
 use Rattle.sg_ir.specs.declared.code.Inst.{Inst}
 use Rattle.sg_ir.specs.declared.op.Op.TheVariants as op
-use Rattle.sg_ir.specs.Runs.{Seen, Moved, Access, coord_of, named_by, set_reg, set_place, set_var, iteration_start, iteration}
+use Rattle.sg_ir.specs.Runs.{Seen, Moved, Access, coord_of, named_by, set_reg, set_place, set_var_word, iteration_start, iteration}
 use Rattle.sg_ir.specs.Places.{place_at}
 use Rattle.sg_ir.specs.Named.{IsNamedAccess, AreNamed}
 use Rattle.sg_ir.specs.Blocks.{Block, End, Word, Spot, Cell, Do, Branch, Loop, SetVar, WriteOwn, Contribute, Wish, block_of}
 use Rattle.sg_ir.specs.SpanLaws.{WhereTest, EachTurn}
-use Rattle.sg_ir.specs.steps.Scoped.{Moment, Room, room_reg, room_place, op_word, step_place, acted, at_turn, run, first_room}
+use Rattle.sg_ir.specs.steps.Scoped.{RunMoment, Room, room_reg, room_place, op_word, step_place, moment_after_act, at_turn, run, first_room}
 use Rattle.sg_ir.specs.steps.Flat.{room_of, moment_of, moved_by, moved_by_read, goes}
-use Rattle.sg_ir.specs.steps.InScope.{InScope, and_reg, and_place, nothing, IsScoped, Agrees}
+use Rattle.sg_ir.specs.steps.InScope.{InScope, and_reg, and_place, nothing, IsScoped, AgreesInScope}
 use Rattle.sg_ir.proofs.Uses.{goes-runs}
 use Rattle.sg_ir.proofs.Uses.{put_same, put_all, mapped, op_same, step_same, act_same, reg_same, scoped_same}
 use Rattle.sg_ir.proofs.Uses.{all_one}
-use Rattle.sg_simplify.specs.steps.Serves.{Each, IsAt, NamesAll}
+use Rattle.sg_simplify.specs.steps.Serves.{EachByRecursion, IsAt, NamesAll}
 
 -- ---- each and all
-all_each : {X : Type 0} (P : X → Type 0) (xs : List X) → All P xs → Each P xs
+all_each : {X : Type 0} (P : X → Type 0) (xs : List X) → All P xs → EachByRecursion P xs
 all_each P [] all = tt
 all_each P (x ∷ xs) all = (All-head P x xs all, all_each P xs (All-tail P x xs all))
 
-pub each_all : {X : Type 0} (P : X → Type 0) (xs : List X) → Each P xs → All P xs
+pub each_all : {X : Type 0} (P : X → Type 0) (xs : List X) → EachByRecursion P xs → All P xs
 each_all P [] each = λ k d below. absurd (omega (arith, below))
 each_all P (x ∷ xs) each = All-append P (x ∷ []) xs (all_one P x each.0) (each_all P xs each.1)
 
-each_append : {X : Type 0} (P : X → Type 0) (xs ys : List X) → Each P xs → Each P ys → Each P (xs ++ ys)
+each_append : {X : Type 0} (P : X → Type 0) (xs ys : List X) → EachByRecursion P xs → EachByRecursion P ys → EachByRecursion P (xs ++ ys)
 each_append P [] ys first second = second
 each_append P (x ∷ xs) ys first second = (first.0, each_append P xs ys first.1 second)
 
-each_first : {X : Type 0} (P : X → Type 0) (xs ys : List X) → Each P (xs ++ ys) → Each P xs
+each_first : {X : Type 0} (P : X → Type 0) (xs ys : List X) → EachByRecursion P (xs ++ ys) → EachByRecursion P xs
 each_first P [] ys all = tt
 each_first P (x ∷ xs) ys all = (all.0, each_first P xs ys all.1)
 
-each_second : {X : Type 0} (P : X → Type 0) (xs ys : List X) → Each P (xs ++ ys) → Each P ys
+each_second : {X : Type 0} (P : X → Type 0) (xs ys : List X) → EachByRecursion P (xs ++ ys) → EachByRecursion P ys
 each_second P [] ys all = all
 each_second P (x ∷ xs) ys all = each_second P xs ys all.1
 
@@ -47,8 +47,8 @@ each_second P (x ∷ xs) ys all = each_second P xs ys all.1
 record Tells (shapes : List Shape) (fact : Type 0) (before after : List Access) : Type 0 where
   more : List Access
   is : after ≡ before ++ more
-  there : fact → Each (IsNamedAccess shapes) more
-  back : Each (IsNamedAccess shapes) more → fact
+  there : fact → EachByRecursion (IsNamedAccess shapes) more
+  back : EachByRecursion (IsNamedAccess shapes) more → fact
 
 tells_none : (shapes : List Shape) (accesses : List Access) → Tells shapes (Unit {0}) accesses accesses
 tells_none shapes accesses = record { more = []; is = sym (append-nil accesses); there = λ h. tt; back = λ h. tt }
@@ -75,25 +75,25 @@ module _ (seen : Seen) where
   at_back room moved place layout index same words h = sym same ∙ (h ∙ ap (λ ws. place_at seen.shapes layout (coord_of ws)) words)
 
   turns_tell : (scope : InScope) (room : Room) (var : ℕ) (body : Block) → IsScoped scope body
-      → ((moment : Moment) (moved : Moved) → Agrees scope room moment moved → Tells seen.shapes (NamesAll seen body room moment) moved.accesses (goes seen body moved).accesses)
-      → (turns : List ℤ) (moment : Moment) (moved : Moved) → Agrees scope room moment moved
+      → ((moment : RunMoment) (moved : Moved) → AgreesInScope scope room moment moved → Tells seen.shapes (NamesAll seen body room moment) moved.accesses (goes seen body moved).accesses)
+      → (turns : List ℤ) (moment : RunMoment) (moved : Moved) → AgreesInScope scope room moment moved
       → Tells seen.shapes (EachTurn (λ turn reached. NamesAll seen body room (at_turn var turn reached)) (λ reached turn. run seen body room (at_turn var turn reached)) moment turns) moved.accesses
-      (fold (λ reached turn. goes seen body (set_var var (word_of turn) reached)) moved turns).accesses
+      (fold (λ reached turn. goes seen body (set_var_word var (word_of turn) reached)) moved turns).accesses
   turns_tell scope room var body scoped each [] moment moved same = tells_none seen.shapes moved.accesses
   turns_tell scope room var body scoped each (turn ∷ turns) moment moved same =
-      let here : Agrees scope room (at_turn var turn moment) (set_var var (word_of turn) moved) = record {
+      let here : AgreesInScope scope room (at_turn var turn moment) (set_var_word var (word_of turn) moved) = record {
         regs = same.regs;
         places = same.places;
         vars = put_all var (word_of turn) (word_of turn) moved.vars moment.vars refl same.vars;
         writes = same.writes;
         wants = same.wants;
       } in
-      tells_on seen.shapes _ _ moved.accesses (goes seen body (set_var var (word_of turn) moved)).accesses _
-      (each (at_turn var turn moment) (set_var var (word_of turn) moved) here)
-      (turns_tell scope room var body scoped each turns (run seen body room (at_turn var turn moment)) (goes seen body (set_var var (word_of turn) moved))
-      (scoped_same seen body scope room (at_turn var turn moment) (set_var var (word_of turn) moved) scoped here))
+      tells_on seen.shapes _ _ moved.accesses (goes seen body (set_var_word var (word_of turn) moved)).accesses _
+      (each (at_turn var turn moment) (set_var_word var (word_of turn) moved) here)
+      (turns_tell scope room var body scoped each turns (run seen body room (at_turn var turn moment)) (goes seen body (set_var_word var (word_of turn) moved))
+      (scoped_same seen body scope room (at_turn var turn moment) (set_var_word var (word_of turn) moved) scoped here))
 
-  goes_tells : (block : Block) (scope : InScope) (room : Room) (moment : Moment) (moved : Moved) → IsScoped scope block → Agrees scope room moment moved
+  goes_tells : (block : Block) (scope : InScope) (room : Room) (moment : RunMoment) (moved : Moved) → IsScoped scope block → AgreesInScope scope room moment moved
       → Tells seen.shapes (NamesAll seen block room moment) moved.accesses (goes seen block moved).accesses
   goes_tells End scope room moment moved good same = tells_none seen.shapes moved.accesses
   goes_tells (Word to how rest) scope room moment moved good same =
@@ -120,25 +120,25 @@ module _ (seen : Seen) where
       (record { regs = next.regs; places = next.places; vars = next.vars; writes = next.writes; wants = next.wants }))
   goes_tells (Do (SetVar var from) rest) scope room moment moved good same =
       tells_on seen.shapes (Unit {0}) _ moved.accesses moved.accesses _ (tells_none seen.shapes moved.accesses)
-      (goes_tells rest scope room (acted seen room (SetVar var from) moment) (moved_by seen (SetVar var from) moved) good.2 (act_same seen scope room moment moved same (SetVar var from) good.0 good.1))
+      (goes_tells rest scope room (moment_after_act seen room (SetVar var from) moment) (moved_by seen (SetVar var from) moved) good.2 (act_same seen scope room moment moved same (SetVar var from) good.0 good.1))
   goes_tells (Do (WriteOwn layout field from stmt) rest) scope room moment moved good same =
       tells_on seen.shapes (Unit {0}) _ moved.accesses moved.accesses _ (tells_none seen.shapes moved.accesses)
-      (goes_tells rest scope room (acted seen room (WriteOwn layout field from stmt) moment) (moved_by seen (WriteOwn layout field from stmt) moved) good.2 (act_same seen scope room moment moved same (WriteOwn layout field from stmt) good.0 good.1))
+      (goes_tells rest scope room (moment_after_act seen room (WriteOwn layout field from stmt) moment) (moved_by seen (WriteOwn layout field from stmt) moved) good.2 (act_same seen scope room moment moved same (WriteOwn layout field from stmt) good.0 good.1))
   goes_tells (Do (Contribute how layout field place from index stmt) rest) scope room moment moved good same =
       let words = mapped scope.regs moved.regs room.regs same.regs index good.0.1 in
       tells_on seen.shapes _ _ moved.accesses (moved.accesses ++ record { layout = layout; place = moved.places place; at = named_by index moved } ∷ []) _
       (tells_one seen.shapes (IsAt seen.shapes room place layout index) moved.accesses (record { layout = layout; place = moved.places place; at = named_by index moved })
       (at_there room moved place layout index (same.places place good.1.0) words) (at_back room moved place layout index (same.places place good.1.0) words))
-      (goes_tells rest scope room (acted seen room (Contribute how layout field place from index stmt) moment) (moved_by seen (Contribute how layout field place from index stmt) moved) good.2
+      (goes_tells rest scope room (moment_after_act seen room (Contribute how layout field place from index stmt) moment) (moved_by seen (Contribute how layout field place from index stmt) moved) good.2
       (act_same seen scope room moment moved same (Contribute how layout field place from index stmt) good.0 good.1))
   goes_tells (Do (Wish layout index stmt) rest) scope room moment moved good same =
       tells_on seen.shapes (Unit {0}) _ moved.accesses moved.accesses _ (tells_none seen.shapes moved.accesses)
-      (goes_tells rest scope room (acted seen room (Wish layout index stmt) moment) (moved_by seen (Wish layout index stmt) moved) good.2 (act_same seen scope room moment moved same (Wish layout index stmt) good.0 good.1))
+      (goes_tells rest scope room (moment_after_act seen room (Wish layout index stmt) moment) (moved_by seen (Wish layout index stmt) moved) good.2 (act_same seen scope room moment moved same (Wish layout index stmt) good.0 good.1))
   goes_tells (Branch cond block otherwise rest) scope room moment moved good same =
       let ways = subst (λ (word : ℕ). Tells seen.shapes (WhereTest (room.regs cond == 0) (NamesAll seen otherwise room moment) (NamesAll seen block room moment)) moved.accesses
       (if word == 0 then goes seen otherwise moved else goes seen block moved).accesses) (sym (same.regs cond good.0))
       (told (room.regs cond == 0) (goes_tells block scope room moment moved good.1 same) (goes_tells otherwise scope room moment moved good.2 same)) in
-      let agreed = subst (λ (word : ℕ). Agrees scope room (if room.regs cond == 0 then run seen otherwise room moment else run seen block room moment) (if word == 0 then goes seen otherwise moved else goes seen block moved))
+      let agreed = subst (λ (word : ℕ). AgreesInScope scope room (if room.regs cond == 0 then run seen otherwise room moment else run seen block room moment) (if word == 0 then goes seen otherwise moved else goes seen block moved))
       (sym (same.regs cond good.0)) (met (room.regs cond == 0) (scoped_same seen block scope room moment moved good.1 same) (scoped_same seen otherwise scope room moment moved good.2 same)) in
       tells_on seen.shapes _ _ moved.accesses (if moved.regs cond == 0 then goes seen otherwise moved else goes seen block moved).accesses _ ways
       (goes_tells rest scope room (if room.regs cond == 0 then run seen otherwise room moment else run seen block room moment) (if moved.regs cond == 0 then goes seen otherwise moved else goes seen block moved) good.3 agreed)
@@ -148,17 +148,17 @@ module _ (seen : Seen) where
       told true first second = second
       told false first second = first
 
-      met : (test : Bool) → Agrees scope room (run seen block room moment) (goes seen block moved) → Agrees scope room (run seen otherwise room moment) (goes seen otherwise moved)
-          → Agrees scope room (if test then run seen otherwise room moment else run seen block room moment) (if test then goes seen otherwise moved else goes seen block moved)
+      met : (test : Bool) → AgreesInScope scope room (run seen block room moment) (goes seen block moved) → AgreesInScope scope room (run seen otherwise room moment) (goes seen otherwise moved)
+          → AgreesInScope scope room (if test then run seen otherwise room moment else run seen block room moment) (if test then goes seen otherwise moved else goes seen block moved)
       met true first second = second
       met false first second = first
   goes_tells (Loop var lo hi body rest) scope room moment moved good same =
       let agreed = scoped_same seen (Loop var lo hi body End) scope room moment moved (good.0, tt) same in
-      tells_on seen.shapes _ _ moved.accesses (fold (λ reached turn. goes seen body (set_var var (word_of turn) reached)) moved (numbers lo hi)).accesses _
+      tells_on seen.shapes _ _ moved.accesses (fold (λ reached turn. goes seen body (set_var_word var (word_of turn) reached)) moved (numbers lo hi)).accesses _
       (turns_tell scope room var body good.0 (λ reached moved_to met. goes_tells body scope room reached moved_to good.0 met) (numbers lo hi) moment moved same)
-      (goes_tells rest scope room (fold (λ reached turn. run seen body room (at_turn var turn reached)) moment (numbers lo hi)) (fold (λ reached turn. goes seen body (set_var var (word_of turn) reached)) moved (numbers lo hi)) good.1 agreed)
+      (goes_tells rest scope room (fold (λ reached turn. run seen body room (at_turn var turn reached)) moment (numbers lo hi)) (fold (λ reached turn. goes seen body (set_var_word var (word_of turn) reached)) moved (numbers lo hi)) good.1 agreed)
 
-  starts : Agrees nothing first_room (moment_of (iteration_start seen)) (iteration_start seen)
+  starts : AgreesInScope nothing first_room (moment_of (iteration_start seen)) (iteration_start seen)
   starts = record { regs = λ r is. refl; places = λ p is. refl; vars = λ var. refl; writes = refl; wants = refl }
 
   -- of an iteration

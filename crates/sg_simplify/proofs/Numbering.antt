@@ -17,8 +17,8 @@ use Rattle.sg_ir.specs.Places.{extents_in}
 use Rattle.sg_ir.specs.Blocks.{Block, End, Word, Spot, Cell, Do, Branch, Loop, SetVar, WriteOwn, Contribute, Wish}
 use Rattle.sg_ir.specs.Shared.{same_op, same_step, is_pure}
 use Rattle.sg_ir.specs.Trimmed.{is_within}
-use Rattle.sg_simplify.specs.Pass.{Given, Pass, Next, Making, name_of, with_name, with_reg, with_place, type_of, span_in, span_of, renamed, and_op, and_step, after, set_word, fresh, taken_at, taken, numbered, stepped_at, stepped, check_at, checked, joined, offset, descent_of, descended, placed_in, placed, looped, simplified}
-use Rattle.sg_simplify.specs.steps.Counted.{flag, regs_set, places_set}
+use Rattle.sg_simplify.specs.Pass.{Given, Pass, Next, Making, made_name, with_name, next_with_reg, next_with_place, given_type, span_in, span_of, renamed, and_op, and_step, put_in_front, set_word, fresh, taken_at, taken, numbered, stepped_at, stepped, check_at, checks_made, offset_made, offset, descent_of, descended, placed_in, place_made, looped, simplified}
+use Rattle.sg_simplify.specs.steps.Counted.{one_where, regs_set, places_set}
 use Rattle.sg_simplify.proofs.Tables.{length_push}
 
 -- a number is counted at most once, and not at all below one number, and from another on
@@ -31,33 +31,33 @@ pub record IsFrom (from to n : ℕ) (count : ℕ) : Type 0 where
 none_from : (from n : ℕ) → IsFrom from from n 0
 none_from from n = record { goes = omega arith; once = omega arith; below = λ h. refl; above = λ h. refl }
 
-flag_same : (n : ℕ) → flag (n == n) ≡ 1
+flag_same : (n : ℕ) → one_where (n == n) ≡ 1
 flag_same n = by_test (n == n) (grind arith)
   where
-    by_test : (test : Bool) → test ≡ true → flag test ≡ 1
+    by_test : (test : Bool) → test ≡ true → one_where test ≡ 1
     by_test true e = refl
     by_test false e = absurd (cc)
 
-flag_other : (m n : ℕ) → ((m ≡ n) → ⊥) → flag (m == n) ≡ 0
+flag_other : (m n : ℕ) → ((m ≡ n) → ⊥) → one_where (m == n) ≡ 0
 flag_other m n other = by_test (m == n) refl
   where
-    by_test : (test : Bool) → (m == n) ≡ test → flag test ≡ 0
+    by_test : (test : Bool) → (m == n) ≡ test → one_where test ≡ 0
     by_test true e = absurd (other (eqb-true m n e))
     by_test false e = refl
 
 -- one number and then those from the next on
-one_from : (from to n count : ℕ) → IsFrom (suc from) to n count → IsFrom from to n (flag (from == n) + count)
+one_from : (from to n count : ℕ) → IsFrom (suc from) to n count → IsFrom from to n (one_where (from == n) + count)
 one_from from to n count h = by_test (from == n) refl
   where
-    by_test : (test : Bool) → (from == n) ≡ test → IsFrom from to n (flag (from == n) + count)
+    by_test : (test : Bool) → (from == n) ≡ test → IsFrom from to n (one_where (from == n) + count)
     by_test true e =
         let same : from ≡ n = eqb-true from n e in
-        let one : flag (from == n) ≡ 1 = subst (λ k. flag (from == k) ≡ 1) same (flag_same from) in
+        let one : one_where (from == n) ≡ 1 = subst (λ k. one_where (from == k) ≡ 1) same (flag_same from) in
         let goes = h.goes in
         let gone : count ≡ 0 = h.below (omega arith) in
         record { goes = omega arith; once = omega arith; below = λ under. absurd (omega arith); above = λ over. absurd (omega arith) }
     by_test false e =
-        let zero_flag : flag (from == n) ≡ 0 = ap flag e in
+        let zero_flag : one_where (from == n) ≡ 0 = ap one_where e in
         let goes = h.goes in
         let once = h.once in
         record {
@@ -94,7 +94,7 @@ both_from from mid to n a b first second =
     few_of (inl h) = let gone = second.below h in let few = first.once in omega arith
     few_of (inr h) = let gone = first.above h in let few = second.once in omega arith
 
-word_regs : (r n : ℕ) (how : Op) (index : List ℕ) (rest : Block) → regs_set r (set_word n how index rest) ≡ flag (n == r) + regs_set r rest
+word_regs : (r n : ℕ) (how : Op) (index : List ℕ) (rest : Block) → regs_set r (set_word n how index rest) ≡ one_where (n == r) + regs_set r rest
 word_regs r n (op.Const word truth) index rest = refl
 word_regs r n (op.Var x) index rest = refl
 word_regs r n (op.Bin how kind a b) index rest = refl
@@ -126,7 +126,7 @@ module _ (given : Given) (n : ℕ) where
   GoesNumbering go = (t : ℕ) (known : Pass) (next : Next) → Numbers next (go t known next)
 
   -- a register that is set
-  reg_numbers : (type : Ty) (span : Span) (how : Op) (index : List ℕ) (next : Next) (body : Block × Next) → Numbers (with_reg type span next) body → Numbers next (after (set_word (length next.spans) how index) body)
+  reg_numbers : (type : Ty) (span : Span) (how : Op) (index : List ℕ) (next : Next) (body : Block × Next) → Numbers (next_with_reg type span next) body → Numbers next (put_in_front (set_word (length next.spans) how index) body)
   reg_numbers type span how index next body h =
       let m = length next.spans in
       record {
@@ -138,7 +138,7 @@ module _ (given : Given) (n : ℕ) where
   fresh_numbers : (type : Ty) (how : Op) (index : List ℕ) (go : ℕ → Making) → GoesNumbering go → (known : Pass) (next : Next) → Numbers next (fresh given type how index go known next)
   fresh_numbers type how index go goes known next =
       let span = span_of given known next how in
-      reg_numbers type span how index next (go (length next.spans) known (with_reg type span next)) (goes (length next.spans) known (with_reg type span next))
+      reg_numbers type span how index next (go (length next.spans) known (next_with_reg type span next)) (goes (length next.spans) known (next_with_reg type span next))
 
   taken_numbers : (type : Ty) (how : Op) (index : List ℕ) (go : ℕ → Making) → GoesNumbering go → (known : Pass) (next : Next) → Numbers next (taken given type how index go known next)
   taken_numbers type how index go goes known next = by_found (lookup (same_op how) known.ops)
@@ -148,7 +148,7 @@ module _ (given : Given) (n : ℕ) where
       by_found None =
           let span = span_of given known next how in
           let further = and_op how (length next.spans) known in
-          reg_numbers type span how index next (go (length next.spans) further (with_reg type span next)) (goes (length next.spans) further (with_reg type span next))
+          reg_numbers type span how index next (go (length next.spans) further (next_with_reg type span next)) (goes (length next.spans) further (next_with_reg type span next))
 
   numbered_numbers : (pure : Bool) (type : Ty) (how : Op) (go : ℕ → Making) → GoesNumbering go → (known : Pass) (next : Next) → Numbers next (numbered pure given type how go known next)
   numbered_numbers true type how go goes known next = taken_numbers type how [] go goes known next
@@ -160,29 +160,29 @@ module _ (given : Given) (n : ℕ) where
       by_found : (o : Option ℕ) → Numbers next (stepped_at how go o known next)
       by_found (Some t) = goes t known next
       by_found None =
-          let body = go next.places (and_step how next.places known) (with_place next) in
-          let h = goes next.places (and_step how next.places known) (with_place next) in
+          let body = go next.places (and_step how next.places known) (next_with_place next) in
+          let h = goes next.places (and_step how next.places known) (next_with_place next) in
           record { regs = h.regs; places = one_from next.places body.1.places n (places_set n body.0) h.places }
 
-  checked_numbers : (extents : List ℕ) (axis : ℕ) (index : List ℕ) (place : ℕ) (go : ℕ → Making) → GoesNumbering go → (known : Pass) (next : Next) → Numbers next (checked axis extents index place go known next)
+  checked_numbers : (extents : List ℕ) (axis : ℕ) (index : List ℕ) (place : ℕ) (go : ℕ → Making) → GoesNumbering go → (known : Pass) (next : Next) → Numbers next (checks_made axis extents index place go known next)
   checked_numbers [] axis index place go goes known next = goes place known next
   checked_numbers (extent ∷ extents) axis [] place go goes known next = goes place known next
   checked_numbers (extent ∷ extents) axis (r ∷ index) place go goes known next = by_test (is_within extent (span_in next r)) (λ p. checked_numbers extents (suc axis) index p go goes)
     where
-      by_test : (test : Bool) → GoesNumbering (λ p. checked (suc axis) extents index p go) → Numbers next (check_at test (step.Check place axis extent r) place (λ p. checked (suc axis) extents index p go) known next)
+      by_test : (test : Bool) → GoesNumbering (λ p. checks_made (suc axis) extents index p go) → Numbers next (check_at test (step.Check place axis extent r) place (λ p. checks_made (suc axis) extents index p go) known next)
       by_test true more = more place known next
-      by_test false more = stepped_numbers (step.Check place axis extent r) (λ p. checked (suc axis) extents index p go) more known next
+      by_test false more = stepped_numbers (step.Check place axis extent r) (λ p. checks_made (suc axis) extents index p go) more known next
 
-  joined_numbers : (node : NodeShape) (later : List NodeShape) (index : List ℕ) (axis high : ℕ) (go : ℕ → Making) → GoesNumbering go → (known : Pass) (next : Next) → Numbers next (joined given node later axis index high go known next)
+  joined_numbers : (node : NodeShape) (later : List NodeShape) (index : List ℕ) (axis high : ℕ) (go : ℕ → Making) → GoesNumbering go → (known : Pass) (next : Next) → Numbers next (offset_made given node later axis index high go known next)
   joined_numbers node later [] axis high go goes known next = goes high known next
   joined_numbers node later (r ∷ index) axis high go goes known next =
-      taken_numbers ty.U32 (op.Extract (extent_over later axis) (extent_in node.sizes axis) r) [] (λ low. taken given ty.U32 (op.Offset high (extent_in node.sizes axis) low) [] (λ o. joined given node later (suc axis) index o go))
-      (λ low. taken_numbers ty.U32 (op.Offset high (extent_in node.sizes axis) low) [] (λ o. joined given node later (suc axis) index o go) (λ o. joined_numbers node later index (suc axis) o go goes)) known next
+      taken_numbers ty.U32 (op.Extract (extent_over later axis) (extent_in node.sizes axis) r) [] (λ low. taken given ty.U32 (op.Offset high (extent_in node.sizes axis) low) [] (λ o. offset_made given node later (suc axis) index o go))
+      (λ low. taken_numbers ty.U32 (op.Offset high (extent_in node.sizes axis) low) [] (λ o. offset_made given node later (suc axis) index o go) (λ o. joined_numbers node later index (suc axis) o go goes)) known next
 
   offset_numbers : (node : NodeShape) (later : List NodeShape) (index : List ℕ) (go : ℕ → Making) → GoesNumbering go → (known : Pass) (next : Next) → Numbers next (offset given node later index go known next)
   offset_numbers node later [] go goes known next = goes 0 known next
   offset_numbers node later (r ∷ index) go goes known next =
-      taken_numbers ty.U32 (op.Extract (extent_over later 1) (extent_in node.sizes 1) r) [] (λ high. joined given node later 2 index high go) (λ high. joined_numbers node later index 2 high go goes) known next
+      taken_numbers ty.U32 (op.Extract (extent_over later 1) (extent_in node.sizes 1) r) [] (λ high. offset_made given node later 2 index high go) (λ high. joined_numbers node later index 2 high go goes) known next
 
   descended_numbers : (nodes : List NodeShape) (number : ℕ) (index : List ℕ) (place : ℕ) (go : ℕ → Making) → GoesNumbering go → (known : Pass) (next : Next) → Numbers next (descended given nodes number index place go known next)
   descended_numbers [] number index place go goes known next = goes place known next
@@ -190,13 +190,13 @@ module _ (given : Given) (n : ℕ) where
       offset_numbers node later index (λ o. stepped (step.Down (descent_of node.kind) place number o) (λ p. descended given later (suc number) index p go))
       (λ o. stepped_numbers (step.Down (descent_of node.kind) place number o) (λ p. descended given later (suc number) index p go) (λ p. descended_numbers later (suc number) index p go goes)) known next
 
-  placed_numbers : (layout : ℕ) (index : List ℕ) (go : ℕ → Making) → GoesNumbering go → (known : Pass) (next : Next) → Numbers next (placed given layout index go known next)
+  placed_numbers : (layout : ℕ) (index : List ℕ) (go : ℕ → Making) → GoesNumbering go → (known : Pass) (next : Next) → Numbers next (place_made given layout index go known next)
   placed_numbers layout index go goes known next = by_found (slice_get given.shapes layout)
     where
       by_found : (found : Option Shape) → Numbers next (placed_in given found layout index go known next)
       by_found None = goes 0 known next
       by_found (Some shape) =
-          stepped_numbers (step.Root layout) (λ r. checked 0 (extents_in (bounds_of_shape shape)) index r (λ p. descended given shape.nodes 1 index p go))
+          stepped_numbers (step.Root layout) (λ r. checks_made 0 (extents_in (bounds_of_shape shape)) index r (λ p. descended given shape.nodes 1 index p go))
           (λ r. checked_numbers (extents_in (bounds_of_shape shape)) 0 index r (λ p. descended given shape.nodes 1 index p go) (λ p. descended_numbers shape.nodes 1 index p go goes)) known next
 
   -- behind a name that is given
@@ -206,17 +206,17 @@ module _ (given : Given) (n : ℕ) where
   pub simplified_numbers : (block : Block) (known : Pass) (next : Next) → Numbers next (simplified given block known next)
   simplified_numbers End known next = record { regs = none_from (length next.spans) n; places = none_from next.places n }
   simplified_numbers (Word to how rest) known next =
-      numbered_numbers (is_pure given.single how) (type_of given to) (renamed next how) (λ t now later. simplified given rest now (with_name to t later))
+      numbered_numbers (is_pure given.single how) (given_type given to) (renamed next how) (λ t now later. simplified given rest now (with_name to t later))
       (λ t now later. unnamed_numbers later to t (simplified given rest now (with_name to t later)) (simplified_numbers rest now (with_name to t later))) known next
   simplified_numbers (Spot to how rest) known next = simplified_numbers rest known next
   simplified_numbers (Cell to place layout field index rest) known next =
-      placed_numbers layout (map (name_of next) index) (λ p. taken given (type_of given to) (op.Read p layout field) (map (name_of next) index) (λ t now later. simplified given rest now (with_name to t later)))
-      (λ p. taken_numbers (type_of given to) (op.Read p layout field) (map (name_of next) index) (λ t now later. simplified given rest now (with_name to t later))
+      placed_numbers layout (map (made_name next) index) (λ p. taken given (given_type given to) (op.Read p layout field) (map (made_name next) index) (λ t now later. simplified given rest now (with_name to t later)))
+      (λ p. taken_numbers (given_type given to) (op.Read p layout field) (map (made_name next) index) (λ t now later. simplified given rest now (with_name to t later))
       (λ t now later. unnamed_numbers later to t (simplified given rest now (with_name to t later)) (simplified_numbers rest now (with_name to t later)))) known next
   simplified_numbers (Do (SetVar set from) rest) known next = let h = simplified_numbers rest known next in record { regs = h.regs; places = h.places }
   simplified_numbers (Do (WriteOwn layout field from stmt) rest) known next = let h = simplified_numbers rest known next in record { regs = h.regs; places = h.places }
   simplified_numbers (Do (Contribute how layout field place from index stmt) rest) known next =
-      placed_numbers layout (map (name_of next) index) (λ p now later. after (Do (Contribute how layout field p (name_of next from) (map (name_of next) index) stmt)) (simplified given rest now later))
+      placed_numbers layout (map (made_name next) index) (λ p now later. put_in_front (Do (Contribute how layout field p (made_name next from) (map (made_name next) index) stmt)) (simplified given rest now later))
       (λ p now later. let h = simplified_numbers rest now later in record { regs = h.regs; places = h.places }) known next
   simplified_numbers (Do (Wish layout index stmt) rest) known next = let h = simplified_numbers rest known next in record { regs = h.regs; places = h.places }
   simplified_numbers (Branch cond block otherwise rest) known next =

@@ -13,7 +13,7 @@ use Rattle.sg_ir.specs.declared.span.Span.{Span}
 use Rattle.sg_ir.proofs.Uses.{by_inst, fold-Const, fold-Var, fold-Bin, fold-Un, fold-Mulq, fold-Root, fold-Check, fold-Extract, fold-Offset, fold-Child, fold-HashChild, fold-MaskBit, fold-DynCell, fold-OwnRead, fold-If, fold-For}
 use Rattle.sg_simplify.specs.declared.made.Made.{Made}
 use Rattle.sg_simplify.specs.declared.made.Looped.{Looped}
-use Rattle.sg_simplify.specs.Pass.{Given, Pass, Next, Making, after, name_of, looped, simplified}
+use Rattle.sg_simplify.specs.Pass.{Given, Pass, Next, Making, put_in_front, made_name, looped, simplified}
 use Rattle.sg_simplify.specs.steps.Made.{span_in_loop, pass_of, next_of, types_of, Longer, Goes, word_step, is_word}
 use Rattle.sg_simplify.proofs.Reading.{append-none, map-append, take-front}
 use Rattle.sg_simplify.proofs.Making.{longer-none, longer-on, goes-here, goes-from, goes-on, goes-put}
@@ -79,7 +79,7 @@ later-types given regs insts out old mid new made longer more =
     let whole : types_of new ++ more ≡ types_of mid ++ (longer.types ++ more) = ap (λ types. types ++ more) longer.more_types ∙ append_assoc (types_of mid) longer.types more in
     ap (λ types. (block_of types out, next_of mid)) whole ∙ made.puts (longer.types ++ more)
 
-pub branch-goes : (given : Given) (regs : List Ty) (cond named : ℕ) (block otherwise first second : List Inst) (old mid new : Made) (x y : List Inst) → named ≡ name_of (next_of old) cond →
+pub branch-goes : (given : Given) (regs : List Ty) (cond named : ℕ) (block otherwise first second : List Inst) (old mid new : Made) (x y : List Inst) → named ≡ made_name (next_of old) cond →
     IsMade given regs block first old mid → IsMade given regs otherwise second mid new → y ≡ x ++ v.If named first second ∷ [] →
     (rest : Block) → Goes old new x y (simplified given (Branch cond (block_of regs block) (block_of regs otherwise) rest)) (simplified given rest)
 branch-goes given regs cond named block otherwise first second old mid new x y is one two put rest =
@@ -107,11 +107,11 @@ branch-goes given regs cond named block otherwise first second old mid new x y i
         ∙ ap (λ (made : Block × Next). Branch named made.0 (block_of (types_of new ++ more) second) behind) (later-types given regs block first old mid new one two.longer more)
         ∙ ap (λ (made : Block × Next). Branch named F.0 made.0 behind) (two.puts more ∙ second_is)
 
-    same : simplified given (Branch cond (block_of regs block) (block_of regs otherwise) rest) (pass_of old) (next_of old) ≡ after (Branch named F.0 S.0) (simplified given rest (pass_of new) (next_of new))
+    same : simplified given (Branch cond (block_of regs block) (block_of regs otherwise) rest) (pass_of old) (next_of old) ≡ put_in_front (Branch named F.0 S.0) (simplified given rest (pass_of new) (next_of new))
     same =
-        ap (λ r. after (Branch r F.0 S.0) (simplified given rest (pass_of old) S.1)) (sym is)
-        ∙ ap (λ next. after (Branch named F.0 S.0) (simplified given rest (pass_of old) next)) (sym second_next)
-        ∙ ap (λ pass. after (Branch named F.0 S.0) (simplified given rest pass (next_of new))) (sym (two.known ∙ one.known))
+        ap (λ r. put_in_front (Branch r F.0 S.0) (simplified given rest (pass_of old) S.1)) (sym is)
+        ∙ ap (λ next. put_in_front (Branch named F.0 S.0) (simplified given rest (pass_of old) next)) (sym second_next)
+        ∙ ap (λ pass. put_in_front (Branch named F.0 S.0) (simplified given rest pass (next_of new))) (sym (two.known ∙ one.known))
 
 -- the loops inside
 pub loops-more : (loops more : List Looped) (inner : Looped) → more ≡ loops ++ inner ∷ [] → reverse (map span_in_loop more) ≡ span_in_loop inner ∷ reverse (map span_in_loop loops)
@@ -194,10 +194,10 @@ turn-goes given regs var lo hi body inside old start mid new x y begins looping 
     turn_next : next_of new ≡ T.1
     turn_next = ends ∙ ap (λ (out : Block × Next). out.1) (made.puts [] ∙ turn_is)
 
-    same : simplified given (Loop var lo hi (block_of regs body) rest) (pass_of old) (next_of old) ≡ after (Loop var lo hi T.0) (simplified given rest (pass_of new) (next_of new))
+    same : simplified given (Loop var lo hi (block_of regs body) rest) (pass_of old) (next_of old) ≡ put_in_front (Loop var lo hi T.0) (simplified given rest (pass_of new) (next_of new))
     same =
-        ap (λ next. after (Loop var lo hi T.0) (simplified given rest (pass_of old) next)) (sym turn_next)
-        ∙ ap (λ pass. after (Loop var lo hi T.0) (simplified given rest pass (next_of new))) (sym known)
+        ap (λ next. put_in_front (Loop var lo hi T.0) (simplified given rest (pass_of old) next)) (sym turn_next)
+        ∙ ap (λ pass. put_in_front (Loop var lo hi T.0) (simplified given rest pass (next_of new))) (sym known)
 
 abbrev pub with_loops : Pass → List (ℕ × Span) → Pass
 with_loops pass loops = record { ops = pass.ops; steps = pass.steps; loops = loops }

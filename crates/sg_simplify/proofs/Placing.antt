@@ -16,11 +16,11 @@ use Rattle.sg_ir.specs.Blocks.{Block}
 use Rattle.sg_ir.specs.declared.span.Span.{Span}
 use Rattle.sg_ir.specs.Trimmed.{is_within}
 use Rattle.sg_ir.specs.SpanLaws.{Lies}
-use Rattle.sg_ir.specs.steps.Scoped.{Moment, Room}
+use Rattle.sg_ir.specs.steps.Scoped.{RunMoment, Room}
 use Rattle.sg_ir.specs.Places.{extents_in}
 use Rattle.sg_ir.specs.steps.Walks.{checks, digit, offset_from, node_offset, led}
-use Rattle.sg_simplify.specs.Pass.{Given, Pass, Next, Making, span_in, taken, stepped, check_at, checked, part, joined, offset, descent_of, descended, placed_in, placed}
-use Rattle.sg_simplify.specs.steps.Serves.{Each, Laws, Holds, Later, Good, Serves, ServesPlace, IsIndex, Leads}
+use Rattle.sg_simplify.specs.Pass.{Given, Pass, Next, Making, span_in, taken, stepped, check_at, checks_made, part, offset_made, offset, descent_of, descended, placed_in, place_made}
+use Rattle.sg_simplify.specs.steps.Serves.{EachByRecursion, Laws, HoldsInRoom, Later, Good, Serves, ServesPlace, IsIndex, Leads}
 use Rattle.sg_simplify.proofs.Serving.{later_same, later_on, alike_same, alike_on, serves_later, serves_place_later, taken_law, stepped_law}
 
 -- an index that is within needs no check
@@ -35,44 +35,44 @@ needs_none extent word span place e lies = by_test (is_on_axis extent (number ty
     by_test false e = absurd (cc)
 
 -- index registers later
-pub words_kept : (next : Next) (room : Room) (further : Next) (beyond : Room) → Later next room further beyond → (index : List ℕ) → Each (λ r. r < length next.spans) index → map beyond.regs index ≡ map room.regs index
+pub words_kept : (next : Next) (room : Room) (further : Next) (beyond : Room) → Later next room further beyond → (index : List ℕ) → EachByRecursion (λ r. r < length next.spans) index → map beyond.regs index ≡ map room.regs index
 words_kept next room further beyond later [] all = refl
 words_kept next room further beyond later (r ∷ index) all = rw (later.kept r all.0, words_kept next room further beyond later index all.1) refl
 
-below_later : (m n : ℕ) → m ≤ n → (index : List ℕ) → Each (λ r. r < m) index → Each (λ r. r < n) index
+below_later : (m n : ℕ) → m ≤ n → (index : List ℕ) → EachByRecursion (λ r. r < m) index → EachByRecursion (λ r. r < n) index
 below_later m n more [] all = tt
 below_later m n more (r ∷ index) all = let h = all.0 in (omega arith, below_later m n more index all.1)
 
-index_later : (next : Next) (room : Room) (further : Next) (beyond : Room) → Later next room further beyond → (index : List ℕ) → Each (IsIndex next room) index → Each (IsIndex further beyond) index
+index_later : (next : Next) (room : Room) (further : Next) (beyond : Room) → Later next room further beyond → (index : List ℕ) → EachByRecursion (IsIndex next room) index → EachByRecursion (IsIndex further beyond) index
 index_later next room further beyond later [] all = tt
 index_later next room further beyond later (r ∷ index) all = let h = all.0.0 in let more = later.regs in
     ((omega arith, rw (later.spans r all.0.0, later.kept r all.0.0) all.0.1), index_later next room further beyond later index all.1)
 
-pub index_below : (next : Next) (room : Room) (index : List ℕ) → Each (IsIndex next room) index → Each (λ r. r < length next.spans) index
+pub index_below : (next : Next) (room : Room) (index : List ℕ) → EachByRecursion (IsIndex next room) index → EachByRecursion (λ r. r < length next.spans) index
 index_below next room [] all = tt
 index_below next room (r ∷ index) all = (all.0.0, index_below next room index all.1)
 
-module _ (seen : Seen) (laws : Laws seen) (given : Given) (rest : Block) (now result : Moment) where
+module _ (seen : Seen) (laws : Laws seen) (given : Given) (rest : Block) (now result : RunMoment) where
   serves_is : (pass : Pass) (next : Next) (room : Room) (v w : ℕ) (go : ℕ → Making) → v ≡ w → Serves seen given rest pass next room now result w go → Serves seen given rest pass next room now result v go
   serves_is pass next room v w go e serves = subst (λ word. Serves seen given rest pass next room now result word go) (sym e) serves
 
   place_is : (pass : Pass) (next : Next) (room : Room) (v w : Option Place) (go : ℕ → Making) → v ≡ w → ServesPlace seen given rest pass next room now result w go → ServesPlace seen given rest pass next room now result v go
   place_is pass next room v w go e serves = subst (λ place. ServesPlace seen given rest pass next room now result place go) (sym e) serves
 
-  part_law : (node : NodeShape) (later : List NodeShape) (axis r : ℕ) (go : ℕ → Making) (pass : Pass) (next : Next) (room : Room) → Holds seen given rest pass next room now → r < length next.spans
+  part_law : (node : NodeShape) (later : List NodeShape) (axis r : ℕ) (go : ℕ → Making) (pass : Pass) (next : Next) (room : Room) → HoldsInRoom seen given rest pass next room now → r < length next.spans
       → Serves seen given rest pass next room now result (digit node later axis (room.regs r)) go → Good seen (part given node later axis r go pass next) room now result
   part_law node later axis r go pass next room holds below serves =
       taken_law seen laws given rest ty.U32 (op.Extract (extent_over later axis) (extent_in node.sizes axis) r) [] go pass next room now result holds tt below tt tt tt serves
 
-  joined_law : (node : NodeShape) (later : List NodeShape) (index : List ℕ) (axis high : ℕ) (go : ℕ → Making) (pass : Pass) (next : Next) (room : Room) → Holds seen given rest pass next room now
-      → high < length next.spans → Lies (span_in next high) (room.regs high) → Each (λ r. r < length next.spans) index
-      → Serves seen given rest pass next room now result (offset_from node later axis (map room.regs index) (room.regs high)) go → Good seen (joined given node later axis index high go pass next) room now result
+  joined_law : (node : NodeShape) (later : List NodeShape) (index : List ℕ) (axis high : ℕ) (go : ℕ → Making) (pass : Pass) (next : Next) (room : Room) → HoldsInRoom seen given rest pass next room now
+      → high < length next.spans → Lies (span_in next high) (room.regs high) → EachByRecursion (λ r. r < length next.spans) index
+      → Serves seen given rest pass next room now result (offset_from node later axis (map room.regs index) (room.regs high)) go → Good seen (offset_made given node later axis index high go pass next) room now result
   joined_law node later [] axis high go pass next room holds below lies all serves = serves high pass next room (later_same next room) (alike_same pass next) holds below refl lies
   joined_law node later (r ∷ index) axis high go pass next room holds below lies all serves =
-      part_law node later axis r (λ low. taken given ty.U32 (op.Offset high (extent_in node.sizes axis) low) [] (λ o. joined given node later (suc axis) index o go)) pass next room holds all.0
+      part_law node later axis r (λ low. taken given ty.U32 (op.Offset high (extent_in node.sizes axis) low) [] (λ o. offset_made given node later (suc axis) index o go)) pass next room holds all.0
       (λ low known further beyond behind loops holding low_below low_is low_lies.
       let more = behind.regs in
-      taken_law seen laws given rest ty.U32 (op.Offset high (extent_in node.sizes axis) low) [] (λ o. joined given node later (suc axis) index o go) known further beyond now result holding tt (omega arith, low_below) tt tt tt
+      taken_law seen laws given rest ty.U32 (op.Offset high (extent_in node.sizes axis) low) [] (λ o. offset_made given node later (suc axis) index o go) known further beyond now result holding tt (omega arith, low_below) tt tt tt
       (λ o known' further' beyond' behind' loops' holding' o_below o_is o_lies.
       let whole_way = later_on next room further beyond further' beyond' behind behind' in
       joined_law node later index (suc axis) o go known' further' beyond' holding' o_below (rw o_is o_lies) (below_later (length next.spans) (length further'.spans) whole_way.regs index all.1)
@@ -80,18 +80,18 @@ module _ (seen : Seen) (laws : Laws seen) (given : Given) (rest : Block) (now re
       (rw (words_kept next room further' beyond' whole_way index all.1, o_is, behind.kept high below, low_is) refl)
       (serves_later seen given rest pass next room known' further' beyond' now result _ go whole_way (alike_on pass next known further known' further' loops loops') serves))))
 
-  offset_law : (node : NodeShape) (later : List NodeShape) (r : ℕ) (index : List ℕ) (go : ℕ → Making) (pass : Pass) (next : Next) (room : Room) → Holds seen given rest pass next room now
-      → Each (λ k. k < length next.spans) (r ∷ index)
+  offset_law : (node : NodeShape) (later : List NodeShape) (r : ℕ) (index : List ℕ) (go : ℕ → Making) (pass : Pass) (next : Next) (room : Room) → HoldsInRoom seen given rest pass next room now
+      → EachByRecursion (λ k. k < length next.spans) (r ∷ index)
       → Serves seen given rest pass next room now result (node_offset node later (map room.regs (r ∷ index))) go → Good seen (offset given node later (r ∷ index) go pass next) room now result
   offset_law node later r index go pass next room holds all serves =
-      part_law node later 1 r (λ high. joined given node later 2 index high go) pass next room holds all.0
+      part_law node later 1 r (λ high. offset_made given node later 2 index high go) pass next room holds all.0
       (λ high known further beyond behind loops holding high_below high_is high_lies.
       joined_law node later index 2 high go known further beyond holding high_below (rw high_is high_lies) (below_later (length next.spans) (length further.spans) behind.regs index all.1)
       (serves_is known further beyond _ (node_offset node later (map room.regs (r ∷ index))) go (rw (words_kept next room further beyond behind index all.1, high_is) refl)
       (serves_later seen given rest pass next room known further beyond now result _ go behind loops serves)))
 
-  descended_law : (nodes : List NodeShape) (number : ℕ) (r : ℕ) (index : List ℕ) (place : ℕ) (go : ℕ → Making) (pass : Pass) (next : Next) (room : Room) → Holds seen given rest pass next room now
-      → place < next.places → Each (λ k. k < length next.spans) (r ∷ index)
+  descended_law : (nodes : List NodeShape) (number : ℕ) (r : ℕ) (index : List ℕ) (place : ℕ) (go : ℕ → Making) (pass : Pass) (next : Next) (room : Room) → HoldsInRoom seen given rest pass next room now
+      → place < next.places → EachByRecursion (λ k. k < length next.spans) (r ∷ index)
       → ServesPlace seen given rest pass next room now result (led seen.shapes number nodes (map room.regs (r ∷ index)) (room.places place)) go → Good seen (descended given nodes number (r ∷ index) place go pass next) room now result
   descended_law [] number r index place go pass next room holds below all serves = serves place pass next room (later_same next room) (alike_same pass next) holds below refl
   descended_law (node ∷ later) number r index place go pass next room holds below all serves =
@@ -106,9 +106,9 @@ module _ (seen : Seen) (laws : Laws seen) (given : Given) (rest : Block) (now re
       (rw (words_kept next room further' beyond' whole_way (r ∷ index) all, p_is, behind.kept_places place below, o_is) refl)
       (serves_place_later seen given rest pass next room known' further' beyond' now result _ go whole_way (alike_on pass next known further known' further' loops loops') serves))))
 
-  checked_law : (extents : List ℕ) (axis : ℕ) (index : List ℕ) (place : ℕ) (go : ℕ → Making) (pass : Pass) (next : Next) (room : Room) → Holds seen given rest pass next room now
-      → place < next.places → Each (IsIndex next room) index
-      → ServesPlace seen given rest pass next room now result (checks extents (map room.regs index) (room.places place)) go → Good seen (checked axis extents index place go pass next) room now result
+  checked_law : (extents : List ℕ) (axis : ℕ) (index : List ℕ) (place : ℕ) (go : ℕ → Making) (pass : Pass) (next : Next) (room : Room) → HoldsInRoom seen given rest pass next room now
+      → place < next.places → EachByRecursion (IsIndex next room) index
+      → ServesPlace seen given rest pass next room now result (checks extents (map room.regs index) (room.places place)) go → Good seen (checks_made axis extents index place go pass next) room now result
   checked_law [] axis index place go pass next room holds below all serves = serves place pass next room (later_same next room) (alike_same pass next) holds below refl
   checked_law (extent ∷ extents) axis [] place go pass next room holds below all serves = serves place pass next room (later_same next room) (alike_same pass next) holds below refl
   checked_law (extent ∷ extents) axis (r ∷ index) place go pass next room holds below all serves = by_test (is_within extent (span_in next r)) refl
@@ -116,15 +116,15 @@ module _ (seen : Seen) (laws : Laws seen) (given : Given) (rest : Block) (now re
       (λ p known further beyond behind holding p_below. checked_law extents (suc axis) index p go known further beyond holding p_below (index_later next room further beyond behind index all.1))
     where
       by_test : (test : Bool) → is_within extent (span_in next r) ≡ test
-          → (ServesPlace seen given rest pass next room now result (checks extents (map room.regs index) (room.places place)) go → Good seen (checked (suc axis) extents index place go pass next) room now result)
-          → ((p : ℕ) (known : Pass) (further : Next) (beyond : Room) → Later next room further beyond → Holds seen given rest known further beyond now → p < further.places
-          → ServesPlace seen given rest known further beyond now result (checks extents (map beyond.regs index) (beyond.places p)) go → Good seen (checked (suc axis) extents index p go known further) beyond now result)
-          → Good seen (check_at test (step.Check place axis extent r) place (λ p. checked (suc axis) extents index p go) pass next) room now result
+          → (ServesPlace seen given rest pass next room now result (checks extents (map room.regs index) (room.places place)) go → Good seen (checks_made (suc axis) extents index place go pass next) room now result)
+          → ((p : ℕ) (known : Pass) (further : Next) (beyond : Room) → Later next room further beyond → HoldsInRoom seen given rest known further beyond now → p < further.places
+          → ServesPlace seen given rest known further beyond now result (checks extents (map beyond.regs index) (beyond.places p)) go → Good seen (checks_made (suc axis) extents index p go known further) beyond now result)
+          → Good seen (check_at test (step.Check place axis extent r) place (λ p. checks_made (suc axis) extents index p go) pass next) room now result
       by_test true e same more = same
           (place_is pass next room _ (checks (extent ∷ extents) (map room.regs (r ∷ index)) (room.places place)) go
           (ap (checks extents (map room.regs index)) (sym (needs_none extent (room.regs r) (span_in next r) (room.places place) e all.0.1))) serves)
       by_test false e same more =
-          stepped_law seen laws given rest (step.Check place axis extent r) (λ p. checked (suc axis) extents index p go) pass next room now result holds (below, all.0.0)
+          stepped_law seen laws given rest (step.Check place axis extent r) (λ p. checks_made (suc axis) extents index p go) pass next room now result holds (below, all.0.0)
           (λ p known further beyond behind loops holding p_below p_is. more p known further beyond behind holding p_below
           (place_is known further beyond _ (checks (extent ∷ extents) (map room.regs (r ∷ index)) (room.places place)) go
           (rw (words_kept next room further beyond behind index (index_below next room index all.1), p_is) refl)
@@ -132,11 +132,11 @@ module _ (seen : Seen) (laws : Laws seen) (given : Given) (rest : Block) (now re
 
   -- the place of an access
   pub placed_law : (shape : Shape) (layout r : ℕ) (index : List ℕ) (go : ℕ → Making) (pass : Pass) (next : Next) (room : Room) → given.shapes ≡ seen.shapes → slice_get seen.shapes layout ≡ Some shape
-      → Leads seen.shapes layout shape (map room.regs (r ∷ index)) → Holds seen given rest pass next room now → Each (IsIndex next room) (r ∷ index)
-      → ServesPlace seen given rest pass next room now result (place_at seen.shapes layout (coord_of (map room.regs (r ∷ index)))) go → Good seen (placed given layout (r ∷ index) go pass next) room now result
+      → Leads seen.shapes layout shape (map room.regs (r ∷ index)) → HoldsInRoom seen given rest pass next room now → EachByRecursion (IsIndex next room) (r ∷ index)
+      → ServesPlace seen given rest pass next room now result (place_at seen.shapes layout (coord_of (map room.regs (r ∷ index)))) go → Good seen (place_made given layout (r ∷ index) go pass next) room now result
   placed_law shape layout r index go pass next room same there leads holds all serves =
       subst (λ (found : Option Shape). Good seen (placed_in given found layout (r ∷ index) go pass next) room now result) (sym (ap (λ (shapes : List Shape). slice_get shapes layout) same ∙ there))
-      (stepped_law seen laws given rest (step.Root layout) (λ k. checked 0 (extents_in (bounds_of_shape shape)) (r ∷ index) k (λ p. descended given shape.nodes 1 (r ∷ index) p go)) pass next room now result holds tt
+      (stepped_law seen laws given rest (step.Root layout) (λ k. checks_made 0 (extents_in (bounds_of_shape shape)) (r ∷ index) k (λ p. descended given shape.nodes 1 (r ∷ index) p go)) pass next room now result holds tt
       (λ k known further beyond behind loops holding k_below k_is.
       checked_law (extents_in (bounds_of_shape shape)) 0 (r ∷ index) k (λ p. descended given shape.nodes 1 (r ∷ index) p go) known further beyond holding k_below (index_later next room further beyond behind (r ∷ index) all)
       (λ p known' further' beyond' behind' loops' holding' p_below p_is.

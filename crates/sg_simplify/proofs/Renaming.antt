@@ -9,22 +9,22 @@ use Rattle.sg_ir.specs.declared.op.Op.TheVariants as op
 use Rattle.sg_ir.specs.Runs.{Seen}
 use Rattle.sg_ir.specs.Blocks.{Block, End, Word, Spot, Cell, Do, Branch, Loop, SetVar, WriteOwn, Contribute, Wish}
 use Rattle.sg_ir.specs.declared.span.Span.{Span}
-use Rattle.sg_ir.specs.Span.{whole, Spans, range_span, var_span, with_span, in_loop, op_span}
+use Rattle.sg_ir.specs.Span.{whole_i32, Spans, range_span, var_span, with_span, in_loop, op_span}
 use Rattle.sg_ir.specs.Shared.{is_pure}
-use Rattle.sg_ir.specs.SpanLaws.{Lies, HasWord, IsSpanned}
-use Rattle.sg_ir.specs.steps.Scoped.{Moment, Room, room_reg, room_place, op_word}
+use Rattle.sg_ir.specs.SpanLaws.{Lies, HasConstantWord, IsSpanned}
+use Rattle.sg_ir.specs.steps.Scoped.{RunMoment, Room, room_reg, room_place, op_word}
 use Rattle.sg_ir.specs.steps.InScope.{InScope, and_reg, and_place, op_regs, AreSet}
-use Rattle.sg_simplify.specs.Pass.{Next, name_of, with_name, span_in, renamed}
-use Rattle.sg_simplify.specs.steps.Serves.{Each, Later, OpBelow, OpStays, OpIsAt, OpLies, IsIndex}
-use Rattle.sg_simplify.specs.steps.Ruled.{OpSettles, IsPlain, IsRenamed, AllRenamed, Grown}
+use Rattle.sg_simplify.specs.Pass.{Next, made_name, with_name, span_in, renamed}
+use Rattle.sg_simplify.specs.steps.Serves.{EachByRecursion, Later, OpBelow, OpStays, OpIsAt, OpLies, IsIndex}
+use Rattle.sg_simplify.specs.steps.Ruled.{OpSettles, IsNotRead, IsRenamed, AllRenamed, Grown}
 use Rattle.sg_simplify.proofs.Growing.{name_here, name_other}
 
 -- later, and behind what has grown
-renamed_at : (next : Next) (from to : Room) (further : Next) (beyond : Room) (r : ℕ) → Later next to further beyond → name_of further r ≡ name_of next r → IsRenamed next from to r → IsRenamed further from beyond r
+renamed_at : (next : Next) (from to : Room) (further : Next) (beyond : Room) (r : ℕ) → Later next to further beyond → made_name further r ≡ made_name next r → IsRenamed next from to r → IsRenamed further from beyond r
 renamed_at next from to further beyond r later name h = let below = h.named in let more = later.regs in record {
   named = rw name (omega arith);
-  word = ap beyond.regs name ∙ (later.kept (name_of next r) h.named ∙ h.word);
-  lies = subst (λ k. Lies (span_in further k) (beyond.regs k)) (sym name) (rw (later.spans (name_of next r) h.named, later.kept (name_of next r) h.named) h.lies);
+  word = ap beyond.regs name ∙ (later.kept (made_name next r) h.named ∙ h.word);
+  lies = subst (λ k. Lies (span_in further k) (beyond.regs k)) (sym name) (rw (later.spans (made_name next r) h.named, later.kept (made_name next r) h.named) h.lies);
 }
 
 pub renamed_later : (scope : InScope) (next : Next) (from to : Room) (further : Next) (beyond : Room) → Later next to further beyond → further.names ≡ next.names → AllRenamed scope next from to → AllRenamed scope further from beyond
@@ -46,12 +46,12 @@ pub renamed_put : (scope : InScope) (next : Next) (from to : Room) (k t word : �
 renamed_put scope next from to k t word all below is lies r set = by_test (r == k) refl set
   where
     by_test : (test : Bool) → (r == k) ≡ test → (if test then true else scope.regs r) ≡ true → IsRenamed (with_name k t next) (room_reg k word from) to r
-    by_test true e h = let name : name_of (with_name k t next) r ≡ t = ap (name_of (with_name k t next)) (eqb-true r k e) ∙ name_here next k t in record {
+    by_test true e h = let name : made_name (with_name k t next) r ≡ t = ap (made_name (with_name k t next)) (eqb-true r k e) ∙ name_here next k t in record {
       named = rw name below;
       word = ap to.regs name ∙ (is ∙ sym (ap (λ (test : Bool). if test then word else from.regs r) e));
       lies = subst (λ n. Lies (span_in next n) (to.regs n)) (sym name) (rw is lies);
     }
-    by_test false e h = let name : name_of (with_name k t next) r ≡ name_of next r = name_other next k t r e in record {
+    by_test false e h = let name : made_name (with_name k t next) r ≡ made_name next r = name_other next k t r e in record {
       named = rw name (all r h).named;
       word = ap to.regs name ∙ ((all r h).word ∙ sym (ap (λ (test : Bool). if test then word else from.regs r) e));
       lies = subst (λ n. Lies (span_in next n) (to.regs n)) (sym name) (all r h).lies;
@@ -62,7 +62,7 @@ renamed_spot scope next from to k place all r is = let h = all r is in record { 
 
 -- an operation on the new registers
 module _ (seen : Seen) (scope : InScope) (next : Next) (from to : Room) (all : AllRenamed scope next from to) where
-  pub op_renamed : (now : Moment) (how : Op) → IsPlain how → AreSet scope.regs (op_regs how) → op_word seen to now (renamed next how) ≡ op_word seen from now how
+  pub op_renamed : (now : RunMoment) (how : Op) → IsNotRead how → AreSet scope.regs (op_regs how) → op_word seen to now (renamed next how) ≡ op_word seen from now how
   op_renamed now (op.Const word truth) plain set = refl
   op_renamed now (op.Var var) plain set = refl
   op_renamed now (op.Bin how kind a b) plain set = rw ((all a set.0).word, (all b set.1.0).word) refl
@@ -73,7 +73,7 @@ module _ (seen : Seen) (scope : InScope) (next : Next) (from to : Room) (all : A
   op_renamed now (op.Read place layout field) plain set = absurd plain
   op_renamed now (op.OwnRead layout field) plain set = refl
 
-  pub op_renamed_below : (how : Op) → IsPlain how → AreSet scope.regs (op_regs how) → OpBelow (length next.spans) next.places (renamed next how)
+  pub op_renamed_below : (how : Op) → IsNotRead how → AreSet scope.regs (op_regs how) → OpBelow (length next.spans) next.places (renamed next how)
   op_renamed_below (op.Const word truth) plain set = tt
   op_renamed_below (op.Var var) plain set = tt
   op_renamed_below (op.Bin how kind a b) plain set = ((all a set.0).named, (all b set.1.0).named)
@@ -84,7 +84,7 @@ module _ (seen : Seen) (scope : InScope) (next : Next) (from to : Room) (all : A
   op_renamed_below (op.Read place layout field) plain set = absurd plain
   op_renamed_below (op.OwnRead layout field) plain set = tt
 
-  pub op_renamed_lies : (how : Op) → IsPlain how → AreSet scope.regs (op_regs how) → OpLies next to (renamed next how)
+  pub op_renamed_lies : (how : Op) → IsNotRead how → AreSet scope.regs (op_regs how) → OpLies next to (renamed next how)
   op_renamed_lies (op.Const word truth) plain set = tt
   op_renamed_lies (op.Var var) plain set = tt
   op_renamed_lies (op.Bin how kind a b) plain set = ((all a set.0).lies, (all b set.1.0).lies)
@@ -96,19 +96,19 @@ module _ (seen : Seen) (scope : InScope) (next : Next) (from to : Room) (all : A
   op_renamed_lies (op.OwnRead layout field) plain set = tt
 
   -- index registers
-  pub index_renamed : (index : List ℕ) → AreSet scope.regs index → Each (IsIndex next to) (map (name_of next) index)
+  pub index_renamed : (index : List ℕ) → AreSet scope.regs index → EachByRecursion (IsIndex next to) (map (made_name next) index)
   index_renamed [] set = tt
   index_renamed (r ∷ index) set = (((all r set.0).named, (all r set.0).lies), index_renamed index set.1)
 
-  pub words_renamed : (index : List ℕ) → AreSet scope.regs index → map to.regs (map (name_of next) index) ≡ map from.regs index
+  pub words_renamed : (index : List ℕ) → AreSet scope.regs index → map to.regs (map (made_name next) index) ≡ map from.regs index
   words_renamed [] set = refl
   words_renamed (r ∷ index) set = rw ((all r set.0).word, words_renamed index set.1) refl
 
-  pub are_words : (index : List ℕ) → AreSet scope.regs index → Each IsWord (map to.regs (map (name_of next) index))
+  pub are_words : (index : List ℕ) → AreSet scope.regs index → EachByRecursion IsWord (map to.regs (map (made_name next) index))
   are_words [] set = tt
   are_words (r ∷ index) set = ((all r set.0).lies.is_word, are_words index set.1)
 
-pub has_renamed : (next : Next) (how : Op) → HasWord how → HasWord (renamed next how)
+pub has_renamed : (next : Next) (how : Op) → HasConstantWord how → HasConstantWord (renamed next how)
 has_renamed next (op.Const word truth) has = has
 has_renamed next (op.Var var) has = tt
 has_renamed next (op.Bin how kind a b) has = tt
@@ -119,7 +119,7 @@ has_renamed next (op.Offset high size low) has = tt
 has_renamed next (op.Read place layout field) has = tt
 has_renamed next (op.OwnRead layout field) has = tt
 
-pub stays_renamed : (single : ℕ → Bool) (rest : Block) (next : Next) (how : Op) → is_pure single how ≡ true → IsPlain how → OpSettles single rest how → OpStays rest (renamed next how)
+pub stays_renamed : (single : ℕ → Bool) (rest : Block) (next : Next) (how : Op) → is_pure single how ≡ true → IsNotRead how → OpSettles single rest how → OpStays rest (renamed next how)
 stays_renamed single rest next (op.Const word truth) pure plain settles = tt
 stays_renamed single rest next (op.Var var) pure plain settles = settles pure
 stays_renamed single rest next (op.Bin how kind a b) pure plain settles = tt
@@ -130,7 +130,7 @@ stays_renamed single rest next (op.Offset high size low) pure plain settles = tt
 stays_renamed single rest next (op.Read place layout field) pure plain settles = absurd plain
 stays_renamed single rest next (op.OwnRead layout field) pure plain settles = absurd (cc)
 
-pub at_renamed : (seen : Seen) (room : Room) (next : Next) (how : Op) → IsPlain how → OpIsAt seen.shapes room (renamed next how) []
+pub at_renamed : (seen : Seen) (room : Room) (next : Next) (how : Op) → IsNotRead how → OpIsAt seen.shapes room (renamed next how) []
 at_renamed seen room next (op.Const word truth) plain = tt
 at_renamed seen room next (op.Var var) plain = tt
 at_renamed seen room next (op.Bin how kind a b) plain = tt
@@ -146,7 +146,7 @@ pub spanned_same : (block : Block) (s t : Spans) → ((v : ℕ) → var_span s v
 spanned_same End s t same h = tt
 spanned_same (Word to how rest) s t same h = (h.0, spanned_same rest (with_span to (op_span s how) s) (with_span to (op_span t how) t) same h.1)
 spanned_same (Spot to how rest) s t same h = spanned_same rest s t same h
-spanned_same (Cell to place layout field index rest) s t same h = spanned_same rest (with_span to whole s) (with_span to whole t) same h
+spanned_same (Cell to place layout field index rest) s t same h = spanned_same rest (with_span to whole_i32 s) (with_span to whole_i32 t) same h
 spanned_same (Do (SetVar var from) rest) s t same h = (sym (same var) ∙ h.0, spanned_same rest s t same h.1)
 spanned_same (Do (WriteOwn layout field from stmt) rest) s t same h = (tt, spanned_same rest s t same h.1)
 spanned_same (Do (Contribute how layout field place from index stmt) rest) s t same h = (tt, spanned_same rest s t same h.1)

@@ -20,12 +20,12 @@ use Rattle.sg_ir.specs.declared.op.Descent.TheVariants as by
 use Rattle.sg_ir.specs.Blocks.{Block, End, Spot, Link, chained, link_step, link}
 use Rattle.sg_ir.specs.declared.span.Span.{Span}
 use Rattle.sg_ir.specs.Span.{range_span, sets}
-use Rattle.sg_ir.specs.WellTyped.{Known, Scope, Frame, with_var, is_truth, is_of, joins, reads, indexes, is_i32, takes_truth, is_lnot, Way_down, ByChild, ByKey, ByBit, ByLength, holds_of, Judge, judge_step, judge_all, checkable, descends, is_cell, field_type, goes_on, step_fits, inst_fits, judges}
+use Rattle.sg_ir.specs.WellTyped.{KnownPlace, Scope, Frame, with_var, is_truth, is_truth_as, joins, reads, indexes, is_i32, takes_truth, is_lnot, Way_down, ByChild, ByKey, ByBit, ByLength, holds_of, Judge, judge_step, judge_all, checkable, descends, is_cell, field_type_at, goes_on, step_fits, inst_fits, judges}
 use Rattle.sg_ir.specs.steps.InScope.{InScope, AreSet, step_regs, step_places}
 use Rattle.sg_ir.proofs.Uses.{fold-Const, fold-Var, fold-Set, fold-Bin, fold-Un, fold-Mulq, fold-Root, fold-Check, fold-Extract, fold-Offset, fold-Child, fold-HashChild, fold-MaskBit, fold-DynCell, fold-ReadCell, fold-OwnRead, fold-OwnWrite, fold-Acc, fold-Want, fold-If, fold-For}
-use Rattle.sg_simplify.specs.steps.Serves.{Each}
+use Rattle.sg_simplify.specs.steps.Serves.{EachByRecursion}
 use Rattle.sg_simplify.specs.steps.Ruled.{IndexFits}
-use Rattle.sg_simplify.specs.steps.Counted.{Counts, AddsUp, IsWhole, Meets, AreLaid, Rules, words_step, has_words, Rule}
+use Rattle.sg_simplify.specs.steps.Counted.{Counts, AddsUp, IsWhole, Meets, CanBeWalked, Rules, words_step, has_words, Rule}
 use Rattle.sg_simplify.proofs.Ruling.{word_rules, spot_rules, cell_rules, set_rules, branch_rules, loop_rules, settles}
 use Rattle.sg_simplify.proofs.Inducting.{inductively}
 
@@ -46,7 +46,7 @@ folded (judge ∷ judges) good scope =
     here ∙ (ap (λ b. (b, (judge_all judges (judge scope).1).1)) (and_assoc good (judge scope).0 (judge_all judges (judge scope).1).0)
     ∙ ap (λ (pair : Bool × Scope). (good && pair.0, pair.1)) (sym first))
 
-module _ (shapes : List Shape) (single : ℕ → Bool) (others : ℕ → Span) (totals : Counts) (at : Frame) (regs : List Ty) (same : at.shapes ≡ shapes) (laid : AreLaid shapes) (entire : IsWhole at single others totals) where
+module _ (shapes : List Shape) (single : ℕ → Bool) (others : ℕ → Span) (totals : Counts) (at : Frame) (regs : List Ty) (same : at.shapes ≡ shapes) (laid : CanBeWalked shapes) (entire : IsWhole at single others totals) where
   abbrev Ruling : Judge → Link → Type 0
   Ruling judge l = Rule shapes single others totals judge l
 
@@ -58,12 +58,12 @@ module _ (shapes : List Shape) (single : ℕ → Bool) (others : ℕ → Span) (
 
   -- what a judgement says of a register, a place and index registers
   used : (scope : Scope) (inner : InScope) (outside : Counts) (loops : List (ℕ × Span)) → Meets totals scope inner outside loops → (truth : Bool) (r : ℕ) → reads at scope truth r ≡ true → inner.regs r ≡ true
-  used scope inner outside loops meets truth r h = meets.regs r (and_parts (scope.regs r) (is_of truth (slice_get at.regs r)) h).0
+  used scope inner outside loops meets truth r h = meets.regs r (and_parts (scope.regs r) (is_truth_as truth (slice_get at.regs r)) h).0
 
-  there : (scope : Scope) (inner : InScope) (outside : Counts) (loops : List (ℕ × Span)) → Meets totals scope inner outside loops → (place : ℕ) (test : Known → Bool) → holds_of test (scope.places place) ≡ true → inner.places place ≡ true
+  there : (scope : Scope) (inner : InScope) (outside : Counts) (loops : List (ℕ × Span)) → Meets totals scope inner outside loops → (place : ℕ) (test : KnownPlace → Bool) → holds_of test (scope.places place) ≡ true → inner.places place ≡ true
   there scope inner outside loops meets place test h = by_place (scope.places place) refl h
     where
-      by_place : (o : Option Known) → scope.places place ≡ o → holds_of test o ≡ true → inner.places place ≡ true
+      by_place : (o : Option KnownPlace) → scope.places place ≡ o → holds_of test o ≡ true → inner.places place ≡ true
       by_place None e g = absurd (cc)
       by_place (Some known) e g = meets.places place known e
 
@@ -144,18 +144,18 @@ module _ (shapes : List Shape) (single : ℕ → Bool) (others : ℕ → Span) (
       spot_rules shapes single others totals at entire scope inner outside loops to (step.Root layout) (record { layout = layout; passed = 0 }) rest tt tt meets adds more
 
   -- a place that goes on from another
-  on_fits : (to place passed r : ℕ) (how : Step) (test : Known → Bool) (scope : Scope) (inner : InScope) (outside : Counts) (loops : List (ℕ × Span)) (rest : Block)
+  on_fits : (to place passed r : ℕ) (how : Step) (test : KnownPlace → Bool) (scope : Scope) (inner : InScope) (outside : Counts) (loops : List (ℕ × Span)) (rest : Block)
       → holds_of test (scope.places place) ≡ true → AreSet inner.regs (step_regs how) → AreSet inner.places (step_places how)
       → Meets totals scope inner outside loops → AddsUp totals outside (Spot to how rest)
       → ((inside : InScope) (beside : Counts) → Meets totals (goes_on to passed (scope.places place) scope) inside beside loops → AddsUp totals beside rest → Rules shapes single others inside loops rest)
       → Rules shapes single others inner loops (Spot to how rest)
   on_fits to place passed r how test scope inner outside loops rest holds regs_set places_set meets adds more = by_place (scope.places place) refl holds
     where
-      by_place : (o : Option Known) → scope.places place ≡ o → holds_of test o ≡ true → Rules shapes single others inner loops (Spot to how rest)
+      by_place : (o : Option KnownPlace) → scope.places place ≡ o → holds_of test o ≡ true → Rules shapes single others inner loops (Spot to how rest)
       by_place None e g = absurd (cc)
       by_place (Some known) e g =
           spot_rules shapes single others totals at entire scope inner outside loops to how (record { layout = known.layout; passed = passed }) rest regs_set places_set meets adds
-          (λ inside beside m. more inside beside (subst (λ (o : Option Known). Meets totals (goes_on to passed o scope) inside beside loops) (sym e) m))
+          (λ inside beside m. more inside beside (subst (λ (o : Option KnownPlace). Meets totals (goes_on to passed o scope) inside beside loops) (sym e) m))
 
   check_fits : (to place axis extent index : ℕ) → Ruling (inst_fits at (i.Check to place axis extent index)) (link_step regs (i.Check to place axis extent index))
   check_fits to place axis extent index scope inner outside loops rest good meets adds more =
@@ -178,7 +178,7 @@ module _ (shapes : List Shape) (single : ℕ → Bool) (others : ℕ → Span) (
   readcell_fits : (to place layout field : ℕ) (index : List ℕ) → Ruling (inst_fits at (i.ReadCell to place layout field index)) (link_step regs (i.ReadCell to place layout field index))
   readcell_fits to place layout field index scope inner outside loops rest good meets adds more =
       let first = and_parts (holds_of (is_cell at layout) (scope.places place)) _ good in
-      let second = and_parts (joins (field_type at layout field) (slice_get at.regs to)) _ first.1 in
+      let second = and_parts (joins (field_type_at at layout field) (slice_get at.regs to)) _ first.1 in
       let is = index_is scope inner outside loops meets layout index second.1 in
       cell_rules shapes single others totals at entire scope inner outside loops to place layout field index rest (there scope inner outside loops meets place (is_cell at layout) first.0) is.set is.fits meets adds more
 
@@ -196,7 +196,7 @@ module _ (shapes : List Shape) (single : ℕ → Bool) (others : ℕ → Span) (
   acc_fits how layout field place from index stmt scope inner outside loops rest good meets adds more =
       let first = and_parts (holds_of (is_cell at layout) (scope.places place)) _ good in
       let second = and_parts (scope.regs from) _ first.1 in
-      let third = and_parts (joins (field_type at layout field) (slice_get at.regs from)) _ second.1 in
+      let third = and_parts (joins (field_type_at at layout field) (slice_get at.regs from)) _ second.1 in
       let is = index_is scope inner outside loops meets layout index third.1 in
       let behind = more inner outside meets (record { vars = λ x. adds.vars x ∙ no_more (outside.vars x) (sets x rest); regs = adds.regs; places = adds.places }) in
       record {
@@ -218,7 +218,7 @@ module _ (shapes : List Shape) (single : ℕ → Bool) (others : ℕ → Span) (
       }
 
   -- ---- blocks
-  list_rules : (insts : List Inst) → Each RulesFor insts → list_all (λ b. b) (map has_words insts) ≡ true → Ruling (judge_all (map (judges at) insts)) (chained (map (link regs) insts))
+  list_rules : (insts : List Inst) → EachByRecursion RulesFor insts → list_all (λ b. b) (map has_words insts) ≡ true → Ruling (judge_all (map (judges at) insts)) (chained (map (link regs) insts))
   list_rules [] each has scope inner outside loops rest good meets adds more = more inner outside meets adds
   list_rules (inst ∷ insts) each has scope inner outside loops rest good meets adds more =
       let words = and_parts (has_words inst) (list_all (λ b. b) (map has_words insts)) has in
@@ -284,6 +284,6 @@ module _ (shapes : List Shape) (single : ℕ → Bool) (others : ℕ → Span) (
   pub code_rules : (insts : List Inst) → list_all (λ b. b) (map has_words insts) ≡ true → Ruling (judge_all (map (judges at) insts)) (chained (map (link regs) insts))
   code_rules insts has = list_rules insts (of_every insts) has
     where
-      of_every : (all : List Inst) → Each RulesFor all
+      of_every : (all : List Inst) → EachByRecursion RulesFor all
       of_every [] = tt
       of_every (inst ∷ all) = (every_rules inst, of_every all)

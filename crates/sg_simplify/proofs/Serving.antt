@@ -11,12 +11,12 @@ use Rattle.sg_ir.specs.declared.op.Step.TheVariants as step
 use Rattle.sg_ir.specs.Runs.{Seen, Place, put}
 use Rattle.sg_ir.specs.Blocks.{Block}
 use Rattle.sg_ir.specs.declared.span.Span.{Span}
-use Rattle.sg_ir.specs.Span.{whole}
+use Rattle.sg_ir.specs.Span.{whole_i32}
 use Rattle.sg_ir.specs.Shared.{same_op, same_step}
-use Rattle.sg_ir.specs.SpanLaws.{Lies, HasWord}
-use Rattle.sg_ir.specs.steps.Scoped.{Moment, Room, room_reg, room_place, op_word, step_place, run}
-use Rattle.sg_simplify.specs.Pass.{Given, Pass, Next, Making, with_reg, with_place, span_in, vars_of, span_of, and_op, and_step, after, set_word, fresh, taken_at, taken, stepped_at, stepped}
-use Rattle.sg_simplify.specs.steps.Serves.{Laws, NamesAll, OpBelow, StepBelow, OpStays, OpHolds, StepHolds, Holds, Later, Alike, Good, Serves, ServesPlace, OpIsAt, OpLies}
+use Rattle.sg_ir.specs.SpanLaws.{Lies, HasConstantWord}
+use Rattle.sg_ir.specs.steps.Scoped.{RunMoment, Room, room_reg, room_place, op_word, step_place, run}
+use Rattle.sg_simplify.specs.Pass.{Given, Pass, Next, Making, next_with_reg, next_with_place, span_in, vars_of, span_of, and_op, and_step, put_in_front, set_word, fresh, taken_at, taken, stepped_at, stepped}
+use Rattle.sg_simplify.specs.steps.Serves.{Laws, NamesAll, OpBelow, StepBelow, OpStays, OpHolds, StepHolds, HoldsInRoom, Later, Alike, Good, Serves, ServesPlace, OpIsAt, OpLies}
 use Rattle.sg_simplify.proofs.Tables.{each_push, each_map, IsFound, each_found, length_push, get_last, get_kept}
 
 -- ---- a number that is given something new, and the others
@@ -34,10 +34,10 @@ put_below {A} to x f r below = by_test (r == to) refl
     by_test true e = let is : r ≡ to = eqb-true r to e in absurd (omega arith)
     by_test false e = refl
 
-put_lies : (to word : ℕ) (f : ℕ → ℕ) → ((r : ℕ) → Lies whole (f r)) → Lies whole word → (r : ℕ) → Lies whole (put to word f r)
+put_lies : (to word : ℕ) (f : ℕ → ℕ) → ((r : ℕ) → Lies whole_i32 (f r)) → Lies whole_i32 word → (r : ℕ) → Lies whole_i32 (put to word f r)
 put_lies to word f all one r = by_test (r == to)
   where
-    by_test : (test : Bool) → Lies whole (if test then word else f r)
+    by_test : (test : Bool) → Lies whole_i32 (if test then word else f r)
     by_test true = one
     by_test false = all r
 
@@ -84,7 +84,7 @@ step_below (step.Check place axis extent index) m n p q more places h = let x = 
 step_below (step.Down descent place node offset) m n p q more places h = let x = h.0 in let y = h.1 in (omega arith, omega arith)
 
 module _ (seen : Seen) where
-  op_kept : (next : Next) (room : Room) (further : Next) (beyond : Room) (now : Moment) → Later next room further beyond → (how : Op) → OpBelow (length next.spans) next.places how
+  op_kept : (next : Next) (room : Room) (further : Next) (beyond : Room) (now : RunMoment) → Later next room further beyond → (how : Op) → OpBelow (length next.spans) next.places how
       → op_word seen beyond now how ≡ op_word seen room now how
   op_kept next room further beyond now later (op.Const word truth) below = refl
   op_kept next room further beyond now later (op.Var var) below = refl
@@ -102,7 +102,7 @@ module _ (seen : Seen) where
   step_kept next room further beyond later (step.Check place axis extent index) below = rw (later.kept_places place below.0, later.kept index below.1) refl
   step_kept next room further beyond later (step.Down descent place node offset) below = rw (later.kept_places place below.0, later.kept offset below.1) refl
 
-  op_later : (rest : Block) (next : Next) (room : Room) (further : Next) (beyond : Room) (now : Moment) → Later next room further beyond → (entry : Op × ℕ)
+  op_later : (rest : Block) (next : Next) (room : Room) (further : Next) (beyond : Room) (now : RunMoment) → Later next room further beyond → (entry : Op × ℕ)
       → OpHolds seen rest next room now entry → OpHolds seen rest further beyond now entry
   op_later rest next room further beyond now later entry h = let named = h.named in let more = later.regs in record {
     named = omega arith;
@@ -121,8 +121,8 @@ module _ (seen : Seen) where
   }
 
   -- more registers and places, of which the room has words alone
-  pub holds_later : (given : Given) (rest : Block) (pass : Pass) (next : Next) (room : Room) (further : Next) (beyond : Room) (now : Moment) → Later next room further beyond
-      → ((r : ℕ) → Lies whole (beyond.regs r)) → Holds seen given rest pass next room now → Holds seen given rest pass further beyond now
+  pub holds_later : (given : Given) (rest : Block) (pass : Pass) (next : Next) (room : Room) (further : Next) (beyond : Room) (now : RunMoment) → Later next room further beyond
+      → ((r : ℕ) → Lies whole_i32 (beyond.regs r)) → HoldsInRoom seen given rest pass next room now → HoldsInRoom seen given rest pass further beyond now
   holds_later given rest pass next room further beyond now later words h = record {
     ops = each_map (OpHolds seen rest next room now) (OpHolds seen rest further beyond now) (op_later rest next room further beyond now later) pass.ops h.ops;
     steps = each_map (StepHolds seen next room) (StepHolds seen further beyond) (step_later next room further beyond later) pass.steps h.steps;
@@ -131,18 +131,18 @@ module _ (seen : Seen) where
   }
 
   -- what serves from here on serves from later on
-  pub serves_later : (given : Given) (rest : Block) (pass : Pass) (next : Next) (room : Room) (known : Pass) (further : Next) (beyond : Room) (now result : Moment) (word : ℕ) (go : ℕ → Making)
+  pub serves_later : (given : Given) (rest : Block) (pass : Pass) (next : Next) (room : Room) (known : Pass) (further : Next) (beyond : Room) (now result : RunMoment) (word : ℕ) (go : ℕ → Making)
       → Later next room further beyond → Alike pass next known further → Serves seen given rest pass next room now result word go → Serves seen given rest known further beyond now result word go
   serves_later given rest pass next room known further beyond now result word go later loops serves t known' further' beyond' later' loops' =
       serves t known' further' beyond' (later_on next room further beyond further' beyond' later later') (alike_on pass next known further known' further' loops loops')
 
-  pub serves_place_later : (given : Given) (rest : Block) (pass : Pass) (next : Next) (room : Room) (known : Pass) (further : Next) (beyond : Room) (now result : Moment) (place : Option Place) (go : ℕ → Making)
+  pub serves_place_later : (given : Given) (rest : Block) (pass : Pass) (next : Next) (room : Room) (known : Pass) (further : Next) (beyond : Room) (now result : RunMoment) (place : Option Place) (go : ℕ → Making)
       → Later next room further beyond → Alike pass next known further → ServesPlace seen given rest pass next room now result place go → ServesPlace seen given rest known further beyond now result place go
   serves_place_later given rest pass next room known further beyond now result place go later loops serves t known' further' beyond' later' loops' =
       serves t known' further' beyond' (later_on next room further beyond further' beyond' later later') (alike_on pass next known further known' further' loops loops')
 
   -- the instruction that sets a register
-  set_runs : (to : ℕ) (how : Op) (index : List ℕ) (rest : Block) (room : Room) (now : Moment) → run seen (set_word to how index rest) room now ≡ run seen rest (room_reg to (op_word seen room now how) room) now
+  set_runs : (to : ℕ) (how : Op) (index : List ℕ) (rest : Block) (room : Room) (now : RunMoment) → run seen (set_word to how index rest) room now ≡ run seen rest (room_reg to (op_word seen room now how) room) now
   set_runs to (op.Const word truth) index rest room now = refl
   set_runs to (op.Var var) index rest room now = refl
   set_runs to (op.Bin how kind a b) index rest room now = refl
@@ -153,7 +153,7 @@ module _ (seen : Seen) where
   set_runs to (op.Read place layout field) index rest room now = refl
   set_runs to (op.OwnRead layout field) index rest room now = refl
 
-  set_names : (to : ℕ) (how : Op) (index : List ℕ) (rest : Block) (room : Room) (now : Moment) → OpIsAt seen.shapes room how index
+  set_names : (to : ℕ) (how : Op) (index : List ℕ) (rest : Block) (room : Room) (now : RunMoment) → OpIsAt seen.shapes room how index
       → NamesAll seen rest (room_reg to (op_word seen room now how) room) now → NamesAll seen (set_word to how index rest) room now
   set_names to (op.Const word truth) index rest room now is more = more
   set_names to (op.Var var) index rest room now is more = more
@@ -166,7 +166,7 @@ module _ (seen : Seen) where
   set_names to (op.OwnRead layout field) index rest room now is more = more
 
   module _ (laws : Laws seen) (given : Given) where
-    word_lies : (rest : Block) (pass : Pass) (next : Next) (room : Room) (now : Moment) → Holds seen given rest pass next room now → (how : Op) → HasWord how → OpLies next room how
+    word_lies : (rest : Block) (pass : Pass) (next : Next) (room : Room) (now : RunMoment) → HoldsInRoom seen given rest pass next room now → (how : Op) → HasConstantWord how → OpLies next room how
         → Lies (span_of given pass next how) (op_word seen room now how)
     word_lies rest pass next room now holds (op.Const word truth) has lies = laws.words (vars_of given pass) room now holds.words holds.fits (op.Const word truth) has
     word_lies rest pass next room now holds (op.Var var) has lies = laws.words (vars_of given pass) room now holds.words holds.fits (op.Var var) has
@@ -179,26 +179,26 @@ module _ (seen : Seen) where
     word_lies rest pass next room now holds (op.OwnRead layout field) has lies = laws.words (vars_of given pass) room now holds.words holds.fits (op.OwnRead layout field) has
 
     -- behind a new register
-    reg_later : (type : Ty) (span : Span) (word : ℕ) (next : Next) (room : Room) → Later next room (with_reg type span next) (room_reg (length next.spans) word room)
+    reg_later : (type : Ty) (span : Span) (word : ℕ) (next : Next) (room : Room) → Later next room (next_with_reg type span next) (room_reg (length next.spans) word room)
     reg_later type span word next room = let more : length (next.spans ++ span ∷ []) ≡ suc (length next.spans) = length_push next.spans span in record {
       regs = omega arith;
       places = omega arith;
-      spans = λ r below. get_kept next.spans span whole r below;
+      spans = λ r below. get_kept next.spans span whole_i32 r below;
       kept = λ r below. put_below (length next.spans) word room.regs r below;
       kept_places = λ p below. refl;
     }
 
-    put_out : (type : Ty) (how : Op) (index : List ℕ) (pass known : Pass) (next : Next) (room : Room) (now result : Moment) (go : ℕ → Making) → OpIsAt seen.shapes room how index
-        → Good seen (go (length next.spans) known (with_reg type (span_of given pass next how) next)) (room_reg (length next.spans) (op_word seen room now how) room) now result
-        → Good seen (after (set_word (length next.spans) how index) (go (length next.spans) known (with_reg type (span_of given pass next how) next))) room now result
+    put_out : (type : Ty) (how : Op) (index : List ℕ) (pass known : Pass) (next : Next) (room : Room) (now result : RunMoment) (go : ℕ → Making) → OpIsAt seen.shapes room how index
+        → Good seen (go (length next.spans) known (next_with_reg type (span_of given pass next how) next)) (room_reg (length next.spans) (op_word seen room now how) room) now result
+        → Good seen (put_in_front (set_word (length next.spans) how index) (go (length next.spans) known (next_with_reg type (span_of given pass next how) next))) room now result
     put_out type how index pass known next room now result go at good = record {
       runs = set_runs (length next.spans) how index _ room now ∙ good.runs;
       names = set_names (length next.spans) how index _ room now at good.names;
     }
 
     -- a register that is put out, and isn't known behind it
-    pub fresh_law : (rest : Block) (type : Ty) (how : Op) (index : List ℕ) (go : ℕ → Making) (pass : Pass) (next : Next) (room : Room) (now result : Moment) → Holds seen given rest pass next room now
-        → HasWord how → OpLies next room how → OpIsAt seen.shapes room how index
+    pub fresh_law : (rest : Block) (type : Ty) (how : Op) (index : List ℕ) (go : ℕ → Making) (pass : Pass) (next : Next) (room : Room) (now result : RunMoment) → HoldsInRoom seen given rest pass next room now
+        → HasConstantWord how → OpLies next room how → OpIsAt seen.shapes room how index
         → Serves seen given rest pass next room now result (op_word seen room now how) go → Good seen (fresh given type how index go pass next) room now result
     fresh_law rest type how index go pass next room now result holds has operands at serves =
         let n = length next.spans in
@@ -208,13 +208,13 @@ module _ (seen : Seen) where
         let later = reg_later type span word next room in
         let more : length (next.spans ++ span ∷ []) ≡ suc n = length_push next.spans span in
         put_out type how index pass pass next room now result go at
-        (serves n pass (with_reg type span next) (room_reg n word room) later (record { loops = refl; names = refl })
-        (holds_later given rest pass next room (with_reg type span next) (room_reg n word room) now later (put_lies n word room.regs holds.words (laws.wide span word lies)) holds)
-        (omega arith) (put_here n word room.regs) (rw (get_last next.spans span whole) lies))
+        (serves n pass (next_with_reg type span next) (room_reg n word room) later (record { loops = refl; names = refl })
+        (holds_later given rest pass next room (next_with_reg type span next) (room_reg n word room) now later (put_lies n word room.regs holds.words (laws.wide span word lies)) holds)
+        (omega arith) (put_here n word room.regs) (rw (get_last next.spans span whole_i32) lies))
 
     -- a register that holds a pure operation
-    pub taken_law : (rest : Block) (type : Ty) (how : Op) (index : List ℕ) (go : ℕ → Making) (pass : Pass) (next : Next) (room : Room) (now result : Moment) → Holds seen given rest pass next room now
-        → HasWord how → OpBelow (length next.spans) next.places how → OpStays rest how → OpLies next room how → OpIsAt seen.shapes room how index
+    pub taken_law : (rest : Block) (type : Ty) (how : Op) (index : List ℕ) (go : ℕ → Making) (pass : Pass) (next : Next) (room : Room) (now result : RunMoment) → HoldsInRoom seen given rest pass next room now
+        → HasConstantWord how → OpBelow (length next.spans) next.places how → OpStays rest how → OpLies next room how → OpIsAt seen.shapes room how index
         → Serves seen given rest pass next room now result (op_word seen room now how) go → Good seen (taken given type how index go pass next) room now result
     taken_law rest type how index go pass next room now result holds has below stays operands at serves = by_found (lookup (same_op how) pass.ops) refl
       where
@@ -231,22 +231,22 @@ module _ (seen : Seen) where
             let lies : Lies span word = word_lies rest pass next room now holds how has operands in
             let later = reg_later type span word next room in
             let more : length (next.spans ++ span ∷ []) ≡ suc n = length_push next.spans span in
-            let mid = holds_later given rest pass next room (with_reg type span next) (room_reg n word room) now later (put_lies n word room.regs holds.words (laws.wide span word lies)) holds in
-            let here : Lies (get_or (next.spans ++ span ∷ []) n whole) word = rw (get_last next.spans span whole) lies in
-            let entry : OpHolds seen rest (with_reg type span next) (room_reg n word room) now (how, n) = record {
+            let mid = holds_later given rest pass next room (next_with_reg type span next) (room_reg n word room) now later (put_lies n word room.regs holds.words (laws.wide span word lies)) holds in
+            let here : Lies (get_or (next.spans ++ span ∷ []) n whole_i32) word = rw (get_last next.spans span whole_i32) lies in
+            let entry : OpHolds seen rest (next_with_reg type span next) (room_reg n word room) now (how, n) = record {
               named = omega arith;
               below = op_below how n (length (next.spans ++ span ∷ [])) next.places next.places (omega arith) (omega arith) below;
               stays = stays;
-              word = put_here n word room.regs ∙ sym (op_kept next room (with_reg type span next) (room_reg n word room) now later how below);
+              word = put_here n word room.regs ∙ sym (op_kept next room (next_with_reg type span next) (room_reg n word room) now later how below);
               lies = rw (put_here n word room.regs) here;
             } in
             put_out type how index pass (and_op how n pass) next room now result go at
-            (serves n (and_op how n pass) (with_reg type span next) (room_reg n word room) later (record { loops = refl; names = refl })
-            (record { ops = each_push (OpHolds seen rest (with_reg type span next) (room_reg n word room) now) pass.ops (how, n) mid.ops entry; steps = mid.steps; words = mid.words; fits = mid.fits })
+            (serves n (and_op how n pass) (next_with_reg type span next) (room_reg n word room) later (record { loops = refl; names = refl })
+            (record { ops = each_push (OpHolds seen rest (next_with_reg type span next) (room_reg n word room) now) pass.ops (how, n) mid.ops entry; steps = mid.steps; words = mid.words; fits = mid.fits })
             (omega arith) (put_here n word room.regs) here)
 
     -- a place that a step gives
-    place_later : (place : Option Place) (next : Next) (room : Room) → Later next room (with_place next) (room_place next.places place room)
+    place_later : (place : Option Place) (next : Next) (room : Room) → Later next room (next_with_place next) (room_place next.places place room)
     place_later place next room = record {
       regs = omega arith;
       places = omega arith;
@@ -255,7 +255,7 @@ module _ (seen : Seen) where
       kept_places = λ p below. put_below next.places place room.places p below;
     }
 
-    pub stepped_law : (rest : Block) (how : Step) (go : ℕ → Making) (pass : Pass) (next : Next) (room : Room) (now result : Moment) → Holds seen given rest pass next room now
+    pub stepped_law : (rest : Block) (how : Step) (go : ℕ → Making) (pass : Pass) (next : Next) (room : Room) (now result : RunMoment) → HoldsInRoom seen given rest pass next room now
         → StepBelow (length next.spans) next.places how
         → ServesPlace seen given rest pass next room now result (step_place seen room how) go → Good seen (stepped how go pass next) room now result
     stepped_law rest how go pass next room now result holds below serves = by_found (lookup (same_step how) pass.steps) refl
@@ -269,13 +269,13 @@ module _ (seen : Seen) where
             let p = next.places in
             let place = step_place seen room how in
             let later = place_later place next room in
-            let mid = holds_later given rest pass next room (with_place next) (room_place p place room) now later holds.words holds in
-            let entry : StepHolds seen (with_place next) (room_place p place room) (how, p) = record {
+            let mid = holds_later given rest pass next room (next_with_place next) (room_place p place room) now later holds.words holds in
+            let entry : StepHolds seen (next_with_place next) (room_place p place room) (how, p) = record {
               named = omega arith;
               below = step_below how (length next.spans) (length next.spans) p (suc p) (omega arith) (omega arith) below;
-              place = put_here p place room.places ∙ sym (step_kept next room (with_place next) (room_place p place room) later how below);
+              place = put_here p place room.places ∙ sym (step_kept next room (next_with_place next) (room_place p place room) later how below);
             } in
-            let good = serves p (and_step how p pass) (with_place next) (room_place p place room) later (record { loops = refl; names = refl })
-            (record { ops = mid.ops; steps = each_push (StepHolds seen (with_place next) (room_place p place room)) pass.steps (how, p) mid.steps entry; words = mid.words; fits = mid.fits })
+            let good = serves p (and_step how p pass) (next_with_place next) (room_place p place room) later (record { loops = refl; names = refl })
+            (record { ops = mid.ops; steps = each_push (StepHolds seen (next_with_place next) (room_place p place room)) pass.steps (how, p) mid.steps entry; words = mid.words; fits = mid.fits })
             (omega arith) (put_here p place room.places) in
             record { runs = good.runs; names = good.names }

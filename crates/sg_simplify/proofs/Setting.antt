@@ -19,8 +19,8 @@ use Rattle.sg_ir.specs.Shared.{same_op, same_step, is_pure}
 use Rattle.sg_ir.specs.Trimmed.{is_within}
 use Rattle.sg_ir.specs.steps.InScope.{InScope, and_reg, and_place, op_regs, op_places, step_regs, step_places, AreSet, IsScoped}
 use Rattle.sg_ir.specs.Places.{extents_in}
-use Rattle.sg_simplify.specs.Pass.{Given, Pass, Next, Making, name_of, with_name, with_reg, with_place, type_of, span_in, span_of, renamed, and_op, and_step, after, set_word, fresh, taken_at, taken, numbered, stepped_at, stepped, check_at, checked, joined, offset, descent_of, descended, placed_in, placed, looped, simplified}
-use Rattle.sg_simplify.specs.steps.Ruled.{IsPlain, IsFitted, HasLayout, Grown}
+use Rattle.sg_simplify.specs.Pass.{Given, Pass, Next, Making, made_name, with_name, next_with_reg, next_with_place, given_type, span_in, span_of, renamed, and_op, and_step, put_in_front, set_word, fresh, taken_at, taken, numbered, stepped_at, stepped, check_at, checks_made, offset_made, offset, descent_of, descended, placed_in, place_made, looped, simplified}
+use Rattle.sg_simplify.specs.steps.Ruled.{IsNotRead, HasAccessLayouts, HasLayout, Grown}
 use Rattle.sg_simplify.specs.steps.Sets.{Wider, Sets, GoesOnIn, GoesOnAt, IndexIsSet, AllNamed}
 use Rattle.sg_simplify.proofs.Tables.{each_push, each_map, IsFound, each_found, length_push}
 use Rattle.sg_simplify.proofs.Growing.{name_here, name_other, grown_on, simplified_grows}
@@ -64,7 +64,7 @@ set_wider scope wide h [] all = tt
 set_wider scope wide h (r ∷ rs) all = (h.regs r all.0, set_wider scope wide h rs all.1)
 
 -- ---- behind what is put out
-pub sets_reg : (scope : InScope) (known : Pass) (next : Next) (type : Ty) (span : Span) → Sets scope known next → Sets (and_reg (length next.spans) scope) known (with_reg type span next)
+pub sets_reg : (scope : InScope) (known : Pass) (next : Next) (type : Ty) (span : Span) → Sets scope known next → Sets (and_reg (length next.spans) scope) known (next_with_reg type span next)
 sets_reg scope known next type span h = let n = length next.spans in let more : length (next.spans ++ span ∷ []) ≡ suc n = length_push next.spans span in record {
   ops = each_map (λ entry. scope.regs entry.1 ≡ true) (λ entry. put n true scope.regs entry.1 ≡ true) (λ entry is. put_still n scope.regs entry.1 is) known.ops h.ops;
   steps = h.steps;
@@ -72,7 +72,7 @@ sets_reg scope known next type span h = let n = length next.spans in let more : 
   free_places = h.free_places;
 }
 
-pub sets_place : (scope : InScope) (known : Pass) (next : Next) → Sets scope known next → Sets (and_place next.places scope) known (with_place next)
+pub sets_place : (scope : InScope) (known : Pass) (next : Next) → Sets scope known next → Sets (and_place next.places scope) known (next_with_place next)
 sets_place scope known next h = let n = next.places in record {
   ops = h.ops;
   steps = each_map (λ entry. scope.places entry.1 ≡ true) (λ entry. put n true scope.places entry.1 ≡ true) (λ entry is. put_still n scope.places entry.1 is) known.steps h.steps;
@@ -99,7 +99,7 @@ module _ (given : Given) where
   fresh_sets type how index go scope known next h regs places set goes =
       let n = length next.spans in
       set_scoped scope n how index _ regs places set (h.free_regs n (omega arith))
-      (goes n known (with_reg type (span_of given known next how) next) (and_reg n scope) (and_reg_wider n scope) refl (sets_reg scope known next type (span_of given known next how) h) (put_now n scope.regs))
+      (goes n known (next_with_reg type (span_of given known next how) next) (and_reg n scope) (and_reg_wider n scope) refl (sets_reg scope known next type (span_of given known next how) h) (put_now n scope.regs))
 
   taken_sets : (type : Ty) (how : Op) (index : List ℕ) (go : ℕ → Making) (scope : InScope) (known : Pass) (next : Next) → Sets scope known next → AreSet scope.regs (op_regs how) → AreSet scope.places (op_places how) → IndexIsSet scope how index
       → GoesOnIn scope next go → IsScoped scope (taken given type how index go known next).0
@@ -112,7 +112,7 @@ module _ (given : Given) where
           let n = length next.spans in
           let mid = sets_reg scope known next type (span_of given known next how) h in
           set_scoped scope n how index _ regs places set (h.free_regs n (omega arith))
-          (goes n (and_op how n known) (with_reg type (span_of given known next how) next) (and_reg n scope) (and_reg_wider n scope) refl
+          (goes n (and_op how n known) (next_with_reg type (span_of given known next how) next) (and_reg n scope) (and_reg_wider n scope) refl
           (record { ops = each_push (λ entry. put n true scope.regs entry.1 ≡ true) known.ops (how, n) mid.ops (put_now n scope.regs); steps = mid.steps; free_regs = mid.free_regs; free_places = mid.free_places })
           (put_now n scope.regs))
 
@@ -134,18 +134,18 @@ module _ (given : Given) where
             regs,
             places,
             h.free_places n (omega arith),
-            goes n (and_step how n known) (with_place next) (and_place n scope) (and_place_wider n scope) refl
+            goes n (and_step how n known) (next_with_place next) (and_place n scope) (and_place_wider n scope) refl
                 (record { ops = mid.ops; steps = each_push (λ entry. put n true scope.places entry.1 ≡ true) known.steps (how, n) mid.steps (put_now n scope.places); free_regs = mid.free_regs; free_places = mid.free_places })
                 (put_now n scope.places),
           )
 
   joined_sets : (node : NodeShape) (later : List NodeShape) (index : List ℕ) (axis high : ℕ) (go : ℕ → Making) (scope : InScope) (known : Pass) (next : Next) → Sets scope known next → scope.regs high ≡ true → AreSet scope.regs index
-      → GoesOnIn scope next go → IsScoped scope (joined given node later axis index high go known next).0
+      → GoesOnIn scope next go → IsScoped scope (offset_made given node later axis index high go known next).0
   joined_sets node later [] axis high go scope known next h is set goes = goes high known next scope (wider_same scope) refl h is
   joined_sets node later (r ∷ index) axis high go scope known next h is set goes =
-      taken_sets ty.U32 (op.Extract (extent_over later axis) (extent_in node.sizes axis) r) [] (λ low. taken given ty.U32 (op.Offset high (extent_in node.sizes axis) low) [] (λ o. joined given node later (suc axis) index o go))
+      taken_sets ty.U32 (op.Extract (extent_over later axis) (extent_in node.sizes axis) r) [] (λ low. taken given ty.U32 (op.Offset high (extent_in node.sizes axis) low) [] (λ o. offset_made given node later (suc axis) index o go))
       scope known next h (set.0, tt) tt tt
-      (λ low known' further wide wider names holds low_is. taken_sets ty.U32 (op.Offset high (extent_in node.sizes axis) low) [] (λ o. joined given node later (suc axis) index o go) wide known' further holds
+      (λ low known' further wide wider names holds low_is. taken_sets ty.U32 (op.Offset high (extent_in node.sizes axis) low) [] (λ o. offset_made given node later (suc axis) index o go) wide known' further holds
       (wider.regs high is, (low_is, tt)) tt tt
       (λ o known'' further' wide' wider' names' holds' o_is. joined_sets node later index (suc axis) o go wide' known'' further' holds' o_is (set_wider scope wide' (wider_on scope wide wide' wider wider') index set.1)
       (λ t known''' further'' wide'' wider'' names'' holds'' t_is. goes t known''' further'' wide'' (wider_on scope wide' wide'' (wider_on scope wide wide' wider wider') wider'') (names'' ∙ (names' ∙ names)) holds'' t_is)))
@@ -153,7 +153,7 @@ module _ (given : Given) where
   offset_sets : (node : NodeShape) (later : List NodeShape) (r : ℕ) (index : List ℕ) (go : ℕ → Making) (scope : InScope) (known : Pass) (next : Next) → Sets scope known next → AreSet scope.regs (r ∷ index)
       → GoesOnIn scope next go → IsScoped scope (offset given node later (r ∷ index) go known next).0
   offset_sets node later r index go scope known next h set goes =
-      taken_sets ty.U32 (op.Extract (extent_over later 1) (extent_in node.sizes 1) r) [] (λ high. joined given node later 2 index high go) scope known next h (set.0, tt) tt tt
+      taken_sets ty.U32 (op.Extract (extent_over later 1) (extent_in node.sizes 1) r) [] (λ high. offset_made given node later 2 index high go) scope known next h (set.0, tt) tt tt
       (λ high known' further wide wider names holds high_is. joined_sets node later index 2 high go wide known' further holds high_is (set_wider scope wide wider index set.1)
       (λ t known'' further' wide' wider' names' holds' t_is. goes t known'' further' wide' (wider_on scope wide wide' wider wider') (names' ∙ names) holds' t_is))
 
@@ -168,7 +168,7 @@ module _ (given : Given) where
       (λ t known''' further'' wide'' wider'' names'' holds'' t_is. goes t known''' further'' wide'' (wider_on scope wide' wide'' (wider_on scope wide wide' wider wider') wider'') (names'' ∙ (names' ∙ names)) holds'' t_is)))
 
   checked_sets : (extents : List ℕ) (axis : ℕ) (index : List ℕ) (place : ℕ) (go : ℕ → Making) (scope : InScope) (known : Pass) (next : Next) → Sets scope known next → scope.places place ≡ true → AreSet scope.regs index
-      → GoesOnAt scope next go → IsScoped scope (checked axis extents index place go known next).0
+      → GoesOnAt scope next go → IsScoped scope (checks_made axis extents index place go known next).0
   checked_sets [] axis index place go scope known next h is set goes = goes place known next scope (wider_same scope) refl h is
   checked_sets (extent ∷ extents) axis [] place go scope known next h is set goes = goes place known next scope (wider_same scope) refl h is
   checked_sets (extent ∷ extents) axis (r ∷ index) place go scope known next h is set goes = by_test (is_within extent (span_in next r))
@@ -176,16 +176,16 @@ module _ (given : Given) where
       (λ p known' further wide wider names holds p_is. checked_sets extents (suc axis) index p go wide known' further holds p_is (set_wider scope wide wider index set.1)
       (λ t known'' further' wide' wider' names' holds' t_is. goes t known'' further' wide' (wider_on scope wide wide' wider wider') (names' ∙ names) holds' t_is))
     where
-      by_test : (test : Bool) → IsScoped scope (checked (suc axis) extents index place go known next).0 → GoesOnAt scope next (λ p. checked (suc axis) extents index p go)
-          → IsScoped scope (check_at test (step.Check place axis extent r) place (λ p. checked (suc axis) extents index p go) known next).0
+      by_test : (test : Bool) → IsScoped scope (checks_made (suc axis) extents index place go known next).0 → GoesOnAt scope next (λ p. checks_made (suc axis) extents index p go)
+          → IsScoped scope (check_at test (step.Check place axis extent r) place (λ p. checks_made (suc axis) extents index p go) known next).0
       by_test true same more = same
-      by_test false same more = stepped_sets (step.Check place axis extent r) (λ p. checked (suc axis) extents index p go) scope known next h (set.0, tt) (is, tt) more
+      by_test false same more = stepped_sets (step.Check place axis extent r) (λ p. checks_made (suc axis) extents index p go) scope known next h (set.0, tt) (is, tt) more
 
   placed_sets : (shape : Shape) (layout r : ℕ) (index : List ℕ) (go : ℕ → Making) (scope : InScope) (known : Pass) (next : Next) → slice_get given.shapes layout ≡ Some shape → Sets scope known next → AreSet scope.regs (r ∷ index)
-      → GoesOnAt scope next go → IsScoped scope (placed given layout (r ∷ index) go known next).0
+      → GoesOnAt scope next go → IsScoped scope (place_made given layout (r ∷ index) go known next).0
   placed_sets shape layout r index go scope known next there h set goes =
       subst (λ (found : Option Shape). IsScoped scope (placed_in given found layout (r ∷ index) go known next).0) (sym there)
-      (stepped_sets (step.Root layout) (λ k. checked 0 (extents_in (bounds_of_shape shape)) (r ∷ index) k (λ p. descended given shape.nodes 1 (r ∷ index) p go)) scope known next h tt tt
+      (stepped_sets (step.Root layout) (λ k. checks_made 0 (extents_in (bounds_of_shape shape)) (r ∷ index) k (λ p. descended given shape.nodes 1 (r ∷ index) p go)) scope known next h tt tt
       (λ k known' further wide wider names holds k_is.
       checked_sets (extents_in (bounds_of_shape shape)) 0 (r ∷ index) k (λ p. descended given shape.nodes 1 (r ∷ index) p go) wide known' further holds k_is (set_wider scope wide wider (r ∷ index) set)
       (λ p known'' further' wide' wider' names' holds' p_is.
@@ -193,21 +193,21 @@ module _ (given : Given) where
       (λ t known''' further'' wide'' wider'' names'' holds'' t_is. goes t known''' further'' wide'' (wider_on scope wide' wide'' (wider_on scope wide wide' wider wider') wider'') (names'' ∙ (names' ∙ names)) holds'' t_is))))
 
   -- ---- over blocks
-  named_on : (inner scope wide : InScope) (next further : Next) → ((r : ℕ) → inner.regs r ≡ true → name_of further r ≡ name_of next r) → Wider scope wide → AllNamed inner scope next → AllNamed inner wide further
-  named_on inner scope wide next further same wider all r is = wider.regs (name_of further r) (ap scope.regs (same r is) ∙ all r is)
+  named_on : (inner scope wide : InScope) (next further : Next) → ((r : ℕ) → inner.regs r ≡ true → made_name further r ≡ made_name next r) → Wider scope wide → AllNamed inner scope next → AllNamed inner wide further
+  named_on inner scope wide next further same wider all r is = wider.regs (made_name further r) (ap scope.regs (same r is) ∙ all r is)
 
   pub named_put : (inner scope : InScope) (next : Next) (to t : ℕ) → scope.regs t ≡ true → AllNamed inner scope next → AllNamed (and_reg to inner) scope (with_name to t next)
   named_put inner scope next to t is all r set = by_test (r == to) refl set
     where
-      by_test : (test : Bool) → (r == to) ≡ test → (if test then true else inner.regs r) ≡ true → scope.regs (name_of (with_name to t next) r) ≡ true
-      by_test true e h = ap scope.regs (ap (name_of (with_name to t next)) (eqb-true r to e) ∙ name_here next to t) ∙ is
+      by_test : (test : Bool) → (r == to) ≡ test → (if test then true else inner.regs r) ≡ true → scope.regs (made_name (with_name to t next) r) ≡ true
+      by_test true e h = ap scope.regs (ap (made_name (with_name to t next)) (eqb-true r to e) ∙ name_here next to t) ∙ is
       by_test false e h = ap scope.regs (name_other next to t r e) ∙ all r h
 
-  pub index_named : (inner scope : InScope) (next : Next) → AllNamed inner scope next → (rs : List ℕ) → AreSet inner.regs rs → AreSet scope.regs (map (name_of next) rs)
+  pub index_named : (inner scope : InScope) (next : Next) → AllNamed inner scope next → (rs : List ℕ) → AreSet inner.regs rs → AreSet scope.regs (map (made_name next) rs)
   index_named inner scope next all [] set = tt
   index_named inner scope next all (r ∷ rs) set = (all r set.0, index_named inner scope next all rs set.1)
 
-  pub op_named : (inner scope : InScope) (next : Next) → AllNamed inner scope next → (how : Op) → IsPlain how → AreSet inner.regs (op_regs how) → AreSet scope.regs (op_regs (renamed next how))
+  pub op_named : (inner scope : InScope) (next : Next) → AllNamed inner scope next → (how : Op) → IsNotRead how → AreSet inner.regs (op_regs how) → AreSet scope.regs (op_regs (renamed next how))
   op_named inner scope next all (op.Const word truth) plain set = tt
   op_named inner scope next all (op.Var var) plain set = tt
   op_named inner scope next all (op.Bin how kind a b) plain set = (all a set.0, (all b set.1.0, tt))
@@ -218,7 +218,7 @@ module _ (given : Given) where
   op_named inner scope next all (op.Read place layout field) plain set = absurd plain
   op_named inner scope next all (op.OwnRead layout field) plain set = tt
 
-  no_places : (scope : InScope) (next : Next) (how : Op) → IsPlain how → AreSet scope.places (op_places (renamed next how))
+  no_places : (scope : InScope) (next : Next) (how : Op) → IsNotRead how → AreSet scope.places (op_places (renamed next how))
   no_places scope next (op.Const word truth) plain = tt
   no_places scope next (op.Var var) plain = tt
   no_places scope next (op.Bin how kind a b) plain = tt
@@ -229,7 +229,7 @@ module _ (given : Given) where
   no_places scope next (op.Read place layout field) plain = absurd plain
   no_places scope next (op.OwnRead layout field) plain = tt
 
-  no_index : (scope : InScope) (next : Next) (how : Op) → IsPlain how → IndexIsSet scope (renamed next how) []
+  no_index : (scope : InScope) (next : Next) (how : Op) → IsNotRead how → IndexIsSet scope (renamed next how) []
   no_index scope next (op.Const word truth) plain = tt
   no_index scope next (op.Var var) plain = tt
   no_index scope next (op.Bin how kind a b) plain = tt
@@ -258,23 +258,23 @@ module _ (given : Given) where
   named_by inner scope wide next further names = named_on inner scope wide next further (λ r is. ap (λ (table : List (ℕ × ℕ)). unwrap_or (lookup (nat_eq r) table) r) names)
 
 module _ (given : Given) where
-  pub simplified_sets : (block : Block) (inner scope : InScope) (known : Pass) (next : Next) → IsScoped inner block → IsFitted given.shapes block → Sets scope known next → AllNamed inner scope next
+  pub simplified_sets : (block : Block) (inner scope : InScope) (known : Pass) (next : Next) → IsScoped inner block → HasAccessLayouts given.shapes block → Sets scope known next → AllNamed inner scope next
       → IsScoped scope (simplified given block known next).0
   simplified_sets End inner scope known next scoped fitted h all = tt
   simplified_sets (Word to how rest) inner scope known next scoped fitted h all =
-      numbered_sets given (is_pure given.single how) (type_of given to) (renamed next how) (λ t now later. simplified given rest now (with_name to t later)) scope known next h
+      numbered_sets given (is_pure given.single how) (given_type given to) (renamed next how) (λ t now later. simplified given rest now (with_name to t later)) scope known next h
       (op_named given inner scope next all how fitted.0 scoped.0) (no_places given scope next how fitted.0) (no_index given scope next how fitted.0)
       (λ t known' further wide wider names holds t_is. simplified_sets rest (and_reg to inner) wide known' (with_name to t further) scoped.3 fitted.1 (sets_named given wide known' further to t holds)
       (named_put given inner wide further to t t_is (named_by given inner scope wide next further names wider all)))
   simplified_sets (Spot to how rest) inner scope known next scoped fitted h all = simplified_sets rest (and_place to inner) scope known next scoped.3 fitted h all
   simplified_sets (Cell to place layout field [] rest) inner scope known next scoped fitted h all = absurd fitted.0
   simplified_sets (Cell to place layout field (r ∷ index) rest) inner scope known next scoped fitted h all =
-      let fresh_index = map (name_of next) (r ∷ index) in
+      let fresh_index = map (made_name next) (r ∷ index) in
       let has : HasLayout given.shapes layout (length (r ∷ index)) = fitted.0 in
       let set = index_named given inner scope next all (r ∷ index) scoped.3 in
-      placed_sets given has.shape layout (name_of next r) (map (name_of next) index)
-      (λ p. taken given (type_of given to) (op.Read p layout field) fresh_index (λ t now later. simplified given rest now (with_name to t later))) scope known next has.there h set
-      (λ p known' further wide wider names holds p_is. taken_sets given (type_of given to) (op.Read p layout field) fresh_index (λ t now later. simplified given rest now (with_name to t later)) wide known' further holds
+      placed_sets given has.shape layout (made_name next r) (map (made_name next) index)
+      (λ p. taken given (given_type given to) (op.Read p layout field) fresh_index (λ t now later. simplified given rest now (with_name to t later))) scope known next has.there h set
+      (λ p known' further wide wider names holds p_is. taken_sets given (given_type given to) (op.Read p layout field) fresh_index (λ t now later. simplified given rest now (with_name to t later)) wide known' further holds
       tt (p_is, tt) (set_wider scope wide wider fresh_index set)
       (λ t known'' further' wide' wider' names' holds' t_is. simplified_sets rest (and_reg to inner) wide' known'' (with_name to t further') scoped.2 fitted.1 (sets_named given wide' known'' further' to t holds')
       (named_put given inner wide' further' to t t_is (named_by given inner scope wide' next further' (names' ∙ names) (wider_on scope wide wide' wider wider') all))))
@@ -282,13 +282,13 @@ module _ (given : Given) where
   simplified_sets (Do (WriteOwn layout field reg stmt) rest) inner scope known next scoped fitted h all = ((all reg scoped.0.0, tt), tt, simplified_sets rest inner scope known next scoped.2 fitted.1 h all)
   simplified_sets (Do (Contribute how layout field place reg [] stmt) rest) inner scope known next scoped fitted h all = absurd fitted.0
   simplified_sets (Do (Contribute how layout field place reg (r ∷ index) stmt) rest) inner scope known next scoped fitted h all =
-      let fresh_index = map (name_of next) (r ∷ index) in
+      let fresh_index = map (made_name next) (r ∷ index) in
       let has : HasLayout given.shapes layout (length (r ∷ index)) = fitted.0 in
       let set = index_named given inner scope next all (r ∷ index) scoped.0.1 in
-      placed_sets given has.shape layout (name_of next r) (map (name_of next) index)
-      (λ p now later. after (Do (Contribute how layout field p (name_of next reg) fresh_index stmt)) (simplified given rest now later)) scope known next has.there h set
+      placed_sets given has.shape layout (made_name next r) (map (made_name next) index)
+      (λ p now later. put_in_front (Do (Contribute how layout field p (made_name next reg) fresh_index stmt)) (simplified given rest now later)) scope known next has.there h set
       (λ p known' further wide wider names holds p_is. (
-        (wider.regs (name_of next reg) (all reg scoped.0.0), set_wider scope wide wider fresh_index set),
+        (wider.regs (made_name next reg) (all reg scoped.0.0), set_wider scope wide wider fresh_index set),
         (p_is, tt),
         simplified_sets rest inner wide known' further scoped.2 fitted.1 holds (named_by given inner scope wide next further names wider all),
       ))

@@ -19,7 +19,7 @@ use Rattle.sg_ir.specs.Shared.{same_op, same_step, is_pure, is_single, shares, i
 use Rattle.sg_ir.specs.Trimmed.{is_within}
 use Rattle.sg_ir.specs.Places.{extents_in}
 use Rattle.sg_ir.proofs.Uses.{op_exact}
-use Rattle.sg_simplify.specs.Pass.{Given, Pass, Next, Making, name_of, with_name, with_reg, with_place, type_of, span_in, span_of, renamed, and_op, and_step, after, set_word, fresh, taken_at, taken, numbered, stepped_at, stepped, check_at, checked, joined, offset, descent_of, descended, placed_in, placed, looped, simplified, given_of, first_pass, first_next, simple}
+use Rattle.sg_simplify.specs.Pass.{Given, Pass, Next, Making, made_name, with_name, next_with_reg, next_with_place, given_type, span_in, span_of, renamed, and_op, and_step, put_in_front, set_word, fresh, taken_at, taken, numbered, stepped_at, stepped, check_at, checks_made, offset_made, offset, descent_of, descended, placed_in, place_made, looped, simplified, given_of, first_pass, first_next, simple}
 use Rattle.sg_simplify.proofs.Sharing.{simplified_shares}
 
 word_sets : (var n : ℕ) (how : Op) (index : List ℕ) (rest : Block) → sets var (set_word n how index rest) ≡ sets var rest
@@ -39,14 +39,14 @@ module _ (given : Given) (var : ℕ) where
   GoesSetting count go = (t : ℕ) (known : Pass) (next : Next) → sets var (go t known next).0 ≡ count
 
   fresh_count : (count : ℕ) (type : Ty) (how : Op) (index : List ℕ) (go : ℕ → Making) → GoesSetting count go → (known : Pass) (next : Next) → sets var (fresh given type how index go known next).0 ≡ count
-  fresh_count count type how index go goes known next = word_sets var (length next.spans) how index _ ∙ goes (length next.spans) known (with_reg type (span_of given known next how) next)
+  fresh_count count type how index go goes known next = word_sets var (length next.spans) how index _ ∙ goes (length next.spans) known (next_with_reg type (span_of given known next how) next)
 
   taken_count : (count : ℕ) (type : Ty) (how : Op) (index : List ℕ) (go : ℕ → Making) → GoesSetting count go → (known : Pass) (next : Next) → sets var (taken given type how index go known next).0 ≡ count
   taken_count count type how index go goes known next = by_found (lookup (same_op how) known.ops)
     where
       by_found : (o : Option ℕ) → sets var (taken_at given type how index go o known next).0 ≡ count
       by_found (Some t) = goes t known next
-      by_found None = word_sets var (length next.spans) how index _ ∙ goes (length next.spans) (and_op how (length next.spans) known) (with_reg type (span_of given known next how) next)
+      by_found None = word_sets var (length next.spans) how index _ ∙ goes (length next.spans) (and_op how (length next.spans) known) (next_with_reg type (span_of given known next how) next)
 
   numbered_count : (count : ℕ) (pure : Bool) (type : Ty) (how : Op) (go : ℕ → Making) → GoesSetting count go → (known : Pass) (next : Next) → sets var (numbered pure given type how go known next).0 ≡ count
   numbered_count count true type how go goes known next = taken_count count type how [] go goes known next
@@ -57,27 +57,27 @@ module _ (given : Given) (var : ℕ) where
     where
       by_found : (o : Option ℕ) → sets var (stepped_at how go o known next).0 ≡ count
       by_found (Some t) = goes t known next
-      by_found None = goes next.places (and_step how next.places known) (with_place next)
+      by_found None = goes next.places (and_step how next.places known) (next_with_place next)
 
-  checked_count : (count : ℕ) (extents : List ℕ) (axis : ℕ) (index : List ℕ) (place : ℕ) (go : ℕ → Making) → GoesSetting count go → (known : Pass) (next : Next) → sets var (checked axis extents index place go known next).0 ≡ count
+  checked_count : (count : ℕ) (extents : List ℕ) (axis : ℕ) (index : List ℕ) (place : ℕ) (go : ℕ → Making) → GoesSetting count go → (known : Pass) (next : Next) → sets var (checks_made axis extents index place go known next).0 ≡ count
   checked_count count [] axis index place go goes known next = goes place known next
   checked_count count (extent ∷ extents) axis [] place go goes known next = goes place known next
   checked_count count (extent ∷ extents) axis (r ∷ index) place go goes known next = by_test (is_within extent (span_in next r)) (λ p. checked_count count extents (suc axis) index p go goes)
     where
-      by_test : (test : Bool) → GoesSetting count (λ p. checked (suc axis) extents index p go) → sets var (check_at test (step.Check place axis extent r) place (λ p. checked (suc axis) extents index p go) known next).0 ≡ count
+      by_test : (test : Bool) → GoesSetting count (λ p. checks_made (suc axis) extents index p go) → sets var (check_at test (step.Check place axis extent r) place (λ p. checks_made (suc axis) extents index p go) known next).0 ≡ count
       by_test true more = more place known next
-      by_test false more = stepped_count count (step.Check place axis extent r) (λ p. checked (suc axis) extents index p go) more known next
+      by_test false more = stepped_count count (step.Check place axis extent r) (λ p. checks_made (suc axis) extents index p go) more known next
 
-  joined_count : (count : ℕ) (node : NodeShape) (later : List NodeShape) (index : List ℕ) (axis high : ℕ) (go : ℕ → Making) → GoesSetting count go → (known : Pass) (next : Next) → sets var (joined given node later axis index high go known next).0 ≡ count
+  joined_count : (count : ℕ) (node : NodeShape) (later : List NodeShape) (index : List ℕ) (axis high : ℕ) (go : ℕ → Making) → GoesSetting count go → (known : Pass) (next : Next) → sets var (offset_made given node later axis index high go known next).0 ≡ count
   joined_count count node later [] axis high go goes known next = goes high known next
   joined_count count node later (r ∷ index) axis high go goes known next =
-      taken_count count ty.U32 (op.Extract (extent_over later axis) (extent_in node.sizes axis) r) [] (λ low. taken given ty.U32 (op.Offset high (extent_in node.sizes axis) low) [] (λ o. joined given node later (suc axis) index o go))
-      (λ low. taken_count count ty.U32 (op.Offset high (extent_in node.sizes axis) low) [] (λ o. joined given node later (suc axis) index o go) (λ o. joined_count count node later index (suc axis) o go goes)) known next
+      taken_count count ty.U32 (op.Extract (extent_over later axis) (extent_in node.sizes axis) r) [] (λ low. taken given ty.U32 (op.Offset high (extent_in node.sizes axis) low) [] (λ o. offset_made given node later (suc axis) index o go))
+      (λ low. taken_count count ty.U32 (op.Offset high (extent_in node.sizes axis) low) [] (λ o. offset_made given node later (suc axis) index o go) (λ o. joined_count count node later index (suc axis) o go goes)) known next
 
   offset_count : (count : ℕ) (node : NodeShape) (later : List NodeShape) (index : List ℕ) (go : ℕ → Making) → GoesSetting count go → (known : Pass) (next : Next) → sets var (offset given node later index go known next).0 ≡ count
   offset_count count node later [] go goes known next = goes 0 known next
   offset_count count node later (r ∷ index) go goes known next =
-      taken_count count ty.U32 (op.Extract (extent_over later 1) (extent_in node.sizes 1) r) [] (λ high. joined given node later 2 index high go) (λ high. joined_count count node later index 2 high go goes) known next
+      taken_count count ty.U32 (op.Extract (extent_over later 1) (extent_in node.sizes 1) r) [] (λ high. offset_made given node later 2 index high go) (λ high. joined_count count node later index 2 high go goes) known next
 
   descended_count : (count : ℕ) (nodes : List NodeShape) (number : ℕ) (index : List ℕ) (place : ℕ) (go : ℕ → Making) → GoesSetting count go → (known : Pass) (next : Next) → sets var (descended given nodes number index place go known next).0 ≡ count
   descended_count count [] number index place go goes known next = goes place known next
@@ -85,27 +85,27 @@ module _ (given : Given) (var : ℕ) where
       offset_count count node later index (λ o. stepped (step.Down (descent_of node.kind) place number o) (λ p. descended given later (suc number) index p go))
       (λ o. stepped_count count (step.Down (descent_of node.kind) place number o) (λ p. descended given later (suc number) index p go) (λ p. descended_count count later (suc number) index p go goes)) known next
 
-  placed_count : (count layout : ℕ) (index : List ℕ) (go : ℕ → Making) → GoesSetting count go → (known : Pass) (next : Next) → sets var (placed given layout index go known next).0 ≡ count
+  placed_count : (count layout : ℕ) (index : List ℕ) (go : ℕ → Making) → GoesSetting count go → (known : Pass) (next : Next) → sets var (place_made given layout index go known next).0 ≡ count
   placed_count count layout index go goes known next = by_found (slice_get given.shapes layout)
     where
       by_found : (found : Option Shape) → sets var (placed_in given found layout index go known next).0 ≡ count
       by_found None = goes 0 known next
       by_found (Some shape) =
-          stepped_count count (step.Root layout) (λ r. checked 0 (extents_in (bounds_of_shape shape)) index r (λ p. descended given shape.nodes 1 index p go))
+          stepped_count count (step.Root layout) (λ r. checks_made 0 (extents_in (bounds_of_shape shape)) index r (λ p. descended given shape.nodes 1 index p go))
           (λ r. checked_count count (extents_in (bounds_of_shape shape)) 0 index r (λ p. descended given shape.nodes 1 index p go) (λ p. descended_count count shape.nodes 1 index p go goes)) known next
 
   pub simplified_count : (block : Block) (known : Pass) (next : Next) → sets var (simplified given block known next).0 ≡ sets var block
   simplified_count End known next = refl
   simplified_count (Word to how rest) known next =
-      numbered_count (sets var rest) (is_pure given.single how) (type_of given to) (renamed next how) (λ t now later. simplified given rest now (with_name to t later)) (λ t now later. simplified_count rest now (with_name to t later)) known next
+      numbered_count (sets var rest) (is_pure given.single how) (given_type given to) (renamed next how) (λ t now later. simplified given rest now (with_name to t later)) (λ t now later. simplified_count rest now (with_name to t later)) known next
   simplified_count (Spot to how rest) known next = simplified_count rest known next
   simplified_count (Cell to place layout field index rest) known next =
-      placed_count (sets var rest) layout (map (name_of next) index) (λ p. taken given (type_of given to) (op.Read p layout field) (map (name_of next) index) (λ t now later. simplified given rest now (with_name to t later)))
-      (λ p. taken_count (sets var rest) (type_of given to) (op.Read p layout field) (map (name_of next) index) (λ t now later. simplified given rest now (with_name to t later)) (λ t now later. simplified_count rest now (with_name to t later))) known next
+      placed_count (sets var rest) layout (map (made_name next) index) (λ p. taken given (given_type given to) (op.Read p layout field) (map (made_name next) index) (λ t now later. simplified given rest now (with_name to t later)))
+      (λ p. taken_count (sets var rest) (given_type given to) (op.Read p layout field) (map (made_name next) index) (λ t now later. simplified given rest now (with_name to t later)) (λ t now later. simplified_count rest now (with_name to t later))) known next
   simplified_count (Do (SetVar set from) rest) known next = ap (λ n. (if set == var then 1 else 0) + n) (simplified_count rest known next)
   simplified_count (Do (WriteOwn layout field from stmt) rest) known next = ap (λ n. 0 + n) (simplified_count rest known next)
   simplified_count (Do (Contribute how layout field place from index stmt) rest) known next =
-      placed_count (0 + sets var rest) layout (map (name_of next) index) (λ p now later. after (Do (Contribute how layout field p (name_of next from) (map (name_of next) index) stmt)) (simplified given rest now later))
+      placed_count (0 + sets var rest) layout (map (made_name next) index) (λ p now later. put_in_front (Do (Contribute how layout field p (made_name next from) (map (made_name next) index) stmt)) (simplified given rest now later))
       (λ p now later. ap (λ n. 0 + n) (simplified_count rest now later)) known next
   simplified_count (Do (Wish layout index stmt) rest) known next = ap (λ n. 0 + n) (simplified_count rest known next)
   simplified_count (Branch cond block otherwise rest) known next =

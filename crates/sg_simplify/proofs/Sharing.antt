@@ -16,7 +16,7 @@ use Rattle.sg_ir.specs.Blocks.{Block, End, Word, Spot, Cell, Do, Branch, Loop, S
 use Rattle.sg_ir.specs.Shared.{same_op, same_step, is_pure, shares}
 use Rattle.sg_ir.specs.Trimmed.{is_within}
 use Rattle.sg_ir.specs.Places.{extents_in}
-use Rattle.sg_simplify.specs.Pass.{Given, Pass, Next, Making, name_of, with_name, with_reg, with_place, type_of, span_in, span_of, renamed, and_op, and_step, after, set_word, fresh, taken_at, taken, numbered, stepped_at, stepped, check_at, checked, joined, offset, descent_of, descended, placed_in, placed, looped, simplified}
+use Rattle.sg_simplify.specs.Pass.{Given, Pass, Next, Making, made_name, with_name, next_with_reg, next_with_place, given_type, span_in, span_of, renamed, and_op, and_step, put_in_front, set_word, fresh, taken_at, taken, numbered, stepped_at, stepped, check_at, checks_made, offset_made, offset, descent_of, descended, placed_in, place_made, looped, simplified}
 use Rattle.sg_simplify.specs.steps.Shares.{Knows, GoesShared}
 
 both_true : (a b : Bool) → a ≡ true → b ≡ true → (a && b) ≡ true
@@ -112,7 +112,7 @@ module _ (same_exact : (a b : Op) → same_op a b ≡ true → a ≡ b) (given :
       let n = length next.spans in
       set_shares single ops steps n how index _
       ∙ both_true _ _ (ap (λ (b : Bool). not (b && list_any (same_op how) ops)) impure)
-      (goes n known (with_reg type (span_of given known next how) next) (how ∷ ops) steps (knows_impure ops steps known how impure h))
+      (goes n known (next_with_reg type (span_of given known next how) next) (how ∷ ops) steps (knows_impure ops steps known how impure h))
 
   taken_shares : (type : Ty) (how : Op) (index : List ℕ) (go : ℕ → Making) → is_pure single how ≡ true → GoesShared single go → (known : Pass) (next : Next) (ops : List Op) (steps : List Step) → Knows single ops steps known
       → shares single ops steps (taken given type how index go known next).0 ≡ true
@@ -124,7 +124,7 @@ module _ (same_exact : (a b : Op) → same_op a b ≡ true → a ≡ b) (given :
           let n = length next.spans in
           set_shares single ops steps n how index _
           ∙ both_true _ _ (ap (λ (b : Bool). not (b && list_any (same_op how) ops)) pure ∙ none_of_them (list_any (same_op how) ops) (lookup (same_op how) known.ops) e (h.ops how pure))
-          (goes n (and_op how n known) (with_reg type (span_of given known next how) next) (how ∷ ops) steps (knows_op ops steps known how n h))
+          (goes n (and_op how n known) (next_with_reg type (span_of given known next how) next) (how ∷ ops) steps (knows_op ops steps known how n h))
 
   numbered_shares : (pure : Bool) (type : Ty) (how : Op) (go : ℕ → Making) → is_pure single how ≡ pure → GoesShared single go → (known : Pass) (next : Next) (ops : List Op) (steps : List Step) → Knows single ops steps known
       → shares single ops steps (numbered pure given type how go known next).0 ≡ true
@@ -138,31 +138,31 @@ module _ (same_exact : (a b : Op) → same_op a b ≡ true → a ≡ b) (given :
       by_found : (o : Option ℕ) → lookup (same_step how) known.steps ≡ o → shares single ops steps (stepped_at how go o known next).0 ≡ true
       by_found (Some t) e = goes t known next ops steps h
       by_found None e = both_true _ _ (none_of_them (list_any (same_step how) steps) (lookup (same_step how) known.steps) e (h.steps how))
-          (goes next.places (and_step how next.places known) (with_place next) ops (how ∷ steps) (knows_step ops steps known how next.places h))
+          (goes next.places (and_step how next.places known) (next_with_place next) ops (how ∷ steps) (knows_step ops steps known how next.places h))
 
   checked_shares : (extents : List ℕ) (axis : ℕ) (index : List ℕ) (place : ℕ) (go : ℕ → Making) → GoesShared single go → (known : Pass) (next : Next) (ops : List Op) (steps : List Step) → Knows single ops steps known
-      → shares single ops steps (checked axis extents index place go known next).0 ≡ true
+      → shares single ops steps (checks_made axis extents index place go known next).0 ≡ true
   checked_shares [] axis index place go goes known next ops steps h = goes place known next ops steps h
   checked_shares (extent ∷ extents) axis [] place go goes known next ops steps h = goes place known next ops steps h
   checked_shares (extent ∷ extents) axis (r ∷ index) place go goes known next ops steps h = by_test (is_within extent (span_in next r)) (λ p. checked_shares extents (suc axis) index p go goes)
     where
-      by_test : (test : Bool) → GoesShared single (λ p. checked (suc axis) extents index p go)
-          → shares single ops steps (check_at test (step.Check place axis extent r) place (λ p. checked (suc axis) extents index p go) known next).0 ≡ true
+      by_test : (test : Bool) → GoesShared single (λ p. checks_made (suc axis) extents index p go)
+          → shares single ops steps (check_at test (step.Check place axis extent r) place (λ p. checks_made (suc axis) extents index p go) known next).0 ≡ true
       by_test true more = more place known next ops steps h
-      by_test false more = stepped_shares (step.Check place axis extent r) (λ p. checked (suc axis) extents index p go) more known next ops steps h
+      by_test false more = stepped_shares (step.Check place axis extent r) (λ p. checks_made (suc axis) extents index p go) more known next ops steps h
 
   joined_shares : (node : NodeShape) (later : List NodeShape) (index : List ℕ) (axis high : ℕ) (go : ℕ → Making) → GoesShared single go → (known : Pass) (next : Next) (ops : List Op) (steps : List Step) → Knows single ops steps known
-      → shares single ops steps (joined given node later axis index high go known next).0 ≡ true
+      → shares single ops steps (offset_made given node later axis index high go known next).0 ≡ true
   joined_shares node later [] axis high go goes known next ops steps h = goes high known next ops steps h
   joined_shares node later (r ∷ index) axis high go goes known next ops steps h =
-      taken_shares ty.U32 (op.Extract (extent_over later axis) (extent_in node.sizes axis) r) [] (λ low. taken given ty.U32 (op.Offset high (extent_in node.sizes axis) low) [] (λ o. joined given node later (suc axis) index o go)) refl
-      (λ low. taken_shares ty.U32 (op.Offset high (extent_in node.sizes axis) low) [] (λ o. joined given node later (suc axis) index o go) refl (λ o. joined_shares node later index (suc axis) o go goes)) known next ops steps h
+      taken_shares ty.U32 (op.Extract (extent_over later axis) (extent_in node.sizes axis) r) [] (λ low. taken given ty.U32 (op.Offset high (extent_in node.sizes axis) low) [] (λ o. offset_made given node later (suc axis) index o go)) refl
+      (λ low. taken_shares ty.U32 (op.Offset high (extent_in node.sizes axis) low) [] (λ o. offset_made given node later (suc axis) index o go) refl (λ o. joined_shares node later index (suc axis) o go goes)) known next ops steps h
 
   offset_shares : (node : NodeShape) (later : List NodeShape) (index : List ℕ) (go : ℕ → Making) → GoesShared single go → (known : Pass) (next : Next) (ops : List Op) (steps : List Step) → Knows single ops steps known
       → shares single ops steps (offset given node later index go known next).0 ≡ true
   offset_shares node later [] go goes known next ops steps h = goes 0 known next ops steps h
   offset_shares node later (r ∷ index) go goes known next ops steps h =
-      taken_shares ty.U32 (op.Extract (extent_over later 1) (extent_in node.sizes 1) r) [] (λ high. joined given node later 2 index high go) refl (λ high. joined_shares node later index 2 high go goes) known next ops steps h
+      taken_shares ty.U32 (op.Extract (extent_over later 1) (extent_in node.sizes 1) r) [] (λ high. offset_made given node later 2 index high go) refl (λ high. joined_shares node later index 2 high go goes) known next ops steps h
 
   descended_shares : (nodes : List NodeShape) (number : ℕ) (index : List ℕ) (place : ℕ) (go : ℕ → Making) → GoesShared single go → (known : Pass) (next : Next) (ops : List Op) (steps : List Step) → Knows single ops steps known
       → shares single ops steps (descended given nodes number index place go known next).0 ≡ true
@@ -172,29 +172,29 @@ module _ (same_exact : (a b : Op) → same_op a b ≡ true → a ≡ b) (given :
       (λ o. stepped_shares (step.Down (descent_of node.kind) place number o) (λ p. descended given later (suc number) index p go) (λ p. descended_shares later (suc number) index p go goes)) known next ops steps h
 
   placed_shares : (layout : ℕ) (index : List ℕ) (go : ℕ → Making) → GoesShared single go → (known : Pass) (next : Next) (ops : List Op) (steps : List Step) → Knows single ops steps known
-      → shares single ops steps (placed given layout index go known next).0 ≡ true
+      → shares single ops steps (place_made given layout index go known next).0 ≡ true
   placed_shares layout index go goes known next ops steps h = by_found (slice_get given.shapes layout)
     where
       by_found : (found : Option Shape) → shares single ops steps (placed_in given found layout index go known next).0 ≡ true
       by_found None = goes 0 known next ops steps h
       by_found (Some shape) =
-          stepped_shares (step.Root layout) (λ r. checked 0 (extents_in (bounds_of_shape shape)) index r (λ p. descended given shape.nodes 1 index p go))
+          stepped_shares (step.Root layout) (λ r. checks_made 0 (extents_in (bounds_of_shape shape)) index r (λ p. descended given shape.nodes 1 index p go))
           (λ r. checked_shares (extents_in (bounds_of_shape shape)) 0 index r (λ p. descended given shape.nodes 1 index p go) (λ p. descended_shares shape.nodes 1 index p go goes)) known next ops steps h
 
   pub simplified_shares : (block : Block) (known : Pass) (next : Next) (ops : List Op) (steps : List Step) → Knows single ops steps known → shares single ops steps (simplified given block known next).0 ≡ true
   simplified_shares End known next ops steps h = refl
   simplified_shares (Word to how rest) known next ops steps h =
-      numbered_shares (is_pure single how) (type_of given to) (renamed next how) (λ t now later. simplified given rest now (with_name to t later)) (pure_renamed single next how)
+      numbered_shares (is_pure single how) (given_type given to) (renamed next how) (λ t now later. simplified given rest now (with_name to t later)) (pure_renamed single next how)
       (λ t now later ops' steps' k. simplified_shares rest now (with_name to t later) ops' steps' k) known next ops steps h
   simplified_shares (Spot to how rest) known next ops steps h = simplified_shares rest known next ops steps h
   simplified_shares (Cell to place layout field index rest) known next ops steps h =
-      placed_shares layout (map (name_of next) index) (λ p. taken given (type_of given to) (op.Read p layout field) (map (name_of next) index) (λ t now later. simplified given rest now (with_name to t later)))
-      (λ p. taken_shares (type_of given to) (op.Read p layout field) (map (name_of next) index) (λ t now later. simplified given rest now (with_name to t later)) refl
+      placed_shares layout (map (made_name next) index) (λ p. taken given (given_type given to) (op.Read p layout field) (map (made_name next) index) (λ t now later. simplified given rest now (with_name to t later)))
+      (λ p. taken_shares (given_type given to) (op.Read p layout field) (map (made_name next) index) (λ t now later. simplified given rest now (with_name to t later)) refl
       (λ t now later ops' steps' k. simplified_shares rest now (with_name to t later) ops' steps' k)) known next ops steps h
   simplified_shares (Do (SetVar var from) rest) known next ops steps h = simplified_shares rest known next ops steps h
   simplified_shares (Do (WriteOwn layout field from stmt) rest) known next ops steps h = simplified_shares rest known next ops steps h
   simplified_shares (Do (Contribute how layout field place from index stmt) rest) known next ops steps h =
-      placed_shares layout (map (name_of next) index) (λ p now later. after (Do (Contribute how layout field p (name_of next from) (map (name_of next) index) stmt)) (simplified given rest now later))
+      placed_shares layout (map (made_name next) index) (λ p now later. put_in_front (Do (Contribute how layout field p (made_name next from) (map (made_name next) index) stmt)) (simplified given rest now later))
       (λ p now later ops' steps' k. simplified_shares rest now later ops' steps' k) known next ops steps h
   simplified_shares (Do (Wish layout index stmt) rest) known next ops steps h = simplified_shares rest known next ops steps h
   simplified_shares (Branch cond block otherwise rest) known next ops steps h =

@@ -13,15 +13,15 @@ use Rattle.sg_ir.specs.Runs.{Seen, put, coord_of, cell_value, at_of}
 use Rattle.sg_ir.specs.Places.{place_at}
 use Rattle.sg_ir.specs.Blocks.{Block, End, Word, Spot, Cell, Do, Branch, Loop, Act, SetVar, WriteOwn, Contribute, Wish}
 use Rattle.sg_ir.specs.declared.span.Span.{Span}
-use Rattle.sg_ir.specs.Span.{whole, Spans, var_span, with_span, in_loop, op_span, sets}
+use Rattle.sg_ir.specs.Span.{whole_i32, Spans, var_span, with_span, in_loop, op_span, sets}
 use Rattle.sg_ir.specs.Shared.{is_pure}
-use Rattle.sg_ir.specs.SpanLaws.{Lies, HasWord, WhereTest, EachTurn, IsSpanned, Fits}
-use Rattle.sg_ir.specs.steps.Scoped.{Moment, Room, room_reg, room_place, op_word, step_place, acted, at_turn, run}
+use Rattle.sg_ir.specs.SpanLaws.{Lies, HasConstantWord, WhereTest, EachTurn, IsSpanned, FitsSpans}
+use Rattle.sg_ir.specs.steps.Scoped.{RunMoment, Room, room_reg, room_place, op_word, step_place, moment_after_act, at_turn, run}
 use Rattle.sg_ir.specs.steps.InScope.{InScope, and_reg, and_place, op_regs, AreSet}
 use Rattle.sg_ir.proofs.Uses.{entered, left, counted}
-use Rattle.sg_simplify.specs.Pass.{Given, Pass, Next, Making, name_of, with_name, type_of, span_in, vars_of, renamed, after, taken, numbered, looped, simplified}
-use Rattle.sg_simplify.specs.steps.Serves.{Laws, NamesAll, OpStays, Holds, Later, Alike, Good, Serves}
-use Rattle.sg_simplify.specs.steps.Ruled.{IsPlain, HasLayout, IsRuled, AllRenamed}
+use Rattle.sg_simplify.specs.Pass.{Given, Pass, Next, Making, made_name, with_name, given_type, span_in, vars_of, renamed, put_in_front, taken, numbered, looped, simplified}
+use Rattle.sg_simplify.specs.steps.Serves.{Laws, NamesAll, OpStays, HoldsInRoom, Later, Alike, Good, Serves}
+use Rattle.sg_simplify.specs.steps.Ruled.{IsNotRead, HasLayout, IsRuled, AllRenamed}
 use Rattle.sg_simplify.proofs.Serving.{later_on, alike_on, holds_later, fresh_law, taken_law}
 use Rattle.sg_simplify.proofs.Placing.{index_below, words_kept, placed_law}
 use Rattle.sg_simplify.proofs.Growing.{grown_on, simplified_grows}
@@ -29,15 +29,15 @@ use Rattle.sg_simplify.proofs.Renaming.{renamed_later, grown_later, renamed_grow
 use Rattle.sg_simplify.proofs.Moving.{flag, put_other, first_none, last_none, none_of, none_of_three, run_leaves, ops_moved, holds_moved}
 
 module _ (seen : Seen) where
-  put_words : (to word : ℕ) (room : Room) → ((r : ℕ) → Lies whole (room.regs r)) → Lies whole word → (r : ℕ) → Lies whole ((room_reg to word room).regs r)
+  put_words : (to word : ℕ) (room : Room) → ((r : ℕ) → Lies whole_i32 (room.regs r)) → Lies whole_i32 word → (r : ℕ) → Lies whole_i32 ((room_reg to word room).regs r)
   put_words to word room all one r = by_test (r == to)
     where
-      by_test : (test : Bool) → Lies whole (if test then word else room.regs r)
+      by_test : (test : Bool) → Lies whole_i32 (if test then word else room.regs r)
       by_test true = one
       by_test false = all r
 
   -- ---- both ways of a branch
-  both_ways : (test : Bool) (block otherwise : Block) (first second : Block × Next) (from to : Room) (now : Moment)
+  both_ways : (test : Bool) (block otherwise : Block) (first second : Block × Next) (from to : Room) (now : RunMoment)
       → WhereTest test (NamesAll seen otherwise from now) (NamesAll seen block from now)
       → (NamesAll seen block from now → Good seen first to now (run seen block from now)) → (NamesAll seen otherwise from now → Good seen second to now (run seen otherwise from now))
       → ((if test then run seen second.0 to now else run seen first.0 to now) ≡ (if test then run seen otherwise from now else run seen block from now))
@@ -48,15 +48,15 @@ module _ (seen : Seen) where
   module _ (laws : Laws seen) (given : Given) (same : given.shapes ≡ seen.shapes) where
     -- what is claimed of a block
     abbrev pub Simplifies : Block → Type 0
-    Simplifies block = (scope : InScope) (known : Pass) (next : Next) (from to : Room) (now : Moment) → IsRuled seen.shapes given.single (vars_of given known) scope block
-        → Holds seen given block known next to now → AllRenamed scope next from to → ((r : ℕ) → Lies whole (from.regs r)) → NamesAll seen block from now
+    Simplifies block = (scope : InScope) (known : Pass) (next : Next) (from to : Room) (now : RunMoment) → IsRuled seen.shapes given.single (vars_of given known) scope block
+        → HoldsInRoom seen given block known next to now → AllRenamed scope next from to → ((r : ℕ) → Lies whole_i32 (from.regs r)) → NamesAll seen block from now
         → Good seen (simplified given block known next) to now (run seen block from now)
 
     -- a register of the given code, and what follows
-    behind : (rest : Block) → Simplifies rest → (scope : InScope) (to word : ℕ) (vars : Spans) (pass known : Pass) (next further : Next) (from room beyond : Room) (now : Moment) (t : ℕ)
-        → IsRuled seen.shapes given.single vars (and_reg to scope) rest → ((v : ℕ) → var_span vars v ≡ var_span (vars_of given pass) v) → AllRenamed scope next from room → ((r : ℕ) → Lies whole (from.regs r))
+    behind : (rest : Block) → Simplifies rest → (scope : InScope) (to word : ℕ) (vars : Spans) (pass known : Pass) (next further : Next) (from room beyond : Room) (now : RunMoment) (t : ℕ)
+        → IsRuled seen.shapes given.single vars (and_reg to scope) rest → ((v : ℕ) → var_span vars v ≡ var_span (vars_of given pass) v) → AllRenamed scope next from room → ((r : ℕ) → Lies whole_i32 (from.regs r))
         → NamesAll seen rest (room_reg to word from) now
-        → Later next room further beyond → Alike pass next known further → Holds seen given rest known further beyond now → t < length further.spans → beyond.regs t ≡ word → Lies (span_in further t) word
+        → Later next room further beyond → Alike pass next known further → HoldsInRoom seen given rest known further beyond now → t < length further.spans → beyond.regs t ≡ word → Lies (span_in further t) word
         → Good seen (simplified given rest known (with_name to t further)) beyond now (run seen rest (room_reg to word from) now)
     behind rest simplifies scope to word vars pass known next further from room beyond now t ruled spans all words names later alike holding below is lies =
         simplifies (and_reg to scope) known (with_name to t further) (room_reg to word from) beyond now
@@ -70,8 +70,8 @@ module _ (seen : Seen) where
         (renamed_put scope further from beyond to t word (renamed_later scope next from room further beyond later alike.names all) below is lies)
         (put_words to word from words (laws.wide (span_in further t) word lies)) names
 
-    numbered_law : (pure : Bool) (rest : Block) (type : Ty) (how : Op) (go : ℕ → Making) (scope : InScope) (known : Pass) (next : Next) (from to : Room) (now result : Moment) → is_pure given.single how ≡ pure
-        → Holds seen given rest known next to now → HasWord how → IsPlain how → AreSet scope.regs (op_regs how) → AllRenamed scope next from to → (is_pure given.single how ≡ true → OpStays rest (renamed next how))
+    numbered_law : (pure : Bool) (rest : Block) (type : Ty) (how : Op) (go : ℕ → Making) (scope : InScope) (known : Pass) (next : Next) (from to : Room) (now result : RunMoment) → is_pure given.single how ≡ pure
+        → HoldsInRoom seen given rest known next to now → HasConstantWord how → IsNotRead how → AreSet scope.regs (op_regs how) → AllRenamed scope next from to → (is_pure given.single how ≡ true → OpStays rest (renamed next how))
         → Serves seen given rest known next to now result (op_word seen to now (renamed next how)) go → Good seen (numbered pure given type (renamed next how) go known next) to now result
     numbered_law true rest type how go scope known next from to now result e holds has plain set all stays serves =
         taken_law seen laws given rest type (renamed next how) [] go known next to now result holds (has_renamed next how has)
@@ -85,7 +85,7 @@ module _ (seen : Seen) where
         let plain = ruled.fitted.0 in
         let set = ruled.scoped.0 in
         let is = op_renamed seen scope next from room all now how plain set in
-        numbered_law (is_pure given.single how) rest (type_of given to) how (λ t now later. simplified given rest now (with_name to t later)) scope known next from room now
+        numbered_law (is_pure given.single how) rest (given_type given to) how (λ t now later. simplified given rest now (with_name to t later)) scope known next from room now
         (run seen rest (room_reg to (op_word seen from now how) from) now) refl
         (holds_moved seen given (Word to how rest) rest known next room now now (λ var e. (e, refl)) holds.fits holds)
         ruled.spanned.0 plain set all (λ pure. stays_renamed given.single rest next how pure plain ruled.settled.0)
@@ -106,76 +106,76 @@ module _ (seen : Seen) where
     cell_simplifies : (to place layout field r : ℕ) (index : List ℕ) (rest : Block) → Simplifies rest → Simplifies (Cell to place layout field (r ∷ index) rest)
     cell_simplifies to place layout field r index rest simplifies scope known next from room now ruled holds all words names =
         let set = ruled.scoped.3 in
-        let fresh_index = map (name_of next) (r ∷ index) in
+        let fresh_index = map (made_name next) (r ∷ index) in
         let has : HasLayout seen.shapes layout (length (r ∷ index)) = ruled.fitted.0 in
         let same_words : map room.regs fresh_index ≡ map from.regs (r ∷ index) = words_renamed seen scope next from room all (r ∷ index) set in
         let is_index = index_renamed seen scope next from room all (r ∷ index) set in
         let word = op_word seen from now (op.Read place layout field) in
         let holding = holds_moved seen given (Cell to place layout field (r ∷ index) rest) rest known next room now now (λ var e. (e, refl)) holds.fits holds in
         let result = run seen rest (room_reg to word from) now in
-        placed_law seen laws given rest now result has.shape layout (name_of next r) (map (name_of next) index)
-        (λ p. taken given (type_of given to) (op.Read p layout field) fresh_index (λ t known' later. simplified given rest known' (with_name to t later)))
+        placed_law seen laws given rest now result has.shape layout (made_name next r) (map (made_name next) index)
+        (λ p. taken given (given_type given to) (op.Read p layout field) fresh_index (λ t known' later. simplified given rest known' (with_name to t later)))
         known next room same has.there (has.leads (map room.regs fresh_index) (lengths (r ∷ index)) (are_words seen scope next from room all (r ∷ index) set)) holding is_index
         (λ p known' further beyond later alike holding' below is.
         let at : beyond.places p ≡ place_at seen.shapes layout (coord_of (map beyond.regs fresh_index)) =
         is ∙ ap (λ ws. place_at seen.shapes layout (coord_of ws)) (sym (words_kept next room further beyond later fresh_index (index_below next room fresh_index is_index))) in
         let same_place : beyond.places p ≡ from.places place = is ∙ (ap (λ ws. place_at seen.shapes layout (coord_of ws)) same_words ∙ sym names.0) in
         let same_word : op_word seen beyond now (op.Read p layout field) ≡ word = ap (λ there. cell_value seen layout field (at_of seen.shapes there)) same_place in
-        taken_law seen laws given rest (type_of given to) (op.Read p layout field) fresh_index (λ t known'' later'. simplified given rest known'' (with_name to t later')) known' further beyond now result
+        taken_law seen laws given rest (given_type given to) (op.Read p layout field) fresh_index (λ t known'' later'. simplified given rest known'' (with_name to t later')) known' further beyond now result
         holding' tt below tt tt at
         (λ t known'' further' beyond' later' alike' holding'' t_below t_is t_lies.
-        behind rest simplifies scope to word (with_span to whole (vars_of given known)) known known'' next further' from room beyond' now t
+        behind rest simplifies scope to word (with_span to whole_i32 (vars_of given known)) known known'' next further' from room beyond' now t
         (record { scoped = ruled.scoped.2; settled = ruled.settled; spanned = ruled.spanned; fitted = ruled.fitted.1 }) (λ v. refl) all words names.1
         (later_on next room further beyond further' beyond' later later') (alike_on known next known' further known'' further' alike alike') holding'' t_below (t_is ∙ same_word)
         (subst (λ w. Lies (span_in further' t) w) same_word t_lies)))
       where
-        lengths : (rs : List ℕ) → length (map room.regs (map (name_of next) rs)) ≡ length rs
+        lengths : (rs : List ℕ) → length (map room.regs (map (made_name next) rs)) ≡ length rs
         lengths [] = refl
         lengths (k ∷ rs) = ap suc (lengths rs)
 
     -- acts that stay as they are but for the names of registers
-    act_good : (what new : Act) (rest : Block) (known : Pass) (next : Next) (from room : Room) (now : Moment)
-        → acted seen room new now ≡ acted seen from what now
-        → Good seen (simplified given rest known next) room (acted seen from what now) (run seen rest from (acted seen from what now))
-        → Good seen (simplified given rest known next) room (acted seen room new now) (run seen rest from (acted seen from what now))
-    act_good what new rest known next from room now is good = subst (λ m. Good seen (simplified given rest known next) room m (run seen rest from (acted seen from what now))) (sym is) good
+    act_good : (what new : Act) (rest : Block) (known : Pass) (next : Next) (from room : Room) (now : RunMoment)
+        → moment_after_act seen room new now ≡ moment_after_act seen from what now
+        → Good seen (simplified given rest known next) room (moment_after_act seen from what now) (run seen rest from (moment_after_act seen from what now))
+        → Good seen (simplified given rest known next) room (moment_after_act seen room new now) (run seen rest from (moment_after_act seen from what now))
+    act_good what new rest known next from room now is good = subst (λ m. Good seen (simplified given rest known next) room m (run seen rest from (moment_after_act seen from what now))) (sym is) good
 
     set_simplifies : (var from_reg : ℕ) (rest : Block) → Simplifies rest → Simplifies (Do (SetVar var from_reg) rest)
     set_simplifies var from_reg rest simplifies scope known next from room now ruled holds all words names =
-        let is : acted seen room (SetVar var (name_of next from_reg)) now ≡ acted seen from (SetVar var from_reg) now =
+        let is : moment_after_act seen room (SetVar var (made_name next from_reg)) now ≡ moment_after_act seen from (SetVar var from_reg) now =
         ap (λ word. record { vars = put var word now.vars; writes = now.writes; wants = now.wants }) (all from_reg ruled.scoped.0.0).word in
         let fits = laws.runs_fit (Do (SetVar var from_reg) End) (vars_of given known) from now (ruled.spanned.0, tt) words holds.fits in
-        let good = act_good (SetVar var from_reg) (SetVar var (name_of next from_reg)) rest known next from room now is
-        (simplifies scope known next from room (acted seen from (SetVar var from_reg) now)
+        let good = act_good (SetVar var from_reg) (SetVar var (made_name next from_reg)) rest known next from room now is
+        (simplifies scope known next from room (moment_after_act seen from (SetVar var from_reg) now)
         (record { scoped = ruled.scoped.2; settled = ruled.settled; spanned = ruled.spanned.1; fitted = ruled.fitted.1 })
-        (holds_moved seen given (Do (SetVar var from_reg) rest) rest known next room now (acted seen from (SetVar var from_reg) now)
+        (holds_moved seen given (Do (SetVar var from_reg) rest) rest known next room now (moment_after_act seen from (SetVar var from_reg) now)
         (λ x h. (last_none (flag (var == x)) (sets x rest) h, put_other var x (from.regs from_reg) now.vars (first_none (flag (var == x)) (sets x rest) h))) fits holds)
         all words names.1) in
         record { runs = good.runs; names = (tt, good.names) }
 
     write_simplifies : (layout field from_reg stmt : ℕ) (rest : Block) → Simplifies rest → Simplifies (Do (WriteOwn layout field from_reg stmt) rest)
     write_simplifies layout field from_reg stmt rest simplifies scope known next from room now ruled holds all words names =
-        let is : acted seen room (WriteOwn layout field (name_of next from_reg) stmt) now ≡ acted seen from (WriteOwn layout field from_reg stmt) now =
+        let is : moment_after_act seen room (WriteOwn layout field (made_name next from_reg) stmt) now ≡ moment_after_act seen from (WriteOwn layout field from_reg stmt) now =
         ap (λ word. record { vars = now.vars; writes = now.writes ++ record { layout = layout; field = field; stmt = stmt; at = Some seen.at; way = Own; value = word } ∷ []; wants = now.wants })
         (all from_reg ruled.scoped.0.0).word in
         let fits = laws.runs_fit (Do (WriteOwn layout field from_reg stmt) End) (vars_of given known) from now (tt, tt) words holds.fits in
-        let good = act_good (WriteOwn layout field from_reg stmt) (WriteOwn layout field (name_of next from_reg) stmt) rest known next from room now is
-        (simplifies scope known next from room (acted seen from (WriteOwn layout field from_reg stmt) now)
+        let good = act_good (WriteOwn layout field from_reg stmt) (WriteOwn layout field (made_name next from_reg) stmt) rest known next from room now is
+        (simplifies scope known next from room (moment_after_act seen from (WriteOwn layout field from_reg stmt) now)
         (record { scoped = ruled.scoped.2; settled = ruled.settled; spanned = ruled.spanned.1; fitted = ruled.fitted.1 })
-        (holds_moved seen given (Do (WriteOwn layout field from_reg stmt) rest) rest known next room now (acted seen from (WriteOwn layout field from_reg stmt) now) (λ x h. (last_none 0 (sets x rest) h, refl)) fits holds)
+        (holds_moved seen given (Do (WriteOwn layout field from_reg stmt) rest) rest known next room now (moment_after_act seen from (WriteOwn layout field from_reg stmt) now) (λ x h. (last_none 0 (sets x rest) h, refl)) fits holds)
         all words names.1) in
         record { runs = good.runs; names = (tt, good.names) }
 
     wish_simplifies : (layout : ℕ) (index : List ℕ) (stmt : ℕ) (rest : Block) → Simplifies rest → Simplifies (Do (Wish layout index stmt) rest)
     wish_simplifies layout index stmt rest simplifies scope known next from room now ruled holds all words names =
-        let is : acted seen room (Wish layout (map (name_of next) index) stmt) now ≡ acted seen from (Wish layout index stmt) now =
+        let is : moment_after_act seen room (Wish layout (map (made_name next) index) stmt) now ≡ moment_after_act seen from (Wish layout index stmt) now =
         ap (λ ws. record { vars = now.vars; writes = now.writes; wants = now.wants ++ record { layout = layout; stmt = stmt; at = coord_of ws } ∷ [] })
         (words_renamed seen scope next from room all index ruled.scoped.0) in
         let fits = laws.runs_fit (Do (Wish layout index stmt) End) (vars_of given known) from now (tt, tt) words holds.fits in
-        let good = act_good (Wish layout index stmt) (Wish layout (map (name_of next) index) stmt) rest known next from room now is
-        (simplifies scope known next from room (acted seen from (Wish layout index stmt) now)
+        let good = act_good (Wish layout index stmt) (Wish layout (map (made_name next) index) stmt) rest known next from room now is
+        (simplifies scope known next from room (moment_after_act seen from (Wish layout index stmt) now)
         (record { scoped = ruled.scoped.2; settled = ruled.settled; spanned = ruled.spanned.1; fitted = ruled.fitted.1 })
-        (holds_moved seen given (Do (Wish layout index stmt) rest) rest known next room now (acted seen from (Wish layout index stmt) now) (λ x h. (last_none 0 (sets x rest) h, refl)) fits holds)
+        (holds_moved seen given (Do (Wish layout index stmt) rest) rest known next room now (moment_after_act seen from (Wish layout index stmt) now) (λ x h. (last_none 0 (sets x rest) h, refl)) fits holds)
         all words names.1) in
         record { runs = good.runs; names = (tt, good.names) }
 
@@ -183,40 +183,40 @@ module _ (seen : Seen) where
     join_simplifies : (how : _) (layout field place from_reg r : ℕ) (index : List ℕ) (stmt : ℕ) (rest : Block) → Simplifies rest → Simplifies (Do (Contribute how layout field place from_reg (r ∷ index) stmt) rest)
     join_simplifies how layout field place from_reg r index stmt rest simplifies scope known next from room now ruled holds all words names =
         let set : AreSet scope.regs (r ∷ index) = ruled.scoped.0.1 in
-        let fresh_index = map (name_of next) (r ∷ index) in
+        let fresh_index = map (made_name next) (r ∷ index) in
         let what = Contribute how layout field place from_reg (r ∷ index) stmt in
         let has : HasLayout seen.shapes layout (length (r ∷ index)) = ruled.fitted.0 in
         let same_words : map room.regs fresh_index ≡ map from.regs (r ∷ index) = words_renamed seen scope next from room all (r ∷ index) set in
         let is_index = index_renamed seen scope next from room all (r ∷ index) set in
         let from_is = all from_reg ruled.scoped.0.0 in
         let holding = holds_moved seen given (Do what rest) rest known next room now now (λ var h. (last_none 0 (sets var rest) h, refl)) holds.fits holds in
-        let result = run seen rest from (acted seen from what now) in
+        let result = run seen rest from (moment_after_act seen from what now) in
         let fits = laws.runs_fit (Do what End) (vars_of given known) from now (tt, tt) words holds.fits in
-        placed_law seen laws given rest now result has.shape layout (name_of next r) (map (name_of next) index)
-        (λ p known' later. after (Do (Contribute how layout field p (name_of next from_reg) fresh_index stmt)) (simplified given rest known' later))
+        placed_law seen laws given rest now result has.shape layout (made_name next r) (map (made_name next) index)
+        (λ p known' later. put_in_front (Do (Contribute how layout field p (made_name next from_reg) fresh_index stmt)) (simplified given rest known' later))
         known next room same has.there (has.leads (map room.regs fresh_index) (lengths (r ∷ index)) (are_words seen scope next from room all (r ∷ index) set)) holding is_index
         (λ p known' further beyond later alike holding' below is.
         let at : beyond.places p ≡ place_at seen.shapes layout (coord_of (map beyond.regs fresh_index)) =
         is ∙ ap (λ ws. place_at seen.shapes layout (coord_of ws)) (sym (words_kept next room further beyond later fresh_index (index_below next room fresh_index is_index))) in
         let same_place : beyond.places p ≡ from.places place = is ∙ (ap (λ ws. place_at seen.shapes layout (coord_of ws)) same_words ∙ sym names.0) in
-        let same_value : beyond.regs (name_of next from_reg) ≡ from.regs from_reg = later.kept (name_of next from_reg) from_is.named ∙ from_is.word in
-        let moved : acted seen beyond (Contribute how layout field p (name_of next from_reg) fresh_index stmt) now ≡ acted seen from what now =
-        ap (λ there. record { vars = now.vars; writes = now.writes ++ record { layout = layout; field = field; stmt = stmt; at = at_of seen.shapes there; way = Acc how; value = beyond.regs (name_of next from_reg) } ∷ []; wants = now.wants }) same_place
+        let same_value : beyond.regs (made_name next from_reg) ≡ from.regs from_reg = later.kept (made_name next from_reg) from_is.named ∙ from_is.word in
+        let moved : moment_after_act seen beyond (Contribute how layout field p (made_name next from_reg) fresh_index stmt) now ≡ moment_after_act seen from what now =
+        ap (λ there. record { vars = now.vars; writes = now.writes ++ record { layout = layout; field = field; stmt = stmt; at = at_of seen.shapes there; way = Acc how; value = beyond.regs (made_name next from_reg) } ∷ []; wants = now.wants }) same_place
         ∙ ap (λ word. record { vars = now.vars; writes = now.writes ++ record { layout = layout; field = field; stmt = stmt; at = at_of seen.shapes (from.places place); way = Acc how; value = word } ∷ []; wants = now.wants }) same_value in
-        let good = simplifies scope known' further from beyond (acted seen from what now)
+        let good = simplifies scope known' further from beyond (moment_after_act seen from what now)
         (record {
           scoped = ruled.scoped.2;
           settled = ruled.settled;
           fitted = ruled.fitted.1;
           spanned = spanned_same rest (vars_of given known) (vars_of given known') (λ v. ap (λ (loops : List (ℕ × Span)). var_span (record { regs = []; loops = loops; others = given.others }) v) (sym alike.loops)) ruled.spanned.1;
         })
-        (holds_moved seen given rest rest known' further beyond now (acted seen from what now) (λ x h. (h, refl))
-        (subst (λ (loops : List (ℕ × Span)). Fits (record { regs = []; loops = loops; others = given.others }) (acted seen from what now)) (sym alike.loops) fits) holding')
+        (holds_moved seen given rest rest known' further beyond now (moment_after_act seen from what now) (λ x h. (h, refl))
+        (subst (λ (loops : List (ℕ × Span)). FitsSpans (record { regs = []; loops = loops; others = given.others }) (moment_after_act seen from what now)) (sym alike.loops) fits) holding')
         (renamed_later scope next from room further beyond later alike.names all) words names.1 in
         let moved_good = subst (λ m. Good seen (simplified given rest known' further) beyond m result) (sym moved) good in
         record { runs = moved_good.runs; names = (at, moved_good.names) })
       where
-        lengths : (rs : List ℕ) → length (map room.regs (map (name_of next) rs)) ≡ length rs
+        lengths : (rs : List ℕ) → length (map room.regs (map (made_name next) rs)) ≡ length rs
         lengths [] = refl
         lengths (k ∷ rs) = ap suc (lengths rs)
 
@@ -241,8 +241,8 @@ module _ (seen : Seen) where
         (holds_moved seen given (Branch cond block otherwise rest) rest known next room now reached
         (λ x h. (last_none (sets x otherwise) (sets x rest) (last_none (sets x block) _ h), run_leaves seen x (Branch cond block otherwise End) from now (ends x h))) fits holds))
         (renamed_grown scope next second.1 from room grown_second all) words names.1 in
-        let same_test : (room.regs (name_of next cond) == 0) ≡ (from.regs cond == 0) = ap (λ word. word == 0) (all cond ruled.scoped.0).word in
-        let moved : (if room.regs (name_of next cond) == 0 then run seen second.0 room now else run seen first.0 room now) ≡ reached =
+        let same_test : (room.regs (made_name next cond) == 0) ≡ (from.regs cond == 0) = ap (λ word. word == 0) (all cond ruled.scoped.0).word in
+        let moved : (if room.regs (made_name next cond) == 0 then run seen second.0 room now else run seen first.0 room now) ≡ reached =
         ap (λ (test : Bool). if test then run seen second.0 room now else run seen first.0 room now) same_test ∙ both.0 in
         let after_both = subst (λ m. Good seen (simplified given rest known second.1) room m (run seen rest from reached)) (sym moved) more in
         record {
@@ -254,10 +254,10 @@ module _ (seen : Seen) where
         ends x h = omega (arith, h)
 
     -- the turns of a loop, from one on
-    turns_law : (var : ℕ) (lo hi : ℤ) (body : Block) (made : Block × Next) (known : Pass) (from room : Room) (now : Moment) → var_span (vars_of given known) var ≡ whole → IsSpanned (in_loop var lo hi (vars_of given known)) body → ((r : ℕ) → Lies whole (from.regs r))
-        → ((turn : ℤ) (reached : Moment) → Fits (in_loop var lo hi (vars_of given known)) (at_turn var turn reached) → ((x : ℕ) → (flag (var == x) + sets x body) ≡ 0 → reached.vars x ≡ now.vars x)
+    turns_law : (var : ℕ) (lo hi : ℤ) (body : Block) (made : Block × Next) (known : Pass) (from room : Room) (now : RunMoment) → var_span (vars_of given known) var ≡ whole_i32 → IsSpanned (in_loop var lo hi (vars_of given known)) body → ((r : ℕ) → Lies whole_i32 (from.regs r))
+        → ((turn : ℤ) (reached : RunMoment) → FitsSpans (in_loop var lo hi (vars_of given known)) (at_turn var turn reached) → ((x : ℕ) → (flag (var == x) + sets x body) ≡ 0 → reached.vars x ≡ now.vars x)
         → NamesAll seen body from (at_turn var turn reached) → Good seen made room (at_turn var turn reached) (run seen body from (at_turn var turn reached)))
-        → (start count : ℕ) → start + count ≤ count_of (hi -ℤ lo) → (reached : Moment) → Fits (vars_of given known) reached → ((x : ℕ) → (flag (var == x) + sets x body) ≡ 0 → reached.vars x ≡ now.vars x)
+        → (start count : ℕ) → start + count ≤ count_of (hi -ℤ lo) → (reached : RunMoment) → FitsSpans (vars_of given known) reached → ((x : ℕ) → (flag (var == x) + sets x body) ≡ 0 → reached.vars x ≡ now.vars x)
         → EachTurn (λ turn m. NamesAll seen body from (at_turn var turn m)) (λ m turn. run seen body from (at_turn var turn m)) reached (map (λ k. lo +ℤ pos k) (range_with_len start count))
         → (fold (λ m turn. run seen made.0 room (at_turn var turn m)) reached (map (λ k. lo +ℤ pos k) (range_with_len start count))
         ≡ fold (λ m turn. run seen body from (at_turn var turn m)) reached (map (λ k. lo +ℤ pos k) (range_with_len start count)))
@@ -269,7 +269,7 @@ module _ (seen : Seen) where
         let fits_in = entered (vars_of given known) var lo hi turn reached fits (laws.ranges lo hi turn inside.0 inside.1) in
         let good = each turn reached fits_in stay names.0 in
         let onward = run seen body from (at_turn var turn reached) in
-        let fits_out : Fits (vars_of given known) onward = left laws.all_words (vars_of given known) var lo hi onward all (laws.runs_fit body (in_loop var lo hi (vars_of given known)) from (at_turn var turn reached) spanned words fits_in) in
+        let fits_out : FitsSpans (vars_of given known) onward = left laws.all_words (vars_of given known) var lo hi onward all (laws.runs_fit body (in_loop var lo hi (vars_of given known)) from (at_turn var turn reached) spanned words fits_in) in
         let stay_on : (x : ℕ) → (flag (var == x) + sets x body) ≡ 0 → onward.vars x ≡ now.vars x = λ x h.
         run_leaves seen x body from (at_turn var turn reached) (last_none (flag (var == x)) (sets x body) h)
         ∙ (put_other var x (word_of turn) reached.vars (first_none (flag (var == x)) (sets x body) h) ∙ stay x h) in

@@ -4,13 +4,13 @@ use Rattle.std.specs.Map.{lookup}
 use Rattle.std.proofs.Common.{arith, sym, ap, subst, ◌∙◌}
 use Rattle.std.proofs.lemmas.Bool.{eqb-true}
 use Rattle.indexmap.specs.IndexMap.{insert_entry}
-use Rattle.sg_simplify.specs.steps.Serves.{Each}
+use Rattle.sg_simplify.specs.steps.Serves.{EachByRecursion}
 
-pub each_push : {A : Type 0} (P : A → Type 0) (xs : List A) (x : A) → Each P xs → P x → Each P (xs ++ x ∷ [])
+pub each_push : {A : Type 0} (P : A → Type 0) (xs : List A) (x : A) → EachByRecursion P xs → P x → EachByRecursion P (xs ++ x ∷ [])
 each_push P [] x all one = (one, tt)
 each_push P (y ∷ xs) x all one = (all.0, each_push P xs x all.1 one)
 
-pub each_map : {A : Type 0} (P Q : A → Type 0) → ((x : A) → P x → Q x) → (xs : List A) → Each P xs → Each Q xs
+pub each_map : {A : Type 0} (P Q : A → Type 0) → ((x : A) → P x → Q x) → (xs : List A) → EachByRecursion P xs → EachByRecursion Q xs
 each_map P Q f [] all = tt
 each_map P Q f (x ∷ xs) all = (f x all.0, each_map P Q f xs all.1)
 
@@ -26,7 +26,7 @@ some_is t u e = ap (λ o. unwrap_or o 0) e
 none_is : {A : Type 0} (t : ℕ) → None ≡ Some t → A
 none_is t e = absurd (cc)
 
-pub each_found : {A : Type 0} (same : A → A → Bool) (key : A) (P : A × ℕ → Type 0) (entries : List (A × ℕ)) (t : ℕ) → Each P entries → lookup (same key) entries ≡ Some t → IsFound same key P t
+pub each_found : {A : Type 0} (same : A → A → Bool) (key : A) (P : A × ℕ → Type 0) (entries : List (A × ℕ)) (t : ℕ) → EachByRecursion P entries → lookup (same key) entries ≡ Some t → IsFound same key P t
 each_found {A} same key P [] t all e = none_is t e
 each_found {A} same key P (entry ∷ entries) t all e = by_test (same key entry.0) refl (each_found same key P entries t all.1) e
   where

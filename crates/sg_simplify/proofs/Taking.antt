@@ -10,7 +10,7 @@ use Rattle.sg_ir.specs.Blocks.{Block, link, Spot}
 use Rattle.sg_ir.specs.Shared.{same_op, same_step}
 use Rattle.sg_ir.specs.Trimmed.{is_within}
 use Rattle.sg_simplify.specs.declared.made.Made.{Made}
-use Rattle.sg_simplify.specs.Pass.{Given, Pass, Next, Making, fresh, taken, taken_at, stepped, stepped_at, and_op, and_step, with_place, with_name, span_in, check_at, numbered, simplified}
+use Rattle.sg_simplify.specs.Pass.{Given, Pass, Next, Making, fresh, taken, taken_at, stepped, stepped_at, and_op, and_step, next_with_place, with_name, span_in, check_at, numbered, simplified}
 use Rattle.sg_simplify.specs.steps.Made.{pass_of, next_of, types_of, Longer, Goes, onward, check_in}
 use Rattle.sg_simplify.proofs.Reading.{append-none}
 use Rattle.sg_simplify.proofs.Making.{longer-none, goes-here, goes-from, goes-to, goes-put}
@@ -59,12 +59,12 @@ found-goes how t made x found go =
     goes-here made made x (stepped how go) (go t) (longer-none made) (ap (λ there. stepped_at how go there (pass_of made) (next_of made)) found)
 
 pub stepped-goes : (how : Step) (old new : Made) (x y : List Inst) (inst : Inst) → lookup (same_step how) (pass_of old).steps ≡ None → y ≡ x ++ inst ∷ [] →
-    ((regs : List Ty) (rest : Block) → link regs inst rest ≡ Spot old.places how rest) → next_of new ≡ with_place (next_of old) → pass_of new ≡ and_step how old.places (pass_of old) →
+    ((regs : List Ty) (rest : Block) → link regs inst rest ≡ Spot old.places how rest) → next_of new ≡ next_with_place (next_of old) → pass_of new ≡ and_step how old.places (pass_of old) →
     (go : ℕ → Making) → Goes old new x y (stepped how go) (go old.places)
 stepped-goes how old new x y inst none put links next known go =
     goes-put old new x y inst (Spot old.places how) (stepped how go) (go old.places) longer put (λ more rest. links (types_of new ++ more) rest)
     (ap (λ there. stepped_at how go there (pass_of old) (next_of old)) none
-    ∙ ap (λ pass. after_spot (go old.places pass (with_place (next_of old)))) (sym known)
+    ∙ ap (λ pass. after_spot (go old.places pass (next_with_place (next_of old)))) (sym known)
     ∙ ap (λ further. after_spot (go old.places (pass_of new) further)) (sym next))
   where
     after_spot : Block × Next → Block × Next

@@ -15,17 +15,17 @@ use Rattle.sg_ir.specs.declared.op.Step.TheVariants as step
 use Rattle.sg_ir.specs.declared.op.Descent.TheVariants as by
 use Rattle.sg_ir.specs.Blocks.{Block, End, Word, Spot, Cell, Do, Branch, Loop, SetVar, WriteOwn, Contribute, Wish, Link, chained, link_step, link, block_of}
 use Rattle.sg_ir.specs.Span.{sets}
-use Rattle.sg_ir.specs.WellTyped.{is_truth, Setting, SetsReg, SetsPlace, SetsVar, sets_step, settings, in_order, reg_number, place_number, var_number, set_regs, set_places, set_vars, setters_in, has_no_twice}
+use Rattle.sg_ir.specs.WellTyped.{is_truth, SetName, SetsReg, SetsPlace, SetsVar, sets_step, settings, in_order, reg_number, place_number, var_number, set_regs, set_places, set_vars, setters_in, has_no_twice}
 use Rattle.sg_ir.proofs.Uses.{fold-Const, fold-Var, fold-Set, fold-Bin, fold-Un, fold-Mulq, fold-Root, fold-Check, fold-Extract, fold-Offset, fold-Child, fold-HashChild, fold-MaskBit, fold-DynCell, fold-ReadCell, fold-OwnRead, fold-OwnWrite, fold-Acc, fold-Want, fold-If, fold-For}
-use Rattle.sg_simplify.specs.steps.Serves.{Each}
-use Rattle.sg_simplify.specs.steps.Counted.{flag, regs_set, places_set}
+use Rattle.sg_simplify.specs.steps.Serves.{EachByRecursion}
+use Rattle.sg_simplify.specs.steps.Counted.{one_where, regs_set, places_set}
 use Rattle.sg_simplify.proofs.Inducting.{inductively}
 use Rattle.sg_simplify.proofs.Reading.{map-append, chained-append}
 
-abbrev inst_settings : Inst → List Setting
-inst_settings = fold-Inst (List Setting) sets_step
+abbrev inst_settings : Inst → List SetName
+inst_settings = fold-Inst (List SetName) sets_step
 
-in_order_map : {X : Type 0} (f : X → List Setting) (xs : List X) → in_order (map f xs) ≡ flat_map f xs
+in_order_map : {X : Type 0} (f : X → List SetName) (xs : List X) → in_order (map f xs) ≡ flat_map f xs
 in_order_map f [] = refl
 in_order_map f (x ∷ xs) = ap (λ more. f x ++ more) (in_order_map f xs)
 
@@ -48,22 +48,22 @@ count_of n xs = count_by (λ x. x == n) xs
 count_append : (n : ℕ) (xs ys : List ℕ) → count_of n (xs ++ ys) ≡ count_of n xs + count_of n ys
 count_append n xs ys = sum_by-append (λ (x : ℕ). cond (x == n) 1 0) xs ys
 
-flat_append : (f : Setting → List ℕ) (xs ys : List Setting) → flat_map f (xs ++ ys) ≡ flat_map f xs ++ flat_map f ys
+flat_append : (f : SetName → List ℕ) (xs ys : List SetName) → flat_map f (xs ++ ys) ≡ flat_map f xs ++ flat_map f ys
 flat_append f [] ys = refl
 flat_append f (x ∷ xs) ys = ap (λ more. f x ++ more) (flat_append f xs ys) ∙ sym (append_assoc (f x) (flat_map f xs) (flat_map f ys))
 
-count_both : (f : Setting → List ℕ) (n : ℕ) (xs ys : List Setting) → count_of n (flat_map f (xs ++ ys)) ≡ count_of n (flat_map f xs) + count_of n (flat_map f ys)
+count_both : (f : SetName → List ℕ) (n : ℕ) (xs ys : List SetName) → count_of n (flat_map f (xs ++ ys)) ≡ count_of n (flat_map f xs) + count_of n (flat_map f ys)
 count_both f n xs ys = ap (count_of n) (flat_append f xs ys) ∙ count_append n (flat_map f xs) (flat_map f ys)
 
-count_one : (n to : ℕ) → count_of n (to ∷ []) ≡ flag (to == n)
+count_one : (n to : ℕ) → count_of n (to ∷ []) ≡ one_where (to == n)
 count_one n to = count_cons (λ x. x == n) to [] ∙ by_test (to == n)
   where
-    by_test : (test : Bool) → cond test 1 0 + count_of n [] ≡ flag test
+    by_test : (test : Bool) → cond test 1 0 + count_of n [] ≡ one_where test
     by_test true = refl
     by_test false = refl
 
 -- a link that sets what settings say
-record Tallies (l : Link) (set : List Setting) : Type 0 where
+record Tallies (l : Link) (set : List SetName) : Type 0 where
   regs : (rest : Block) (r : ℕ) → regs_set r (l rest) ≡ count_of r (flat_map reg_number set) + regs_set r rest
   places : (rest : Block) (p : ℕ) → places_set p (l rest) ≡ count_of p (flat_map place_number set) + places_set p rest
   vars : (rest : Block) (x : ℕ) → sets x (l rest) ≡ count_of x (flat_map var_number set) + sets x rest
@@ -124,10 +124,10 @@ module _ (types : List Ty) where
   abbrev TalliesOf : Inst → Type 0
   TalliesOf inst = Tallies (link types inst) (inst_settings inst)
 
-  carry : (l k : Link) (set other : List Setting) → l ≡ k → set ≡ other → Tallies k other → Tallies l set
-  carry l k set other e f h = subst (λ (m : Link). Tallies m set) (sym e) (subst (λ (s : List Setting). Tallies k s) (sym f) h)
+  carry : (l k : Link) (set other : List SetName) → l ≡ k → set ≡ other → Tallies k other → Tallies l set
+  carry l k set other e f h = subst (λ (m : Link). Tallies m set) (sym e) (subst (λ (s : List SetName). Tallies k s) (sym f) h)
 
-  list_tallies : (insts : List Inst) → Each TalliesOf insts → Tallies (chained (map (link types) insts)) (settings insts)
+  list_tallies : (insts : List Inst) → EachByRecursion TalliesOf insts → Tallies (chained (map (link types) insts)) (settings insts)
   list_tallies [] each = record { regs = λ rest r. nothing_more (regs_set r rest); places = λ rest p. nothing_more (places_set p rest); vars = λ rest x. nothing_more (sets x rest) }
   list_tallies (inst ∷ insts) each =
       let more = list_tallies insts each.1 in
@@ -140,7 +140,7 @@ module _ (types : List Ty) where
       join : (a b c : ℕ) {whole middle both : ℕ} → whole ≡ a + middle → middle ≡ b + c → both ≡ a + b → whole ≡ both + c
       join a b c first second sum = omega (arith, first, second, sum)
 
-  branch_tallies : (cond : ℕ) (block otherwise : List Inst) → Each TalliesOf block → Each TalliesOf otherwise → Tallies (Branch cond (chained (map (link types) block) End) (chained (map (link types) otherwise) End)) (settings block ++ settings otherwise)
+  branch_tallies : (cond : ℕ) (block otherwise : List Inst) → EachByRecursion TalliesOf block → EachByRecursion TalliesOf otherwise → Tallies (Branch cond (chained (map (link types) block) End) (chained (map (link types) otherwise) End)) (settings block ++ settings otherwise)
   branch_tallies cond block otherwise yes_each no_each =
       let first = list_tallies block yes_each in
       let second = list_tallies otherwise no_each in
@@ -153,13 +153,13 @@ module _ (types : List Ty) where
       join : (a b c : ℕ) {left right both : ℕ} → left ≡ a + 0 → right ≡ b + 0 → both ≡ a + b → left + (right + c) ≡ both + c
       join a b c first second sum = omega (arith, first, second, sum)
 
-  loop_tallies : (var : ℕ) (lo hi : ℤ) (body : List Inst) → Each TalliesOf body → Tallies (Loop var lo hi (chained (map (link types) body) End)) (SetsVar var ∷ settings body)
+  loop_tallies : (var : ℕ) (lo hi : ℤ) (body : List Inst) → EachByRecursion TalliesOf body → Tallies (Loop var lo hi (chained (map (link types) body) End)) (SetsVar var ∷ settings body)
   loop_tallies var lo hi body each =
       let first = list_tallies body each in
       record {
         regs = λ rest r. join (count_of r (set_regs body)) (regs_set r rest) (first.regs End r);
         places = λ rest p. join (count_of p (set_places body)) (places_set p rest) (first.places End p);
-        vars = λ rest x. join_var (flag (var == x)) (count_of x (set_vars body)) (sets x rest) (first.vars End x)
+        vars = λ rest x. join_var (one_where (var == x)) (count_of x (set_vars body)) (sets x rest) (first.vars End x)
             (count_append x (var ∷ []) (set_vars body) ∙ ap (λ n. n + count_of x (set_vars body)) (count_one x var));
       }
     where
@@ -193,7 +193,7 @@ module _ (types : List Ty) where
       (λ cond block otherwise first second. carry _ _ _ _ (fold-If (link_step types) cond block otherwise) (settings_if cond block otherwise) (branch_tallies cond block otherwise first second))
       (λ var lo hi body each. carry _ _ _ _ (fold-For (link_step types) var lo hi body) (settings_for var lo hi body) (loop_tallies var lo hi body each))
 
-  of_every : (insts : List Inst) → Each TalliesOf insts
+  of_every : (insts : List Inst) → EachByRecursion TalliesOf insts
   of_every [] = tt
   of_every (inst ∷ insts) = (every_tallies inst, of_every insts)
 

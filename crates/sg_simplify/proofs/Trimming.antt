@@ -16,14 +16,14 @@ use Rattle.sg_ir.specs.declared.op.Step.TheVariants as step
 use Rattle.sg_ir.specs.Runs.{put}
 use Rattle.sg_ir.specs.Blocks.{Block, End, Word, Spot, Cell, Do, Branch, Loop, SetVar, WriteOwn, Contribute, Wish}
 use Rattle.sg_ir.specs.declared.span.Span.{Span}
-use Rattle.sg_ir.specs.Span.{whole, Spans, range_span, bin_span, reg_span, op_span, with_span, in_loop}
+use Rattle.sg_ir.specs.Span.{whole_i32, Spans, range_span, bin_span, reg_span, op_span, with_span, in_loop}
 use Rattle.sg_ir.specs.Shared.{same_op, same_step, is_pure}
-use Rattle.sg_ir.specs.Trimmed.{is_within, Passed, Ways, way_to, way_behind, and_check, needed, needed_in, are_checks, is_trim, accesses_are_trim}
+use Rattle.sg_ir.specs.Trimmed.{is_within, AxisCheck, Ways, way_to, way_behind, and_check, needed, needed_in, are_checks, is_trim, accesses_are_trim}
 use Rattle.sg_ir.specs.steps.InScope.{InScope, and_reg, and_place, op_regs, step_places, AreSet, IsScoped}
 use Rattle.sg_ir.specs.Places.{extents_in}
 use Rattle.sg_ir.proofs.Uses.{step_exact}
-use Rattle.sg_simplify.specs.Pass.{Given, Pass, Next, Making, name_of, with_name, with_reg, with_place, type_of, span_in, span_of, renamed, and_op, and_step, after, set_word, fresh, taken_at, taken, numbered, stepped_at, stepped, check_at, checked, joined, offset, descent_of, descended, placed_in, placed, looped, simplified}
-use Rattle.sg_simplify.specs.steps.Ruled.{IsPlain, IsFitted, HasLayout, Grown}
+use Rattle.sg_simplify.specs.Pass.{Given, Pass, Next, Making, made_name, with_name, next_with_reg, next_with_place, given_type, span_in, span_of, renamed, and_op, and_step, put_in_front, set_word, fresh, taken_at, taken, numbered, stepped_at, stepped, check_at, checks_made, offset_made, offset, descent_of, descended, placed_in, place_made, looped, simplified}
+use Rattle.sg_simplify.specs.steps.Ruled.{IsNotRead, HasAccessLayouts, HasLayout, Grown}
 use Rattle.sg_simplify.specs.steps.Sets.{Sets, AllNamed}
 use Rattle.sg_simplify.specs.steps.Trims.{StepTrims, Trims, Onward, asked, GoesTrim, GoesTrimAt, GoesOnBy, OpIsTrim}
 use Rattle.sg_simplify.proofs.Tables.{each_push, each_map, IsFound, each_found, get_last, get_kept}
@@ -46,7 +46,7 @@ module _ (given : Given) where
 
   -- behind a register that is put out
   trims_reg : (scope : InScope) (known : Pass) (next : Next) (spans : Spans) (ways : Ways) (type : Ty) (span other : Span) → other ≡ span → Trims given scope known next spans ways
-      → Trims given (and_reg (length next.spans) scope) known (with_reg type span next) (with_span (length next.spans) other spans) ways
+      → Trims given (and_reg (length next.spans) scope) known (next_with_reg type span next) (with_span (length next.spans) other spans) ways
   trims_reg scope known next spans ways type span other same h = let n = length next.spans in record {
     sets = sets_reg scope known next type span h.sets;
     regs = λ r is. by_test r (r == n) refl is;
@@ -55,19 +55,19 @@ module _ (given : Given) where
   }
     where
       by_test : (r : ℕ) (test : Bool) → (r == length next.spans) ≡ test → (if test then true else scope.regs r) ≡ true
-          → reg_span (with_span (length next.spans) other spans) r ≡ get_or (next.spans ++ span ∷ []) r whole
+          → reg_span (with_span (length next.spans) other spans) r ≡ get_or (next.spans ++ span ∷ []) r whole_i32
       by_test r true e is =
           ap (λ (test : Bool). if test then other else reg_span spans r) e
-          ∙ (same ∙ sym (ap (λ k. get_or (next.spans ++ span ∷ []) k whole) (eqb-true r (length next.spans) e) ∙ get_last next.spans span whole))
+          ∙ (same ∙ sym (ap (λ k. get_or (next.spans ++ span ∷ []) k whole_i32) (eqb-true r (length next.spans) e) ∙ get_last next.spans span whole_i32))
       by_test r false e is =
           ap (λ (test : Bool). if test then other else reg_span spans r) e
-          ∙ (h.regs r is ∙ sym (get_kept next.spans span whole r (given_before scope known next h.sets r is)))
+          ∙ (h.regs r is ∙ sym (get_kept next.spans span whole_i32 r (given_before scope known next h.sets r is)))
 
-  onward_reg : (scope : InScope) (known : Pass) (next : Next) (ways : Ways) (type : Ty) (span : Span) → Sets scope known next → Onward scope next ways (and_reg (length next.spans) scope) (with_reg type span next) ways
+  onward_reg : (scope : InScope) (known : Pass) (next : Next) (ways : Ways) (type : Ty) (span : Span) → Sets scope known next → Onward scope next ways (and_reg (length next.spans) scope) (next_with_reg type span next) ways
   onward_reg scope known next ways type span h = record {
     wider = and_reg_wider (length next.spans) scope;
     names = refl;
-    spans = λ r is. get_kept next.spans span whole r (given_before scope known next h r is);
+    spans = λ r is. get_kept next.spans span whole_i32 r (given_before scope known next h r is);
     kept = λ p is. refl;
   }
 
@@ -85,15 +85,15 @@ module _ (given : Given) where
   set_trims spans ways n (op.OwnRead layout field) index rest at more = more
 
   put_out : (type : Ty) (how : Op) (index : List ℕ) (go : ℕ → Making) (scope : InScope) (known after_it : Pass) (next : Next) (spans : Spans) (ways : Ways) → Trims given scope known next spans ways → AreSet scope.regs (op_regs how) → OpIsTrim given spans ways how index
-      → (Trims given (and_reg (length next.spans) scope) known (with_reg type (span_of given known next how) next) (with_span (length next.spans) (op_span spans how) spans) ways
-      → Trims given (and_reg (length next.spans) scope) after_it (with_reg type (span_of given known next how) next) (with_span (length next.spans) (op_span spans how) spans) ways)
+      → (Trims given (and_reg (length next.spans) scope) known (next_with_reg type (span_of given known next how) next) (with_span (length next.spans) (op_span spans how) spans) ways
+      → Trims given (and_reg (length next.spans) scope) after_it (next_with_reg type (span_of given known next how) next) (with_span (length next.spans) (op_span spans how) spans) ways)
       → GoesTrim given scope next ways go
-      → accesses_are_trim given.shapes spans ways (set_word (length next.spans) how index (go (length next.spans) after_it (with_reg type (span_of given known next how) next)).0) ≡ true
+      → accesses_are_trim given.shapes spans ways (set_word (length next.spans) how index (go (length next.spans) after_it (next_with_reg type (span_of given known next how) next)).0) ≡ true
   put_out type how index go scope known after_it next spans ways h set at more goes =
       let n = length next.spans in
       let mid = trims_reg scope known next spans ways type (span_of given known next how) (op_span spans how) (span_same scope known next spans ways h how set) h in
       set_trims spans ways n how index _ at
-      (goes n after_it (with_reg type (span_of given known next how) next) (and_reg n scope) (with_span n (op_span spans how) spans) ways
+      (goes n after_it (next_with_reg type (span_of given known next how) next) (and_reg n scope) (with_span n (op_span spans how) spans) ways
       (onward_reg scope known next ways type (span_of given known next how) h.sets) (more mid) (put_now n scope.regs))
 
   fresh_trims : (type : Ty) (how : Op) (index : List ℕ) (go : ℕ → Making) (scope : InScope) (known : Pass) (next : Next) (spans : Spans) (ways : Ways) → Trims given scope known next spans ways → AreSet scope.regs (op_regs how) → OpIsTrim given spans ways how index
@@ -121,7 +121,7 @@ module _ (given : Given) where
   numbered_trims false type how go scope known next spans ways h set at goes = fresh_trims type how [] go scope known next spans ways h set at goes
 
   -- a place that a step gives has the way behind the step
-  stepped_trims : (how : Step) (is_way : List Passed → Type 0) (go : ℕ → Making) (scope : InScope) (known : Pass) (next : Next) (spans : Spans) (ways : Ways) → Trims given scope known next spans ways → AreSet scope.places (step_places how)
+  stepped_trims : (how : Step) (is_way : List AxisCheck → Type 0) (go : ℕ → Making) (scope : InScope) (known : Pass) (next : Next) (spans : Spans) (ways : Ways) → Trims given scope known next spans ways → AreSet scope.places (step_places how)
       → ((to : ℕ) → is_way (way_behind ways to how)) → GoesTrimAt given scope next ways is_way go → accesses_are_trim given.shapes spans ways (stepped how go known next).0 ≡ true
   stepped_trims how is_way go scope known next spans ways h set way goes = by_found (lookup (same_step how) known.steps) refl
     where
@@ -142,7 +142,7 @@ module _ (given : Given) where
             places = places_wider n scope (step_places entry.0) t.places;
             way = way_kept ways n entry.1 behind (other_place scope n entry.1 free t.named) ∙ (t.way ∙ sym (behind_kept scope ways n entry.1 behind entry.0 free t.places));
           }) known.steps h.steps in
-          goes n (and_step how n known) (with_place next) (and_place n scope) spans ((n, behind) ∷ ways)
+          goes n (and_step how n known) (next_with_place next) (and_place n scope) spans ((n, behind) ∷ ways)
           (record { wider = and_place_wider n scope; names = refl; spans = λ r is. refl; kept = λ p is. way_kept ways n p behind (other_place scope n p free is) })
           (record {
             sets = record { ops = mid.ops; steps = each_push (λ entry. put n true scope.places entry.1 ≡ true) known.steps (how, n) mid.steps (put_now n scope.places); free_regs = mid.free_regs; free_places = mid.free_places };
@@ -157,17 +157,17 @@ module _ (given : Given) where
   goes_later : (scope : InScope) (next : Next) (ways : Ways) (wide : InScope) (further : Next) (beyond : Ways) (go : ℕ → Making) → Onward scope next ways wide further beyond → GoesTrim given scope next ways go → GoesTrim given wide further beyond go
   goes_later scope next ways wide further beyond go onward goes t known further' wide' spans beyond' more = goes t known further' wide' spans beyond' (onward_on scope next ways wide further beyond wide' further' beyond' onward more)
 
-  goes_at_later : (scope : InScope) (next : Next) (ways : Ways) (wide : InScope) (further : Next) (beyond : Ways) (is_way : List Passed → Type 0) (go : ℕ → Making) → Onward scope next ways wide further beyond
+  goes_at_later : (scope : InScope) (next : Next) (ways : Ways) (wide : InScope) (further : Next) (beyond : Ways) (is_way : List AxisCheck → Type 0) (go : ℕ → Making) → Onward scope next ways wide further beyond
       → GoesTrimAt given scope next ways is_way go → GoesTrimAt given wide further beyond is_way go
   goes_at_later scope next ways wide further beyond is_way go onward goes t known further' wide' spans beyond' more = goes t known further' wide' spans beyond' (onward_on scope next ways wide further beyond wide' further' beyond' onward more)
 
   joined_trims : (node : NodeShape) (later : List NodeShape) (index : List ℕ) (axis high : ℕ) (go : ℕ → Making) (scope : InScope) (known : Pass) (next : Next) (spans : Spans) (ways : Ways) → Trims given scope known next spans ways → scope.regs high ≡ true → AreSet scope.regs index
-      → GoesTrim given scope next ways go → accesses_are_trim given.shapes spans ways (joined given node later axis index high go known next).0 ≡ true
+      → GoesTrim given scope next ways go → accesses_are_trim given.shapes spans ways (offset_made given node later axis index high go known next).0 ≡ true
   joined_trims node later [] axis high go scope known next spans ways h is set goes = goes high known next scope spans ways (onward_same scope next ways) h is
   joined_trims node later (r ∷ index) axis high go scope known next spans ways h is set goes =
-      taken_trims ty.U32 (op.Extract (extent_over later axis) (extent_in node.sizes axis) r) [] (λ low. taken given ty.U32 (op.Offset high (extent_in node.sizes axis) low) [] (λ o. joined given node later (suc axis) index o go))
+      taken_trims ty.U32 (op.Extract (extent_over later axis) (extent_in node.sizes axis) r) [] (λ low. taken given ty.U32 (op.Offset high (extent_in node.sizes axis) low) [] (λ o. offset_made given node later (suc axis) index o go))
       scope known next spans ways h (set.0, tt) tt
-      (λ low known' further wide spans' beyond onward holds low_is. taken_trims ty.U32 (op.Offset high (extent_in node.sizes axis) low) [] (λ o. joined given node later (suc axis) index o go) wide known' further spans' beyond holds
+      (λ low known' further wide spans' beyond onward holds low_is. taken_trims ty.U32 (op.Offset high (extent_in node.sizes axis) low) [] (λ o. offset_made given node later (suc axis) index o go) wide known' further spans' beyond holds
       (onward.wider.regs high is, (low_is, tt)) tt
       (λ o known'' further' wide' spans'' beyond' onward' holds' o_is.
       let whole_way = onward_on scope next ways wide further beyond wide' further' beyond' onward onward' in
@@ -176,12 +176,12 @@ module _ (given : Given) where
   offset_trims : (node : NodeShape) (later : List NodeShape) (r : ℕ) (index : List ℕ) (go : ℕ → Making) (scope : InScope) (known : Pass) (next : Next) (spans : Spans) (ways : Ways) → Trims given scope known next spans ways → AreSet scope.regs (r ∷ index)
       → GoesTrim given scope next ways go → accesses_are_trim given.shapes spans ways (offset given node later (r ∷ index) go known next).0 ≡ true
   offset_trims node later r index go scope known next spans ways h set goes =
-      taken_trims ty.U32 (op.Extract (extent_over later 1) (extent_in node.sizes 1) r) [] (λ high. joined given node later 2 index high go) scope known next spans ways h (set.0, tt) tt
+      taken_trims ty.U32 (op.Extract (extent_over later 1) (extent_in node.sizes 1) r) [] (λ high. offset_made given node later 2 index high go) scope known next spans ways h (set.0, tt) tt
       (λ high known' further wide spans' beyond onward holds high_is.
       joined_trims node later index 2 high go wide known' further spans' beyond holds high_is (set_wider scope wide onward.wider index set.1) (goes_later scope next ways wide further beyond go onward goes))
 
   -- steps down pass no checks
-  descended_trims : (nodes : List NodeShape) (number r : ℕ) (index : List ℕ) (place : ℕ) (is_way : List Passed → Type 0) (go : ℕ → Making) (scope : InScope) (known : Pass) (next : Next) (spans : Spans) (ways : Ways) → Trims given scope known next spans ways
+  descended_trims : (nodes : List NodeShape) (number r : ℕ) (index : List ℕ) (place : ℕ) (is_way : List AxisCheck → Type 0) (go : ℕ → Making) (scope : InScope) (known : Pass) (next : Next) (spans : Spans) (ways : Ways) → Trims given scope known next spans ways
       → scope.places place ≡ true → is_way (way_to ways place) → AreSet scope.regs (r ∷ index)
       → GoesTrimAt given scope next ways is_way go → accesses_are_trim given.shapes spans ways (descended given nodes number (r ∷ index) place go known next).0 ≡ true
   descended_trims [] number r index place is_way go scope known next spans ways h is way set goes = goes place known next scope spans ways (onward_same scope next ways) h is way
@@ -202,12 +202,12 @@ module _ (given : Given) where
       ap (λ (span : Span). and_check (is_within extent span) axis r (asked further (suc axis) extents index)) (same r set.0)
       ∙ ap (and_check (is_within extent (span_in next r)) axis r) (asked_later scope next further same (suc axis) extents index set.1)
 
-  one_check : (axis r place : ℕ) (checks : List (ℕ × ℕ)) (way : List Passed) → are_checks checks way ≡ true → are_checks ((axis, r) ∷ checks) (record { axis = axis; index = r; place = place } ∷ way) ≡ true
+  one_check : (axis r place : ℕ) (checks : List (ℕ × ℕ)) (way : List AxisCheck) → are_checks checks way ≡ true → are_checks ((axis, r) ∷ checks) (record { axis = axis; index = r; place = place } ∷ way) ≡ true
   one_check axis r place checks way h = both_true ((axis == axis) && (r == r)) (are_checks checks way) (both_true (axis == axis) (r == r) (grind arith) (grind arith)) h
 
-  checked_trims : (extents : List ℕ) (axis : ℕ) (index : List ℕ) (place : ℕ) (before : List Passed) (go : ℕ → Making) (scope : InScope) (known : Pass) (next : Next) (spans : Spans) (ways : Ways) → Trims given scope known next spans ways
+  checked_trims : (extents : List ℕ) (axis : ℕ) (index : List ℕ) (place : ℕ) (before : List AxisCheck) (go : ℕ → Making) (scope : InScope) (known : Pass) (next : Next) (spans : Spans) (ways : Ways) → Trims given scope known next spans ways
       → scope.places place ≡ true → way_to ways place ≡ before → AreSet scope.regs index
-      → GoesTrimAt given scope next ways (GoesOnBy before (asked next axis extents index)) go → accesses_are_trim given.shapes spans ways (checked axis extents index place go known next).0 ≡ true
+      → GoesTrimAt given scope next ways (GoesOnBy before (asked next axis extents index)) go → accesses_are_trim given.shapes spans ways (checks_made axis extents index place go known next).0 ≡ true
   checked_trims [] axis index place before go scope known next spans ways h is way set goes =
       goes place known next scope spans ways (onward_same scope next ways) h is (record { more = []; is = way ∙ sym (append-nil before); pass = refl })
   checked_trims (extent ∷ extents) axis [] place before go scope known next spans ways h is way set goes =
@@ -221,19 +221,19 @@ module _ (given : Given) where
       rest_asked = asked next (suc axis) extents index
 
       by_test : (test : Bool) → is_within extent (span_in next r) ≡ test
-          → (GoesTrimAt given scope next ways (GoesOnBy before rest_asked) go → accesses_are_trim given.shapes spans ways (checked (suc axis) extents index place go known next).0 ≡ true)
-          → ((p : ℕ) (passed : Passed) (known' : Pass) (further : Next) (wide : InScope) (spans' : Spans) (beyond : Ways) → Onward scope next ways wide further beyond → Trims given wide known' further spans' beyond → wide.places p ≡ true → way_to beyond p ≡ before ++ passed ∷ []
-          → GoesTrimAt given wide further beyond (GoesOnBy (before ++ passed ∷ []) (asked further (suc axis) extents index)) go → accesses_are_trim given.shapes spans' beyond (checked (suc axis) extents index p go known' further).0 ≡ true)
-          → accesses_are_trim given.shapes spans ways (check_at test (step.Check place axis extent r) place (λ p. checked (suc axis) extents index p go) known next).0 ≡ true
+          → (GoesTrimAt given scope next ways (GoesOnBy before rest_asked) go → accesses_are_trim given.shapes spans ways (checks_made (suc axis) extents index place go known next).0 ≡ true)
+          → ((p : ℕ) (passed : AxisCheck) (known' : Pass) (further : Next) (wide : InScope) (spans' : Spans) (beyond : Ways) → Onward scope next ways wide further beyond → Trims given wide known' further spans' beyond → wide.places p ≡ true → way_to beyond p ≡ before ++ passed ∷ []
+          → GoesTrimAt given wide further beyond (GoesOnBy (before ++ passed ∷ []) (asked further (suc axis) extents index)) go → accesses_are_trim given.shapes spans' beyond (checks_made (suc axis) extents index p go known' further).0 ≡ true)
+          → accesses_are_trim given.shapes spans ways (check_at test (step.Check place axis extent r) place (λ p. checks_made (suc axis) extents index p go) known next).0 ≡ true
       by_test true e same more = same (λ t known' further wide spans' beyond onward holds t_is t_way. goes t known' further wide spans' beyond onward holds t_is
           (record { more = t_way.more; is = t_way.is; pass = subst (λ (b : Bool). are_checks (and_check b axis r rest_asked) t_way.more ≡ true) (sym e) t_way.pass }))
       by_test false e same more =
-          stepped_trims (step.Check place axis extent r) (λ way'. (to : ℕ) × (way' ≡ before ++ record { axis = axis; index = r; place = to } ∷ [])) (λ p. checked (suc axis) extents index p go) scope known next spans ways h (is, tt)
-          (λ to. (to, ap (λ (w : List Passed). w ++ record { axis = axis; index = r; place = to } ∷ []) way))
+          stepped_trims (step.Check place axis extent r) (λ way'. (to : ℕ) × (way' ≡ before ++ record { axis = axis; index = r; place = to } ∷ [])) (λ p. checks_made (suc axis) extents index p go) scope known next spans ways h (is, tt)
+          (λ to. (to, ap (λ (w : List AxisCheck). w ++ record { axis = axis; index = r; place = to } ∷ []) way))
           (λ p known' further wide spans' beyond onward holds p_is p_way.
           more p (record { axis = axis; index = r; place = p_way.0 }) known' further wide spans' beyond onward holds p_is p_way.1
           (λ t known'' further' wide' spans'' beyond' onward' holds' t_is t_way.
-          let one : Passed = record { axis = axis; index = r; place = p_way.0 } in
+          let one : AxisCheck = record { axis = axis; index = r; place = p_way.0 } in
           goes t known'' further' wide' spans'' beyond' (onward_on scope next ways wide further beyond wide' further' beyond' onward onward') holds' t_is
           (record {
             more = one ∷ t_way.more;
@@ -244,16 +244,16 @@ module _ (given : Given) where
 
   -- the place of an access has passed the checks that are asked for
   placed_trims : (shape : Shape) (layout r : ℕ) (index : List ℕ) (go : ℕ → Making) (scope : InScope) (known : Pass) (next : Next) (spans : Spans) (ways : Ways) → slice_get given.shapes layout ≡ Some shape → Trims given scope known next spans ways → AreSet scope.regs (r ∷ index)
-      → GoesTrimAt given scope next ways (λ way. are_checks (asked next 0 (extents_in (bounds_of_shape shape)) (r ∷ index)) way ≡ true) go → accesses_are_trim given.shapes spans ways (placed given layout (r ∷ index) go known next).0 ≡ true
+      → GoesTrimAt given scope next ways (λ way. are_checks (asked next 0 (extents_in (bounds_of_shape shape)) (r ∷ index)) way ≡ true) go → accesses_are_trim given.shapes spans ways (place_made given layout (r ∷ index) go known next).0 ≡ true
   placed_trims shape layout r index go scope known next spans ways there h set goes =
       subst (λ (found : Option Shape). accesses_are_trim given.shapes spans ways (placed_in given found layout (r ∷ index) go known next).0 ≡ true) (sym there)
-      (stepped_trims (step.Root layout) (λ way. way ≡ []) (λ k. checked 0 (extents_in (bounds_of_shape shape)) (r ∷ index) k (λ p. descended given shape.nodes 1 (r ∷ index) p go)) scope known next spans ways h tt (λ to. refl)
+      (stepped_trims (step.Root layout) (λ way. way ≡ []) (λ k. checks_made 0 (extents_in (bounds_of_shape shape)) (r ∷ index) k (λ p. descended given shape.nodes 1 (r ∷ index) p go)) scope known next spans ways h tt (λ to. refl)
       (λ k known' further wide spans' beyond onward holds k_is k_way.
       checked_trims (extents_in (bounds_of_shape shape)) 0 (r ∷ index) k [] (λ p. descended given shape.nodes 1 (r ∷ index) p go) wide known' further spans' beyond holds k_is k_way (set_wider scope wide onward.wider (r ∷ index) set)
       (λ p known'' further' wide' spans'' beyond' onward' holds' p_is p_way.
       let whole_way = onward_on scope next ways wide further beyond wide' further' beyond' onward onward' in
       let passed : are_checks (asked next 0 (extents_in (bounds_of_shape shape)) (r ∷ index)) (way_to beyond' p) ≡ true =
-      subst (λ (w : List Passed). are_checks (asked next 0 (extents_in (bounds_of_shape shape)) (r ∷ index)) w ≡ true) (sym p_way.is)
+      subst (λ (w : List AxisCheck). are_checks (asked next 0 (extents_in (bounds_of_shape shape)) (r ∷ index)) w ≡ true) (sym p_way.is)
       (subst (λ (cs : List (ℕ × ℕ)). are_checks cs p_way.more ≡ true) (asked_later scope next further onward.spans 0 (extents_in (bounds_of_shape shape)) (r ∷ index) set) p_way.pass) in
       descended_trims shape.nodes 1 r index p (λ way. are_checks (asked next 0 (extents_in (bounds_of_shape shape)) (r ∷ index)) way ≡ true) go wide' known'' further' spans'' beyond' holds' p_is passed
       (set_wider scope wide' whole_way.wider (r ∷ index) set) (goes_at_later scope next ways wide' further' beyond' (λ way. are_checks (asked next 0 (extents_in (bounds_of_shape shape)) (r ∷ index)) way ≡ true) go whole_way goes))))
@@ -276,7 +276,7 @@ module _ (given : Given) where
       ∙ (ap (λ (cs : List (ℕ × ℕ)). are_checks cs (way_to beyond p)) (asked_needed scope next further spans (λ k is. holds.regs k (onward.wider.regs k is)) 0 (extents_in (bounds_of_shape shape)) (r ∷ index) set onward.spans)
       ∙ passed)
 
-  plain_is_trim : (spans : Spans) (ways : Ways) (next : Next) (how : Op) → IsPlain how → OpIsTrim given spans ways (renamed next how) []
+  plain_is_trim : (spans : Spans) (ways : Ways) (next : Next) (how : Op) → IsNotRead how → OpIsTrim given spans ways (renamed next how) []
   plain_is_trim spans ways next (op.Const word truth) plain = tt
   plain_is_trim spans ways next (op.Var var) plain = tt
   plain_is_trim spans ways next (op.Bin how kind a b) plain = tt
@@ -299,25 +299,25 @@ module _ (given : Given) where
   }
 
 module _ (given : Given) where
-  pub simplified_trims : (block : Block) (inner scope : InScope) (known : Pass) (next : Next) (spans : Spans) (ways : Ways) → IsScoped inner block → IsFitted given.shapes block → Trims given scope known next spans ways → AllNamed inner scope next
+  pub simplified_trims : (block : Block) (inner scope : InScope) (known : Pass) (next : Next) (spans : Spans) (ways : Ways) → IsScoped inner block → HasAccessLayouts given.shapes block → Trims given scope known next spans ways → AllNamed inner scope next
       → accesses_are_trim given.shapes spans ways (simplified given block known next).0 ≡ true
   simplified_trims End inner scope known next spans ways scoped fitted h all = refl
   simplified_trims (Word to how rest) inner scope known next spans ways scoped fitted h all =
-      numbered_trims given (is_pure given.single how) (type_of given to) (renamed next how) (λ t now later. simplified given rest now (with_name to t later)) scope known next spans ways h
+      numbered_trims given (is_pure given.single how) (given_type given to) (renamed next how) (λ t now later. simplified given rest now (with_name to t later)) scope known next spans ways h
       (op_named given inner scope next all how fitted.0 scoped.0) (plain_is_trim given spans ways next how fitted.0)
       (λ t known' further wide spans' beyond onward holds t_is. simplified_trims rest (and_reg to inner) wide known' (with_name to t further) spans' beyond scoped.3 fitted.1 (trims_named given wide known' further spans' beyond to t holds)
       (named_put given inner wide further to t t_is (named_by given inner scope wide next further onward.names onward.wider all)))
   simplified_trims (Spot to how rest) inner scope known next spans ways scoped fitted h all = simplified_trims rest (and_place to inner) scope known next spans ways scoped.3 fitted h all
   simplified_trims (Cell to place layout field [] rest) inner scope known next spans ways scoped fitted h all = absurd fitted.0
   simplified_trims (Cell to place layout field (r ∷ index) rest) inner scope known next spans ways scoped fitted h all =
-      let fresh_index = map (name_of next) (r ∷ index) in
+      let fresh_index = map (made_name next) (r ∷ index) in
       let has : HasLayout given.shapes layout (length (r ∷ index)) = fitted.0 in
       let set = index_named given inner scope next all (r ∷ index) scoped.3 in
-      placed_trims given has.shape layout (name_of next r) (map (name_of next) index)
-      (λ p. taken given (type_of given to) (op.Read p layout field) fresh_index (λ t now later. simplified given rest now (with_name to t later))) scope known next spans ways has.there h set
+      placed_trims given has.shape layout (made_name next r) (map (made_name next) index)
+      (λ p. taken given (given_type given to) (op.Read p layout field) fresh_index (λ t now later. simplified given rest now (with_name to t later))) scope known next spans ways has.there h set
       (λ p known' further wide spans' beyond onward holds p_is passed.
-      taken_trims given (type_of given to) (op.Read p layout field) fresh_index (λ t now later. simplified given rest now (with_name to t later)) wide known' further spans' beyond holds tt
-      (access_trims given scope next ways wide known' further spans' beyond has.shape layout p (name_of next r) (map (name_of next) index) has.there onward holds set passed)
+      taken_trims given (given_type given to) (op.Read p layout field) fresh_index (λ t now later. simplified given rest now (with_name to t later)) wide known' further spans' beyond holds tt
+      (access_trims given scope next ways wide known' further spans' beyond has.shape layout p (made_name next r) (map (made_name next) index) has.there onward holds set passed)
       (λ t known'' further' wide' spans'' beyond' onward' holds' t_is.
       let whole_way = onward_on scope next ways wide further beyond wide' further' beyond' onward onward' in
       simplified_trims rest (and_reg to inner) wide' known'' (with_name to t further') spans'' beyond' scoped.2 fitted.1 (trims_named given wide' known'' further' spans'' beyond' to t holds')
@@ -326,13 +326,13 @@ module _ (given : Given) where
   simplified_trims (Do (WriteOwn layout field reg stmt) rest) inner scope known next spans ways scoped fitted h all = simplified_trims rest inner scope known next spans ways scoped.2 fitted.1 h all
   simplified_trims (Do (Contribute how layout field place reg [] stmt) rest) inner scope known next spans ways scoped fitted h all = absurd fitted.0
   simplified_trims (Do (Contribute how layout field place reg (r ∷ index) stmt) rest) inner scope known next spans ways scoped fitted h all =
-      let fresh_index = map (name_of next) (r ∷ index) in
+      let fresh_index = map (made_name next) (r ∷ index) in
       let has : HasLayout given.shapes layout (length (r ∷ index)) = fitted.0 in
       let set = index_named given inner scope next all (r ∷ index) scoped.0.1 in
-      placed_trims given has.shape layout (name_of next r) (map (name_of next) index)
-      (λ p now later. after (Do (Contribute how layout field p (name_of next reg) fresh_index stmt)) (simplified given rest now later)) scope known next spans ways has.there h set
+      placed_trims given has.shape layout (made_name next r) (map (made_name next) index)
+      (λ p now later. put_in_front (Do (Contribute how layout field p (made_name next reg) fresh_index stmt)) (simplified given rest now later)) scope known next spans ways has.there h set
       (λ p known' further wide spans' beyond onward holds p_is passed. both_true _ _
-      (access_trims given scope next ways wide known' further spans' beyond has.shape layout p (name_of next r) (map (name_of next) index) has.there onward holds set passed)
+      (access_trims given scope next ways wide known' further spans' beyond has.shape layout p (made_name next r) (map (made_name next) index) has.there onward holds set passed)
       (simplified_trims rest inner wide known' further spans' beyond scoped.2 fitted.1 holds (named_by given inner scope wide next further onward.names onward.wider all)))
   simplified_trims (Do (Wish layout index stmt) rest) inner scope known next spans ways scoped fitted h all = simplified_trims rest inner scope known next spans ways scoped.2 fitted.1 h all
   simplified_trims (Branch cond block otherwise rest) inner scope known next spans ways scoped fitted h all =

@@ -22,10 +22,10 @@ use Rattle.sg_ir.specs.Blocks.{Block, Do, Act}
 use Rattle.sg_ir.specs.Shared.{same_op, same_step}
 use Rattle.sg_ir.specs.Trimmed.{is_within}
 use Rattle.sg_ir.specs.WellTyped as well
-use Rattle.sg_ir.specs.WellTyped.{Known, Scope, Frame, is_of, reads, holds_of, goes_down, checkable, descends}
+use Rattle.sg_ir.specs.WellTyped.{KnownPlace, Scope, Frame, is_truth_as, reads, holds_of, goes_down, checkable, descends}
 use Rattle.sg_ir.proofs.Uses.{op_exact, step_exact}
-use Rattle.sg_simplify.specs.Pass.{Given, Pass, Next, Making, with_reg, with_place, span_in, span_of, and_op, and_step, after, set_word, fresh, taken_at, taken, numbered, stepped_at, stepped, check_at, checked, joined, offset, descent_of, descended, placed_in, placed}
-use Rattle.sg_simplify.specs.steps.Judged.{gives, truth_of, operands_fit, IndexIsGood, way_by, step_reads, step_known, and_known, act_fits, behind_act, fits}
+use Rattle.sg_simplify.specs.Pass.{Given, Pass, Next, Making, next_with_reg, next_with_place, span_in, span_of, and_op, and_step, put_in_front, set_word, fresh, taken_at, taken, numbered, stepped_at, stepped, check_at, checks_made, offset_made, offset, descent_of, descended, placed_in, place_made}
+use Rattle.sg_simplify.specs.steps.Judged.{gives_type, truth_of, operands_fit, IndexIsGood, way_by, step_reads, step_known, and_known, act_fits, behind_act, fits_scope}
 use Rattle.sg_simplify.specs.steps.Typed.{Fixed, frame_by, Starts, OpTyped, StepTyped, Types, Typed, GoesTyped, GoesDown, AllRead, ChecksFit, NodesFit}
 use Rattle.sg_simplify.proofs.Tables.{each_push, IsFound, each_found, length_push}
 use Rattle.sg_simplify.proofs.Setting.{put_now}
@@ -45,10 +45,10 @@ module _ (given : Given) (vars : List Ty) (setters : ℕ → ℕ) where
   -- ---- registers
   -- an instruction that sets a new register, in front of what is good behind it
   emitted : (type : Ty) (span : Span) (how : Op) (index : List ℕ) (scope : Scope) (next : Next) (body : Block × Next) → length next.types ≡ length next.spans
-      → operands_fit (frame_by fixed next) scope how ≡ true → gives (truth how) (Some type) ≡ true → IndexIsGood (frame_by fixed next) scope how index
-      → Typed fixed (well.with_reg (length next.spans) scope) (with_reg type span next) body → Typed fixed scope next (after (set_word (length next.spans) how index) body)
+      → operands_fit (frame_by fixed next) scope how ≡ true → gives_type (truth how) (Some type) ≡ true → IndexIsGood (frame_by fixed next) scope how index
+      → Typed fixed (well.with_reg (length next.spans) scope) (next_with_reg type span next) body → Typed fixed scope next (put_in_front (set_word (length next.spans) how index) body)
   emitted type span how index scope next body even operands type_ok index_ok inner =
-      let further = with_reg type span next in
+      let further = next_with_reg type span next in
       let n = length next.spans in
       let same = widens_same scope in
       record {
@@ -60,23 +60,23 @@ module _ (given : Given) (vars : List Ty) (setters : ℕ → ℕ) where
             let starts = starts_on next further final (starts_reg type span next) later in
             let there = later.regs n type (get_end next.types type n even) in
             word_fits (frame_by fixed final) scope n how index body.0 (operands_on fixed next final scope scope starts same how operands)
-            (subst (λ (o : Option Ty). gives (truth how) o ≡ true) (sym there) type_ok) (good_index_on fixed next final scope scope starts same how index index_ok) (inner.good final s);
+            (subst (λ (o : Option Ty). gives_type (truth how) o ≡ true) (sym there) type_ok) (good_index_on fixed next final scope scope starts same how index index_ok) (inner.good final s);
       }
 
   pub fresh_typed : (type : Ty) (how : Op) (index : List ℕ) (go : ℕ → Making) (scope : Scope) (known : Pass) (next : Next) → Types fixed scope known next
-      → operands_fit (frame_by fixed next) scope how ≡ true → gives (truth how) (Some type) ≡ true → IndexIsGood (frame_by fixed next) scope how index → GoesTyped fixed scope next (truth how) go
+      → operands_fit (frame_by fixed next) scope how ≡ true → gives_type (truth how) (Some type) ≡ true → IndexIsGood (frame_by fixed next) scope how index → GoesTyped fixed scope next (truth how) go
       → Typed fixed scope next (fresh given type how index go known next)
   fresh_typed type how index go scope known next h operands type_ok index_ok goes =
       let n = length next.spans in
       let span = span_of given known next how in
-      let further = with_reg type span next in
+      let further = next_with_reg type span next in
       let last = get_end next.types type n h.even in
       emitted type span how index scope next (go n known further) h.even operands type_ok index_ok
       (goes n known further (well.with_reg n scope) (widens_reg n scope) refl (starts_reg type span next) (types_reg fixed scope known next type span h) (put_now n scope.regs)
-      (subst (λ (o : Option Ty). gives (truth how) o ≡ true) (sym last) type_ok))
+      (subst (λ (o : Option Ty). gives_type (truth how) o ≡ true) (sym last) type_ok))
 
   pub taken_typed : (type : Ty) (how : Op) (index : List ℕ) (go : ℕ → Making) (scope : Scope) (known : Pass) (next : Next) → Types fixed scope known next
-      → operands_fit (frame_by fixed next) scope how ≡ true → gives (truth how) (Some type) ≡ true → IndexIsGood (frame_by fixed next) scope how index → GoesTyped fixed scope next (truth how) go
+      → operands_fit (frame_by fixed next) scope how ≡ true → gives_type (truth how) (Some type) ≡ true → IndexIsGood (frame_by fixed next) scope how index → GoesTyped fixed scope next (truth how) go
       → Typed fixed scope next (taken given type how index go known next)
   taken_typed type how index go scope known next h operands type_ok index_ok goes = by_found (lookup (same_op how) known.ops) refl
     where
@@ -88,9 +88,9 @@ module _ (given : Given) (vars : List Ty) (setters : ℕ → ℕ) where
       by_found None e =
           let n = length next.spans in
           let span = span_of given known next how in
-          let further = with_reg type span next in
+          let further = next_with_reg type span next in
           let wide = well.with_reg n scope in
-          let last = subst (λ (o : Option Ty). gives (truth how) o ≡ true) (sym (get_end next.types type n h.even)) type_ok in
+          let last = subst (λ (o : Option Ty). gives_type (truth how) o ≡ true) (sym (get_end next.types type n h.even)) type_ok in
           let mid = types_reg fixed scope known next type span h in
           let one : OpTyped fixed wide further (how, n) = record { set = put_now n scope.regs; type = last } in
           emitted type span how index scope next (go n (and_op how n known) further) h.even operands type_ok index_ok
@@ -99,13 +99,13 @@ module _ (given : Given) (vars : List Ty) (setters : ℕ → ℕ) where
           (put_now n scope.regs) last)
 
   pub numbered_typed : (pure : Bool) (type : Ty) (how : Op) (go : ℕ → Making) (scope : Scope) (known : Pass) (next : Next) → Types fixed scope known next
-      → operands_fit (frame_by fixed next) scope how ≡ true → gives (truth how) (Some type) ≡ true → IndexIsGood (frame_by fixed next) scope how [] → GoesTyped fixed scope next (truth how) go
+      → operands_fit (frame_by fixed next) scope how ≡ true → gives_type (truth how) (Some type) ≡ true → IndexIsGood (frame_by fixed next) scope how [] → GoesTyped fixed scope next (truth how) go
       → Typed fixed scope next (numbered pure given type how go known next)
   numbered_typed true type how go = taken_typed type how [] go
   numbered_typed false type how go = fresh_typed type how [] go
 
   -- ---- places
-  pub stepped_typed : (how : Step) (go : ℕ → Making) (scope : Scope) (known : Pass) (next : Next) (place : Known) → Types fixed scope known next
+  pub stepped_typed : (how : Step) (go : ℕ → Making) (scope : Scope) (known : Pass) (next : Next) (place : KnownPlace) → Types fixed scope known next
       → step_reads (frame_by fixed next) scope how ≡ true → step_known scope how ≡ Some place → GoesDown fixed scope next place go
       → Typed fixed scope next (stepped how go known next)
   stepped_typed how go scope known next place h reads_ok is goes = by_found (lookup (same_step how) known.steps) refl
@@ -121,29 +121,29 @@ module _ (given : Given) (vars : List Ty) (setters : ℕ → ℕ) where
           let widens = widens_place n place scope (h.free_places n (omega arith)) in
           let mid = types_place fixed scope known next place h in
           let one : StepTyped wide (how, n) = record { known = place; comes = known_on scope wide widens how place is; here = put_here n (Some place) scope.places } in
-          let inner = goes n (and_step how n known) (with_place next) wide widens refl (starts_place next)
+          let inner = goes n (and_step how n known) (next_with_place next) wide widens refl (starts_place next)
           (record { even = mid.even; ops = mid.ops; steps = each_push (StepTyped wide) known.steps (how, n) mid.steps one; free_regs = mid.free_regs; free_places = mid.free_places })
           (put_here n (Some place) scope.places) in
-          let body = go n (and_step how n known) (with_place next) in
+          let body = go n (and_step how n known) (next_with_place next) in
           record {
-            grows = λ final s. starts_on next (with_place next) final (starts_place next) (inner.grows final s);
+            grows = λ final s. starts_on next (next_with_place next) final (starts_place next) (inner.grows final s);
             even = inner.even;
             longer = inner.longer;
             good = λ final s.
                 let later = inner.grows final s in
                 let room = later.places in
                 let there : n < final.places = omega arith in
-                both _ _ (both _ _ (below_test n final.places there) (step_reads_on fixed next final scope scope (starts_on next (with_place next) final (starts_place next) later) (widens_same scope) how reads_ok))
-                (subst (λ (o : Option Known). fits (frame_by fixed final) (and_known n o scope) body.0 ≡ true) (sym is) (inner.good final s));
+                both _ _ (both _ _ (below_test n final.places there) (step_reads_on fixed next final scope scope (starts_on next (next_with_place next) final (starts_place next) later) (widens_same scope) how reads_ok))
+                (subst (λ (o : Option KnownPlace). fits_scope (frame_by fixed final) (and_known n o scope) body.0 ≡ true) (sym is) (inner.good final s));
           }
 
   -- the place in front of its checks
-  abbrev whole_of : ℕ → Known
+  abbrev whole_of : ℕ → KnownPlace
   whole_of layout = record { layout = layout; passed = 0 }
 
   checked_typed : (extents : List ℕ) (axis : ℕ) (index : List ℕ) (place : ℕ) (go : ℕ → Making) (scope : Scope) (known : Pass) (next : Next) (layout : ℕ) → Types fixed scope known next
       → scope.places place ≡ Some (whole_of layout) → AllRead fixed scope next index → ChecksFit (frame_by fixed next) layout axis extents index → GoesDown fixed scope next (whole_of layout) go
-      → Typed fixed scope next (checked axis extents index place go known next)
+      → Typed fixed scope next (checks_made axis extents index place go known next)
   checked_typed [] axis index place go scope known next layout h is all checks goes = goes place known next scope (widens_same scope) refl (starts_same next) h is
   checked_typed (extent ∷ extents) axis [] place go scope known next layout h is all checks goes = goes place known next scope (widens_same scope) refl (starts_same next) h is
   checked_typed (extent ∷ extents) axis (r ∷ index) place go scope known next layout h is all checks goes = by_test (is_within extent (span_in next r))
@@ -152,27 +152,27 @@ module _ (given : Given) (vars : List Ty) (setters : ℕ → ℕ) where
       (λ t known'' further' wide' widens' names' starts' holds' t_is. goes t known'' further' wide' (widens_on scope wide wide' widens widens') (names' ∙ names) (starts_on next further further' starts starts') holds' t_is))
     where
       there : holds_of (checkable (frame_by fixed next) axis extent) (scope.places place) ≡ true
-      there = subst (λ (o : Option Known). holds_of (checkable (frame_by fixed next) axis extent) o ≡ true) (sym is) checks.1
+      there = subst (λ (o : Option KnownPlace). holds_of (checkable (frame_by fixed next) axis extent) o ≡ true) (sym is) checks.1
 
-      by_test : (test : Bool) → Typed fixed scope next (checked (suc axis) extents index place go known next) → GoesDown fixed scope next (whole_of layout) (λ p. checked (suc axis) extents index p go)
-          → Typed fixed scope next (check_at test (step.Check place axis extent r) place (λ p. checked (suc axis) extents index p go) known next)
+      by_test : (test : Bool) → Typed fixed scope next (checks_made (suc axis) extents index place go known next) → GoesDown fixed scope next (whole_of layout) (λ p. checks_made (suc axis) extents index p go)
+          → Typed fixed scope next (check_at test (step.Check place axis extent r) place (λ p. checks_made (suc axis) extents index p go) known next)
       by_test true same more = same
       by_test false same more =
-          stepped_typed (step.Check place axis extent r) (λ p. checked (suc axis) extents index p go) scope known next (whole_of layout) h (both _ _ checks.0 (both _ _ there all.0))
-          (ap (option_map (λ (it : Known). record { layout = it.layout; passed = 0 })) is) more
+          stepped_typed (step.Check place axis extent r) (λ p. checks_made (suc axis) extents index p go) scope known next (whole_of layout) h (both _ _ checks.0 (both _ _ there all.0))
+          (ap (option_map (λ (it : KnownPlace). record { layout = it.layout; passed = 0 })) is) more
 
   -- ---- offsets
   joined_typed : (node : NodeShape) (later : List NodeShape) (index : List ℕ) (axis high : ℕ) (go : ℕ → Making) (scope : Scope) (known : Pass) (next : Next) → Types fixed scope known next
       → ((axis : ℕ) → (nat_lt 0 (extent_over later axis) ≡ true) × (nat_lt 0 (extent_in node.sizes axis) ≡ true)) → reads (frame_by fixed next) scope false high ≡ true → AllRead fixed scope next index
-      → GoesTyped fixed scope next (Some false) go → Typed fixed scope next (joined given node later axis index high go known next)
+      → GoesTyped fixed scope next (Some false) go → Typed fixed scope next (offset_made given node later axis index high go known next)
   joined_typed node later [] axis high go scope known next h sizes is all goes =
-      let parts = and_parts (scope.regs high) (is_of false (slice_get next.types high)) is in
+      let parts = and_parts (scope.regs high) (is_truth_as false (slice_get next.types high)) is in
       goes high known next scope (widens_same scope) refl (starts_same next) h parts.0 parts.1
   joined_typed node later (r ∷ index) axis high go scope known next h sizes is all goes =
-      taken_typed ty.U32 (op.Extract (extent_over later axis) (extent_in node.sizes axis) r) [] (λ low. taken given ty.U32 (op.Offset high (extent_in node.sizes axis) low) [] (λ o. joined given node later (suc axis) index o go))
+      taken_typed ty.U32 (op.Extract (extent_over later axis) (extent_in node.sizes axis) r) [] (λ low. taken given ty.U32 (op.Offset high (extent_in node.sizes axis) low) [] (λ o. offset_made given node later (suc axis) index o go))
       scope known next h (both _ _ (sizes axis).0 (both _ _ (sizes axis).1 all.0)) refl tt
       (λ low known' further wide widens names starts holds low_is low_type.
-      taken_typed ty.U32 (op.Offset high (extent_in node.sizes axis) low) [] (λ o. joined given node later (suc axis) index o go) wide known' further holds
+      taken_typed ty.U32 (op.Offset high (extent_in node.sizes axis) low) [] (λ o. offset_made given node later (suc axis) index o go) wide known' further holds
       (both _ _ (sizes axis).1 (both _ _ (reads_on fixed next further scope wide starts widens false high is) (both _ _ low_is low_type))) refl tt
       (λ o known'' further' wide' widens' names' starts' holds' o_is o_type.
       joined_typed node later index (suc axis) o go wide' known'' further' holds' sizes (both _ _ o_is o_type) (all_read_on fixed next further' scope wide' (starts_on next further further' starts starts') (widens_on scope wide wide' widens widens') index all.1)
@@ -184,7 +184,7 @@ module _ (given : Given) (vars : List Ty) (setters : ℕ → ℕ) where
       → ((axis : ℕ) → (nat_lt 0 (extent_over later axis) ≡ true) × (nat_lt 0 (extent_in node.sizes axis) ≡ true)) → AllRead fixed scope next (r ∷ index)
       → GoesTyped fixed scope next (Some false) go → Typed fixed scope next (offset given node later (r ∷ index) go known next)
   offset_typed node later r index go scope known next h sizes all goes =
-      taken_typed ty.U32 (op.Extract (extent_over later 1) (extent_in node.sizes 1) r) [] (λ high. joined given node later 2 index high go)
+      taken_typed ty.U32 (op.Extract (extent_over later 1) (extent_in node.sizes 1) r) [] (λ high. offset_made given node later 2 index high go)
       scope known next h (both _ _ (sizes 1).0 (both _ _ (sizes 1).1 all.0)) refl tt
       (λ high known' further wide widens names starts holds high_is high_type.
       joined_typed node later index 2 high go wide known' further holds sizes (both _ _ high_is high_type) (all_read_on fixed next further scope wide starts widens index all.1)
@@ -199,7 +199,7 @@ module _ (given : Given) (vars : List Ty) (setters : ℕ → ℕ) where
   down_kind Bitmasked = refl
   down_kind Dynamic = refl
 
-  abbrev past : ℕ → ℕ → Known
+  abbrev past : ℕ → ℕ → KnownPlace
   past layout passed = record { layout = layout; passed = passed }
 
   descended_typed : (nodes : List NodeShape) (passed r : ℕ) (index : List ℕ) (place : ℕ) (go : ℕ → Making) (scope : Scope) (known : Pass) (next : Next) (layout : ℕ) (shape : Shape)
@@ -215,8 +215,8 @@ module _ (given : Given) (vars : List Ty) (setters : ℕ → ℕ) where
       offset_typed node later r index (λ o. stepped (step.Down (descent_of node.kind) place (suc passed) o) (λ p. descended given later (suc (suc passed)) (r ∷ index) p go)) scope known next h sizes.0 all
       (λ o known' further wide widens names starts holds o_is o_type.
       stepped_typed (step.Down (descent_of node.kind) place (suc passed) o) (λ p. descended given later (suc (suc passed)) (r ∷ index) p go) wide known' further (past layout (suc passed)) holds
-      (both _ _ (subst (λ (q : Option Known). holds_of (descends (frame_by fixed further) (way_by (descent_of node.kind)) (suc passed)) q ≡ true) (sym (widens.places place (past layout passed) is)) down_ok) (both _ _ o_is o_type))
-      (ap (option_map (λ (it : Known). record { layout = it.layout; passed = suc passed })) (widens.places place (past layout passed) is))
+      (both _ _ (subst (λ (q : Option KnownPlace). holds_of (descends (frame_by fixed further) (way_by (descent_of node.kind)) (suc passed)) q ≡ true) (sym (widens.places place (past layout passed) is)) down_ok) (both _ _ o_is o_type))
+      (ap (option_map (λ (it : KnownPlace). record { layout = it.layout; passed = suc passed })) (widens.places place (past layout passed) is))
       (λ p known'' further' wide' widens' names' starts' holds' p_is.
       descended_typed later (suc passed) r index p go wide' known'' further' layout shape there onward holds' p_is
       (all_read_on fixed next further' scope wide' (starts_on next further further' starts starts') (widens_on scope wide wide' widens widens') (r ∷ index) all) sizes.1
@@ -243,10 +243,10 @@ module _ (given : Given) (vars : List Ty) (setters : ℕ → ℕ) where
 
   pub placed_typed : (shape : Shape) (layout r : ℕ) (index : List ℕ) (go : ℕ → Making) (scope : Scope) (known : Pass) (next : Next) → slice_get given.shapes layout ≡ Some shape → Types fixed scope known next
       → AllRead fixed scope next (r ∷ index) → ChecksFit (frame_by fixed next) layout 0 (extents_in (bounds_of_shape shape)) (r ∷ index) → NodesFit shape.nodes
-      → GoesDown fixed scope next (past layout (length shape.nodes)) go → Typed fixed scope next (placed given layout (r ∷ index) go known next)
+      → GoesDown fixed scope next (past layout (length shape.nodes)) go → Typed fixed scope next (place_made given layout (r ∷ index) go known next)
   placed_typed shape layout r index go scope known next there h all checks sizes goes =
       subst (λ (found : Option Shape). Typed fixed scope next (placed_in given found layout (r ∷ index) go known next)) (sym there)
-      (stepped_typed (step.Root layout) (λ k. checked 0 (extents_in (bounds_of_shape shape)) (r ∷ index) k (λ p. descended given shape.nodes 1 (r ∷ index) p go)) scope known next (whole_of layout) h
+      (stepped_typed (step.Root layout) (λ k. checks_made 0 (extents_in (bounds_of_shape shape)) (r ∷ index) k (λ p. descended given shape.nodes 1 (r ∷ index) p go)) scope known next (whole_of layout) h
       (below_test layout (length given.shapes) (get_below given.shapes layout shape there)) refl
       (λ k known' further wide widens names starts holds k_is.
       checked_typed (extents_in (bounds_of_shape shape)) 0 (r ∷ index) k (λ p. descended given shape.nodes 1 (r ∷ index) p go) wide known' further layout holds k_is
@@ -263,7 +263,7 @@ module _ (given : Given) (vars : List Ty) (setters : ℕ → ℕ) where
 
   -- ---- acts
   pub act_typed : (what : Act) (scope : Scope) (next : Next) (body : Block × Next) → ((final : Next) → Starts next final → act_fits (frame_by fixed final) scope what ≡ true)
-      → Typed fixed (behind_act what scope) next body → Typed fixed scope next (after (Do what) body)
+      → Typed fixed (behind_act what scope) next body → Typed fixed scope next (put_in_front (Do what) body)
   act_typed what scope next body ok inner = record {
     grows = inner.grows;
     even = inner.even;

@@ -15,10 +15,10 @@ use Rattle.sg_ir.specs.Places.{extents_in}
 use Rattle.sg_ir.specs.Blocks.{Block, End, Word, Spot, Cell, Do, Branch, Loop, SetVar, WriteOwn, Contribute, Wish}
 use Rattle.sg_ir.specs.Shared.{is_pure}
 use Rattle.sg_ir.specs.WellTyped as well
-use Rattle.sg_ir.specs.WellTyped.{Known, Scope, Frame, is_truth, is_of, reads, indexes, holds_of, is_i32, takes_truth, is_lnot, is_cell, checkable}
+use Rattle.sg_ir.specs.WellTyped.{KnownPlace, Scope, Frame, is_truth, is_truth_as, reads, indexes, holds_of, is_i32, takes_truth, is_lnot, is_cell, checkable}
 use Rattle.sg_ir.specs.steps.InScope.{InScope, and_reg, and_place, IsScoped}
-use Rattle.sg_simplify.specs.Pass.{Given, Pass, Next, Making, name_of, with_name, type_of, renamed, after, taken, placed, looped, simplified}
-use Rattle.sg_simplify.specs.steps.Judged.{gives, field_truth, truth_of, operands_fit, index_fits, IndexIsGood, step_known, and_known, act_fits, is_plain, fits}
+use Rattle.sg_simplify.specs.Pass.{Given, Pass, Next, Making, made_name, with_name, given_type, renamed, put_in_front, taken, place_made, looped, simplified}
+use Rattle.sg_simplify.specs.steps.Judged.{gives_type, field_truth, truth_of, operands_fit, index_fits, IndexIsGood, step_known, and_known, act_fits, is_no_read, fits_scope}
 use Rattle.sg_simplify.specs.steps.Typed.{Fixed, frame_by, Starts, Widens, Types, Typed, GoesDown, AllRead, ChecksFit, IsWalked, AreWalked, IsNamedTyped, NamesTyped}
 use Rattle.sg_simplify.proofs.Growing.{name_here, name_other, simplified_grows}
 use Rattle.sg_simplify.proofs.TypingSteps.{both, eq_same, gives_on, widens_same, widens_on, starts_same, starts_on, reads_on, index_on, types_var, types_grown, types_named, unnamed}
@@ -26,21 +26,21 @@ use Rattle.sg_simplify.proofs.Typing.{taken_typed, numbered_typed, placed_typed,
 
 -- ---- types of truth values
 -- two types that are both as is known are alike
-alike_types : (known : Option Bool) (o p : Option Ty) → gives known o ≡ true → gives known p ≡ true → (truth : Bool) → is_of truth o ≡ true → is_of truth p ≡ true
+alike_types : (known : Option Bool) (o p : Option Ty) → gives_type known o ≡ true → gives_type known p ≡ true → (truth : Bool) → is_truth_as truth o ≡ true → is_truth_as truth p ≡ true
 alike_types None o p e f truth g = absurd (cc)
 alike_types (Some known) None p e f truth g = absurd (no_type truth g)
   where
-    no_type : (truth : Bool) → is_of truth None ≡ true → ⊥
+    no_type : (truth : Bool) → is_truth_as truth None ≡ true → ⊥
     no_type true e = absurd (cc)
     no_type false e = absurd (cc)
 alike_types (Some known) (Some t) None e f truth g = absurd (no_type known f)
   where
-    no_type : (truth : Bool) → is_of truth None ≡ true → ⊥
+    no_type : (truth : Bool) → is_truth_as truth None ≡ true → ⊥
     no_type true e = absurd (cc)
     no_type false e = absurd (cc)
-alike_types (Some known) (Some t) (Some u) e f truth g = subst (λ (b : Bool). is_of b (Some u) ≡ true) (same known truth (is_truth t) (is_of_known known t e) (is_of_known truth t g)) f
+alike_types (Some known) (Some t) (Some u) e f truth g = subst (λ (b : Bool). is_truth_as b (Some u) ≡ true) (same known truth (is_truth t) (is_of_known known t e) (is_of_known truth t g)) f
   where
-    is_of_known : (b : Bool) (t : Ty) → is_of b (Some t) ≡ true → is_truth t ≡ b
+    is_of_known : (b : Bool) (t : Ty) → is_truth_as b (Some t) ≡ true → is_truth t ≡ b
     is_of_known true t e = e
     is_of_known false t e = flip (is_truth t) e
       where
@@ -52,11 +52,11 @@ alike_types (Some known) (Some t) (Some u) e f truth g = subst (λ (b : Bool). i
     same a b c e f = sym e ∙ f
 
 -- the type of a register that is there
-type_there : (known : Option Bool) (types : List Ty) (r : ℕ) → gives known (slice_get types r) ≡ true → gives known (Some (get_or types r ty.U32)) ≡ true
+type_there : (known : Option Bool) (types : List Ty) (r : ℕ) → gives_type known (slice_get types r) ≡ true → gives_type known (Some (get_or types r ty.U32)) ≡ true
 type_there None types r e = absurd (cc)
 type_there (Some known) [] r e = absurd (no_type known e)
   where
-    no_type : (truth : Bool) → is_of truth None ≡ true → ⊥
+    no_type : (truth : Bool) → is_truth_as truth None ≡ true → ⊥
     no_type true e = absurd (cc)
     no_type false e = absurd (cc)
 type_there (Some known) (t ∷ types) zero e = e
@@ -64,39 +64,39 @@ type_there (Some known) (t ∷ types) (suc r) e = type_there (Some known) types 
 
 -- ---- names
 -- the same names where more is in scope and more was put out
-pub names_on : (types : List Ty) (given scope wide : Scope) (next further : Next) → ((r : ℕ) → given.regs r ≡ true → name_of further r ≡ name_of next r) → Widens scope wide → Starts next further
+pub names_on : (types : List Ty) (given scope wide : Scope) (next further : Next) → ((r : ℕ) → given.regs r ≡ true → made_name further r ≡ made_name next r) → Widens scope wide → Starts next further
     → NamesTyped types given scope next → NamesTyped types given wide further
 names_on types given scope wide next further same widens starts all r is =
     let it = all r is in
     let name = same r is in
     record {
-      set = ap wide.regs name ∙ widens.regs (name_of next r) it.set;
-      same = λ truth e. subst (λ k. is_of truth (slice_get further.types k) ≡ true) (sym name)
-          (gives_on (Some truth) (slice_get next.types (name_of next r)) (slice_get further.types (name_of next r)) (starts.regs (name_of next r)) (it.same truth e));
+      set = ap wide.regs name ∙ widens.regs (made_name next r) it.set;
+      same = λ truth e. subst (λ k. is_truth_as truth (slice_get further.types k) ≡ true) (sym name)
+          (gives_on (Some truth) (slice_get next.types (made_name next r)) (slice_get further.types (made_name next r)) (starts.regs (made_name next r)) (it.same truth e));
     }
 
-same_names : (next further : Next) → further.names ≡ next.names → (r : ℕ) → name_of further r ≡ name_of next r
+same_names : (next further : Next) → further.names ≡ next.names → (r : ℕ) → made_name further r ≡ made_name next r
 same_names next further names r = ap (λ (table : List (ℕ × ℕ)). unwrap_or (lookup (nat_eq r) table) r) names
 
 -- one more name
-names_with : (types : List Ty) (given scope : Scope) (next : Next) (to t : ℕ) → scope.regs t ≡ true → ((truth : Bool) → is_of truth (slice_get types to) ≡ true → is_of truth (slice_get next.types t) ≡ true)
+names_with : (types : List Ty) (given scope : Scope) (next : Next) (to t : ℕ) → scope.regs t ≡ true → ((truth : Bool) → is_truth_as truth (slice_get types to) ≡ true → is_truth_as truth (slice_get next.types t) ≡ true)
     → NamesTyped types given scope next → NamesTyped types (well.with_reg to given) scope (with_name to t next)
 names_with types given scope next to t is alike all r set = by_test (r == to) refl set
   where
     by_test : (test : Bool) → (r == to) ≡ test → (if test then true else given.regs r) ≡ true → IsNamedTyped types scope (with_name to t next) r
     by_test true e h =
         let same = eqb-true r to e in
-        let name : name_of (with_name to t next) r ≡ t = ap (name_of (with_name to t next)) same ∙ name_here next to t in
+        let name : made_name (with_name to t next) r ≡ t = ap (made_name (with_name to t next)) same ∙ name_here next to t in
         record {
           set = ap scope.regs name ∙ is;
-          same = λ truth f. subst (λ k. is_of truth (slice_get next.types k) ≡ true) (sym name) (alike truth (subst (λ k. is_of truth (slice_get types k) ≡ true) same f));
+          same = λ truth f. subst (λ k. is_truth_as truth (slice_get next.types k) ≡ true) (sym name) (alike truth (subst (λ k. is_truth_as truth (slice_get types k) ≡ true) same f));
         }
     by_test false e h =
         let it = all r h in
         let name = name_other next to t r e in
         record {
           set = ap scope.regs name ∙ it.set;
-          same = λ truth f. subst (λ k. is_of truth (slice_get next.types k) ≡ true) (sym name) (it.same truth f);
+          same = λ truth f. subst (λ k. is_truth_as truth (slice_get next.types k) ≡ true) (sym name) (it.same truth f);
         }
 
 put_within : (to : ℕ) (f g : ℕ → Bool) → ((r : ℕ) → f r ≡ true → g r ≡ true) → (r : ℕ) → (if r == to then true else f r) ≡ true → (if r == to then true else g r) ≡ true
@@ -107,11 +107,11 @@ put_within to f g h r = by_test (r == to)
     by_test false e = h r e
 
 -- a place has no part in registers and variables
-known_regs : (to : ℕ) (o : Option Known) (scope : Scope) (r : ℕ) → (and_known to o scope).regs r ≡ scope.regs r
+known_regs : (to : ℕ) (o : Option KnownPlace) (scope : Scope) (r : ℕ) → (and_known to o scope).regs r ≡ scope.regs r
 known_regs to None scope r = refl
 known_regs to (Some known) scope r = refl
 
-known_vars : (to : ℕ) (o : Option Known) (scope : Scope) (v : ℕ) → (and_known to o scope).vars v ≡ scope.vars v
+known_vars : (to : ℕ) (o : Option KnownPlace) (scope : Scope) (v : ℕ) → (and_known to o scope).vars v ≡ scope.vars v
 known_vars to None scope v = refl
 known_vars to (Some known) scope v = refl
 
@@ -161,14 +161,14 @@ module _ (given : Given) (vars : List Ty) (setters : ℕ → ℕ) (places : ℕ)
   at = record { shapes = given.shapes; regs = given.types; places = places; vars = vars; setters = setters }
 
   -- ---- what the given code reads, by its new names
-  reads_named : (gscope scope : Scope) (next : Next) → NamesTyped given.types gscope scope next → (truth : Bool) (r : ℕ) → reads at gscope truth r ≡ true → reads (frame_by fixed next) scope truth (name_of next r) ≡ true
+  reads_named : (gscope scope : Scope) (next : Next) → NamesTyped given.types gscope scope next → (truth : Bool) (r : ℕ) → reads at gscope truth r ≡ true → reads (frame_by fixed next) scope truth (made_name next r) ≡ true
   reads_named gscope scope next all truth r e =
-      let parts = and_parts (gscope.regs r) (is_of truth (slice_get given.types r)) e in
+      let parts = and_parts (gscope.regs r) (is_truth_as truth (slice_get given.types r)) e in
       let it = all r parts.0 in
       both _ _ it.set (it.same truth parts.1)
 
-  from_named : (gscope scope : Scope) (next : Next) → NamesTyped given.types gscope scope next → (known : Option Bool) (r : ℕ) → (gscope.regs r && gives known (slice_get given.types r)) ≡ true
-      → (scope.regs (name_of next r) && gives known (slice_get next.types (name_of next r))) ≡ true
+  from_named : (gscope scope : Scope) (next : Next) → NamesTyped given.types gscope scope next → (known : Option Bool) (r : ℕ) → (gscope.regs r && gives_type known (slice_get given.types r)) ≡ true
+      → (scope.regs (made_name next r) && gives_type known (slice_get next.types (made_name next r))) ≡ true
   from_named gscope scope next all None r e = absurd (no_more (gscope.regs r) e)
     where
       no_more : (b : Bool) → (b && false) ≡ true → ⊥
@@ -176,7 +176,7 @@ module _ (given : Given) (vars : List Ty) (setters : ℕ → ℕ) (places : ℕ)
       no_more false e = absurd (cc)
   from_named gscope scope next all (Some truth) r e = reads_named gscope scope next all truth r e
 
-  operands_named : (gscope scope : Scope) (next : Next) → NamesTyped given.types gscope scope next → ((v : ℕ) → gscope.vars v ≡ true → scope.vars v ≡ true) → (how : Op) → is_plain how ≡ true → operands_fit at gscope how ≡ true
+  operands_named : (gscope scope : Scope) (next : Next) → NamesTyped given.types gscope scope next → ((v : ℕ) → gscope.vars v ≡ true → scope.vars v ≡ true) → (how : Op) → is_no_read how ≡ true → operands_fit at gscope how ≡ true
       → operands_fit (frame_by fixed next) scope (renamed next how) ≡ true
   operands_named gscope scope next all set (op.Const word truth) plain e = refl
   operands_named gscope scope next all set (op.Var var) plain e = set var e
@@ -210,7 +210,7 @@ module _ (given : Given) (vars : List Ty) (setters : ℕ → ℕ) (places : ℕ)
   truth_named next (op.Read place layout field) = refl
   truth_named next (op.OwnRead layout field) = refl
 
-  no_index : (scope : Scope) (next : Next) (how : Op) → is_plain how ≡ true → IndexIsGood (frame_by fixed next) scope (renamed next how) []
+  no_index : (scope : Scope) (next : Next) (how : Op) → is_no_read how ≡ true → IndexIsGood (frame_by fixed next) scope (renamed next how) []
   no_index scope next (op.Const word truth) plain = tt
   no_index scope next (op.Var var) plain = tt
   no_index scope next (op.Bin how kind a b) plain = tt
@@ -221,22 +221,22 @@ module _ (given : Given) (vars : List Ty) (setters : ℕ → ℕ) (places : ℕ)
   no_index scope next (op.Read place layout field) plain = absurd (cc)
   no_index scope next (op.OwnRead layout field) plain = tt
 
-  all_named : (gscope scope : Scope) (next : Next) → NamesTyped given.types gscope scope next → (index : List ℕ) → list_all (reads at gscope false) index ≡ true → AllRead fixed scope next (map (name_of next) index)
+  all_named : (gscope scope : Scope) (next : Next) → NamesTyped given.types gscope scope next → (index : List ℕ) → list_all (reads at gscope false) index ≡ true → AllRead fixed scope next (map (made_name next) index)
   all_named gscope scope next all [] e = tt
   all_named gscope scope next all (r ∷ index) e =
       let parts = and_parts (reads at gscope false r) (list_all (reads at gscope false) index) e in
       (reads_named gscope scope next all false r parts.0, all_named gscope scope next all index parts.1)
 
-  list_named : (gscope scope : Scope) (next : Next) → NamesTyped given.types gscope scope next → (index : List ℕ) → list_all (reads at gscope false) index ≡ true → list_all (reads (frame_by fixed next) scope false) (map (name_of next) index) ≡ true
+  list_named : (gscope scope : Scope) (next : Next) → NamesTyped given.types gscope scope next → (index : List ℕ) → list_all (reads at gscope false) index ≡ true → list_all (reads (frame_by fixed next) scope false) (map (made_name next) index) ≡ true
   list_named gscope scope next all [] e = refl
   list_named gscope scope next all (r ∷ index) e =
       let parts = and_parts (reads at gscope false r) (list_all (reads at gscope false) index) e in
       both _ _ (reads_named gscope scope next all false r parts.0) (list_named gscope scope next all index parts.1)
 
-  index_named : (gscope scope : Scope) (next : Next) → NamesTyped given.types gscope scope next → (layout : ℕ) (index : List ℕ) → HasIndex at gscope layout index → index_fits (frame_by fixed next) scope layout (map (name_of next) index) ≡ true
+  index_named : (gscope scope : Scope) (next : Next) → NamesTyped given.types gscope scope next → (layout : ℕ) (index : List ℕ) → HasIndex at gscope layout index → index_fits (frame_by fixed next) scope layout (map (made_name next) index) ≡ true
   index_named gscope scope next all layout index has =
-      subst (λ (o : Option Shape). holds_of (λ (shape : Shape). indexes (frame_by fixed next) scope shape (map (name_of next) index)) o ≡ true) (sym has.there)
-      (both _ _ (subst (λ n. (n == has.shape.axes) ≡ true) (sym (length_map (name_of next) index ∙ has.long)) (eq_same has.shape.axes)) (list_named gscope scope next all index has.all))
+      subst (λ (o : Option Shape). holds_of (λ (shape : Shape). indexes (frame_by fixed next) scope shape (map (made_name next) index)) o ≡ true) (sym has.there)
+      (both _ _ (subst (λ n. (n == has.shape.axes) ≡ true) (sym (length_map (made_name next) index ∙ has.long)) (eq_same has.shape.axes)) (list_named gscope scope next all index has.all))
 
   -- the place of an access has passed all nodes of its layout
   cell_there : (layout : ℕ) (shape : Shape) (next : Next) → slice_get given.shapes layout ≡ Some shape → is_cell (frame_by fixed next) layout (record { layout = layout; passed = length shape.nodes }) ≡ true
@@ -244,30 +244,30 @@ module _ (given : Given) (vars : List Ty) (setters : ℕ → ℕ) (places : ℕ)
 
   cell_at : (wide : Scope) (further : Next) (layout p : ℕ) (shape : Shape) → slice_get given.shapes layout ≡ Some shape → wide.places p ≡ Some (record { layout = layout; passed = length shape.nodes })
       → holds_of (is_cell (frame_by fixed further) layout) (wide.places p) ≡ true
-  cell_at wide further layout p shape there is = subst (λ (o : Option Known). holds_of (is_cell (frame_by fixed further) layout) o ≡ true) (sym is) (cell_there layout shape further there)
+  cell_at wide further layout p shape there is = subst (λ (o : Option KnownPlace). holds_of (is_cell (frame_by fixed further) layout) o ≡ true) (sym is) (cell_there layout shape further there)
 
   -- a place for an access
   access_typed : (gscope scope : Scope) (known : Pass) (next : Next) (layout : ℕ) (index : List ℕ) (go : ℕ → Making) → NamesTyped given.types gscope scope next → Types fixed scope known next → (has : HasIndex at gscope layout index)
-      → GoesDown fixed scope next (record { layout = layout; passed = length has.shape.nodes }) go → Typed fixed scope next (placed given layout (map (name_of next) index) go known next)
+      → GoesDown fixed scope next (record { layout = layout; passed = length has.shape.nodes }) go → Typed fixed scope next (place_made given layout (map (made_name next) index) go known next)
   access_typed gscope scope known next layout [] go all h has goes = let long = has.long in let some = (walked layout has.shape has.there).some in absurd (omega arith)
   access_typed gscope scope known next layout (r ∷ index) go all h has goes =
       let it = walked layout has.shape has.there in
-      placed_typed given vars setters has.shape layout (name_of next r) (map (name_of next) index) go scope known next has.there h (all_named gscope scope next all (r ∷ index) has.all)
-      (checks_fit (frame_by fixed next) layout has.shape (map (name_of next) (r ∷ index)) has.there it (length_map (name_of next) (r ∷ index) ∙ has.long)) it.nodes goes
+      placed_typed given vars setters has.shape layout (made_name next r) (map (made_name next) index) go scope known next has.there h (all_named gscope scope next all (r ∷ index) has.all)
+      (checks_fit (frame_by fixed next) layout has.shape (map (made_name next) (r ∷ index)) has.there it (length_map (made_name next) (r ∷ index) ∙ has.long)) it.nodes goes
 
   -- ---- over blocks
-  pub simplified_typed : (block : Block) (inner : InScope) (gscope scope : Scope) (known : Pass) (next : Next) → IsScoped inner block → ((r : ℕ) → gscope.regs r ≡ true → inner.regs r ≡ true) → fits at gscope block ≡ true
+  pub simplified_typed : (block : Block) (inner : InScope) (gscope scope : Scope) (known : Pass) (next : Next) → IsScoped inner block → ((r : ℕ) → gscope.regs r ≡ true → inner.regs r ≡ true) → fits_scope at gscope block ≡ true
       → ((v : ℕ) → gscope.vars v ≡ true → scope.vars v ≡ true) → NamesTyped given.types gscope scope next → Types fixed scope known next → Typed fixed scope next (simplified given block known next)
   simplified_typed End inner gscope scope known next scoped within good set all h = record { grows = λ final s. s; even = h.even; longer = omega arith; good = λ final s. refl }
   simplified_typed (Word to how rest) inner gscope scope known next scoped within good set all h =
-      let parts = and_parts (is_plain how && (operands_fit at gscope how && gives (truth_of given.shapes vars how) (slice_get given.types to))) (fits at (well.with_reg to gscope) rest) good in
-      let own = and_parts (is_plain how) (operands_fit at gscope how && gives (truth_of given.shapes vars how) (slice_get given.types to)) parts.0 in
-      let it = and_parts (operands_fit at gscope how) (gives (truth_of given.shapes vars how) (slice_get given.types to)) own.1 in
-      let type_ok = subst (λ (o : Option Bool). gives o (Some (type_of given to)) ≡ true) (sym (truth_named next how)) (type_there (truth_of given.shapes vars how) given.types to it.1) in
-      numbered_typed given vars setters (is_pure given.single how) (type_of given to) (renamed next how) (λ t now later. simplified given rest now (with_name to t later)) scope known next h
+      let parts = and_parts (is_no_read how && (operands_fit at gscope how && gives_type (truth_of given.shapes vars how) (slice_get given.types to))) (fits_scope at (well.with_reg to gscope) rest) good in
+      let own = and_parts (is_no_read how) (operands_fit at gscope how && gives_type (truth_of given.shapes vars how) (slice_get given.types to)) parts.0 in
+      let it = and_parts (operands_fit at gscope how) (gives_type (truth_of given.shapes vars how) (slice_get given.types to)) own.1 in
+      let type_ok = subst (λ (o : Option Bool). gives_type o (Some (given_type given to)) ≡ true) (sym (truth_named next how)) (type_there (truth_of given.shapes vars how) given.types to it.1) in
+      numbered_typed given vars setters (is_pure given.single how) (given_type given to) (renamed next how) (λ t now later. simplified given rest now (with_name to t later)) scope known next h
       (operands_named gscope scope next all set how own.0 it.0) type_ok (no_index scope next how own.0)
       (λ t known' further wide widens names starts holds t_is t_type.
-      let t_type' = subst (λ (o : Option Bool). gives o (slice_get further.types t) ≡ true) (truth_named next how) t_type in
+      let t_type' = subst (λ (o : Option Bool). gives_type o (slice_get further.types t) ≡ true) (truth_named next how) t_type in
       unnamed fixed wide further to t (simplified given rest known' (with_name to t further))
       (simplified_typed rest (and_reg to inner) (well.with_reg to gscope) wide known' (with_name to t further) scoped.3 (put_within to gscope.regs inner.regs within) parts.1
       (λ v e. widens.vars v (set v e))
@@ -276,18 +276,18 @@ module _ (given : Given) (vars : List Ty) (setters : ℕ → ℕ) (places : ℕ)
       (types_named fixed wide known' further to t holds)))
   simplified_typed (Spot to how rest) inner gscope scope known next scoped within good set all h =
       let gbehind = and_known to (step_known gscope how) gscope in
-      let parts = and_parts _ (fits at gbehind rest) good in
+      let parts = and_parts _ (fits_scope at gbehind rest) good in
       simplified_typed rest (and_place to inner) gbehind scope known next scoped.3 (λ r is. within r (sym (known_regs to (step_known gscope how) gscope r) ∙ is)) parts.1
       (λ v is. set v (sym (known_vars to (step_known gscope how) gscope v) ∙ is)) (λ r is. all r (sym (known_regs to (step_known gscope how) gscope r) ∙ is)) h
   simplified_typed (Cell to place layout field index rest) inner gscope scope known next scoped within good set all h =
-      let fresh_index = map (name_of next) index in
-      let parts = and_parts (holds_of (is_cell at layout) (gscope.places place) && (gives (field_truth given.shapes layout field) (slice_get given.types to) && index_fits at gscope layout index)) (fits at (well.with_reg to gscope) rest) good in
-      let own = and_parts (holds_of (is_cell at layout) (gscope.places place)) (gives (field_truth given.shapes layout field) (slice_get given.types to) && index_fits at gscope layout index) parts.0 in
-      let it = and_parts (gives (field_truth given.shapes layout field) (slice_get given.types to)) (index_fits at gscope layout index) own.1 in
+      let fresh_index = map (made_name next) index in
+      let parts = and_parts (holds_of (is_cell at layout) (gscope.places place) && (gives_type (field_truth given.shapes layout field) (slice_get given.types to) && index_fits at gscope layout index)) (fits_scope at (well.with_reg to gscope) rest) good in
+      let own = and_parts (holds_of (is_cell at layout) (gscope.places place)) (gives_type (field_truth given.shapes layout field) (slice_get given.types to) && index_fits at gscope layout index) parts.0 in
+      let it = and_parts (gives_type (field_truth given.shapes layout field) (slice_get given.types to)) (index_fits at gscope layout index) own.1 in
       let has = has_index at gscope layout index it.1 in
-      access_typed gscope scope known next layout index (λ p. taken given (type_of given to) (op.Read p layout field) fresh_index (λ t now later. simplified given rest now (with_name to t later))) all h has
+      access_typed gscope scope known next layout index (λ p. taken given (given_type given to) (op.Read p layout field) fresh_index (λ t now later. simplified given rest now (with_name to t later))) all h has
       (λ p known' further wide widens names starts holds p_is.
-      taken_typed given vars setters (type_of given to) (op.Read p layout field) fresh_index (λ t now later. simplified given rest now (with_name to t later)) wide known' further holds
+      taken_typed given vars setters (given_type given to) (op.Read p layout field) fresh_index (λ t now later. simplified given rest now (with_name to t later)) wide known' further holds
       (cell_at wide further layout p has.shape has.there p_is) (type_there (field_truth given.shapes layout field) given.types to it.0)
       (index_on fixed next further scope wide starts widens layout fresh_index (index_named gscope scope next all layout index has))
       (λ t known'' further' wide' widens' names' starts' holds' t_is t_type.
@@ -298,56 +298,56 @@ module _ (given : Given) (vars : List Ty) (setters : ℕ → ℕ) (places : ℕ)
       (names_on given.types gscope scope wide' next further' (λ r is. same_names next further' (names' ∙ names) r) (widens_on scope wide wide' widens widens') (starts_on next further further' starts starts') all))
       (types_named fixed wide' known'' further' to t holds'))))
   simplified_typed (Do (SetVar var from) rest) inner gscope scope known next scoped within good set all h =
-      let parts = and_parts (act_fits at gscope (SetVar var from)) (fits at (well.with_var var gscope) rest) good in
-      act_typed given vars setters (SetVar var (name_of next from)) scope next (simplified given rest known next)
-      (λ final s. from_final scope next final s _ (name_of next from) (from_named gscope scope next all _ from parts.0))
+      let parts = and_parts (act_fits at gscope (SetVar var from)) (fits_scope at (well.with_var var gscope) rest) good in
+      act_typed given vars setters (SetVar var (made_name next from)) scope next (simplified given rest known next)
+      (λ final s. from_final scope next final s _ (made_name next from) (from_named gscope scope next all _ from parts.0))
       (simplified_typed rest inner (well.with_var var gscope) (well.with_var var scope) known next scoped.2 within parts.1 (put_within var gscope.vars scope.vars set) (λ r is. let it = all r is in record { set = it.set; same = it.same })
       (types_var fixed scope known next var h))
     where
-      from_final : (scope : Scope) (next final : Next) → Starts next final → (known : Option Bool) (r : ℕ) → (scope.regs r && gives known (slice_get next.types r)) ≡ true → (scope.regs r && gives known (slice_get final.types r)) ≡ true
+      from_final : (scope : Scope) (next final : Next) → Starts next final → (known : Option Bool) (r : ℕ) → (scope.regs r && gives_type known (slice_get next.types r)) ≡ true → (scope.regs r && gives_type known (slice_get final.types r)) ≡ true
       from_final scope next final s known r e =
-          let parts = and_parts (scope.regs r) (gives known (slice_get next.types r)) e in
+          let parts = and_parts (scope.regs r) (gives_type known (slice_get next.types r)) e in
           both _ _ parts.0 (gives_on known (slice_get next.types r) (slice_get final.types r) (s.regs r) parts.1)
   simplified_typed (Do (WriteOwn layout field from stmt) rest) inner gscope scope known next scoped within good set all h =
-      let parts = and_parts (act_fits at gscope (WriteOwn layout field from stmt)) (fits at gscope rest) good in
-      act_typed given vars setters (WriteOwn layout field (name_of next from) stmt) scope next (simplified given rest known next)
-      (λ final s. from_final scope next final s _ (name_of next from) (from_named gscope scope next all _ from parts.0))
+      let parts = and_parts (act_fits at gscope (WriteOwn layout field from stmt)) (fits_scope at gscope rest) good in
+      act_typed given vars setters (WriteOwn layout field (made_name next from) stmt) scope next (simplified given rest known next)
+      (λ final s. from_final scope next final s _ (made_name next from) (from_named gscope scope next all _ from parts.0))
       (simplified_typed rest inner gscope scope known next scoped.2 within parts.1 set all h)
     where
-      from_final : (scope : Scope) (next final : Next) → Starts next final → (known : Option Bool) (r : ℕ) → (scope.regs r && gives known (slice_get next.types r)) ≡ true → (scope.regs r && gives known (slice_get final.types r)) ≡ true
+      from_final : (scope : Scope) (next final : Next) → Starts next final → (known : Option Bool) (r : ℕ) → (scope.regs r && gives_type known (slice_get next.types r)) ≡ true → (scope.regs r && gives_type known (slice_get final.types r)) ≡ true
       from_final scope next final s known r e =
-          let parts = and_parts (scope.regs r) (gives known (slice_get next.types r)) e in
+          let parts = and_parts (scope.regs r) (gives_type known (slice_get next.types r)) e in
           both _ _ parts.0 (gives_on known (slice_get next.types r) (slice_get final.types r) (s.regs r) parts.1)
   simplified_typed (Do (Contribute how layout field place from index stmt) rest) inner gscope scope known next scoped within good set all h =
-      let fresh_index = map (name_of next) index in
+      let fresh_index = map (made_name next) index in
       let truth = field_truth given.shapes layout field in
-      let parts = and_parts (act_fits at gscope (Contribute how layout field place from index stmt)) (fits at gscope rest) good in
-      let own = and_parts (holds_of (is_cell at layout) (gscope.places place)) (gscope.regs from && (gives truth (slice_get given.types from) && index_fits at gscope layout index)) parts.0 in
-      let more = and_parts (gscope.regs from) (gives truth (slice_get given.types from) && index_fits at gscope layout index) own.1 in
-      let it = and_parts (gives truth (slice_get given.types from)) (index_fits at gscope layout index) more.1 in
+      let parts = and_parts (act_fits at gscope (Contribute how layout field place from index stmt)) (fits_scope at gscope rest) good in
+      let own = and_parts (holds_of (is_cell at layout) (gscope.places place)) (gscope.regs from && (gives_type truth (slice_get given.types from) && index_fits at gscope layout index)) parts.0 in
+      let more = and_parts (gscope.regs from) (gives_type truth (slice_get given.types from) && index_fits at gscope layout index) own.1 in
+      let it = and_parts (gives_type truth (slice_get given.types from)) (index_fits at gscope layout index) more.1 in
       let has = has_index at gscope layout index it.1 in
-      let value = and_parts (scope.regs (name_of next from)) (gives truth (slice_get next.types (name_of next from))) (from_named gscope scope next all truth from (both _ _ more.0 it.0)) in
-      access_typed gscope scope known next layout index (λ p now later. after (Do (Contribute how layout field p (name_of next from) fresh_index stmt)) (simplified given rest now later)) all h has
+      let value = and_parts (scope.regs (made_name next from)) (gives_type truth (slice_get next.types (made_name next from))) (from_named gscope scope next all truth from (both _ _ more.0 it.0)) in
+      access_typed gscope scope known next layout index (λ p now later. put_in_front (Do (Contribute how layout field p (made_name next from) fresh_index stmt)) (simplified given rest now later)) all h has
       (λ p known' further wide widens names starts holds p_is.
-      act_typed given vars setters (Contribute how layout field p (name_of next from) fresh_index stmt) wide further (simplified given rest known' further)
+      act_typed given vars setters (Contribute how layout field p (made_name next from) fresh_index stmt) wide further (simplified given rest known' further)
       (λ final s.
       let onward = starts_on next further final starts s in
       both _ _ (cell_at wide final layout p has.shape has.there p_is)
-      (both _ _ (widens.regs (name_of next from) value.0)
-      (both _ _ (gives_on truth (slice_get next.types (name_of next from)) (slice_get final.types (name_of next from)) (onward.regs (name_of next from)) value.1)
+      (both _ _ (widens.regs (made_name next from) value.0)
+      (both _ _ (gives_on truth (slice_get next.types (made_name next from)) (slice_get final.types (made_name next from)) (onward.regs (made_name next from)) value.1)
       (index_on fixed next final scope wide onward widens layout fresh_index (index_named gscope scope next all layout index has)))))
       (simplified_typed rest inner gscope wide known' further scoped.2 within parts.1 (λ v e. widens.vars v (set v e))
       (names_on given.types gscope scope wide next further (λ r is. same_names next further names r) widens starts all) holds))
   simplified_typed (Do (Wish layout index stmt) rest) inner gscope scope known next scoped within good set all h =
-      let parts = and_parts (act_fits at gscope (Wish layout index stmt)) (fits at gscope rest) good in
+      let parts = and_parts (act_fits at gscope (Wish layout index stmt)) (fits_scope at gscope rest) good in
       let has = has_index at gscope layout index parts.0 in
-      act_typed given vars setters (Wish layout (map (name_of next) index) stmt) scope next (simplified given rest known next)
-      (λ final s. index_on fixed next final scope scope s (widens_same scope) layout (map (name_of next) index) (index_named gscope scope next all layout index has))
+      act_typed given vars setters (Wish layout (map (made_name next) index) stmt) scope next (simplified given rest known next)
+      (λ final s. index_on fixed next final scope scope s (widens_same scope) layout (map (made_name next) index) (index_named gscope scope next all layout index has))
       (simplified_typed rest inner gscope scope known next scoped.2 within parts.1 set all h)
   simplified_typed (Branch cond block otherwise rest) inner gscope scope known next scoped within good set all h =
-      let parts = and_parts (reads at gscope true cond && (fits at gscope block && fits at gscope otherwise)) (fits at gscope rest) good in
-      let own = and_parts (reads at gscope true cond) (fits at gscope block && fits at gscope otherwise) parts.0 in
-      let it = and_parts (fits at gscope block) (fits at gscope otherwise) own.1 in
+      let parts = and_parts (reads at gscope true cond && (fits_scope at gscope block && fits_scope at gscope otherwise)) (fits_scope at gscope rest) good in
+      let own = and_parts (reads at gscope true cond) (fits_scope at gscope block && fits_scope at gscope otherwise) parts.0 in
+      let it = and_parts (fits_scope at gscope block) (fits_scope at gscope otherwise) own.1 in
       let first = simplified given block known next in
       let one = simplified_typed block inner gscope scope known next scoped.1 within it.0 set all h in
       let to_first = one.grows first.1 (starts_same first.1) in
@@ -367,13 +367,13 @@ module _ (given : Given) (vars : List Ty) (setters : ℕ → ℕ) (places : ℕ)
             let third = three.grows final s in
             let mid = two.grows final third in
             let start = one.grows final mid in
-            both _ _ (both _ _ (reads_on fixed next final scope scope start (widens_same scope) true (name_of next cond) (reads_named gscope scope next all true cond own.0)) (both _ _ (one.good final mid) (two.good final third)))
+            both _ _ (both _ _ (reads_on fixed next final scope scope start (widens_same scope) true (made_name next cond) (reads_named gscope scope next all true cond own.0)) (both _ _ (one.good final mid) (two.good final third)))
             (three.good final s);
       }
   simplified_typed (Loop var lo hi body rest) inner gscope scope known next scoped within good set all h =
-      let parts = and_parts (holds_of is_i32 (slice_get vars var) && ((setters var == 1) && fits at (well.with_var var gscope) body)) (fits at gscope rest) good in
-      let own = and_parts (holds_of is_i32 (slice_get vars var)) ((setters var == 1) && fits at (well.with_var var gscope) body) parts.0 in
-      let it = and_parts (setters var == 1) (fits at (well.with_var var gscope) body) own.1 in
+      let parts = and_parts (holds_of is_i32 (slice_get vars var) && ((setters var == 1) && fits_scope at (well.with_var var gscope) body)) (fits_scope at gscope rest) good in
+      let own = and_parts (holds_of is_i32 (slice_get vars var)) ((setters var == 1) && fits_scope at (well.with_var var gscope) body) parts.0 in
+      let it = and_parts (setters var == 1) (fits_scope at (well.with_var var gscope) body) own.1 in
       let turn = simplified given body (looped var lo hi known) next in
       let mid = types_var fixed scope known next var h in
       let one = simplified_typed body inner (well.with_var var gscope) (well.with_var var scope) (looped var lo hi known) next scoped.0 within it.1 (put_within var gscope.vars scope.vars set)

@@ -13,10 +13,10 @@ use Rattle.sg_ir.specs.declared.span.Span.{Span}
 use Rattle.sg_ir.specs.Runs.{put}
 use Rattle.sg_ir.specs.Blocks.{Block}
 use Rattle.sg_ir.specs.WellTyped as well
-use Rattle.sg_ir.specs.WellTyped.{Known, Scope, Frame, is_of, reads, indexes, holds_of, takes_truth, is_lnot, is_cell, checkable, descends}
-use Rattle.sg_simplify.specs.Pass.{Pass, Next, with_reg, with_place, with_name, set_word}
-use Rattle.sg_simplify.specs.steps.Serves.{Each}
-use Rattle.sg_simplify.specs.steps.Judged.{gives, truth_of, operands_fit, index_fits, IndexIsGood, way_by, step_reads, step_known, fits}
+use Rattle.sg_ir.specs.WellTyped.{KnownPlace, Scope, Frame, is_truth_as, reads, indexes, holds_of, takes_truth, is_lnot, is_cell, checkable, descends}
+use Rattle.sg_simplify.specs.Pass.{Pass, Next, next_with_reg, next_with_place, with_name, set_word}
+use Rattle.sg_simplify.specs.steps.Serves.{EachByRecursion}
+use Rattle.sg_simplify.specs.steps.Judged.{gives_type, truth_of, operands_fit, index_fits, IndexIsGood, way_by, step_reads, step_known, fits_scope}
 use Rattle.sg_simplify.specs.steps.Typed.{Fixed, frame_by, Starts, Widens, OpTyped, StepTyped, Types, Typed, AllRead}
 use Rattle.sg_simplify.proofs.Tables.{each_map, length_push}
 use Rattle.sg_simplify.proofs.Setting.{put_still}
@@ -47,15 +47,15 @@ get_below (x ∷ xs) zero t e = omega arith
 get_below (x ∷ xs) (suc r) t e = let h = get_below xs r t e in omega arith
 
 -- ---- what may be there and still is
-is_of_on : (truth : Bool) (o p : Option Ty) → ((t : Ty) → o ≡ Some t → p ≡ Some t) → is_of truth o ≡ true → is_of truth p ≡ true
+is_of_on : (truth : Bool) (o p : Option Ty) → ((t : Ty) → o ≡ Some t → p ≡ Some t) → is_truth_as truth o ≡ true → is_truth_as truth p ≡ true
 is_of_on truth None p h e = absurd (no_type truth e)
   where
-    no_type : (truth : Bool) → is_of truth None ≡ true → ⊥
+    no_type : (truth : Bool) → is_truth_as truth None ≡ true → ⊥
     no_type true e = absurd (cc)
     no_type false e = absurd (cc)
-is_of_on truth (Some t) p h e = subst (λ (q : Option Ty). is_of truth q ≡ true) (sym (h t refl)) e
+is_of_on truth (Some t) p h e = subst (λ (q : Option Ty). is_truth_as truth q ≡ true) (sym (h t refl)) e
 
-pub gives_on : (truth : Option Bool) (o p : Option Ty) → ((t : Ty) → o ≡ Some t → p ≡ Some t) → gives truth o ≡ true → gives truth p ≡ true
+pub gives_on : (truth : Option Bool) (o p : Option Ty) → ((t : Ty) → o ≡ Some t → p ≡ Some t) → gives_type truth o ≡ true → gives_type truth p ≡ true
 gives_on None o p h e = absurd (cc)
 gives_on (Some truth) o p h e = is_of_on truth o p h e
 
@@ -63,7 +63,7 @@ holds_on : {A : Type 0} (test : A → Bool) (o p : Option A) → ((t : A) → o 
 holds_on test None p h e = absurd (cc)
 holds_on {A} test (Some t) p h e = subst (λ (q : Option A). holds_of test q ≡ true) (sym (h t refl)) e
 
-map_on : (f : Known → Known) (o p : Option Known) (k : Known) → ((t : Known) → o ≡ Some t → p ≡ Some t) → option_map f o ≡ Some k → option_map f p ≡ Some k
+map_on : (f : KnownPlace → KnownPlace) (o p : Option KnownPlace) (k : KnownPlace) → ((t : KnownPlace) → o ≡ Some t → p ≡ Some t) → option_map f o ≡ Some k → option_map f p ≡ Some k
 map_on f None p k h e = absurd (cc)
 map_on f (Some t) p k h e = ap (option_map f) (h t refl) ∙ e
 
@@ -80,13 +80,13 @@ widens_reg to scope = record { regs = λ r is. put_still to scope.regs r is; pla
 pub widens_var : (var : ℕ) (scope : Scope) → Widens scope (well.with_var var scope)
 widens_var var scope = record { regs = λ r is. is; places = λ p k is. is; vars = λ v is. put_still var scope.vars v is }
 
-pub widens_place : (to : ℕ) (known : Known) (scope : Scope) → scope.places to ≡ None → Widens scope (well.with_place to known scope)
+pub widens_place : (to : ℕ) (known : KnownPlace) (scope : Scope) → scope.places to ≡ None → Widens scope (well.with_place to known scope)
 widens_place to known scope free = record { regs = λ r is. is; places = λ p k is. by_test p k is (p == to) refl; vars = λ v is. is }
   where
-    clash : (k : Known) → None ≡ Some k → ⊥
+    clash : (k : KnownPlace) → None ≡ Some k → ⊥
     clash k e = absurd (cc)
 
-    by_test : (p : ℕ) (k : Known) → scope.places p ≡ Some k → (test : Bool) → (p == to) ≡ test → (if test then Some known else scope.places p) ≡ Some k
+    by_test : (p : ℕ) (k : KnownPlace) → scope.places p ≡ Some k → (test : Bool) → (p == to) ≡ test → (if test then Some known else scope.places p) ≡ Some k
     by_test p k is true e = absurd (clash k (sym free ∙ (ap scope.places (sym (eqb-true p to e)) ∙ is)))
     by_test p k is false e = is
 
@@ -96,17 +96,17 @@ starts_same next = record { regs = λ r t e. e; places = omega arith }
 pub starts_on : (a b c : Next) → Starts a b → Starts b c → Starts a c
 starts_on a b c first second = let p = first.places in let q = second.places in record { regs = λ r t e. second.regs r t (first.regs r t e); places = omega arith }
 
-pub starts_reg : (type : Ty) (span : Span) (next : Next) → Starts next (with_reg type span next)
+pub starts_reg : (type : Ty) (span : Span) (next : Next) → Starts next (next_with_reg type span next)
 starts_reg type span next = record { regs = λ r t e. get_pushed next.types type r t e; places = omega arith }
 
-pub starts_place : (next : Next) → Starts next (with_place next)
+pub starts_place : (next : Next) → Starts next (next_with_place next)
 starts_place next = record { regs = λ r t e. e; places = omega arith }
 
 module _ (fixed : Fixed) where
   pub reads_on : (next final : Next) (scope wide : Scope) → Starts next final → Widens scope wide → (truth : Bool) (r : ℕ) → reads (frame_by fixed next) scope truth r ≡ true → reads (frame_by fixed final) wide truth r ≡ true
   reads_on next final scope wide starts widens truth r e =
-      let parts = and_parts (scope.regs r) (is_of truth (slice_get next.types r)) e in
-      both (wide.regs r) (is_of truth (slice_get final.types r)) (widens.regs r parts.0) (is_of_on truth (slice_get next.types r) (slice_get final.types r) (starts.regs r) parts.1)
+      let parts = and_parts (scope.regs r) (is_truth_as truth (slice_get next.types r)) e in
+      both (wide.regs r) (is_truth_as truth (slice_get final.types r)) (widens.regs r parts.0) (is_of_on truth (slice_get next.types r) (slice_get final.types r) (starts.regs r) parts.1)
 
   pub all_read_on : (next final : Next) (scope wide : Scope) → Starts next final → Widens scope wide → (index : List ℕ) → AllRead fixed scope next index → AllRead fixed wide final index
   all_read_on next final scope wide starts widens [] all = tt
@@ -174,14 +174,14 @@ module _ (fixed : Fixed) where
       both _ _ (holds_on (descends (frame_by fixed final) (way_by descent) node) (scope.places place) (wide.places place) (widens.places place) parts.0) (reads_on next final scope wide starts widens false offset parts.1)
 
 -- what is known of a place stays
-pub known_on : (scope wide : Scope) → Widens scope wide → (how : Step) (k : Known) → step_known scope how ≡ Some k → step_known wide how ≡ Some k
+pub known_on : (scope wide : Scope) → Widens scope wide → (how : Step) (k : KnownPlace) → step_known scope how ≡ Some k → step_known wide how ≡ Some k
 known_on scope wide widens (step.Root layout) k e = e
-known_on scope wide widens (step.Check place axis extent index) k e = map_on (λ (known : Known). record { layout = known.layout; passed = 0 }) (scope.places place) (wide.places place) k (widens.places place) e
-known_on scope wide widens (step.Down descent place node offset) k e = map_on (λ (known : Known). record { layout = known.layout; passed = node }) (scope.places place) (wide.places place) k (widens.places place) e
+known_on scope wide widens (step.Check place axis extent index) k e = map_on (λ (known : KnownPlace). record { layout = known.layout; passed = 0 }) (scope.places place) (wide.places place) k (widens.places place) e
+known_on scope wide widens (step.Down descent place node offset) k e = map_on (λ (known : KnownPlace). record { layout = known.layout; passed = node }) (scope.places place) (wide.places place) k (widens.places place) e
 
 -- ---- the instruction that sets a register
-pub word_fits : (at : Frame) (scope : Scope) (n : ℕ) (how : Op) (index : List ℕ) (rest : Block) → operands_fit at scope how ≡ true → gives (truth_of at.shapes at.vars how) (slice_get at.regs n) ≡ true → IndexIsGood at scope how index
-    → fits at (well.with_reg n scope) rest ≡ true → fits at scope (set_word n how index rest) ≡ true
+pub word_fits : (at : Frame) (scope : Scope) (n : ℕ) (how : Op) (index : List ℕ) (rest : Block) → operands_fit at scope how ≡ true → gives_type (truth_of at.shapes at.vars how) (slice_get at.regs n) ≡ true → IndexIsGood at scope how index
+    → fits_scope at (well.with_reg n scope) rest ≡ true → fits_scope at scope (set_word n how index rest) ≡ true
 word_fits at scope n (op.Const word truth) index rest reads_ok type good more = both _ _ (both _ _ reads_ok type) more
 word_fits at scope n (op.Var var) index rest reads_ok type good more = both _ _ (both _ _ reads_ok type) more
 word_fits at scope n (op.Bin how kind a b) index rest reads_ok type good more = both _ _ (both _ _ reads_ok type) more
@@ -209,27 +209,27 @@ put_here {A} n it set = by_test (n == n) (eq_same n)
 
 module _ (fixed : Fixed) where
   -- the tables, in a wider scope, where more was put out
-  pub ops_on : (scope wide : Scope) (next further : Next) → Widens scope wide → Starts next further → (ops : List (Op × ℕ)) → Each (OpTyped fixed scope next) ops → Each (OpTyped fixed wide further) ops
+  pub ops_on : (scope wide : Scope) (next further : Next) → Widens scope wide → Starts next further → (ops : List (Op × ℕ)) → EachByRecursion (OpTyped fixed scope next) ops → EachByRecursion (OpTyped fixed wide further) ops
   ops_on scope wide next further widens starts ops all = each_map (OpTyped fixed scope next) (OpTyped fixed wide further)
       (λ entry h. record { set = widens.regs entry.1 h.set; type = gives_on (truth_of fixed.shapes fixed.vars entry.0) (slice_get next.types entry.1) (slice_get further.types entry.1) (starts.regs entry.1) h.type }) ops all
 
-  pub steps_on : (scope wide : Scope) → Widens scope wide → (steps : List (Step × ℕ)) → Each (StepTyped scope) steps → Each (StepTyped wide) steps
+  pub steps_on : (scope wide : Scope) → Widens scope wide → (steps : List (Step × ℕ)) → EachByRecursion (StepTyped scope) steps → EachByRecursion (StepTyped wide) steps
   steps_on scope wide widens steps all = each_map (StepTyped scope) (StepTyped wide)
       (λ entry h. record { known = h.known; comes = known_on scope wide widens entry.0 h.known h.comes; here = widens.places entry.1 h.known h.here }) steps all
 
-  pub types_reg : (scope : Scope) (known : Pass) (next : Next) (type : Ty) (span : Span) → Types fixed scope known next → Types fixed (well.with_reg (length next.spans) scope) known (with_reg type span next)
+  pub types_reg : (scope : Scope) (known : Pass) (next : Next) (type : Ty) (span : Span) → Types fixed scope known next → Types fixed (well.with_reg (length next.spans) scope) known (next_with_reg type span next)
   types_reg scope known next type span h = let n = length next.spans in record {
     even = length_push next.types type ∙ (ap suc h.even ∙ sym (length_push next.spans span));
-    ops = ops_on scope (well.with_reg n scope) next (with_reg type span next) (widens_reg n scope) (starts_reg type span next) known.ops h.ops;
+    ops = ops_on scope (well.with_reg n scope) next (next_with_reg type span next) (widens_reg n scope) (starts_reg type span next) known.ops h.ops;
     steps = steps_on scope (well.with_reg n scope) (widens_reg n scope) known.steps h.steps;
     free_regs = λ r above. put_unset n true false scope.regs h.free_regs r (subst (λ k. k ≤ r) (length_push next.spans span) above);
     free_places = h.free_places;
   }
 
-  pub types_place : (scope : Scope) (known : Pass) (next : Next) (place : Known) → Types fixed scope known next → Types fixed (well.with_place next.places place scope) known (with_place next)
+  pub types_place : (scope : Scope) (known : Pass) (next : Next) (place : KnownPlace) → Types fixed scope known next → Types fixed (well.with_place next.places place scope) known (next_with_place next)
   types_place scope known next place h = let n = next.places in let widens = widens_place n place scope (h.free_places n (omega arith)) in record {
     even = h.even;
-    ops = ops_on scope (well.with_place n place scope) next (with_place next) widens (starts_place next) known.ops h.ops;
+    ops = ops_on scope (well.with_place n place scope) next (next_with_place next) widens (starts_place next) known.ops h.ops;
     steps = steps_on scope (well.with_place n place scope) widens known.steps h.steps;
     free_regs = h.free_regs;
     free_places = λ p above. put_unset n (Some place) None scope.places h.free_places p above;

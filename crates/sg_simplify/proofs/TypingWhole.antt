@@ -15,7 +15,7 @@ use Rattle.sg_ir.specs.WellTyped.{Frame, Scope, frame_of, first_scope, judged, s
 use Rattle.sg_ir.specs.steps.InScope.{nothing, IsScoped}
 use Rattle.sg_simplify.specs.Pass.{Given, Next, given_of, first_pass, first_next, simplified}
 use Rattle.sg_simplify.specs.steps.Counted.{regs_set, places_set}
-use Rattle.sg_simplify.specs.steps.Judged.{fits}
+use Rattle.sg_simplify.specs.steps.Judged.{fits_scope}
 use Rattle.sg_simplify.specs.steps.Typed.{Fixed, frame_by, Typed, AreWalked}
 use Rattle.sg_simplify.proofs.SettingVars.{simplified_count}
 use Rattle.sg_simplify.proofs.Tallying.{code_regs, code_places, code_vars}
@@ -93,9 +93,9 @@ simple_well_typed shapes domain code made walked good scoped out is same_block s
     (same_regs ∙ ap (λ (o : Block × Next). o.1.types) (sym is)) (same_places ∙ ap (λ (o : Block × Next). o.1.places) (sym is)) same_vars counts in
     let judged_good : (judged (frame_of shapes made) made.body (first_scope made.body)).0 ≡ true =
     sym (code_fits (frame_of shapes made) made.body (first_scope made.body))
-    ∙ (ap (λ (at : Frame). fits at (first_scope made.body) (block_in made)) frame
-    ∙ (ap (λ (s : ℕ → ℕ). fits (frame_by fixed result.1) (scoped_by s) (block_in made)) counts
-    ∙ (ap (fits (frame_by fixed result.1) start) whole
+    ∙ (ap (λ (at : Frame). fits_scope at (first_scope made.body) (block_in made)) frame
+    ∙ (ap (λ (s : ℕ → ℕ). fits_scope (frame_by fixed result.1) (scoped_by s) (block_in made)) counts
+    ∙ (ap (fits_scope (frame_by fixed result.1) start) whole
     ∙ typed.good result.1 (starts_same result.1)))) in
     both _ _ judged_good
     (both _ _

@@ -11,7 +11,7 @@ use Rattle.sg_ir.specs.Apt.{Use, Writes, Reads, ReadsOwn, uses_step, uses_in}
 use Rattle.sg_ir.specs.Blocks.{Block, End, Link, chained, link_step, link, block_of}
 use Rattle.sg_ir.proofs.Uses.{fold-Const, fold-Var, fold-Set, fold-Bin, fold-Un, fold-Mulq, fold-Root, fold-Check, fold-Extract, fold-Offset, fold-Child, fold-HashChild, fold-MaskBit, fold-DynCell, fold-ReadCell, fold-OwnRead, fold-OwnWrite, fold-Acc, fold-Want, fold-If, fold-For}
 use Rattle.sg_simplify.specs.Pass.{given_of, first_pass, first_next, simple}
-use Rattle.sg_simplify.specs.steps.Serves.{Each}
+use Rattle.sg_simplify.specs.steps.Serves.{EachByRecursion}
 use Rattle.sg_simplify.specs.steps.Only.{has_use}
 use Rattle.sg_simplify.proofs.Inducting.{inductively}
 use Rattle.sg_simplify.proofs.OnlyUses.{simplified_only}
@@ -58,7 +58,7 @@ module _ (types : List Ty) (test : Use → Bool) where
   carry : (l k : Link) (uses other : List Use) → l ≡ k → uses ≡ other → Same k other → Same l uses
   carry l k uses other e f h = subst (λ (m : Link). Same m uses) (sym e) (subst (λ (us : List Use). Same k us) (sym f) h)
 
-  list_same : (insts : List Inst) → Each SameOf insts → Same (chained (map (link types) insts)) (uses_in insts)
+  list_same : (insts : List Inst) → EachByRecursion SameOf insts → Same (chained (map (link types) insts)) (uses_in insts)
   list_same [] each rest = refl
   list_same (inst ∷ insts) each rest =
       each.0 (chained (map (link types) insts) rest)
@@ -96,7 +96,7 @@ module _ (types : List Ty) (test : Use → Bool) where
       (λ var lo hi body each. carry _ _ _ _ (fold-For (link_step types) var lo hi body) (fold-For uses_step var lo hi body ∙ in_order body inst_uses)
       (λ rest. ap (λ (b : Bool). b || has_use test rest) (list_same body each End) ∙ or_end (list_any test (uses_in body)) (has_use test rest)))
 
-  of_every : (insts : List Inst) → Each SameOf insts
+  of_every : (insts : List Inst) → EachByRecursion SameOf insts
   of_every [] = tt
   of_every (inst ∷ insts) = (every_same inst, of_every insts)
 

@@ -14,39 +14,39 @@ use Rattle.sg_ir.specs.declared.op.Step.{Step}
 use Rattle.sg_ir.specs.declared.op.Step.TheVariants as step
 use Rattle.sg_ir.specs.Blocks.{Block, End, Word, Spot, Cell, Do, Branch, Loop, SetVar, WriteOwn, Contribute, Wish}
 use Rattle.sg_ir.specs.Shared.{same_op, same_step, is_pure}
-use Rattle.sg_ir.specs.Trimmed.{is_within, Passed, Ways, way_to, checks_of, passed_in}
+use Rattle.sg_ir.specs.Trimmed.{is_within, AxisCheck, Ways, way_to, checks_of, passed_in}
 use Rattle.sg_ir.specs.steps.InScope.{InScope, and_reg, and_place, op_places, step_places, IsScoped}
 use Rattle.sg_ir.specs.Places.{extents_in}
 use Rattle.sg_ir.proofs.Uses.{op_exact, step_exact}
-use Rattle.sg_simplify.specs.Pass.{Given, Pass, Next, Making, name_of, with_name, with_reg, with_place, type_of, span_in, span_of, renamed, and_op, and_step, after, set_word, taken_at, taken, numbered, stepped_at, stepped, check_at, checked, joined, offset, descent_of, descended, placed_in, placed, looped, simplified}
-use Rattle.sg_simplify.specs.steps.Serves.{Each}
-use Rattle.sg_simplify.specs.steps.Ruled.{IsPlain, IsFitted, HasLayout}
+use Rattle.sg_simplify.specs.Pass.{Given, Pass, Next, Making, made_name, with_name, next_with_reg, next_with_place, given_type, span_in, span_of, renamed, and_op, and_step, put_in_front, set_word, taken_at, taken, numbered, stepped_at, stepped, check_at, checks_made, offset_made, offset, descent_of, descended, placed_in, place_made, looped, simplified}
+use Rattle.sg_simplify.specs.steps.Serves.{EachByRecursion}
+use Rattle.sg_simplify.specs.steps.Ruled.{IsNotRead, HasAccessLayouts, HasLayout}
 use Rattle.sg_simplify.specs.steps.Uses.{IsPassed, Used, AreOld, IsUnread, IsPending}
 use Rattle.sg_simplify.proofs.Tables.{each_push, each_map, IsFound, each_found}
 use Rattle.sg_simplify.proofs.Growing.{grown_on, simplified_grows}
 
 -- ---- lists
-each_both : {A : Type 0} (P : A → Type 0) (xs ys : List A) → Each P xs → Each P ys → Each P (xs ++ ys)
+each_both : {A : Type 0} (P : A → Type 0) (xs ys : List A) → EachByRecursion P xs → EachByRecursion P ys → EachByRecursion P (xs ++ ys)
 each_both P [] ys first second = second
 each_both P (x ∷ xs) ys first second = (first.0, each_both P xs ys first.1 second)
 
-any_left : (xs ys : List Passed) (p : ℕ) → IsPassed xs p → IsPassed (xs ++ ys) p
+any_left : (xs ys : List AxisCheck) (p : ℕ) → IsPassed xs p → IsPassed (xs ++ ys) p
 any_left [] ys p h = absurd (cc)
 any_left (x ∷ xs) ys p h = by_test (x.place == p) h (any_left xs ys p)
   where
-    by_test : (test : Bool) → (test || list_any (λ (it : Passed). it.place == p) xs) ≡ true → (IsPassed xs p → IsPassed (xs ++ ys) p) → (test || list_any (λ (it : Passed). it.place == p) (xs ++ ys)) ≡ true
+    by_test : (test : Bool) → (test || list_any (λ (it : AxisCheck). it.place == p) xs) ≡ true → (IsPassed xs p → IsPassed (xs ++ ys) p) → (test || list_any (λ (it : AxisCheck). it.place == p) (xs ++ ys)) ≡ true
     by_test true e more = refl
     by_test false e more = more e
 
-any_right : (xs ys : List Passed) (p : ℕ) → IsPassed ys p → IsPassed (xs ++ ys) p
+any_right : (xs ys : List AxisCheck) (p : ℕ) → IsPassed ys p → IsPassed (xs ++ ys) p
 any_right [] ys p h = h
 any_right (x ∷ xs) ys p h = by_test (x.place == p) (any_right xs ys p h)
   where
-    by_test : (test : Bool) → IsPassed (xs ++ ys) p → (test || list_any (λ (it : Passed). it.place == p) (xs ++ ys)) ≡ true
+    by_test : (test : Bool) → IsPassed (xs ++ ys) p → (test || list_any (λ (it : AxisCheck). it.place == p) (xs ++ ys)) ≡ true
     by_test true more = refl
     by_test false more = more
 
-any_last : (xs : List Passed) (it : Passed) → IsPassed (xs ++ it ∷ []) it.place
+any_last : (xs : List AxisCheck) (it : AxisCheck) → IsPassed (xs ++ it ∷ []) it.place
 any_last xs it = any_right xs (it ∷ []) it.place (by_test (it.place == it.place) (grind arith))
   where
     by_test : (test : Bool) → test ≡ true → (test || false) ≡ true
@@ -63,7 +63,7 @@ none_more test (entry ∷ entries) key n h off = by_test (test entry.0) h (λ e.
     by_test false e more = more e
 
 -- a key that no entry equals isn't found
-none_found : {A : Type 0} (same : A → A → Bool) (key : A) (P : A → Type 0) → ((other : A) → same key other ≡ true → P other → ⊥) → (entries : List (A × ℕ)) → Each (λ entry. P entry.0) entries → lookup (same key) entries ≡ None
+none_found : {A : Type 0} (same : A → A → Bool) (key : A) (P : A → Type 0) → ((other : A) → same key other ≡ true → P other → ⊥) → (entries : List (A × ℕ)) → EachByRecursion (λ entry. P entry.0) entries → lookup (same key) entries ≡ None
 none_found {A} same key P never [] all = refl
 none_found {A} same key P never (entry ∷ entries) all = by_test (same key entry.0) refl (none_found same key P never entries all.1)
   where
@@ -75,24 +75,24 @@ some_none : {A : Type 0} (o : Option ℕ) (t : ℕ) → o ≡ Some t → o ≡ N
 some_none o t e f = absurd (cc)
 
 -- ---- what is known is old
-below_more : (m n : ℕ) → m ≤ n → (ps : List ℕ) → Each (λ p. p < m) ps → Each (λ p. p < n) ps
+below_more : (m n : ℕ) → m ≤ n → (ps : List ℕ) → EachByRecursion (λ p. p < m) ps → EachByRecursion (λ p. p < n) ps
 below_more m n more [] all = tt
 below_more m n more (p ∷ ps) all = let h = all.0 in (omega arith, below_more m n more ps all.1)
 
 old_later : (known : Pass) (next further : Next) → next.places ≤ further.places → AreOld known next → AreOld known further
 old_later known next further more h = record {
-  ops = each_map (λ entry. Each (λ p. p < next.places) (op_places entry.0)) (λ entry. Each (λ p. p < further.places) (op_places entry.0)) (λ entry all. below_more next.places further.places more (op_places entry.0) all) known.ops h.ops;
-  steps = each_map (λ entry. Each (λ p. p < next.places) (step_places entry.0)) (λ entry. Each (λ p. p < further.places) (step_places entry.0)) (λ entry all. below_more next.places further.places more (step_places entry.0) all) known.steps h.steps;
+  ops = each_map (λ entry. EachByRecursion (λ p. p < next.places) (op_places entry.0)) (λ entry. EachByRecursion (λ p. p < further.places) (op_places entry.0)) (λ entry all. below_more next.places further.places more (op_places entry.0) all) known.ops h.ops;
+  steps = each_map (λ entry. EachByRecursion (λ p. p < next.places) (step_places entry.0)) (λ entry. EachByRecursion (λ p. p < further.places) (step_places entry.0)) (λ entry all. below_more next.places further.places more (step_places entry.0) all) known.steps h.steps;
   given = each_map (λ entry. entry.1 < next.places) (λ entry. entry.1 < further.places) (λ entry below. omega (arith, below, more)) known.steps h.given;
 }
 
 -- a place that is given now isn't read by what is known
 unread_new : (known : Pass) (next : Next) → AreOld known next → IsUnread known next.places
 unread_new known next h = record {
-  reads = λ layout field. none_found same_op (op.Read next.places layout field) (λ other. Each (λ p. p < next.places) (op_places other))
-      (λ other same old. too_far next.places (subst (λ (o : Op). Each (λ p. p < next.places) (op_places o)) (sym (op_exact (op.Read next.places layout field) other same)) old).0) known.ops h.ops;
-  steps = λ how reads. none_found same_step how (λ other. Each (λ p. p < next.places) (step_places other))
-      (λ other same old. too_far next.places (subst (λ (ps : List ℕ). Each (λ p. p < next.places) ps) reads (subst (λ (s : Step). Each (λ p. p < next.places) (step_places s)) (sym (step_exact how other same)) old)).0) known.steps h.steps;
+  reads = λ layout field. none_found same_op (op.Read next.places layout field) (λ other. EachByRecursion (λ p. p < next.places) (op_places other))
+      (λ other same old. too_far next.places (subst (λ (o : Op). EachByRecursion (λ p. p < next.places) (op_places o)) (sym (op_exact (op.Read next.places layout field) other same)) old).0) known.ops h.ops;
+  steps = λ how reads. none_found same_step how (λ other. EachByRecursion (λ p. p < next.places) (step_places other))
+      (λ other same old. too_far next.places (subst (λ (ps : List ℕ). EachByRecursion (λ p. p < next.places) ps) reads (subst (λ (s : Step). EachByRecursion (λ p. p < next.places) (step_places s)) (sym (step_exact how other same)) old)).0) known.steps h.steps;
 }
   where
     too_far : (n : ℕ) → n < n → ⊥
@@ -114,11 +114,11 @@ used_word ways pending n (op.Read place layout field) index rest h = record {
 used_word ways pending n (op.OwnRead layout field) index rest h = record { here = h.here; own = h.own }
 
 -- what is pending is passed by an access at the place
-pending_passed : (known : Pass) (ways : Ways) (pending : List ℕ) (p : ℕ) (more : List Passed) → IsPending known ways pending p → Each (IsPassed (way_to ways p ++ more)) pending
+pending_passed : (known : Pass) (ways : Ways) (pending : List ℕ) (p : ℕ) (more : List AxisCheck) → IsPending known ways pending p → EachByRecursion (IsPassed (way_to ways p ++ more)) pending
 pending_passed known ways [] p more h = tt
 pending_passed known ways (check ∷ pending) p more h = each_map (IsPassed (way_to ways p)) (IsPassed (way_to ways p ++ more)) (λ q e. any_left (way_to ways p) more q e) (check ∷ pending) h.0
 
-way_here : (ways : Ways) (n : ℕ) (way : List Passed) → way_to ((n, way) ∷ ways) n ≡ way
+way_here : (ways : Ways) (n : ℕ) (way : List AxisCheck) → way_to ((n, way) ∷ ways) n ≡ way
 way_here ways n way = by_test (n == n) (grind arith)
   where
     by_test : (test : Bool) → test ≡ true → (if test then way else way_to ways n) ≡ way
@@ -145,29 +145,29 @@ module _ (given : Given) where
       by_found : (o : Option ℕ) → Used ways pending (taken_at given type how [] go o known next).0
       by_found (Some t) = goes t known next old below is
       by_found None = let n = length next.spans in
-          used_word ways pending n how [] _ (goes n (and_op how n known) (with_reg type (span_of given known next how) next)
-          (record { ops = each_push (λ entry. Each (λ q. q < next.places) (op_places entry.0)) known.ops (how, n) old.ops (subst (λ (ps : List ℕ). Each (λ q. q < next.places) ps) (sym none) tt); steps = old.steps; given = old.given })
+          used_word ways pending n how [] _ (goes n (and_op how n known) (next_with_reg type (span_of given known next how) next)
+          (record { ops = each_push (λ entry. EachByRecursion (λ q. q < next.places) (op_places entry.0)) known.ops (how, n) old.ops (subst (λ (ps : List ℕ). EachByRecursion (λ q. q < next.places) ps) (sym none) tt); steps = old.steps; given = old.given })
           below (pending_op known ways pending p n how off is))
 
   joined_uses : (node : NodeShape) (later : List NodeShape) (index : List ℕ) (axis high : ℕ) (go : ℕ → Making) (ways : Ways) (pending : List ℕ) (p : ℕ) (known : Pass) (next : Next)
-      → AreOld known next → p < next.places → IsPending known ways pending p → GoesUsed ways pending p go → Used ways pending (joined given node later axis index high go known next).0
+      → AreOld known next → p < next.places → IsPending known ways pending p → GoesUsed ways pending p go → Used ways pending (offset_made given node later axis index high go known next).0
   joined_uses node later [] axis high go ways pending p known next old below is goes = goes high known next old below is
   joined_uses node later (r ∷ index) axis high go ways pending p known next old below is goes =
-      calc_uses ty.U32 (op.Extract (extent_over later axis) (extent_in node.sizes axis) r) (λ low. taken given ty.U32 (op.Offset high (extent_in node.sizes axis) low) [] (λ o. joined given node later (suc axis) index o go)) ways pending p known next refl (λ layout field. refl) old below is
-      (λ low known' further old' below' is'. calc_uses ty.U32 (op.Offset high (extent_in node.sizes axis) low) (λ o. joined given node later (suc axis) index o go) ways pending p known' further refl (λ layout field. refl) old' below' is'
+      calc_uses ty.U32 (op.Extract (extent_over later axis) (extent_in node.sizes axis) r) (λ low. taken given ty.U32 (op.Offset high (extent_in node.sizes axis) low) [] (λ o. offset_made given node later (suc axis) index o go)) ways pending p known next refl (λ layout field. refl) old below is
+      (λ low known' further old' below' is'. calc_uses ty.U32 (op.Offset high (extent_in node.sizes axis) low) (λ o. offset_made given node later (suc axis) index o go) ways pending p known' further refl (λ layout field. refl) old' below' is'
       (λ o known'' further' old'' below'' is''. joined_uses node later index (suc axis) o go ways pending p known'' further' old'' below'' is'' goes))
 
   offset_uses : (node : NodeShape) (later : List NodeShape) (index : List ℕ) (go : ℕ → Making) (ways : Ways) (pending : List ℕ) (p : ℕ) (known : Pass) (next : Next)
       → AreOld known next → p < next.places → IsPending known ways pending p → GoesUsed ways pending p go → Used ways pending (offset given node later index go known next).0
   offset_uses node later [] go ways pending p known next old below is goes = goes 0 known next old below is
   offset_uses node later (r ∷ index) go ways pending p known next old below is goes =
-      calc_uses ty.U32 (op.Extract (extent_over later 1) (extent_in node.sizes 1) r) (λ high. joined given node later 2 index high go) ways pending p known next refl (λ layout field. refl) old below is
+      calc_uses ty.U32 (op.Extract (extent_over later 1) (extent_in node.sizes 1) r) (λ high. offset_made given node later 2 index high go) ways pending p known next refl (λ layout field. refl) old below is
       (λ high known' further old' below' is'. joined_uses node later index 2 high go ways pending p known' further old' below' is' goes)
 
-  old_step : (known : Pass) (next : Next) (how : Step) → Each (λ p. p < next.places) (step_places how) → AreOld known next → AreOld (and_step how next.places known) (with_place next)
-  old_step known next how below old = let later = old_later known next (with_place next) (omega arith) old in record {
+  old_step : (known : Pass) (next : Next) (how : Step) → EachByRecursion (λ p. p < next.places) (step_places how) → AreOld known next → AreOld (and_step how next.places known) (next_with_place next)
+  old_step known next how below old = let later = old_later known next (next_with_place next) (omega arith) old in record {
     ops = later.ops;
-    steps = each_push (λ entry. Each (λ p. p < suc next.places) (step_places entry.0)) known.steps (how, next.places) later.steps (below_more next.places (suc next.places) (omega arith) (step_places how) below);
+    steps = each_push (λ entry. EachByRecursion (λ p. p < suc next.places) (step_places entry.0)) known.steps (how, next.places) later.steps (below_more next.places (suc next.places) (omega arith) (step_places how) below);
     given = each_push (λ entry. entry.1 < suc next.places) known.steps (how, next.places) later.given (omega arith);
   }
 
@@ -198,12 +198,12 @@ module _ (given : Given) where
       by_found (Some t) e (check ∷ waits) h = some_none (lookup (same_step how) known.steps) t e (h.1.steps how refl)
       by_found None e [] h =
           let n = next.places in
-          let more = goes [] n (and_step how n known) (with_place next) ((n, way_to ways place) ∷ ways) (old_step known next how (below, tt) old) (omega arith) tt in
+          let more = goes [] n (and_step how n known) (next_with_place next) ((n, way_to ways place) ∷ ways) (old_step known next how (below, tt) old) (omega arith) tt in
           record { here = tt; own = more.own }
       by_found None e (check ∷ waits) h =
           let n = next.places in
-          let more = goes (check ∷ waits) n (and_step how n known) (with_place next) ((n, way_to ways place) ∷ ways) (old_step known next how (below, tt) old) (omega arith)
-          (subst (λ (w : List Passed). Each (IsPassed w) (check ∷ waits)) (sym (way_here ways n (way_to ways place))) h.0, unread_step known next how place refl below old) in
+          let more = goes (check ∷ waits) n (and_step how n known) (next_with_place next) ((n, way_to ways place) ∷ ways) (old_step known next how (below, tt) old) (omega arith)
+          (subst (λ (w : List AxisCheck). EachByRecursion (IsPassed w) (check ∷ waits)) (sym (way_here ways n (way_to ways place))) h.0, unread_step known next how place refl below old) in
           record { here = more.here; own = more.own }
 
   -- one check
@@ -219,24 +219,24 @@ module _ (given : Given) where
       by_found (Some t) e (check ∷ waits) h = some_none (lookup (same_step how) known.steps) t e (h.1.steps how refl)
       by_found None e waits h =
           let n = next.places in
-          let it : Passed = record { axis = axis; index = r; place = n } in
+          let it : AxisCheck = record { axis = axis; index = r; place = n } in
           let way = way_to ways place ++ it ∷ [] in
-          let more = goes (n ∷ waits) n (and_step how n known) (with_place next) ((n, way) ∷ ways) (old_step known next how (below, tt) old) (omega arith)
-          (subst (λ (w : List Passed). Each (IsPassed w) (n ∷ waits)) (sym (way_here ways n way)) (any_last (way_to ways place) it, pending_passed known ways waits place (it ∷ []) h), unread_step known next how place refl below old) in
+          let more = goes (n ∷ waits) n (and_step how n known) (next_with_place next) ((n, way) ∷ ways) (old_step known next how (below, tt) old) (omega arith)
+          (subst (λ (w : List AxisCheck). EachByRecursion (IsPassed w) (n ∷ waits)) (sym (way_here ways n way)) (any_last (way_to ways place) it, pending_passed known ways waits place (it ∷ []) h), unread_step known next how place refl below old) in
           record { here = more.here.1; own = (more.here.0, more.own) }
 
   checked_uses : (extents : List ℕ) (axis : ℕ) (index : List ℕ) (place : ℕ) (go : ℕ → Making) (ways : Ways) (pending : List ℕ) (known : Pass) (next : Next) → AreOld known next → place < next.places → IsPending known ways pending place → GoesUsedAt go
-      → Used ways pending (checked axis extents index place go known next).0
+      → Used ways pending (checks_made axis extents index place go known next).0
   checked_uses [] axis index place go ways pending known next old below is goes = goes pending place known next ways old below is
   checked_uses (extent ∷ extents) axis [] place go ways pending known next old below is goes = goes pending place known next ways old below is
   checked_uses (extent ∷ extents) axis (r ∷ index) place go ways pending known next old below is goes = by_test (is_within extent (span_in next r))
       (checked_uses extents (suc axis) index place go ways pending known next old below is goes)
       (λ waits p known' further beyond old' below' is'. checked_uses extents (suc axis) index p go beyond waits known' further old' below' is' goes)
     where
-      by_test : (test : Bool) → Used ways pending (checked (suc axis) extents index place go known next).0 → GoesUsedAt (λ p. checked (suc axis) extents index p go)
-          → Used ways pending (check_at test (step.Check place axis extent r) place (λ p. checked (suc axis) extents index p go) known next).0
+      by_test : (test : Bool) → Used ways pending (checks_made (suc axis) extents index place go known next).0 → GoesUsedAt (λ p. checks_made (suc axis) extents index p go)
+          → Used ways pending (check_at test (step.Check place axis extent r) place (λ p. checks_made (suc axis) extents index p go) known next).0
       by_test true same more = same
-      by_test false same more = check_uses place axis extent r (λ p. checked (suc axis) extents index p go) ways pending known next old below is more
+      by_test false same more = check_uses place axis extent r (λ p. checks_made (suc axis) extents index p go) ways pending known next old below is more
 
   descended_uses : (nodes : List NodeShape) (number : ℕ) (index : List ℕ) (place : ℕ) (go : ℕ → Making) (ways : Ways) (pending : List ℕ) (known : Pass) (next : Next) → AreOld known next → place < next.places → IsPending known ways pending place → GoesUsedAt go
       → Used ways pending (descended given nodes number index place go known next).0
@@ -252,13 +252,13 @@ module _ (given : Given) where
       by_found : (found : Option ℕ) → lookup (same_step (step.Root layout)) known.steps ≡ found → Used ways [] (stepped_at (step.Root layout) go found known next).0
       by_found (Some t) e = let found : IsFound same_step (step.Root layout) (λ entry. entry.1 < next.places) t = each_found same_step (step.Root layout) (λ entry. entry.1 < next.places) known.steps t old.given e in goes [] t known next ways old found.holds tt
       by_found None e = let n = next.places in
-          let more = goes [] n (and_step (step.Root layout) n known) (with_place next) ((n, []) ∷ ways) (old_step known next (step.Root layout) tt old) (omega arith) tt in
+          let more = goes [] n (and_step (step.Root layout) n known) (next_with_place next) ((n, []) ∷ ways) (old_step known next (step.Root layout) tt old) (omega arith) tt in
           record { here = tt; own = more.own }
 
-  placed_uses : (shape : Shape) (layout : ℕ) (index : List ℕ) (go : ℕ → Making) (ways : Ways) (known : Pass) (next : Next) → slice_get given.shapes layout ≡ Some shape → AreOld known next → GoesUsedAt go → Used ways [] (placed given layout index go known next).0
+  placed_uses : (shape : Shape) (layout : ℕ) (index : List ℕ) (go : ℕ → Making) (ways : Ways) (known : Pass) (next : Next) → slice_get given.shapes layout ≡ Some shape → AreOld known next → GoesUsedAt go → Used ways [] (place_made given layout index go known next).0
   placed_uses shape layout index go ways known next there old goes =
       subst (λ (found : Option Shape). Used ways [] (placed_in given found layout index go known next).0) (sym there)
-      (root_uses layout (λ k. checked 0 (extents_in (bounds_of_shape shape)) index k (λ p. descended given shape.nodes 1 index p go)) ways known next old
+      (root_uses layout (λ k. checks_made 0 (extents_in (bounds_of_shape shape)) index k (λ p. descended given shape.nodes 1 index p go)) ways known next old
       (λ waits k known' further beyond old' below' is'. checked_uses (extents_in (bounds_of_shape shape)) 0 index k (λ p. descended given shape.nodes 1 index p go) beyond waits known' further old' below' is'
       (λ waits' p known'' further' beyond' old'' below'' is''. descended_uses shape.nodes 1 index p go beyond' waits' known'' further' old'' below'' is'' goes)))
 
@@ -275,26 +275,26 @@ module _ (given : Given) where
       by_found (Some t) e (check ∷ waits) h = some_none (lookup (same_op how) known.ops) t e (h.1.reads layout field)
       by_found None e waits h =
           let n = length next.spans in
-          let more = goes n (and_op how n known) (with_reg type (span_of given known next how) next)
-          (record { ops = each_push (λ entry. Each (λ q. q < next.places) (op_places entry.0)) known.ops (how, n) old.ops (below, tt); steps = old.steps; given = old.given }) in
+          let more = goes n (and_op how n known) (next_with_reg type (span_of given known next how) next)
+          (record { ops = each_push (λ entry. EachByRecursion (λ q. q < next.places) (op_places entry.0)) known.ops (how, n) old.ops (below, tt); steps = old.steps; given = old.given }) in
           record {
-            here = pending_passed known ways waits p (passed_in ways (go n (and_op how n known) (with_reg type (span_of given known next how) next)).0) h;
-            own = each_map (IsPassed (passed_in ways (go n (and_op how n known) (with_reg type (span_of given known next how) next)).0)) (IsPassed (way_to ways p ++ passed_in ways (go n (and_op how n known) (with_reg type (span_of given known next how) next)).0))
+            here = pending_passed known ways waits p (passed_in ways (go n (and_op how n known) (next_with_reg type (span_of given known next how) next)).0) h;
+            own = each_map (IsPassed (passed_in ways (go n (and_op how n known) (next_with_reg type (span_of given known next how) next)).0)) (IsPassed (way_to ways p ++ passed_in ways (go n (and_op how n known) (next_with_reg type (span_of given known next how) next)).0))
                 (λ q e. any_right (way_to ways p) _ q e) _ more.own;
           }
 
   plain_uses : (pure : Bool) (type : Ty) (how : Op) (go : ℕ → Making) (ways : Ways) (known : Pass) (next : Next) → op_places how ≡ [] → AreOld known next → ((t : ℕ) (known' : Pass) (further : Next) → AreOld known' further → Used ways [] (go t known' further).0)
       → Used ways [] (numbered pure given type how go known next).0
-  plain_uses false type how go ways known next none old goes = used_word ways [] (length next.spans) how [] _ (goes (length next.spans) known (with_reg type (span_of given known next how) next) (record { ops = old.ops; steps = old.steps; given = old.given }))
+  plain_uses false type how go ways known next none old goes = used_word ways [] (length next.spans) how [] _ (goes (length next.spans) known (next_with_reg type (span_of given known next how) next) (record { ops = old.ops; steps = old.steps; given = old.given }))
   plain_uses true type how go ways known next none old goes = by_found (lookup (same_op how) known.ops)
     where
       by_found : (o : Option ℕ) → Used ways [] (taken_at given type how [] go o known next).0
       by_found (Some t) = goes t known next old
       by_found None = let n = length next.spans in
-          used_word ways [] n how [] _ (goes n (and_op how n known) (with_reg type (span_of given known next how) next)
-          (record { ops = each_push (λ entry. Each (λ q. q < next.places) (op_places entry.0)) known.ops (how, n) old.ops (subst (λ (ps : List ℕ). Each (λ q. q < next.places) ps) (sym none) tt); steps = old.steps; given = old.given }))
+          used_word ways [] n how [] _ (goes n (and_op how n known) (next_with_reg type (span_of given known next how) next)
+          (record { ops = each_push (λ entry. EachByRecursion (λ q. q < next.places) (op_places entry.0)) known.ops (how, n) old.ops (subst (λ (ps : List ℕ). EachByRecursion (λ q. q < next.places) ps) (sym none) tt); steps = old.steps; given = old.given }))
 
-plain_places : (next : Next) (how : Op) → IsPlain how → op_places (renamed next how) ≡ []
+plain_places : (next : Next) (how : Op) → IsNotRead how → op_places (renamed next how) ≡ []
 plain_places next (op.Const word truth) plain = refl
 plain_places next (op.Var var) plain = refl
 plain_places next (op.Bin how kind a b) plain = refl
@@ -306,30 +306,30 @@ plain_places next (op.Read place layout field) plain = absurd plain
 plain_places next (op.OwnRead layout field) plain = refl
 
 -- a block in front of another, or in it
-used_both : (a b : List Passed) (xs ys : List ℕ) → Each (IsPassed a) xs → Each (IsPassed b) ys → Each (IsPassed (a ++ b)) (xs ++ ys)
+used_both : (a b : List AxisCheck) (xs ys : List ℕ) → EachByRecursion (IsPassed a) xs → EachByRecursion (IsPassed b) ys → EachByRecursion (IsPassed (a ++ b)) (xs ++ ys)
 used_both a b xs ys first second = each_both (IsPassed (a ++ b)) xs ys (each_map (IsPassed a) (IsPassed (a ++ b)) (λ p e. any_left a b p e) xs first) (each_map (IsPassed b) (IsPassed (a ++ b)) (λ p e. any_right a b p e) ys second)
 
 module _ (given : Given) where
-  pub simplified_uses : (block : Block) (inner : InScope) (known : Pass) (next : Next) (ways : Ways) → IsScoped inner block → IsFitted given.shapes block → AreOld known next → Used ways [] (simplified given block known next).0
+  pub simplified_uses : (block : Block) (inner : InScope) (known : Pass) (next : Next) (ways : Ways) → IsScoped inner block → HasAccessLayouts given.shapes block → AreOld known next → Used ways [] (simplified given block known next).0
   simplified_uses End inner known next ways scoped fitted old = record { here = tt; own = tt }
   simplified_uses (Word to how rest) inner known next ways scoped fitted old =
-      plain_uses given (is_pure given.single how) (type_of given to) (renamed next how) (λ t now later. simplified given rest now (with_name to t later)) ways known next (plain_places next how fitted.0) old
+      plain_uses given (is_pure given.single how) (given_type given to) (renamed next how) (λ t now later. simplified given rest now (with_name to t later)) ways known next (plain_places next how fitted.0) old
       (λ t known' further old'. simplified_uses rest (and_reg to inner) known' (with_name to t further) ways scoped.3 fitted.1 (record { ops = old'.ops; steps = old'.steps; given = old'.given }))
   simplified_uses (Spot to how rest) inner known next ways scoped fitted old = simplified_uses rest (and_place to inner) known next ways scoped.3 fitted old
   simplified_uses (Cell to place layout field [] rest) inner known next ways scoped fitted old = absurd fitted.0
   simplified_uses (Cell to place layout field (r ∷ index) rest) inner known next ways scoped fitted old =
-      let fresh_index = map (name_of next) (r ∷ index) in
+      let fresh_index = map (made_name next) (r ∷ index) in
       let has : HasLayout given.shapes layout (length (r ∷ index)) = fitted.0 in
-      placed_uses given has.shape layout fresh_index (λ p. taken given (type_of given to) (op.Read p layout field) fresh_index (λ t now later. simplified given rest now (with_name to t later))) ways known next has.there old
-      (λ waits p known' further beyond old' below is. read_uses given (type_of given to) p layout field fresh_index (λ t now later. simplified given rest now (with_name to t later)) beyond waits known' further old' below is
+      placed_uses given has.shape layout fresh_index (λ p. taken given (given_type given to) (op.Read p layout field) fresh_index (λ t now later. simplified given rest now (with_name to t later))) ways known next has.there old
+      (λ waits p known' further beyond old' below is. read_uses given (given_type given to) p layout field fresh_index (λ t now later. simplified given rest now (with_name to t later)) beyond waits known' further old' below is
       (λ t known'' further' old''. simplified_uses rest (and_reg to inner) known'' (with_name to t further') beyond scoped.2 fitted.1 (record { ops = old''.ops; steps = old''.steps; given = old''.given })))
   simplified_uses (Do (SetVar var reg) rest) inner known next ways scoped fitted old = let more = simplified_uses rest inner known next ways scoped.2 fitted.1 old in record { here = tt; own = more.own }
   simplified_uses (Do (WriteOwn layout field reg stmt) rest) inner known next ways scoped fitted old = let more = simplified_uses rest inner known next ways scoped.2 fitted.1 old in record { here = tt; own = more.own }
   simplified_uses (Do (Contribute how layout field place reg [] stmt) rest) inner known next ways scoped fitted old = absurd fitted.0
   simplified_uses (Do (Contribute how layout field place reg (r ∷ index) stmt) rest) inner known next ways scoped fitted old =
-      let fresh_index = map (name_of next) (r ∷ index) in
+      let fresh_index = map (made_name next) (r ∷ index) in
       let has : HasLayout given.shapes layout (length (r ∷ index)) = fitted.0 in
-      placed_uses given has.shape layout fresh_index (λ p now later. after (Do (Contribute how layout field p (name_of next reg) fresh_index stmt)) (simplified given rest now later)) ways known next has.there old
+      placed_uses given has.shape layout fresh_index (λ p now later. put_in_front (Do (Contribute how layout field p (made_name next reg) fresh_index stmt)) (simplified given rest now later)) ways known next has.there old
       (λ waits p known' further beyond old' below is.
       let more = simplified_uses rest inner known' further beyond scoped.2 fitted.1 old' in
       record {

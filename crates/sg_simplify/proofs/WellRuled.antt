@@ -9,13 +9,13 @@ use Rattle.sg_flat.specs.declared.effects.Domain.{Domain}
 use Rattle.sg_ir.specs.declared.code.Code.{Code}
 use Rattle.sg_ir.specs.Blocks.{End, block_of}
 use Rattle.sg_ir.specs.declared.span.Span.{Span}
-use Rattle.sg_ir.specs.Span.{whole, sets, domain_span, first_spans}
+use Rattle.sg_ir.specs.Span.{whole_i32, sets, domain_span, first_spans}
 use Rattle.sg_ir.specs.Shared.{is_single}
 use Rattle.sg_ir.specs.WellTyped.{Frame, frame_of, first_scope, judged, set_regs, set_places, setters_in, has_no_twice, most_loop_vars, is_well_typed}
 use Rattle.sg_ir.specs.steps.InScope.{nothing}
 use Rattle.sg_simplify.specs.Pass.{given_of, first_pass, vars_of}
 use Rattle.sg_simplify.specs.steps.Ruled.{IsRuled}
-use Rattle.sg_simplify.specs.steps.Counted.{regs_set, places_set, Counts, AddsUp, IsWhole, Meets, AreLaid, has_words}
+use Rattle.sg_simplify.specs.steps.Counted.{regs_set, places_set, Counts, AddsUp, IsWhole, Meets, CanBeWalked, has_words}
 use Rattle.sg_simplify.proofs.Rulings.{code_rules}
 use Rattle.sg_simplify.proofs.Tallying.{code_regs, code_places, code_vars, once_at_most}
 
@@ -26,14 +26,14 @@ none_set : {A : Type 0} → false ≡ true → A
 none_set h = absurd (cc)
 
 -- the span of a variable that is set
-wide_of : (n : ℕ) (span : Span) → 1 ≤ n → (if n == 0 then span else whole) ≡ whole
+wide_of : (n : ℕ) (span : Span) → 1 ≤ n → (if n == 0 then span else whole_i32) ≡ whole_i32
 wide_of n span some = by_test (n == 0) refl
   where
-    by_test : (test : Bool) → (n == 0) ≡ test → (if test then span else whole) ≡ whole
+    by_test : (test : Bool) → (n == 0) ≡ test → (if test then span else whole_i32) ≡ whole_i32
     by_test true e = let none : n ≡ 0 = eqb-true n 0 e in absurd (omega arith)
     by_test false e = refl
 
-pub well_typed_is_ruled : (shapes : List Shape) (domain : Domain) (code : Code) → AreLaid shapes → is_well_typed shapes code ≡ true → list_all (λ b. b) (map has_words code.body) ≡ true
+pub well_typed_is_ruled : (shapes : List Shape) (domain : Domain) (code : Code) → CanBeWalked shapes → is_well_typed shapes code ≡ true → list_all (λ b. b) (map has_words code.body) ≡ true
     → IsRuled shapes (given_of shapes domain code.regs (block_of code.regs code.body)).single (vars_of (given_of shapes domain code.regs (block_of code.regs code.body)) first_pass) nothing (block_of code.regs code.body)
 well_typed_is_ruled shapes domain code laid good words =
     let block = block_of code.regs code.body in

@@ -6,9 +6,9 @@ use Rattle.sg_layout.specs.declared.shape.Shape.{Shape}
 use Rattle.sg_flat.specs.declared.effects.Domain.{Domain}
 use Rattle.sg_ir.specs.Runs.{Seen}
 use Rattle.sg_ir.specs.Blocks.{Block}
-use Rattle.sg_ir.specs.Span.{whole, first_spans}
-use Rattle.sg_ir.specs.SpanLaws.{Lies, Fits}
-use Rattle.sg_ir.specs.steps.Scoped.{Moment, first_room, run}
+use Rattle.sg_ir.specs.Span.{whole_i32, first_spans}
+use Rattle.sg_ir.specs.SpanLaws.{Lies, FitsSpans}
+use Rattle.sg_ir.specs.steps.Scoped.{RunMoment, first_room, run}
 use Rattle.sg_ir.specs.steps.InScope.{nothing, IsScoped}
 use Rattle.sg_simplify.specs.Pass.{given_of, first_pass, first_next, vars_of, simple, simplified}
 use Rattle.sg_simplify.specs.steps.Serves.{Laws, NamesAll, Good}
@@ -19,12 +19,12 @@ use Rattle.sg_simplify.proofs.Setting.{simplified_sets}
 none_set : {A : Type 0} → false ≡ true → A
 none_set h = absurd (cc)
 
-pub simple_keeps : (seen : Seen) → Laws seen → (domain : Domain) (types : List Ty) (block : Block) (now : Moment)
+pub simple_keeps : (seen : Seen) → Laws seen → (domain : Domain) (types : List Ty) (block : Block) (now : RunMoment)
     → IsRuled seen.shapes (given_of seen.shapes domain types block).single (vars_of (given_of seen.shapes domain types block) first_pass) nothing block
-    → Fits (first_spans seen.shapes domain block) now → NamesAll seen block first_room now
+    → FitsSpans (first_spans seen.shapes domain block) now → NamesAll seen block first_room now
     → Good seen (simplified (given_of seen.shapes domain types block) block first_pass first_next) first_room now (run seen block first_room now)
 simple_keeps seen laws domain types block now ruled fits names =
-    let none : Lies whole 0 = laws.all_words 0 (omega arith) in
+    let none : Lies whole_i32 0 = laws.all_words 0 (omega arith) in
     simplifies seen laws (given_of seen.shapes domain types block) refl block nothing first_pass first_next first_room first_room now ruled
     (record { ops = tt; steps = tt; words = λ r. none; fits = record { vars = fits.vars; writes = fits.writes } })
     (λ r set. none_set set) (λ r. none) names

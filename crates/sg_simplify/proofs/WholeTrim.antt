@@ -6,11 +6,11 @@ use Rattle.sg_words.specs.declared.operators.Ty.{Ty}
 use Rattle.sg_layout.specs.declared.shape.Shape.{Shape}
 use Rattle.sg_flat.specs.declared.effects.Domain.{Domain}
 use Rattle.sg_ir.specs.Blocks.{Block}
-use Rattle.sg_ir.specs.Span.{whole, domain_span, first_spans}
-use Rattle.sg_ir.specs.Trimmed.{Passed, checks_of, passed_in, accesses_are_trim, is_trimmed}
+use Rattle.sg_ir.specs.Span.{whole_i32, domain_span, first_spans}
+use Rattle.sg_ir.specs.Trimmed.{AxisCheck, checks_of, passed_in, accesses_are_trim, is_trimmed}
 use Rattle.sg_ir.specs.steps.InScope.{nothing}
 use Rattle.sg_simplify.specs.Pass.{given_of, first_pass, first_next, vars_of, simple}
-use Rattle.sg_simplify.specs.steps.Serves.{Each}
+use Rattle.sg_simplify.specs.steps.Serves.{EachByRecursion}
 use Rattle.sg_simplify.specs.steps.Ruled.{IsRuled}
 use Rattle.sg_simplify.specs.steps.Uses.{IsPassed}
 use Rattle.sg_simplify.proofs.SettingVars.{simplified_count}
@@ -25,7 +25,7 @@ both_true true true e f = refl
 both_true true false e f = absurd (cc)
 both_true false b e f = absurd (cc)
 
-all_pass : (passed : List Passed) (places : List ℕ) → Each (IsPassed passed) places → list_all (λ place. list_any (λ (it : Passed). it.place == place) passed) places ≡ true
+all_pass : (passed : List AxisCheck) (places : List ℕ) → EachByRecursion (IsPassed passed) places → list_all (λ place. list_any (λ (it : AxisCheck). it.place == place) passed) places ≡ true
 all_pass passed [] each = refl
 all_pass passed (p ∷ places) each = both_true _ _ each.0 (all_pass passed places each.1)
 
@@ -39,7 +39,7 @@ simple_is_trimmed shapes domain types block ruled =
     (record {
       sets = record { ops = tt; steps = tt; free_regs = λ r above. refl; free_places = λ p above. refl };
       regs = λ r is. none_set is;
-      vars = λ v. ap (λ n. if n == 0 then domain_span shapes domain v else whole) (simplified_count given v block first_pass first_next);
+      vars = λ v. ap (λ n. if n == 0 then domain_span shapes domain v else whole_i32) (simplified_count given v block first_pass first_next);
       steps = tt;
     })
     (λ r is. none_set is))

@@ -20,7 +20,7 @@ use Rattle.sg_ir.specs.declared.op.Descent.TheVariants as by
 use Rattle.sg_ir.specs.Places.{extents_in}
 use Rattle.sg_ir.specs.Blocks.{Block, End, Word, Spot, Cell, Do, Branch, Loop, Act, SetVar, WriteOwn, Contribute, Wish}
 use Rattle.sg_ir.specs.declared.span.Span.{Span}
-use Rattle.sg_ir.specs.Span.{whole, Spans, bin_span, range_span, op_span, first_spans}
+use Rattle.sg_ir.specs.Span.{whole_i32, Spans, bin_span, range_span, op_span, first_spans}
 use Rattle.sg_ir.specs.Shared.{same_op, same_step, is_pure, is_single}
 use Rattle.sg_ir.specs.Trimmed.{is_within}
 
@@ -51,25 +51,25 @@ abbrev pub Making : Type 0
 Making = Pass → Next → Block × Next
 
 -- the new name of a given register; itself where it has none
-abbrev pub name_of : Next → ℕ → ℕ
-name_of next r = unwrap_or (lookup (nat_eq r) next.names) r
+abbrev pub made_name : Next → ℕ → ℕ
+made_name next r = unwrap_or (lookup (nat_eq r) next.names) r
 
 abbrev pub with_name : ℕ → ℕ → Next → Next
 with_name from to next = record { types = next.types; spans = next.spans; places = next.places; names = insert_entry nat_eq next.names from to }
 
-abbrev pub with_reg : Ty → Span → Next → Next
-with_reg type span next = record { types = next.types ++ type ∷ []; spans = next.spans ++ span ∷ []; places = next.places; names = next.names }
+abbrev pub next_with_reg : Ty → Span → Next → Next
+next_with_reg type span next = record { types = next.types ++ type ∷ []; spans = next.spans ++ span ∷ []; places = next.places; names = next.names }
 
-abbrev pub with_place : Next → Next
-with_place next = record { types = next.types; spans = next.spans; places = suc next.places; names = next.names }
+abbrev pub next_with_place : Next → Next
+next_with_place next = record { types = next.types; spans = next.spans; places = suc next.places; names = next.names }
 
 -- the type of a given register
-abbrev pub type_of : Given → ℕ → Ty
-type_of given r = get_or given.types r ty.U32
+abbrev pub given_type : Given → ℕ → Ty
+given_type given r = get_or given.types r ty.U32
 
 -- the span of a new register, and of the word that an operation on new registers gives
 abbrev pub span_in : Next → ℕ → Span
-span_in next r = get_or next.spans r whole
+span_in next r = get_or next.spans r whole_i32
 
 abbrev pub vars_of : Given → Pass → Spans
 vars_of given pass = record { regs = []; loops = pass.loops; others = given.others }
@@ -82,11 +82,11 @@ span_of given pass next how = op_span (vars_of given pass) how
 abbrev pub renamed : Next → Op → Op
 renamed next (op.Const word truth) = op.Const word truth
 renamed next (op.Var var) = op.Var var
-renamed next (op.Bin how kind a b) = op.Bin how kind (name_of next a) (name_of next b)
-renamed next (op.Un how kind a) = op.Un how kind (name_of next a)
-renamed next (op.Mulq a b s) = op.Mulq (name_of next a) (name_of next b) (name_of next s)
-renamed next (op.Extract div size from) = op.Extract div size (name_of next from)
-renamed next (op.Offset high size low) = op.Offset (name_of next high) size (name_of next low)
+renamed next (op.Bin how kind a b) = op.Bin how kind (made_name next a) (made_name next b)
+renamed next (op.Un how kind a) = op.Un how kind (made_name next a)
+renamed next (op.Mulq a b s) = op.Mulq (made_name next a) (made_name next b) (made_name next s)
+renamed next (op.Extract div size from) = op.Extract div size (made_name next from)
+renamed next (op.Offset high size low) = op.Offset (made_name next high) size (made_name next low)
 renamed next (op.Read place layout field) = op.Read place layout field
 renamed next (op.OwnRead layout field) = op.OwnRead layout field
 
@@ -98,8 +98,8 @@ abbrev pub and_step : Step → ℕ → Pass → Pass
 and_step how to pass = record { ops = pass.ops; steps = pass.steps ++ (how, to) ∷ []; loops = pass.loops }
 
 -- in front of what is put out
-abbrev pub after : (Block → Block) → Block × Next → Block × Next
-after link made = (link made.0, made.1)
+abbrev pub put_in_front : (Block → Block) → Block × Next → Block × Next
+put_in_front link made = (link made.0, made.1)
 
 -- the instruction that sets a register to an operation; a read of a cell has index registers besides
 abbrev pub set_word : ℕ → Op → List ℕ → Block → Block
@@ -109,13 +109,13 @@ set_word to how index rest = Word to how rest
 -- `go` is what follows, given the register. A new register; and one that holds the operation: a known one, else a new one.
 abbrev pub fresh : Given → Ty → Op → List ℕ → (ℕ → Making) → Making
 fresh given type how index go pass next =
-    after (set_word (length next.spans) how index) (go (length next.spans) pass (with_reg type (span_of given pass next how) next))
+    put_in_front (set_word (length next.spans) how index) (go (length next.spans) pass (next_with_reg type (span_of given pass next how) next))
 
 abbrev pub taken_at : Given → Ty → Op → List ℕ → (ℕ → Making) → Option ℕ → Making
 taken_at given type how index go (Some t) pass next = go t pass next
 taken_at given type how index go None pass next =
-    after (set_word (length next.spans) how index)
-    (go (length next.spans) (and_op how (length next.spans) pass) (with_reg type (span_of given pass next how) next))
+    put_in_front (set_word (length next.spans) how index)
+    (go (length next.spans) (and_op how (length next.spans) pass) (next_with_reg type (span_of given pass next how) next))
 
 abbrev pub taken : Given → Ty → Op → List ℕ → (ℕ → Making) → Making
 taken given type how index go pass next = taken_at given type how index go (lookup (same_op how) pass.ops) pass next
@@ -127,7 +127,7 @@ numbered false given type how go pass next = fresh given type how [] go pass nex
 -- a place that a step gives: a known one, else a new one
 abbrev pub stepped_at : Step → (ℕ → Making) → Option ℕ → Making
 stepped_at how go (Some t) pass next = go t pass next
-stepped_at how go None pass next = after (Spot next.places how) (go next.places (and_step how next.places pass) (with_place next))
+stepped_at how go None pass next = put_in_front (Spot next.places how) (go next.places (and_step how next.places pass) (next_with_place next))
 
 abbrev pub stepped : Step → (ℕ → Making) → Making
 stepped how go pass next = stepped_at how go (lookup (same_step how) pass.steps) pass next
@@ -137,26 +137,26 @@ abbrev pub check_at : Bool → Step → ℕ → (ℕ → Making) → Making
 check_at true how place go pass next = go place pass next
 check_at false how place go pass next = stepped how go pass next
 
-abbrev pub checked : ℕ → List ℕ → List ℕ → ℕ → (ℕ → Making) → Making
-checked axis [] index place go pass next = go place pass next
-checked axis (extent ∷ extents) [] place go pass next = go place pass next
-checked axis (extent ∷ extents) (r ∷ index) place go pass next =
-    check_at (is_within extent (span_in next r)) (step.Check place axis extent r) place (λ p. checked (suc axis) extents index p go) pass next
+abbrev pub checks_made : ℕ → List ℕ → List ℕ → ℕ → (ℕ → Making) → Making
+checks_made axis [] index place go pass next = go place pass next
+checks_made axis (extent ∷ extents) [] place go pass next = go place pass next
+checks_made axis (extent ∷ extents) (r ∷ index) place go pass next =
+    check_at (is_within extent (span_in next r)) (step.Check place axis extent r) place (λ p. checks_made (suc axis) extents index p go) pass next
 
 -- the part of an index on an axis at a node
 abbrev pub part : Given → NodeShape → List NodeShape → ℕ → ℕ → (ℕ → Making) → Making
 part given node later axis r go = taken given ty.U32 (op.Extract (extent_over later axis) (extent_in node.sizes axis) r) [] go
 
 -- the offset at a node, from an axis on, counted from 1
-abbrev pub joined : Given → NodeShape → List NodeShape → ℕ → List ℕ → ℕ → (ℕ → Making) → Making
-joined given node later axis [] high go pass next = go high pass next
-joined given node later axis (r ∷ index) high go pass next =
+abbrev pub offset_made : Given → NodeShape → List NodeShape → ℕ → List ℕ → ℕ → (ℕ → Making) → Making
+offset_made given node later axis [] high go pass next = go high pass next
+offset_made given node later axis (r ∷ index) high go pass next =
     part given node later axis r
-    (λ low. taken given ty.U32 (op.Offset high (extent_in node.sizes axis) low) [] (λ o. joined given node later (suc axis) index o go)) pass next
+    (λ low. taken given ty.U32 (op.Offset high (extent_in node.sizes axis) low) [] (λ o. offset_made given node later (suc axis) index o go)) pass next
 
 abbrev pub offset : Given → NodeShape → List NodeShape → List ℕ → (ℕ → Making) → Making
 offset given node later [] go pass next = go 0 pass next
-offset given node later (r ∷ index) go pass next = part given node later 1 r (λ high. joined given node later 2 index high go) pass next
+offset given node later (r ∷ index) go pass next = part given node later 1 r (λ high. offset_made given node later 2 index high go) pass next
 
 abbrev pub descent_of : Kind → Descent
 descent_of Dense = by.Child
@@ -177,19 +177,19 @@ abbrev pub placed_in : Given → Option Shape → ℕ → List ℕ → (ℕ → 
 placed_in given None layout index go pass next = go 0 pass next
 placed_in given (Some shape) layout index go pass next =
     stepped (step.Root layout)
-    (λ r. checked 0 (extents_in (bounds_of_shape shape)) index r (λ p. descended given shape.nodes 1 index p go)) pass next
+    (λ r. checks_made 0 (extents_in (bounds_of_shape shape)) index r (λ p. descended given shape.nodes 1 index p go)) pass next
 
-abbrev pub placed : Given → ℕ → List ℕ → (ℕ → Making) → Making
-placed given layout index go pass next = placed_in given (slice_get given.shapes layout) layout index go pass next
+abbrev pub place_made : Given → ℕ → List ℕ → (ℕ → Making) → Making
+place_made given layout index go pass next = placed_in given (slice_get given.shapes layout) layout index go pass next
 
 -- an act
-abbrev pub acted : Given → Act → Making → Making
-acted given (SetVar var from) go pass next = after (Do (SetVar var (name_of next from))) (go pass next)
-acted given (WriteOwn layout field from stmt) go pass next = after (Do (WriteOwn layout field (name_of next from) stmt)) (go pass next)
-acted given (Contribute how layout field place from index stmt) go pass next =
-    placed given layout (map (name_of next) index)
-    (λ p now later. after (Do (Contribute how layout field p (name_of next from) (map (name_of next) index) stmt)) (go now later)) pass next
-acted given (Wish layout index stmt) go pass next = after (Do (Wish layout (map (name_of next) index) stmt)) (go pass next)
+abbrev pub act_made : Given → Act → Making → Making
+act_made given (SetVar var from) go pass next = put_in_front (Do (SetVar var (made_name next from))) (go pass next)
+act_made given (WriteOwn layout field from stmt) go pass next = put_in_front (Do (WriteOwn layout field (made_name next from) stmt)) (go pass next)
+act_made given (Contribute how layout field place from index stmt) go pass next =
+    place_made given layout (map (made_name next) index)
+    (λ p now later. put_in_front (Do (Contribute how layout field p (made_name next from) (map (made_name next) index) stmt)) (go now later)) pass next
+act_made given (Wish layout index stmt) go pass next = put_in_front (Do (Wish layout (map (made_name next) index) stmt)) (go pass next)
 
 -- the inside of a loop
 abbrev pub looped : ℕ → ℤ → ℤ → Pass → Pass
@@ -199,18 +199,18 @@ looped var lo hi pass = record { ops = pass.ops; steps = pass.steps; loops = (va
 abbrev pub simplified : Given → Block → Making
 simplified given End pass next = (End, next)
 simplified given (Word to how rest) pass next =
-    numbered (is_pure given.single how) given (type_of given to) (renamed next how) (λ t now later. simplified given rest now (with_name to t later)) pass next
+    numbered (is_pure given.single how) given (given_type given to) (renamed next how) (λ t now later. simplified given rest now (with_name to t later)) pass next
 simplified given (Spot to how rest) pass next = simplified given rest pass next
 simplified given (Cell to place layout field index rest) pass next =
-    placed given layout (map (name_of next) index)
-    (λ p. taken given (type_of given to) (op.Read p layout field) (map (name_of next) index)
+    place_made given layout (map (made_name next) index)
+    (λ p. taken given (given_type given to) (op.Read p layout field) (map (made_name next) index)
     (λ t now later. simplified given rest now (with_name to t later))) pass next
-simplified given (Do what rest) pass next = acted given what (simplified given rest) pass next
+simplified given (Do what rest) pass next = act_made given what (simplified given rest) pass next
 simplified given (Branch cond block otherwise rest) pass next =
     let first = simplified given block pass next in
     let second = simplified given otherwise pass first.1 in
     let more = simplified given rest pass second.1 in
-    (Branch (name_of next cond) first.0 second.0 more.0, more.1)
+    (Branch (made_name next cond) first.0 second.0 more.0, more.1)
 simplified given (Loop var lo hi body rest) pass next =
     let turn = simplified given body (looped var lo hi pass) next in
     let more = simplified given rest pass turn.1 in

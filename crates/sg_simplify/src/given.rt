@@ -25,12 +25,12 @@ pub(crate) struct Given<'a> {
 
 impl Given<'_> {
     ghost use Rattle.sg_ir.specs.Shared.{is_pure};
-    ghost use Rattle.sg_simplify.specs.Pass.{type_of};
+    ghost use Rattle.sg_simplify.specs.Pass.{given_type};
     ghost use Rattle.sg_simplify.specs.steps.Made.{given_in};
 
     /// The type of a register; u32 where it isn't there.
     pub fn ty(&self, reg: u32) -> Ty
-        ensures { result ≡ type_of (given_in self.now) reg }
+        ensures { result ≡ given_type (given_in self.now) reg }
     {
         match self.code.regs.get(reg as usize) {
             Some(ty) => *ty,

@@ -1,8 +1,8 @@
 //! What the pass has made so far, and what of it is known in scope.
 ghost use Rattle.std.specs.Prelude.{◌≡◌, IfOk, OnOk, ℕ, map, reverse};
-ghost use Rattle.sg_simplify.specs.Pass.{Making, name_of, span_in, vars_of, span_of, fresh, taken, stepped, first_pass, first_next};
+ghost use Rattle.sg_simplify.specs.Pass.{Making, made_name, span_in, vars_of, span_of, fresh, taken, stepped, first_pass, first_next};
 ghost use Rattle.sg_ir.specs.Span.{held, var_span};
-ghost use Rattle.sg_simplify.specs.steps.Made.{given_in, span_in_loop, pass_of, next_of, AddsReg, Goes, HasTruth};
+ghost use Rattle.sg_simplify.specs.steps.Made.{given_in, span_in_loop, pass_of, next_of, AddsMadeReg, Goes, HasTruth};
 
 use crate::given::Given;
 use crate::insts::{step_inst, word_inst};
@@ -54,7 +54,7 @@ impl Made {
 
     /// The new register of a given one; the same number where it has none.
     pub fn name(&self, reg: u32) -> u32
-        ensures { result ≡ name_of (next_of self.now) reg }
+        ensures { result ≡ made_name (next_of self.now) reg }
     {
         match self.names.get(&reg) {
             Some(to) => *to,
@@ -107,7 +107,7 @@ impl Made {
 
     /// A new register of a type, with the span of the operation that sets it.
     fn reg(&mut self, given: &Given, ty: Ty, op: Op) -> Result<u32, Memory>
-        ensures { IfOk result (λ to. AddsReg (given_in given.now) ty op to self.old self.new) }
+        ensures { IfOk result (λ to. AddsMadeReg (given_in given.now) ty op to self.old self.new) }
     {
         let Ok(to) = u32::try_from(self.regs.len()) else {
             return Err(Memory);

@@ -1,6 +1,6 @@
 //! The place of an access, built anew from its index registers.
 ghost use Rattle.std.specs.Prelude.{◌≡◌, ◌≤◌, ◌+◌, ◌∷◌, ℕ, length, IfOk};
-ghost use Rattle.sg_simplify.specs.Pass.{Making, checked, descended, offset, joined, part, placed, descent_of};
+ghost use Rattle.sg_simplify.specs.Pass.{Making, checks_made, descended, offset, offset_made, part, place_made, descent_of};
 ghost use Rattle.sg_simplify.specs.steps.Made.{given_in, check_in, AreWide, Goes};
 
 use crate::given::Given;
@@ -20,7 +20,7 @@ impl Made {
         index: &[u32],
         out: &mut Items<Inst>,
     ) -> Result<u32, Memory>
-        ensures { IfOk result (λ to. (go : ℕ → Making) → Goes self.old self.new out.old out.new (placed (given_in given.now) number index.now go) (go to)) }
+        ensures { IfOk result (λ to. (go : ℕ → Making) → Goes self.old self.new out.old out.new (place_made (given_in given.now) number index.now go) (go to)) }
     {
         let Some(layout) = given.layout(number) else {
             return Ok(0);
@@ -48,7 +48,7 @@ impl Made {
         out: &mut Items<Inst>,
     ) -> Result<u32, Memory>
         requires few { axis + length extents.now ≤ 3 }
-        ensures { IfOk result (λ to. (go : ℕ → Making) → Goes self.old self.new out.old out.new (checked axis extents.now index.now place go) (go to)) }
+        ensures { IfOk result (λ to. (go : ℕ → Making) → Goes self.old self.new out.old out.new (checks_made axis extents.now index.now place go) (go to)) }
     {
         let [extent, extents @ ..] = extents else {
             return Ok(place);
@@ -143,7 +143,7 @@ impl Made {
     ) -> Result<u32, Memory>
         requires wide { AreWide (node.now ∷ later.now) }
         requires first { 1 ≤ axis }
-        ensures { IfOk result (λ to. (go : ℕ → Making) → Goes self.old self.new out.old out.new (joined (given_in given.now) node.now later.now axis index.now high go) (go to)) }
+        ensures { IfOk result (λ to. (go : ℕ → Making) → Goes self.old self.new out.old out.new (offset_made (given_in given.now) node.now later.now axis index.now high go) (go to)) }
     {
         let [first, rest @ ..] = index else {
             return Ok(high);

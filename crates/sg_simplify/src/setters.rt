@@ -4,7 +4,7 @@ ghost use Rattle.std.specs.List.{list_all};
 ghost use Rattle.sg_words.specs.declared.operators.Ty.{Ty};
 ghost use Rattle.sg_ir.specs.Blocks.{End, link, block_of};
 ghost use Rattle.sg_ir.specs.Span.{sets};
-ghost use Rattle.sg_simplify.specs.steps.Counted.{flag, has_words};
+ghost use Rattle.sg_simplify.specs.steps.Counted.{one_where, has_words};
 ghost use Rattle.sg_simplify.specs.steps.Tally.{TellsCounts, TellsSets};
 
 use indexmap::IndexMap;
@@ -49,7 +49,7 @@ impl Setters {
     }
 
     fn note(&mut self, var: u32) -> Result<(), Memory>
-        ensures { OnOk result ((count : ℕ → ℕ) → TellsCounts count self.old.again.entries → TellsCounts (λ v. count v + flag (var == v)) self.new.again.entries) }
+        ensures { OnOk result ((count : ℕ → ℕ) → TellsCounts count self.old.again.entries → TellsCounts (λ v. count v + one_where (var == v)) self.new.again.entries) }
     {
         let again = self.again.get(&var).is_some();
         self.again.insert(var, again)?;

@@ -2,7 +2,7 @@
 ghost use Rattle.std.specs.Prelude.{◌≡◌, false, ℕ, List, map, IfOk, OnOk, IfSome, IfNone};
 ghost use Rattle.sg_ir.specs.Blocks.{Block, link, Cell};
 ghost use Rattle.sg_ir.specs.Shared.{is_pure};
-ghost use Rattle.sg_simplify.specs.Pass.{Making, name_of, type_of, numbered, simplified};
+ghost use Rattle.sg_simplify.specs.Pass.{Making, made_name, given_type, numbered, simplified};
 ghost use Rattle.sg_simplify.specs.steps.Made.{given_in, pass_of, next_of, onward, is_word, HasTruth, Goes};
 
 use crate::given::Given;
@@ -13,8 +13,8 @@ use sg_words::{Items, Memory, Ty};
 impl Made {
     /// The register that an instruction sets to an operation, and this operation on new registers. None of any other instruction.
     pub fn operation(&self, given: &Given, inst: &Inst) -> Option<(u32, Op)>
-        ensures truth { IfSome result (λ it. HasTruth (type_of (given_in given.now) it.0) it.1) }
-        ensures operation { IfSome result (λ it. (rest : Block) → numbered (is_pure (given_in given.now).single it.1) (given_in given.now) (type_of (given_in given.now) it.0) it.1 (onward (given_in given.now) it.0 rest) (pass_of self.now) (next_of self.now)
+        ensures truth { IfSome result (λ it. HasTruth (given_type (given_in given.now) it.0) it.1) }
+        ensures operation { IfSome result (λ it. (rest : Block) → numbered (is_pure (given_in given.now).single it.1) (given_in given.now) (given_type (given_in given.now) it.0) it.1 (onward (given_in given.now) it.0 rest) (pass_of self.now) (next_of self.now)
             ≡ simplified (given_in given.now) (link given.now.code.now.regs inst.now rest) (pass_of self.now) (next_of self.now)) }
         ensures none { IfNone result (is_word inst.now ≡ false) }
     {
@@ -85,9 +85,9 @@ impl Made {
         op: Op,
         out: &mut Items<Inst>,
     ) -> Result<(), Memory>
-        requires truth { HasTruth (type_of (given_in given.now) from) op }
+        requires truth { HasTruth (given_type (given_in given.now) from) op }
         ensures { OnOk result ((rest : Block) → Goes self.old self.new out.old out.new
-            (numbered (is_pure (given_in given.now).single op) (given_in given.now) (type_of (given_in given.now) from) op (onward (given_in given.now) from rest)) (simplified (given_in given.now) rest)) }
+            (numbered (is_pure (given_in given.now).single op) (given_in given.now) (given_type (given_in given.now) from) op (onward (given_in given.now) from rest)) (simplified (given_in given.now) rest)) }
     {
         let to = self.numbered(given, given.ty(from), op, out)?;
         self.names.insert(from, to)?;
@@ -139,7 +139,7 @@ impl Made {
 
     /// The new index registers.
     pub fn index(&self, given: &Given, index: &[u32]) -> Result<Items<u32>, Memory>
-        ensures { IfOk result (λ it. it ≡ map (name_of (next_of self.now)) index.now) }
+        ensures { IfOk result (λ it. it ≡ map (made_name (next_of self.now)) index.now) }
     {
         let mut names = Items::new(given.alloc);
         for reg in index {

@@ -13,7 +13,7 @@ use Rattle.sg_store.specs.Reaching.{KeepsCells}
 use Rattle.sg_store.specs.Changes.{IsRemasked, ChangesNode}
 use Rattle.sg_store.specs.Opening.{masks_of, CanSettleBits, WantedHaveBits, NewBitsAreWanted, OpensNode}
 use Rattle.sg_store.specs.steps.AtNode.{AtNodeOf}
-use Rattle.sg_store.specs.steps.Settling.{CanSettleMasks, Grows}
+use Rattle.sg_store.specs.steps.Settling.{CanSettleMasks, NodeGrows}
 use Rattle.sg_store.proofs.Masked.{grows_at}
 use Rattle.sg_store.proofs.Opened.{keeps_cells}
 use Rattle.sg_store.proofs.AtNumber.{IsAt, masks_are, says_with, EachInLive, each_in_live}
@@ -41,7 +41,7 @@ can_settle store number i node kept masks is kind can =
       ];
     })
 
-pub bits_grow : (store now : StoreWords) (number i : ℕ) (node : NodeShape) (kept : NodeWords) (masks : List ℕ) → IsAt store number i node kept → node.kind ≡ Bitmasked → CanSettleBits store number masks → (changed : ChangesNode (IsRemasked masks) store now i) → AtNodeOf (Grows changed.after) store i
+pub bits_grow : (store now : StoreWords) (number i : ℕ) (node : NodeShape) (kept : NodeWords) (masks : List ℕ) → IsAt store number i node kept → node.kind ≡ Bitmasked → CanSettleBits store number masks → (changed : ChangesNode (IsRemasked masks) store now i) → AtNodeOf (NodeGrows changed.after) store i
 bits_grow store now number i node kept masks is kind can changed =
     grows_at store i masks changed.kept changed.after is.well (can_settle store number i node kept masks is kind can) changed.was changed.change
 

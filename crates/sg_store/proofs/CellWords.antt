@@ -19,7 +19,7 @@ use Rattle.sg_store.specs.declared.node.NodeWords.{NodeWords}
 use Rattle.sg_store.specs.StoreWords.{StoreWords, word_in}
 use Rattle.sg_store.specs.Slots.{active_below}
 use Rattle.sg_store.specs.Walks.{place_after, cell_along, cell_in}
-use Rattle.sg_store.specs.WellFormed.{has_cap, cell_count, is_root, IsFieldRow, IsReached, IsWellFormed}
+use Rattle.sg_store.specs.WellFormed.{kind_has_cap, cell_count, is_root, IsFieldRow, IsReached, IsWellFormed}
 use Rattle.sg_store.specs.StandsFor.{IsSlotOf, StandsFor, SetsValue}
 use Rattle.sg_store.proofs.ActiveCells.{as_many_words, slot_offsets, slot_length, offsets_are_slot, cell_parts}
 use Rattle.sg_store.proofs.Stepping.{links_lead, cell_within}
@@ -159,7 +159,7 @@ set_stands store place cell word well field reached differ flat now at stands he
 
 -- ── The words of a pointer node ──
 
-pub pointer_within : (nodes : List NodeShape) (index : ℕ) → has_cap (kind_or (slice_get nodes index)) ≡ true → index < length nodes
+pub pointer_within : (nodes : List NodeShape) (index : ℕ) → kind_has_cap (kind_or (slice_get nodes index)) ≡ true → index < length nodes
 pointer_within [] index is = absurd (false≢true is)
 pointer_within (node ∷ later) zero is = omega arith
 pointer_within (node ∷ later) (suc index) is = omega (arith, pointer_within later index is)
@@ -185,7 +185,7 @@ row_reads store rows row place cell well same is field =
     let there : place < length store.fields = omega (arith, well.field_count) in
     ap (λ r. slice_index r cell) (here ∙ get_or_default store.fields place row [] there)
 
-pub node_within : (store : StoreWords) → IsWellFormed store → (number : ℕ) → has_cap (kind_at store.shape.nodes number) ≡ true → number - 1 < length store.nodes
+pub node_within : (store : StoreWords) → IsWellFormed store → (number : ℕ) → kind_has_cap (kind_at store.shape.nodes number) ≡ true → number - 1 < length store.nodes
 node_within store well number is =
     omega (arith, pointer_within store.shape.nodes (number - 1) is, as_many_words store.shape.nodes store.nodes 1 is_root well.nodes_fit)
 

@@ -53,7 +53,7 @@ pub record TellLengths (store : StoreWords) (i : ℕ) (node : NodeShape) (kept :
 abbrev pub parents_of : StoreWords → ℕ → List Coord → List (List ℕ)
 parents_of store i coords = reached_slots store.shape coords (suc i - 1)
 
-is_dynamic : (store : StoreWords) (i : ℕ) (node : NodeShape) (kept : NodeWords) → DynamicAt store i node kept → needs.IsDynamicNode store.shape (suc i)
+is_dynamic : (store : StoreWords) (i : ℕ) (node : NodeShape) (kept : NodeWords) → DynamicAt store i node kept → needs.IsNumberedDynamicNode store.shape (suc i)
 is_dynamic store i node kept d = record { first = omega arith; within = d.within; dynamic = kind_there store.shape.nodes i node d.at ∙ d.dynamic }
 
 some_number : (f : ℕ → Bool) (o : Option ℕ) → unwrap_or (option_map f o) false ≡ true → (q : ℕ) × (o ≡ Some q) × (f q ≡ true)
@@ -206,7 +206,7 @@ matched store i node kept lengths coords tell =
         (has.0, has.1, ap (parent_place store) read ∙ ap (λ o. unwrap_or o 0) place.leads ∙ sym place.quotient ∙ quotient)
 
 -- so what they need is the need
-pub chain_need : (store : StoreWords) (i : ℕ) (node : NodeShape) (kept : NodeWords) (lengths : List ℕ) (coords : List Coord) → TellLengths store i node kept lengths coords → chunks.need_of (count_of node.chunk) lengths ≡ need_by Dynamic store.shape coords (suc i) (count_of node.chunk)
+pub chain_need : (store : StoreWords) (i : ℕ) (node : NodeShape) (kept : NodeWords) (lengths : List ℕ) (coords : List Coord) → TellLengths store i node kept lengths coords → chunks.chunk_need (count_of node.chunk) lengths ≡ need_by Dynamic store.shape coords (suc i) (count_of node.chunk)
 chain_need store i node kept lengths coords tell =
     matched_sum (parents_of store i coords) lengths (parent_place store) (chunks.chunks_of (count_of node.chunk)) (chunks_under store.shape coords (suc i) (count_of node.chunk))
     (no_chunks (count_of node.chunk) tell.some_chunk) (matched store i node kept lengths coords tell)

@@ -11,7 +11,7 @@ use Rattle.std.proofs.lemmas.Option.{none-some, same_Some, slice_get-get_or}
 use Rattle.sg_layout.specs.declared.shape.Kind.TheVariants.{Dynamic}
 use Rattle.sg_layout.specs.declared.shape.NodeShape.{NodeShape}
 use Rattle.sg_layout.specs.Axes.{count_of, size_of}
-use Rattle.sg_links.specs.Lists.{Lists, list_of, times_in, AreDisjoint}
+use Rattle.sg_links.specs.Lists.{Lists, list_of, times_in_lists, AreDisjoint}
 use Rattle.sg_links.proofs.Uses.{one_if, stands, times_at, there_is_list, stands_at_one_place}
 use Rattle.sg_pool.specs.Numbers.{PoolNumbers, is_live_number}
 use Rattle.sg_pool.proofs.Uses.{live_is_number}
@@ -65,7 +65,7 @@ chunks_within node kept slots live is q n e =
     let some : 0 < chunk = omega (arith, is.some_chunk) in
     let a = cell_in_chunk chunk (list_of kept.chains (q / size)) (q % size) n e in
     let head = there_is_list kept.chains a.0 (q / size) ((q % size) / chunk) a.1 in
-    let stood : 0 < times_in a.0 kept.chains.lists =
+    let stood : 0 < times_in_lists a.0 kept.chains.lists =
     omega (arith, stands (list_of kept.chains (q / size)) ((q % size) / chunk) a.0 a.1, times_at a.0 kept.chains.lists (q / size) head) in
     let low : a.0 < count_of node.cap = omega (arith, (disjoint_of kept.chains kept.pool is.exact).below a.0 stood, is.exact.places, is.places) in
     omega (arith, a.2, mul-add-lt a.0 chunk ((q % size) % chunk) (count_of node.cap) low (mod_below (q % size) chunk some))

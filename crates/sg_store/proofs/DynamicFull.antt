@@ -27,7 +27,7 @@ use Rattle.sg_store.specs.Slots.{below_length, is_set}
 use Rattle.sg_store.specs.Walks.{slot_number_in, is_on}
 use Rattle.sg_store.specs.WellFormed.{IsNode, IsDynamicNode, is_root}
 use Rattle.sg_store.specs.Reaching.{IsOpenThrough}
-use Rattle.sg_store.specs.steps.Raising.{keeps_too, AreRaised, CanLengthen, AnswersFit}
+use Rattle.sg_store.specs.steps.Raising.{keeps_too, RiseByMany, CanLengthen, AnswersFit}
 use Rattle.sg_store.specs.steps.Levels.{IsFullNode}
 use Rattle.sg_store.proofs.Leading.{InLive}
 use Rattle.sg_store.proofs.Grown.{own_answer_at}
@@ -101,7 +101,7 @@ own_tell store i node kept coords d laws on =
     }
 
 -- the raised lengths tell what is live for the old and the wanted coordinates
-raised_tell : (store : StoreWords) (i cap chunk : ℕ) (wanted : List Coord) (slots lengths : List ℕ) (size : ℕ) → (o : DynamicOpening store i cap chunk wanted slots) → size ≡ size_of o.node.sizes → AreRaised o.kept.lengths lengths size slots → ChainLaws store.shape → (old : List Coord) → IsOpenThrough store old (old ++ wanted) i → TellLengths store i o.node o.kept lengths (old ++ wanted)
+raised_tell : (store : StoreWords) (i cap chunk : ℕ) (wanted : List Coord) (slots lengths : List ℕ) (size : ℕ) → (o : DynamicOpening store i cap chunk wanted slots) → size ≡ size_of o.node.sizes → RiseByMany o.kept.lengths lengths size slots → ChainLaws store.shape → (old : List Coord) → IsOpenThrough store old (old ++ wanted) i → TellLengths store i o.node o.kept lengths (old ++ wanted)
 raised_tell store i cap chunk wanted slots lengths size o sized raised laws old was_open =
     let own = own_node store i cap chunk wanted slots o in
     let can = can_settle_lengths store i cap chunk wanted slots lengths size o sized raised in
@@ -153,8 +153,8 @@ raised_tell store i cap chunk wanted slots lengths size o sized raised laws old 
         ∙ sym (list_any-append _ old wanted)
 
 -- chains that don't fit need more chunks than there are
-refused_need : (chunk : ℕ) (lengths : List ℕ) (places : ℕ) (full : ChunkFull) → chunks.fit chunk lengths places ≡ Err full → places < chunks.need_of chunk lengths
-refused_need chunk lengths places full refused = split (nat_lt places (chunks.need_of chunk lengths)) refl
+refused_need : (chunk : ℕ) (lengths : List ℕ) (places : ℕ) (full : ChunkFull) → chunks.fit chunk lengths places ≡ Err full → places < chunks.chunk_need chunk lengths
+refused_need chunk lengths places full refused = split (nat_lt places (chunks.chunk_need chunk lengths)) refl
   where
     err_of : ℕ → ℕ → Result Unit ChunkFull
     err_of need cap = Err (record { need = need; cap = cap })
@@ -162,13 +162,13 @@ refused_need chunk lengths places full refused = split (nat_lt places (chunks.ne
     err_not : (full : ChunkFull) → (let r : Result Unit ChunkFull = Err full in r ≡ Ok tt) → ⊥
     err_not full e = cc
 
-    split : (b : Bool) → nat_lt places (chunks.need_of chunk lengths) ≡ b → places < chunks.need_of chunk lengths
-    split true past = ltb-true places (chunks.need_of chunk lengths) past
+    split : (b : Bool) → nat_lt places (chunks.chunk_need chunk lengths) ≡ b → places < chunks.chunk_need chunk lengths
+    split true past = ltb-true places (chunks.chunk_need chunk lengths) past
     split false fits =
-        let ok : chunks.fit chunk lengths places ≡ Ok tt = ap (λ b. cond b (err_of (chunks.need_of chunk lengths) places) (Ok tt)) fits in
+        let ok : chunks.fit chunk lengths places ≡ Ok tt = ap (λ b. cond b (err_of (chunks.chunk_need chunk lengths) places) (Ok tt)) fits in
         absurd (err_not full (sym refused ∙ ok))
 
-pub dynamic_full : (store : StoreWords) (i cap chunk : ℕ) (wanted : List Coord) (slots lengths : List ℕ) (size : ℕ) (full : ChunkFull) → (o : DynamicOpening store i cap chunk wanted slots) → size ≡ size_of o.node.sizes → AreRaised o.kept.lengths lengths size slots → ChainLaws store.shape → AnswersFit lengths chunk store.nodes i (Err full) → (number : ℕ) → number ≡ suc i → IsFullNode store wanted i (record { node = number; cap = cap })
+pub dynamic_full : (store : StoreWords) (i cap chunk : ℕ) (wanted : List Coord) (slots lengths : List ℕ) (size : ℕ) (full : ChunkFull) → (o : DynamicOpening store i cap chunk wanted slots) → size ≡ size_of o.node.sizes → RiseByMany o.kept.lengths lengths size slots → ChainLaws store.shape → AnswersFit lengths chunk store.nodes i (Err full) → (number : ℕ) → number ≡ suc i → IsFullNode store wanted i (record { node = number; cap = cap })
 dynamic_full store i cap chunk wanted slots lengths size full o sized raised laws answer number is = record {
   number = is;
   node = o.node;
@@ -176,10 +176,10 @@ dynamic_full store i cap chunk wanted slots lengths size full o sized raised law
   cap_is = o.cap_is;
   past = λ old was_open.
       let own = own_node store i cap chunk wanted slots o in
-      let past : place_count o.kept.pool < chunks.need_of chunk lengths = refused_need chunk lengths (place_count o.kept.pool) full (sym (answer o.kept o.is.has)) in
-      let need : chunks.need_of (count_of o.node.chunk) lengths ≡ need_by Dynamic store.shape (old ++ wanted) (suc i) (count_of o.node.chunk) =
+      let past : place_count o.kept.pool < chunks.chunk_need chunk lengths = refused_need chunk lengths (place_count o.kept.pool) full (sym (answer o.kept o.is.has)) in
+      let need : chunks.chunk_need (count_of o.node.chunk) lengths ≡ need_by Dynamic store.shape (old ++ wanted) (suc i) (count_of o.node.chunk) =
       chain_need store i o.node o.kept lengths (old ++ wanted) (raised_tell store i cap chunk wanted slots lengths size o sized raised laws old was_open) in
       let more : cap < need_by Dynamic store.shape (old ++ wanted) (suc i) (count_of o.node.chunk) =
-      omega (arith, past, own.2.places, o.cap_is, sym (ap (λ n. chunks.need_of n lengths) o.chunk_is) ∙ need) in
+      omega (arith, past, own.2.places, o.cap_is, sym (ap (λ n. chunks.chunk_need n lengths) o.chunk_is) ∙ need) in
       subst (λ k. cap < need_by k store.shape (old ++ wanted) (suc i) (count_of o.node.chunk)) (sym o.is.dynamic) more;
 }

@@ -27,8 +27,8 @@ use Rattle.sg_store.specs.Slots.{below_length, is_set}
 use Rattle.sg_store.specs.WellFormed.{IsNode, IsDynamicNode, AreNodes, IsWellFormed, is_root}
 use Rattle.sg_store.specs.Reaching.{KeepsCells}
 use Rattle.sg_store.specs.steps.AtNode.{OfNode, AtNode, AtNodeOf, AreNumbers}
-use Rattle.sg_store.specs.steps.Settling.{ChangesAt, ChangesNode, Grows}
-use Rattle.sg_store.specs.steps.Raising.{keeps_too, AreRaised, CanFitLengths, IsFitted, CanLengthen, IsDynamicOf}
+use Rattle.sg_store.specs.steps.Settling.{ChangesAt, ChangesNode, NodeGrows}
+use Rattle.sg_store.specs.steps.Raising.{keeps_too, RiseByMany, CanFitLengths, IsRefitted, CanLengthen, IsDynamicOf}
 use Rattle.sg_store.specs.steps.Levels.{OpensNext}
 use Rattle.sg_store.proofs.Leading.{InLive, number_live}
 use Rattle.sg_store.proofs.SlotPaths.{slot_offsets, slot_long}
@@ -55,23 +55,23 @@ can_relength store i lengths chunk is can kept has =
     subst (λ k. CanFitLengths lengths chunk k) (same_Some found.kept kept (sym found.has ∙ has))
     (can_fit lengths chunk found.node found.kept found.slots found.live own found.says.1)
 
-pub lengths_grow_at : (store : StoreWords) (i : ℕ) (lengths : List ℕ) (chunk : ℕ) (kept after : NodeWords) → IsWellFormed store → AtNodeOf (CanLengthen lengths chunk) store i → slice_get store.nodes i ≡ Some kept → IsFitted lengths chunk kept after → AtNodeOf (Grows after) store i
+pub lengths_grow_at : (store : StoreWords) (i : ℕ) (lengths : List ℕ) (chunk : ℕ) (kept after : NodeWords) → IsWellFormed store → AtNodeOf (CanLengthen lengths chunk) store i → slice_get store.nodes i ≡ Some kept → IsRefitted lengths chunk kept after → AtNodeOf (NodeGrows after) store i
 lengths_grow_at store i lengths chunk kept after is can has fit =
-    at_node_from (Both OfWellFormed (CanLengthen lengths chunk)) (Grows after) store.shape.nodes store.nodes 1 is_root i
+    at_node_from (Both OfWellFormed (CanLengthen lengths chunk)) (NodeGrows after) store.shape.nodes store.nodes 1 is_root i
     (λ node mine slots live at mine_at both.
     lengths_grow lengths chunk node mine after slots live both.0 both.1
-    (subst (λ k. IsFitted lengths chunk k after) (same_Some kept mine (sym has ∙ mine_at)) fit))
+    (subst (λ k. IsRefitted lengths chunk k after) (same_Some kept mine (sym has ∙ mine_at)) fit))
     (settling_at store i lengths chunk is can)
 
-lengths_capped_at : (store : StoreWords) (i : ℕ) (lengths : List ℕ) (chunk : ℕ) (kept after : NodeWords) → IsWellFormed store → AtNodeOf (CanLengthen lengths chunk) store i → slice_get store.nodes i ≡ Some kept → IsFitted lengths chunk kept after → AtNodeOf (OfWithinCap after) store i
+lengths_capped_at : (store : StoreWords) (i : ℕ) (lengths : List ℕ) (chunk : ℕ) (kept after : NodeWords) → IsWellFormed store → AtNodeOf (CanLengthen lengths chunk) store i → slice_get store.nodes i ≡ Some kept → IsRefitted lengths chunk kept after → AtNodeOf (OfWithinCap after) store i
 lengths_capped_at store i lengths chunk kept after is can has fit =
     at_node_from (Both OfWellFormed (CanLengthen lengths chunk)) (OfWithinCap after) store.shape.nodes store.nodes 1 is_root i
     (λ node mine slots live at mine_at both.
     lengths_capped lengths chunk node mine after slots live both.0 both.1
-    (subst (λ k. IsFitted lengths chunk k after) (same_Some kept mine (sym has ∙ mine_at)) fit))
+    (subst (λ k. IsRefitted lengths chunk k after) (same_Some kept mine (sym has ∙ mine_at)) fit))
     (settling_at store i lengths chunk is can)
 
-pub fitted_well_formed : (store : StoreWords) (i : ℕ) (lengths : List ℕ) (chunk : ℕ) (now : List NodeWords) → IsWellFormed store → AtNodeOf (CanLengthen lengths chunk) store i → ChangesAt (IsFitted lengths chunk) store.nodes now i → IsWellFormed (record store { nodes = now })
+pub fitted_well_formed : (store : StoreWords) (i : ℕ) (lengths : List ℕ) (chunk : ℕ) (now : List NodeWords) → IsWellFormed store → AtNodeOf (CanLengthen lengths chunk) store i → ChangesAt (IsRefitted lengths chunk) store.nodes now i → IsWellFormed (record store { nodes = now })
 fitted_well_formed store i lengths chunk now is can changed =
     subst (λ l. IsWellFormed (record store { nodes = l })) (sym changed.now_is)
     (well_formed_grown store i changed.after is (lengths_grow_at store i lengths chunk changed.kept changed.after is can changed.was changed.change)
@@ -182,7 +182,7 @@ parents_there store i cap chunk wanted slots lengths size o sized some same k d 
     let many : length lengths * size ≡ own.0 = ap (λ n. length lengths * n) sized ∙ ap (λ ls. length ls * size_of o.node.sizes) same ∙ own.2.length_count in
     subst (λ s. s / size < length lengths) (sym read) (div_below (get_or slots k 0) size (length lengths) (omega (arith, some)) (omega (arith, low, many)))
 
-pub can_settle_lengths : (store : StoreWords) (i cap chunk : ℕ) (wanted : List Coord) (slots lengths : List ℕ) (size : ℕ) → (o : DynamicOpening store i cap chunk wanted slots) → size ≡ size_of o.node.sizes → AreRaised o.kept.lengths lengths size slots → AtNodeOf (CanLengthen lengths chunk) store i
+pub can_settle_lengths : (store : StoreWords) (i cap chunk : ℕ) (wanted : List Coord) (slots lengths : List ℕ) (size : ℕ) → (o : DynamicOpening store i cap chunk wanted slots) → size ≡ size_of o.node.sizes → RiseByMany o.kept.lengths lengths size slots → AtNodeOf (CanLengthen lengths chunk) store i
 can_settle_lengths store i cap chunk wanted slots lengths size o sized raised =
     at_node_from (OfRaising slots) (CanLengthen lengths chunk) store.shape.nodes store.nodes 1 is_root i
     (λ node mine count live at mine_at known.
@@ -221,11 +221,11 @@ can_settle_lengths store i cap chunk wanted slots lengths size o sized raised =
 
 -- ── A plan that fits ──
 
-pub dynamic_opened : (store now : StoreWords) (i cap chunk : ℕ) (wanted : List Coord) (slots lengths : List ℕ) (size : ℕ) → (o : DynamicOpening store i cap chunk wanted slots) → size ≡ size_of o.node.sizes → AreRaised o.kept.lengths lengths size slots → ChangesNode (IsFitted lengths chunk) store now i → OpensNext store now wanted i × KeepsCells store now
+pub dynamic_opened : (store now : StoreWords) (i cap chunk : ℕ) (wanted : List Coord) (slots lengths : List ℕ) (size : ℕ) → (o : DynamicOpening store i cap chunk wanted slots) → size ≡ size_of o.node.sizes → RiseByMany o.kept.lengths lengths size slots → ChangesNode (IsRefitted lengths chunk) store now i → OpensNext store now wanted i × KeepsCells store now
 dynamic_opened store now i cap chunk wanted slots lengths size o sized raised changed =
     let after : NodeWords = changed.after in
     let same : changed.kept ≡ o.kept = same_Some changed.kept o.kept (sym changed.was ∙ o.is.has) in
-    let grown : AtNodeOf (Grows after) store i =
+    let grown : AtNodeOf (NodeGrows after) store i =
     lengths_grow_at store i lengths chunk changed.kept after o.well (can_settle_lengths store i cap chunk wanted slots lengths size o sized raised) changed.was changed.change in
     let here : slice_get (slice_set store.nodes i after) i ≡ Some after = set_there store.nodes i o.kept after o.is.has in
     let adds : AddsBy (keeps_too (size_of o.node.sizes)) after slots o.node o.kept = λ q.
@@ -242,6 +242,6 @@ on_ok_map (Ok done) f h = f h
 on_ok_map (Err full) f h = tt
 
 -- fitted or refused, the store is well-formed
-pub settled_either : (shape : Shape) (old now : List NodeWords) (fields : List (List ℕ)) (i : ℕ) (lengths : List ℕ) (chunk : ℕ) (r : Result Unit ChunkFull) → IsWellFormed (record { shape = shape; nodes = old; fields = fields }) → AtNodeOf (CanLengthen lengths chunk) (record { shape = shape; nodes = old; fields = fields }) i → OnOk r (ChangesAt (IsFitted lengths chunk) old now i) → OnErr r (now ≡ old) → IsWellFormed (record { shape = shape; nodes = now; fields = fields })
+pub settled_either : (shape : Shape) (old now : List NodeWords) (fields : List (List ℕ)) (i : ℕ) (lengths : List ℕ) (chunk : ℕ) (r : Result Unit ChunkFull) → IsWellFormed (record { shape = shape; nodes = old; fields = fields }) → AtNodeOf (CanLengthen lengths chunk) (record { shape = shape; nodes = old; fields = fields }) i → OnOk r (ChangesAt (IsRefitted lengths chunk) old now i) → OnErr r (now ≡ old) → IsWellFormed (record { shape = shape; nodes = now; fields = fields })
 settled_either shape old now fields i lengths chunk (Ok done) is can fitted stays = fitted_well_formed (record { shape = shape; nodes = old; fields = fields }) i lengths chunk now is can fitted
 settled_either shape old now fields i lengths chunk (Err full) is can fitted stays = subst (λ (l : List NodeWords). IsWellFormed (record { shape = shape; nodes = l; fields = fields })) (sym stays) is

@@ -7,7 +7,7 @@ use Rattle.std.proofs.lemmas.List.{length-set, get_or-set_same, get_or-set_other
 use Rattle.std.proofs.lemmas.List.Elements.{Contains-push_cases, Contains-push, Contains-append_left}
 use Rattle.sg_pool.specs.Numbers.{is_live_number, IsStock}
 use Rattle.sg_store.specs.declared.node.NodeWords.{NodeWords}
-use Rattle.sg_store.specs.steps.Filling.{IsFill, IsFresh}
+use Rattle.sg_store.specs.steps.Filling.{IsFill, IsUnlinkedStock}
 use Rattle.sg_store.proofs.Walking.{index_contains}
 
 -- before any slot
@@ -109,7 +109,7 @@ next_fresh stock taken number once below is has =
     once k taken number before below (sym (get_or-take taken stock k number before) ∙ has.2 ∙ is)
 
 -- one slot more of a list, where it was empty: it has the next number of the stock
-pub filled_more : (before after now stock slots : List ℕ) (room taken i d e : ℕ) → IsFresh before stock → room < length stock → All (λ slot. slot < length before) slots → i < length slots → taken ≤ room → slice_index after (get_or slots i d) ≡ 0 → now ≡ slice_set after (get_or slots i d) (get_or stock taken e + 1) → IsFill before after (take taken stock) (take i slots) → IsFill before now (take (taken + 1) stock) (take (i + 1) slots)
+pub filled_more : (before after now stock slots : List ℕ) (room taken i d e : ℕ) → IsUnlinkedStock before stock → room < length stock → All (λ slot. slot < length before) slots → i < length slots → taken ≤ room → slice_index after (get_or slots i d) ≡ 0 → now ≡ slice_set after (get_or slots i d) (get_or stock taken e + 1) → IsFill before after (take taken stock) (take i slots) → IsFill before now (take (taken + 1) stock) (take (i + 1) slots)
 filled_more before after now stock slots room taken i d e fresh roomy within below few empty is fill =
     let slot : ℕ = get_or slots i d in
     let number : ℕ = get_or stock taken e in
@@ -129,9 +129,9 @@ filled_same before after now taken slots i d below some is fill =
     (subst (λ l. IsFill before after taken l) (sym (take_more slots i d below)) (fill_skip before after taken (take i slots) (get_or slots i d) fill some))
 
 -- no link of a node has a number of its stock
-pub stock_fresh : (kept : NodeWords) (stock links same : List ℕ) → IsStock kept.pool stock → ((number : ℕ) → Contains kept.links (suc number) → is_live_number kept.pool number ≡ true) → links ≡ kept.links → same ≡ stock → IsFresh links same
+pub stock_fresh : (kept : NodeWords) (stock links same : List ℕ) → IsStock kept.pool stock → ((number : ℕ) → Contains kept.links (suc number) → is_live_number kept.pool number ≡ true) → links ≡ kept.links → same ≡ stock → IsUnlinkedStock links same
 stock_fresh kept stock links same is linked links_are stock_is =
-    subst (λ l. IsFresh links l) (sym stock_is) (record {
+    subst (λ l. IsUnlinkedStock links l) (sym stock_is) (record {
       once = is.once;
       unlinked = λ number has link.
           let free = (is.members number).0 has in

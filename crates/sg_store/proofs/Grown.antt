@@ -14,7 +14,7 @@ use Rattle.sg_store.specs.Walks.{place_after, own_answer, slot_number_in, is_on}
 use Rattle.sg_store.specs.WellFormed.{IsPointerNode, IsNode, by_slots, live_below, live_slot, AreNodes}
 use Rattle.sg_store.specs.steps.AtNode.{AtNode}
 use Rattle.sg_store.specs.steps.Walking.{AreOffsets}
-use Rattle.sg_store.specs.steps.Settling.{Grows}
+use Rattle.sg_store.specs.steps.Settling.{NodeGrows}
 use Rattle.sg_store.proofs.Walking.{active_leads, own_kind, off_below_dead}
 
 -- ── The nodes are well-formed again ──
@@ -71,7 +71,7 @@ nodes_more (node ∷ later) (kept ∷ words) places few more grows are = (
   are.3,
 )
 
-pub nodes_grown : (nodes : List NodeShape) (words : List NodeWords) (places : ℕ) (live : ℕ → Bool) (i : ℕ) (after : NodeWords) → AreNodes nodes words places live → AtNode (Grows after) nodes words places live i → AreNodes nodes (slice_set words i after) places live
+pub nodes_grown : (nodes : List NodeShape) (words : List NodeWords) (places : ℕ) (live : ℕ → Bool) (i : ℕ) (after : NodeWords) → AreNodes nodes words places live → AtNode (NodeGrows after) nodes words places live i → AreNodes nodes (slice_set words i after) places live
 nodes_grown [] words places live i after are grown = absurd grown
 nodes_grown (node ∷ later) [] places live i after are grown = absurd grown
 nodes_grown (node ∷ later) (kept ∷ words) places live zero after are grown = (
@@ -90,7 +90,7 @@ active_more kind node kept after q n set leads e =
     let parts = active_leads kind node kept q n e in
     ap (λ b. cond b (place_below kind node after q) None) (set parts.0) ∙ leads parts.1
 
-pub cells_stay : (nodes : List NodeShape) (words : List NodeWords) (places : ℕ) (live : ℕ → Bool) (i : ℕ) (after : NodeWords) → AtNode (Grows after) nodes words places live i → (p : ℕ) (s : List ℕ) (x : ℕ) → place_after active_below nodes words p s ≡ Some x → place_after active_below nodes (slice_set words i after) p s ≡ Some x
+pub cells_stay : (nodes : List NodeShape) (words : List NodeWords) (places : ℕ) (live : ℕ → Bool) (i : ℕ) (after : NodeWords) → AtNode (NodeGrows after) nodes words places live i → (p : ℕ) (s : List ℕ) (x : ℕ) → place_after active_below nodes words p s ≡ Some x → place_after active_below nodes (slice_set words i after) p s ≡ Some x
 cells_stay nodes words places live i after grown p [] x e = e
 cells_stay [] words places live i after grown p (o ∷ s) x e = absurd grown
 cells_stay (node ∷ later) [] places live i after grown p (o ∷ s) x e = absurd grown
@@ -139,7 +139,7 @@ own_answer_at {A} f (first ∷ later) (own ∷ words) (suc i) node kept at has p
     same (Some n) h = h n
 
 -- at every other node what is on stays
-pub on_elsewhere : (nodes : List NodeShape) (words : List NodeWords) (places : ℕ) (live : ℕ → Bool) (i : ℕ) (after : NodeWords) → AreNodes nodes words places live → AtNode (Grows after) nodes words places live i → (p : ℕ) (s : List ℕ) → AreOffsets nodes s → own_kind nodes s ≢ Dense → length s ≢ suc i → is_on nodes (slice_set words i after) p s ≡ is_on nodes words p s
+pub on_elsewhere : (nodes : List NodeShape) (words : List NodeWords) (places : ℕ) (live : ℕ → Bool) (i : ℕ) (after : NodeWords) → AreNodes nodes words places live → AtNode (NodeGrows after) nodes words places live i → (p : ℕ) (s : List ℕ) → AreOffsets nodes s → own_kind nodes s ≢ Dense → length s ≢ suc i → is_on nodes (slice_set words i after) p s ≡ is_on nodes words p s
 on_elsewhere nodes words places live i after are grown p [] ins other long = refl
 on_elsewhere [] words places live i after are grown p (o ∷ s) ins other long = absurd grown
 on_elsewhere (node ∷ later) [] places live i after are grown p (o ∷ s) ins other long = absurd grown

@@ -21,7 +21,7 @@ use Rattle.sg_store.specs.Slots.{links_by_slot, is_set, place_below}
 use Rattle.sg_store.specs.WellFormed.{IsNode, IsPointerNode, IsHashNode, by_slots, IsWithinCap, IsWellFormed, is_root, live_below}
 use Rattle.sg_store.specs.Reaching.{KeepsCells}
 use Rattle.sg_store.specs.steps.AtNode.{AtNodeOf, AreNumbers}
-use Rattle.sg_store.specs.steps.Settling.{CanSettleLinks, ChangesAt, ChangesNode, Grows}
+use Rattle.sg_store.specs.steps.Settling.{CanSettleLinks, ChangesAt, ChangesNode, NodeGrows}
 use Rattle.sg_store.specs.steps.Filling.{IsPlan}
 use Rattle.sg_store.specs.steps.Keying.{CanPlanKeys, IsKeyPlan, plan_by_slots, CanRekey, CanSettleKeys, IsRekeyed, as_linked}
 use Rattle.sg_store.specs.steps.Levels.{IsHashOf, OpensNext, IsPastCap}
@@ -52,7 +52,7 @@ pub beside_after : (keys links taken : List ℕ) (kept after : NodeWords) → Is
 beside_after keys links taken kept after re k =
     ap (λ ks. beside ks after.links k) re.new_keys ∙ ap (λ ls. beside keys ls k) re.new_links
 
-by_slots_grow : (keys links taken : List ℕ) (node : NodeShape) (kept after : NodeWords) (slots : ℕ) (live : ℕ → Bool) → IsHashNode node kept slots live → CanSettleKeys keys links taken node kept slots live → IsRekeyed keys links taken kept after → Grows (by_slots after slots) (as_linked node) (by_slots kept slots) slots live
+by_slots_grow : (keys links taken : List ℕ) (node : NodeShape) (kept after : NodeWords) (slots : ℕ) (live : ℕ → Bool) → IsHashNode node kept slots live → CanSettleKeys keys links taken node kept slots live → IsRekeyed keys links taken kept after → NodeGrows (by_slots after slots) (as_linked node) (by_slots kept slots) slots live
 by_slots_grow keys links taken node kept after slots live is can re =
     links_grow (links_by_slot keys links slots) taken (as_linked node) (by_slots kept slots) (by_slots after slots) slots live
     (relabelled node (by_slots kept slots) slots live is.as_pointer) can.can.can
@@ -68,7 +68,7 @@ rekeyed_node keys links taken node kept after slots live is can re = record {
   as_pointer = labelled node (by_slots after slots) slots live (by_slots_grow keys links taken node kept after slots live is can re).is_node;
 }
 
-pub keys_grow : (keys links taken : List ℕ) (node : NodeShape) (kept after : NodeWords) (slots : ℕ) (live : ℕ → Bool) → IsNode node.kind node kept slots live → CanSettleKeys keys links taken node kept slots live → IsRekeyed keys links taken kept after → Grows after node kept slots live
+pub keys_grow : (keys links taken : List ℕ) (node : NodeShape) (kept after : NodeWords) (slots : ℕ) (live : ℕ → Bool) → IsNode node.kind node kept slots live → CanSettleKeys keys links taken node kept slots live → IsRekeyed keys links taken kept after → NodeGrows after node kept slots live
 keys_grow keys links taken node kept after slots live own can re =
     let hash : node.kind ≡ Hash = can.is_hash in
     let is : IsHashNode node kept slots live = subst (λ k. IsNode k node kept slots live) hash own in
@@ -103,9 +103,9 @@ can_rekey store i keys links taken is can kept has =
       free = found.says.1.can.can.free;
     })
 
-pub keys_grow_at : (store : StoreWords) (i : ℕ) (keys links taken : List ℕ) (kept after : NodeWords) → IsWellFormed store → AtNodeOf (CanSettleKeys keys links taken) store i → slice_get store.nodes i ≡ Some kept → IsRekeyed keys links taken kept after → AtNodeOf (Grows after) store i
+pub keys_grow_at : (store : StoreWords) (i : ℕ) (keys links taken : List ℕ) (kept after : NodeWords) → IsWellFormed store → AtNodeOf (CanSettleKeys keys links taken) store i → slice_get store.nodes i ≡ Some kept → IsRekeyed keys links taken kept after → AtNodeOf (NodeGrows after) store i
 keys_grow_at store i keys links taken kept after is can has re =
-    at_node_from (Both OfWellFormed (CanSettleKeys keys links taken)) (Grows after) store.shape.nodes store.nodes 1 is_root i
+    at_node_from (Both OfWellFormed (CanSettleKeys keys links taken)) (NodeGrows after) store.shape.nodes store.nodes 1 is_root i
     (λ node mine slots live at mine_at both.
     keys_grow keys links taken node mine after slots live both.0 both.1
     (subst (λ k. IsRekeyed keys links taken k after) (same_Some kept mine (sym has ∙ mine_at)) re))
@@ -211,7 +211,7 @@ hash_opened store now i cap wanted slots plan o is fits changed =
     let level = o.level in
     let n : ℕ = slots_at store.shape.nodes 1 i in
     let after : NodeWords = changed.after in
-    let grown : AtNodeOf (Grows after) store i = keys_grow_at store i plan.keys plan.links (take plan.taken plan.stock) changed.kept after level.well_formed (can_settle_keys store i cap wanted slots plan o is fits) changed.was changed.change in
+    let grown : AtNodeOf (NodeGrows after) store i = keys_grow_at store i plan.keys plan.links (take plan.taken plan.stock) changed.kept after level.well_formed (can_settle_keys store i cap wanted slots plan o is fits) changed.was changed.change in
     let set : (q : ℕ) → is_set level.node.kind level.node after q ≡ not (slice_index (links_by_slot plan.keys plan.links n) q == 0) = λ q.
     ap (λ k. is_set k level.node after q) o.hash
     ∙ ap is_some (beside_after plan.keys plan.links (take plan.taken plan.stock) changed.kept after changed.change q)

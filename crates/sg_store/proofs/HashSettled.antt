@@ -22,7 +22,7 @@ use Rattle.sg_store.specs.Changes.{IsRekeyed, ChangesNode}
 use Rattle.sg_store.specs.Reaching.{KeepsCells}
 use Rattle.sg_store.specs.Opening.{links_of, keys_of, CanSettleHash, FitsCap, WantedHaveKeys, NewKeysAreWanted, OpensNode}
 use Rattle.sg_store.specs.steps.AtNode.{AtNodeOf}
-use Rattle.sg_store.specs.steps.Settling.{Grows}
+use Rattle.sg_store.specs.steps.Settling.{NodeGrows}
 use Rattle.sg_store.specs.steps.Keying.{CanSettleKeys}
 use Rattle.sg_store.proofs.BySlots.{links_many}
 use Rattle.sg_store.proofs.KeyPlaces.{some_word, key_here, key_of_link, key_place, key_some, slot_some, slot_beside, slots_contain, link_of_slot}
@@ -168,7 +168,7 @@ can_settle store i node kept keys links taken is kind can fits =
       };
     })
 
-pub hash_grows : (store now : StoreWords) (i : ℕ) (node : NodeShape) (kept : NodeWords) (keys links taken : List ℕ) → IsAt store 1 i node kept → node.kind ≡ Hash → CanSettleHash store keys links taken → FitsCap store 1 taken → (changed : ChangesNode (IsRekeyed keys links taken) store now i) → AtNodeOf (Grows changed.after) store i
+pub hash_grows : (store now : StoreWords) (i : ℕ) (node : NodeShape) (kept : NodeWords) (keys links taken : List ℕ) → IsAt store 1 i node kept → node.kind ≡ Hash → CanSettleHash store keys links taken → FitsCap store 1 taken → (changed : ChangesNode (IsRekeyed keys links taken) store now i) → AtNodeOf (NodeGrows changed.after) store i
 hash_grows store now i node kept keys links taken is kind can fits changed =
     keys_grow_at store i keys links taken changed.kept changed.after is.well (can_settle store i node kept keys links taken is kind can fits) changed.was changed.change
 
@@ -220,7 +220,7 @@ keys_beside store i node kept is kind =
     (subst (λ ls. AreBeside kept.keys ls) (sym (links_are store 1 i node kept is))
     (hash_fact (AreBeside kept.keys kept.links) store i node kept is kind (λ slots live own. own.links_beside)))
 
-pub keys_more : (store : StoreWords) (i : ℕ) (node : NodeShape) (kept : NodeWords) → IsAt store 1 i node kept → AcceptedKeepsRules store.shape → node.kind ≡ Hash → (shape : NodeShape) → layouts.IsNode store.shape 1 shape → count_of shape.cap < length (keys_of store 1)
+pub keys_more : (store : StoreWords) (i : ℕ) (node : NodeShape) (kept : NodeWords) → IsAt store 1 i node kept → AcceptedKeepsRules store.shape → node.kind ≡ Hash → (shape : NodeShape) → layouts.IsNumberedNode store.shape 1 shape → count_of shape.cap < length (keys_of store 1)
 keys_more store i node kept is rules kind shape here =
     let back : 1 - 1 ≡ i = back_to 1 i is.next in
     let same : node ≡ shape = same_Some node shape (sym is.at ∙ ap (slice_get store.shape.nodes) (sym back) ∙ here.there) in

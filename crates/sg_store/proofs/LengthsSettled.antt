@@ -26,12 +26,12 @@ use Rattle.sg_store.specs.StoreWords.{StoreWords}
 use Rattle.sg_store.specs.Slots.{word_number, below_length}
 use Rattle.sg_store.specs.Walks.{slot_number_in, place_in}
 use Rattle.sg_store.specs.WellFormed.{IsNode, IsDynamicNode, IsWellFormed, is_root}
-use Rattle.sg_store.specs.Changes.{IsFitted, ChangesNode}
+use Rattle.sg_store.specs.Changes.{IsRefitted, ChangesNode}
 use Rattle.sg_store.specs.Reaching.{KeepsCells, IsOpenThrough}
 use Rattle.sg_store.specs.Opening.{lengths_of, IsInLive, CanSettleLengths, offset_in, WantedAreBelow, NewLengthsAreWanted, OpensNode}
 use Rattle.sg_store.specs.steps.AtNode.{OfNode, AtNodeOf}
-use Rattle.sg_store.specs.steps.Settling.{Grows}
-use Rattle.sg_store.specs.steps.Raising.{keeps_too, AreRaised, CanLengthen, AnswersFit}
+use Rattle.sg_store.specs.steps.Settling.{NodeGrows}
+use Rattle.sg_store.specs.steps.Raising.{keeps_too, RiseByMany, CanLengthen, AnswersFit}
 use Rattle.sg_store.proofs.Leading.{InLive}
 use Rattle.sg_store.proofs.Stepping.{size_at}
 use Rattle.sg_store.proofs.PathWalks.{path_more, path_long}
@@ -111,11 +111,11 @@ can_lengthen store number i node kept lengths is rules kind can =
       ];
     })
 
-pub lengths_grow : (store now : StoreWords) (number i : ℕ) (node : NodeShape) (kept : NodeWords) (lengths : List ℕ) → IsAt store number i node kept → AcceptedKeepsRules store.shape → node.kind ≡ Dynamic → CanSettleLengths store number lengths → (changed : ChangesNode (IsFitted lengths (count_of node.chunk)) store now i) → AtNodeOf (Grows changed.after) store i
+pub lengths_grow : (store now : StoreWords) (number i : ℕ) (node : NodeShape) (kept : NodeWords) (lengths : List ℕ) → IsAt store number i node kept → AcceptedKeepsRules store.shape → node.kind ≡ Dynamic → CanSettleLengths store number lengths → (changed : ChangesNode (IsRefitted lengths (count_of node.chunk)) store now i) → AtNodeOf (NodeGrows changed.after) store i
 lengths_grow store now number i node kept lengths is rules kind can changed =
     lengths_grow_at store i lengths (count_of node.chunk) changed.kept changed.after is.well (can_lengthen store number i node kept lengths is rules kind can) changed.was changed.change
 
-pub lengths_keep : (store now : StoreWords) (number i : ℕ) (node : NodeShape) (kept : NodeWords) (lengths : List ℕ) → IsAt store number i node kept → AcceptedKeepsRules store.shape → node.kind ≡ Dynamic → CanSettleLengths store number lengths → ChangesNode (IsFitted lengths (count_of node.chunk)) store now i → KeepsCells store now
+pub lengths_keep : (store now : StoreWords) (number i : ℕ) (node : NodeShape) (kept : NodeWords) (lengths : List ℕ) → IsAt store number i node kept → AcceptedKeepsRules store.shape → node.kind ≡ Dynamic → CanSettleLengths store number lengths → ChangesNode (IsRefitted lengths (count_of node.chunk)) store now i → KeepsCells store now
 lengths_keep store now number i node kept lengths is rules kind can changed =
     subst (λ s. KeepsCells store s) (sym changed.now_is)
     (keeps_cells store i changed.after (lengths_grow store now number i node kept lengths is rules kind can changed))
@@ -195,7 +195,7 @@ number_of store number i node kept at parent is e =
     of_map None e = absurd (none-some parent e)
     of_map (Some q) e = (q, refl)
 
-pub raised_by : (store : StoreWords) (number i : ℕ) (node : NodeShape) (kept : NodeWords) (lengths : List ℕ) (wanted : List Coord) → IsAt store number i node kept → PathIsSlot store.shape → node.kind ≡ Dynamic → CanSettleLengths store number lengths → WantedAreBelow store number lengths wanted → NewLengthsAreWanted store number lengths wanted → AreRaised kept.lengths lengths (size_of node.sizes) (numbers_for store i wanted).0
+pub raised_by : (store : StoreWords) (number i : ℕ) (node : NodeShape) (kept : NodeWords) (lengths : List ℕ) (wanted : List Coord) → IsAt store number i node kept → PathIsSlot store.shape → node.kind ≡ Dynamic → CanSettleLengths store number lengths → WantedAreBelow store number lengths wanted → NewLengthsAreWanted store number lengths wanted → RiseByMany kept.lengths lengths (size_of node.sizes) (numbers_for store i wanted).0
 raised_by store number i node kept lengths wanted is paths kind can below new =
     let size : ℕ = size_of node.sizes in
     let numbers = numbers_for store i wanted in
@@ -248,7 +248,7 @@ raised_by store number i node kept lengths wanted is paths kind can below new =
     any_of : (slots : List ℕ) (x q : ℕ) → Contains slots x → keeps_too (size_of node.sizes) x q ≡ true → (k : ℕ) × (y : ℕ) × (k < length slots) × (get_or slots k y ≡ y) × (keeps_too (size_of node.sizes) y q ≡ true)
     any_of slots x q has keeps = (has.0, x, has.1, has.2, keeps)
 
-pub lengths_open : (store now : StoreWords) (number i : ℕ) (node : NodeShape) (kept : NodeWords) (lengths : List ℕ) (wanted : List Coord) → IsAt store number i node kept → PathIsSlot store.shape → AcceptedKeepsRules store.shape → node.kind ≡ Dynamic → CanSettleLengths store number lengths → ChangesNode (IsFitted lengths (count_of node.chunk)) store now i → WantedAreBelow store number lengths wanted → NewLengthsAreWanted store number lengths wanted → OpensNode store now number wanted
+pub lengths_open : (store now : StoreWords) (number i : ℕ) (node : NodeShape) (kept : NodeWords) (lengths : List ℕ) (wanted : List Coord) → IsAt store number i node kept → PathIsSlot store.shape → AcceptedKeepsRules store.shape → node.kind ≡ Dynamic → CanSettleLengths store number lengths → ChangesNode (IsRefitted lengths (count_of node.chunk)) store now i → WantedAreBelow store number lengths wanted → NewLengthsAreWanted store number lengths wanted → OpensNode store now number wanted
 unfolding opening_for
 lengths_open store now number i node kept lengths wanted is paths rules kind can changed below new old was_open =
     let o = opening_for store number i node kept wanted is paths rules kind in
@@ -287,6 +287,6 @@ at_last store well many same some dynamic =
     let at = at_number store well (length store.shape.nodes) (omega (arith, same, some)) (λ dense. cc (sym dynamic ∙ dense)) in
     (at.0, at.1, subst (λ n. IsAt store (length store.shape.nodes) (n - 1) at.0 at.1) (sym same) at.2, sym at.3 ∙ dynamic)
 
-pub node_same : (store : StoreWords) (number i : ℕ) (node shape : NodeShape) (kept : NodeWords) → IsAt store number i node kept → layouts.IsNode store.shape number shape → node ≡ shape
+pub node_same : (store : StoreWords) (number i : ℕ) (node shape : NodeShape) (kept : NodeWords) → IsAt store number i node kept → layouts.IsNumberedNode store.shape number shape → node ≡ shape
 node_same store number i node shape kept is here =
     same_Some node shape (sym is.at ∙ ap (slice_get store.shape.nodes) (sym (back_to number i is.next)) ∙ here.there)

@@ -13,7 +13,7 @@ use Rattle.sg_pool.proofs.Uses.{live_stays, taken_is_live, live_was_or_taken}
 use Rattle.sg_store.specs.declared.node.NodeWords.{NodeWords}
 use Rattle.sg_store.specs.Slots.{linked, is_set, place_below}
 use Rattle.sg_store.specs.WellFormed.{IsNode, IsPointerNode, live_below}
-use Rattle.sg_store.specs.steps.Settling.{CanLink, HasLinks, Grows}
+use Rattle.sg_store.specs.steps.Settling.{CanLink, HasLinks, NodeGrows}
 use Rattle.sg_store.proofs.Walking.{linked_is, linked_some, index_contains}
 
 word_of : (xs : List ℕ) (n : ℕ) → Contains xs (suc n) → (k : ℕ) × (k < length xs) × (slice_index xs k ≡ suc n)
@@ -68,7 +68,7 @@ relinked_node links taken node kept after slots live is can re =
 set_word : (word : ℕ) → not (word == 0) ≡ true → word ≢ 0
 set_word word on none = false≢true (sym (ap (λ n. not (n == 0)) none) ∙ on)
 
-pub links_grow : (links taken : List ℕ) (node : NodeShape) (kept after : NodeWords) (slots : ℕ) (live : ℕ → Bool) → IsNode node.kind node kept slots live → CanLink links taken node kept slots live → HasLinks links taken kept after → Grows after node kept slots live
+pub links_grow : (links taken : List ℕ) (node : NodeShape) (kept after : NodeWords) (slots : ℕ) (live : ℕ → Bool) → IsNode node.kind node kept slots live → CanLink links taken node kept slots live → HasLinks links taken kept after → NodeGrows after node kept slots live
 links_grow links taken node kept after slots live is can re =
     let pointer : node.kind ≡ Pointer = can.is_pointer in
     let own : IsPointerNode node kept slots live = subst (λ k. IsNode k node kept slots live) pointer is in

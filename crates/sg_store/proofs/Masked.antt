@@ -22,7 +22,7 @@ use Rattle.sg_store.specs.Reaching.{KeepsCells}
 use Rattle.sg_store.specs.steps.AtNode.{OfNode, AtNode, AtNodeOf, AreNumbers}
 use Rattle.sg_store.specs.steps.Levels.{IsOfKind, OpensNext}
 use Rattle.sg_store.specs.steps.Marking.{IsMarked}
-use Rattle.sg_store.specs.steps.Settling.{CanSettleMasks, IsRemasked, ChangesAt, ChangesNode, Grows}
+use Rattle.sg_store.specs.steps.Settling.{CanSettleMasks, IsRemasked, ChangesAt, ChangesNode, NodeGrows}
 use Rattle.sg_store.proofs.ActiveCells.{as_many_words}
 use Rattle.sg_store.proofs.Opened.{OfWithinCap, AddsSlots, keeps_cells, well_formed_grown, opens_next}
 use Rattle.sg_store.proofs.Wanted.{Wants, wanted_live}
@@ -32,7 +32,7 @@ use Rattle.sg_store.proofs.Settled.{at_within}
 
 -- ── The node's words have grown ──
 
-masks_grow : (masks : List ℕ) (node : NodeShape) (kept after : NodeWords) (slots : ℕ) (live : ℕ → Bool) → IsNode node.kind node kept slots live → CanSettleMasks masks node kept slots live → IsRemasked masks kept after → Grows after node kept slots live
+masks_grow : (masks : List ℕ) (node : NodeShape) (kept after : NodeWords) (slots : ℕ) (live : ℕ → Bool) → IsNode node.kind node kept slots live → CanSettleMasks masks node kept slots live → IsRemasked masks kept after → NodeGrows after node kept slots live
 masks_grow masks node kept after slots live is can re =
     let kind : Bitmasked ≡ node.kind = sym can.is_masked in
     let own : IsMaskNode kept slots live = subst (λ k. IsNode k node kept slots live) can.is_masked is in
@@ -62,9 +62,9 @@ can_remask store i masks can kept has =
     let found = node_of (CanSettleMasks masks) store.shape.nodes store.nodes 1 is_root i can in
     subst (λ (k : NodeWords). length masks ≡ length k.masks) (same_Some found.kept kept (sym found.has ∙ has)) found.says.as_many
 
-pub grows_at : (store : StoreWords) (i : ℕ) (masks : List ℕ) (kept after : NodeWords) → IsWellFormed store → AtNodeOf (CanSettleMasks masks) store i → slice_get store.nodes i ≡ Some kept → IsRemasked masks kept after → AtNodeOf (Grows after) store i
+pub grows_at : (store : StoreWords) (i : ℕ) (masks : List ℕ) (kept after : NodeWords) → IsWellFormed store → AtNodeOf (CanSettleMasks masks) store i → slice_get store.nodes i ≡ Some kept → IsRemasked masks kept after → AtNodeOf (NodeGrows after) store i
 grows_at store i masks kept after is can has re =
-    at_node_from (Both OfWellFormed (CanSettleMasks masks)) (Grows after) store.shape.nodes store.nodes 1 is_root i
+    at_node_from (Both OfWellFormed (CanSettleMasks masks)) (NodeGrows after) store.shape.nodes store.nodes 1 is_root i
     (λ node mine slots live at mine_at both.
     masks_grow masks node mine after slots live both.0 both.1
     (subst (λ k. IsRemasked masks k after) (same_Some kept mine (sym has ∙ mine_at)) re))

@@ -18,7 +18,7 @@ use Rattle.sg_pool.specs.Numbers.{live_count}
 use Rattle.sg_store.specs.declared.node.NodeWords.{NodeWords}
 use Rattle.sg_store.specs.StoreWords.{StoreWords}
 use Rattle.sg_store.specs.Walks.{is_on}
-use Rattle.sg_store.specs.WellFormed.{has_cap, IsNode, IsDynamicNode, IsWellFormed, is_root}
+use Rattle.sg_store.specs.WellFormed.{kind_has_cap, IsNode, IsDynamicNode, IsWellFormed, is_root}
 use Rattle.sg_store.specs.StandsFor.{IsSlotOf}
 use Rattle.sg_store.proofs.Walking.{node_is}
 use Rattle.sg_store.proofs.Wanted.{kind_there}
@@ -85,10 +85,10 @@ dynamic_need store i node kept coords laws well at has dynamic on =
     live_chunks node kept own.0 own.1 is ∙ chain_need store i node kept kept.lengths coords (own_tell store i node kept coords d chains on)
     ∙ sym (ap (λ k. need_by k store.shape coords (suc i) (count_of node.chunk)) dynamic)
 
-pub node_need : (store : StoreWords) (i : ℕ) (node : NodeShape) (kept : NodeWords) (coords : List Coord) → NeedLaws store.shape → IsWellFormed store → slice_get store.shape.nodes i ≡ Some node → slice_get store.nodes i ≡ Some kept → has_cap node.kind ≡ true → IsOnAt store i coords → live_count kept.pool ≡ need_of store.shape coords (suc i) node
+pub node_need : (store : StoreWords) (i : ℕ) (node : NodeShape) (kept : NodeWords) (coords : List Coord) → NeedLaws store.shape → IsWellFormed store → slice_get store.shape.nodes i ≡ Some node → slice_get store.nodes i ≡ Some kept → kind_has_cap node.kind ≡ true → IsOnAt store i coords → live_count kept.pool ≡ need_of store.shape coords (suc i) node
 node_need store i node kept coords laws well at has capped on = by_kind node.kind refl capped
   where
-    by_kind : (kind : Kind) → node.kind ≡ kind → has_cap kind ≡ true → live_count kept.pool ≡ need_of store.shape coords (suc i) node
+    by_kind : (kind : Kind) → node.kind ≡ kind → kind_has_cap kind ≡ true → live_count kept.pool ≡ need_of store.shape coords (suc i) node
     by_kind Pointer e capped = linked_need store i node kept coords laws well at has (ap ends_segment e) on
     by_kind Hash e capped = linked_need store i node kept coords laws well at has (ap ends_segment e) on
     by_kind Dynamic e capped = dynamic_need store i node kept coords laws well at has e on

@@ -10,7 +10,7 @@ use Rattle.sg_layout.specs.declared.shape.NodeShape.{NodeShape}
 use Rattle.sg_layout.specs.Axes.{count_of, size_of}
 use Rattle.sg_store.specs.declared.node.NodeWords.{NodeWords}
 use Rattle.sg_store.specs.Slots.{mask_bit, linked, chunk_cell, below_length, is_set, place_below}
-use Rattle.sg_store.specs.steps.Walking.{step_of, unless_unset, CanFind, IsTableFor, IsChainFor, IsUnderParent}
+use Rattle.sg_store.specs.steps.Walking.{step_of_walk, unless_unset, CanFind, IsTableFor, IsChainFor, IsUnderParent}
 use Rattle.sg_store.proofs.BySlots.{set_linked}
 
 -- ── A step by kind ──
@@ -25,29 +25,29 @@ set_alone true None = refl
 set_alone true (Some place) = refl
 set_alone false below = refl
 
-step_is : (bits : Bool) (kind : Kind) (node : NodeShape) (kept : NodeWords) (slot : ℕ) → step_of bits kind node kept slot ≡ unless_unset bits (is_set kind node kept slot) (place_below kind node kept slot)
+step_is : (bits : Bool) (kind : Kind) (node : NodeShape) (kept : NodeWords) (slot : ℕ) → step_of_walk bits kind node kept slot ≡ unless_unset bits (is_set kind node kept slot) (place_below kind node kept slot)
 step_is true kind node kept slot = refl
 step_is false kind node kept slot = refl
 
-by_kind : (bits : Bool) (kind own : Kind) (node : NodeShape) (kept : NodeWords) (slot : ℕ) → own ≡ kind → step_of bits own node kept slot ≡ unless_unset bits (is_set kind node kept slot) (place_below kind node kept slot)
-by_kind bits kind own node kept slot is = ap (λ k. step_of bits k node kept slot) is ∙ step_is bits kind node kept slot
+by_kind : (bits : Bool) (kind own : Kind) (node : NodeShape) (kept : NodeWords) (slot : ℕ) → own ≡ kind → step_of_walk bits own node kept slot ≡ unless_unset bits (is_set kind node kept slot) (place_below kind node kept slot)
+by_kind bits kind own node kept slot is = ap (λ k. step_of_walk bits k node kept slot) is ∙ step_is bits kind node kept slot
 
-pub dense_step : (bits : Bool) (node : NodeShape) (kept : NodeWords) (slot : ℕ) → node.kind ≡ Dense → Some slot ≡ step_of bits node.kind node kept slot
+pub dense_step : (bits : Bool) (node : NodeShape) (kept : NodeWords) (slot : ℕ) → node.kind ≡ Dense → Some slot ≡ step_of_walk bits node.kind node kept slot
 dense_step bits node kept slot is = sym (set_alone bits (Some slot)) ∙ sym (by_kind bits Dense node.kind node kept slot is)
 
-pub bit_step : (bits : Bool) (node : NodeShape) (kept : NodeWords) (slot : ℕ) → node.kind ≡ Bitmasked → unless_unset bits (mask_bit kept.masks slot) (Some slot) ≡ step_of bits node.kind node kept slot
+pub bit_step : (bits : Bool) (node : NodeShape) (kept : NodeWords) (slot : ℕ) → node.kind ≡ Bitmasked → unless_unset bits (mask_bit kept.masks slot) (Some slot) ≡ step_of_walk bits node.kind node kept slot
 bit_step bits node kept slot is = sym (by_kind bits Bitmasked node.kind node kept slot is)
 
-pub link_step : (bits : Bool) (node : NodeShape) (kept : NodeWords) (slot : ℕ) → node.kind ≡ Pointer → linked (slice_index kept.links slot) ≡ step_of bits node.kind node kept slot
+pub link_step : (bits : Bool) (node : NodeShape) (kept : NodeWords) (slot : ℕ) → node.kind ≡ Pointer → linked (slice_index kept.links slot) ≡ step_of_walk bits node.kind node kept slot
 link_step bits node kept slot is =
     let below : Option ℕ = linked (slice_index kept.links slot) in
     sym (set_alone bits below) ∙ ap (λ (b : Bool). unless_unset bits b below) (set_linked (slice_index kept.links slot)) ∙ sym (by_kind bits Pointer node.kind node kept slot is)
 
-pub key_step : (bits : Bool) (node : NodeShape) (kept : NodeWords) (slot : ℕ) → node.kind ≡ Hash → beside kept.keys kept.links slot ≡ step_of bits node.kind node kept slot
+pub key_step : (bits : Bool) (node : NodeShape) (kept : NodeWords) (slot : ℕ) → node.kind ≡ Hash → beside kept.keys kept.links slot ≡ step_of_walk bits node.kind node kept slot
 key_step bits node kept slot is = sym (set_alone bits (beside kept.keys kept.links slot)) ∙ sym (by_kind bits Hash node.kind node kept slot is)
 
 pub element_step : (bits : Bool) (node : NodeShape) (kept : NodeWords) (size place offset chunk : ℕ) → node.kind ≡ Dynamic → size ≡ size_of node.sizes → offset < size → chunk ≡ count_of node.chunk
-    → unless_unset bits (nat_lt offset (slice_index kept.lengths place)) (chunk_cell chunk (list_of kept.chains place) offset) ≡ step_of bits node.kind node kept (place * size + offset)
+    → unless_unset bits (nat_lt offset (slice_index kept.lengths place)) (chunk_cell chunk (list_of kept.chains place) offset) ≡ step_of_walk bits node.kind node kept (place * size + offset)
 element_step bits node kept size place offset chunk is sized below chunk_is =
     let slot : ℕ = place * size + offset in
     let parent : slot / size ≡ place = div-mul-add place size offset below in

@@ -21,7 +21,7 @@ use Rattle.sg_store.specs.WellFormed.{AreNodes, IsWithinCap, IsFieldRow, IsWellF
 use Rattle.sg_store.specs.StandsFor.{IsSlotOf}
 use Rattle.sg_store.specs.Reaching.{KeepsCells}
 use Rattle.sg_store.specs.steps.AtNode.{OfNode, AtNode, AtNodeOf}
-use Rattle.sg_store.specs.steps.Settling.{Grows}
+use Rattle.sg_store.specs.steps.Settling.{NodeGrows}
 use Rattle.sg_store.specs.steps.Levels.{OpensNext}
 use Rattle.sg_store.proofs.Walking.{own_kind, own_kind_is}
 use Rattle.std.specs.List.{Contains}
@@ -36,7 +36,7 @@ with_node store index after = record store { nodes = slice_set store.nodes index
 
 -- ── It is well-formed, and its cells stay ──
 
-pub keeps_cells : (store : StoreWords) (i : ℕ) (after : NodeWords) → AtNodeOf (Grows after) store i → KeepsCells store (with_node store i after)
+pub keeps_cells : (store : StoreWords) (i : ℕ) (after : NodeWords) → AtNodeOf (NodeGrows after) store i → KeepsCells store (with_node store i after)
 keeps_cells store i after grown = record {
   same_shape = refl;
   same_fields = refl;
@@ -65,7 +65,7 @@ caps_kept (node ∷ later) [] places live i after here all = absurd here
 caps_kept (node ∷ later) (kept ∷ words) places live zero after here all = (here, all.1)
 caps_kept (node ∷ later) (kept ∷ words) places live (suc i) after here all = (all.0, caps_kept later words _ _ i after here all.1)
 
-pub well_formed_grown : (store : StoreWords) (i : ℕ) (after : NodeWords) → IsWellFormed store → AtNodeOf (Grows after) store i → AtNodeOf (OfWithinCap after) store i → IsWellFormed (with_node store i after)
+pub well_formed_grown : (store : StoreWords) (i : ℕ) (after : NodeWords) → IsWellFormed store → AtNodeOf (NodeGrows after) store i → AtNodeOf (OfWithinCap after) store i → IsWellFormed (with_node store i after)
 well_formed_grown store i after is grown capped = record {
   accepted = is.accepted;
   nodes_fit = nodes_grown store.shape.nodes store.nodes 1 is_root i after is.nodes_fit grown;
@@ -134,7 +134,7 @@ own_kind_of shape number (o ∷ slot) is = λ dense. is.has_activity (
     ∙ sym (own_kind_is shape.nodes o slot) ∙ dense)
 
 -- the node with an index, of nodes that are well-formed
-pub opens_by : (store : StoreWords) (i : ℕ) (after : NodeWords) (wanted : List Coord) (slots : List ℕ) (node : NodeShape) (kept : NodeWords) (goes : ℕ → ℕ → Bool) → GoesLive store i wanted slots goes → AtNodeOf (Grows after) store i → slice_get store.shape.nodes i ≡ Some node → slice_get store.nodes i ≡ Some kept → slice_get (slice_set store.nodes i after) i ≡ Some after → AddsBy goes after slots node kept → OpensNext store (with_node store i after) wanted i
+pub opens_by : (store : StoreWords) (i : ℕ) (after : NodeWords) (wanted : List Coord) (slots : List ℕ) (node : NodeShape) (kept : NodeWords) (goes : ℕ → ℕ → Bool) → GoesLive store i wanted slots goes → AtNodeOf (NodeGrows after) store i → slice_get store.shape.nodes i ≡ Some node → slice_get store.nodes i ≡ Some kept → slice_get (slice_set store.nodes i after) i ≡ Some after → AddsBy goes after slots node kept → OpensNext store (with_node store i after) wanted i
 opens_by store i after wanted slots node kept goes wants grown at has now adds old was_open number slot is =
     elim (cases_eq number (suc i)) [
       | inl here ↦
@@ -158,6 +158,6 @@ opens_by store i after wanted slots node kept goes wants grown at has now adds o
     nat_le_past : (n j : ℕ) → n ≡ suc j → nat_le n j ≡ false
     nat_le_past n j e = not_true _ (λ h. let low : n ≤ j = leb-true n j h in absurd (omega (arith, e)))
 
-pub opens_next : (store : StoreWords) (i : ℕ) (after : NodeWords) (wanted : List Coord) (slots : List ℕ) (node : NodeShape) (kept : NodeWords) → Wants store i wanted slots → AtNodeOf (Grows after) store i → slice_get store.shape.nodes i ≡ Some node → slice_get store.nodes i ≡ Some kept → slice_get (slice_set store.nodes i after) i ≡ Some after → AddsSlots after slots node kept → OpensNext store (with_node store i after) wanted i
+pub opens_next : (store : StoreWords) (i : ℕ) (after : NodeWords) (wanted : List Coord) (slots : List ℕ) (node : NodeShape) (kept : NodeWords) → Wants store i wanted slots → AtNodeOf (NodeGrows after) store i → slice_get store.shape.nodes i ≡ Some node → slice_get store.nodes i ≡ Some kept → slice_get (slice_set store.nodes i after) i ≡ Some after → AddsSlots after slots node kept → OpensNext store (with_node store i after) wanted i
 opens_next store i after wanted slots node kept wants grown at has now adds =
     opens_by store i after wanted slots node kept (λ x q. x == q) (goes_alone store i wanted slots wants) grown at has now adds

@@ -20,7 +20,7 @@ use Rattle.sg_store.specs.WellFormed.{is_root}
 use Rattle.sg_store.specs.Reaching.{IsOpenThrough}
 use Rattle.sg_store.specs.Opening.{IsPlaceOf, OpensNode}
 use Rattle.sg_store.specs.steps.AtNode.{AtNodeOf, IsNumberOf, AreNumbers}
-use Rattle.sg_store.specs.steps.Settling.{Grows}
+use Rattle.sg_store.specs.steps.Settling.{NodeGrows}
 use Rattle.sg_store.proofs.Opened.{with_node, AddsSlots, opens_next, same_bool}
 use Rattle.sg_store.proofs.Wanted.{Wants, numbers_none}
 use Rattle.sg_store.proofs.Counting.{node_of}
@@ -83,9 +83,9 @@ wants_at store number i node kept wanted is paths other = record {
 -- ── One node further ──
 
 -- what was set is set still
-grown_set : (store : StoreWords) (number i : ℕ) (node : NodeShape) (kept after : NodeWords) → IsAt store number i node kept → AtNodeOf (Grows after) store i → (q : ℕ) → is_set node.kind node kept q ≡ true → is_set node.kind node after q ≡ true
+grown_set : (store : StoreWords) (number i : ℕ) (node : NodeShape) (kept after : NodeWords) → IsAt store number i node kept → AtNodeOf (NodeGrows after) store i → (q : ℕ) → is_set node.kind node kept q ≡ true → is_set node.kind node after q ≡ true
 grown_set store number i node kept after is grown q =
-    let found = node_of (Grows after) store.shape.nodes store.nodes 1 is_root i grown in
+    let found = node_of (NodeGrows after) store.shape.nodes store.nodes 1 is_root i grown in
     let a : found.node ≡ node = same_Some found.node node (sym found.at ∙ is.at) in
     let b : found.kept ≡ kept = same_Some found.kept kept (sym found.has ∙ is.has) in
     let stays : is_set found.node.kind found.node found.kept q ≡ true → is_set found.node.kind found.node after q ≡ true = found.says.set_stays q in
@@ -119,7 +119,7 @@ pub number_found : (slots : List ℕ) (q : ℕ) → Contains slots q → list_an
 number_found slots q has = list_any-from_Any (λ x. x == q) slots (has.0, q, has.1, has.2, eq-eqb q q refl)
 
 -- a node that keeps the wanted slots besides the old ones
-pub opened_by : (store : StoreWords) (number i : ℕ) (node : NodeShape) (kept after : NodeWords) (wanted : List Coord) → IsAt store number i node kept → PathIsSlot store.shape → node.kind ≢ Dynamic → AtNodeOf (Grows after) store i → ((q : ℕ) → is_set node.kind node kept q ≡ false → is_set node.kind node after q ≡ true → IsPlaceOf store number wanted q) → ((at : Coord) → Contains wanted at → (q : ℕ) → place_in store number at ≡ Some q → is_set node.kind node after q ≡ true) → OpensNode store (with_node store i after) number wanted
+pub opened_by : (store : StoreWords) (number i : ℕ) (node : NodeShape) (kept after : NodeWords) (wanted : List Coord) → IsAt store number i node kept → PathIsSlot store.shape → node.kind ≢ Dynamic → AtNodeOf (NodeGrows after) store i → ((q : ℕ) → is_set node.kind node kept q ≡ false → is_set node.kind node after q ≡ true → IsPlaceOf store number wanted q) → ((at : Coord) → Contains wanted at → (q : ℕ) → place_in store number at ≡ Some q → is_set node.kind node after q ≡ true) → OpensNode store (with_node store i after) number wanted
 opened_by store number i node kept after wanted is paths other grown added filled old was_open =
     let numbers = numbers_for store i wanted in
     let slots : List ℕ = numbers.0 in

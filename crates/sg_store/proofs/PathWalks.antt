@@ -15,7 +15,7 @@ use Rattle.sg_store.specs.Slots.{slot_under, place_below}
 use Rattle.sg_store.specs.Walks.{place_after, slot_number_in, slot_in}
 use Rattle.sg_store.specs.WellFormed.{IsWellFormed, is_root}
 use Rattle.sg_store.specs.steps.AtNode.{AtNodeOf}
-use Rattle.sg_store.specs.steps.Walking.{IsPlaceAt, step_of}
+use Rattle.sg_store.specs.steps.Walking.{IsPlaceAt, step_of_walk}
 use Rattle.sg_store.proofs.SlotPaths.{slot_offsets}
 use Rattle.sg_store.proofs.Stepping.{step_more, step_none, answer_more, either_leads, place_fits, words_many, size_at}
 
@@ -55,29 +55,29 @@ path_split (x ∷ xs) (suc i) (suc n) below =
 -- what a step at a node answers
 abbrev pub StepIs : StoreWords → ℕ → ℕ → ℕ → Bool → Option ℕ → Type 0
 StepIs store i place o bits result =
-    (node : NodeShape) (kept : NodeWords) → slice_get store.shape.nodes i ≡ Some node → slice_get store.nodes i ≡ Some kept → result ≡ step_of bits node.kind node kept (slot_under node place o)
+    (node : NodeShape) (kept : NodeWords) → slice_get store.shape.nodes i ≡ Some node → slice_get store.nodes i ≡ Some kept → result ≡ step_of_walk bits node.kind node kept (slot_under node place o)
 
-pub place_at : (store : StoreWords) → IsWellFormed store → PathIsSlot store.shape → (bits : Bool) (at : Coord) (i place : ℕ) → i < length store.shape.nodes → place_after (step_of bits) store.shape.nodes store.nodes 0 (path store.shape at i) ≡ Some place → AtNodeOf (IsPlaceAt place) store i
+pub place_at : (store : StoreWords) → IsWellFormed store → PathIsSlot store.shape → (bits : Bool) (at : Coord) (i place : ℕ) → i < length store.shape.nodes → place_after (step_of_walk bits) store.shape.nodes store.nodes 0 (path store.shape at i) ≡ Some place → AtNodeOf (IsPlaceAt place) store i
 place_at store is slots bits at i place below e =
     let long = path_long store.shape at i (omega (arith, below)) in
     subst (λ n. AtNodeOf (IsPlaceAt place) store n) long
     (place_fits store.shape.nodes store.nodes 1 is_root is.nodes_fit 0 (omega arith) (path store.shape at i) (slot_offsets store.shape.nodes i _ (slots is.accepted at i)) place (either_leads bits store.shape.nodes store.nodes 0 _ place e) (omega (arith, long)))
 
-pub place_next : (store : StoreWords) → IsWellFormed store → (bits : Bool) (at : Coord) (i place o : ℕ) (result : Option ℕ) → i < length store.shape.nodes → o ≡ slice_index (offsets store.shape.nodes at) i → StepIs store i place o bits result → place_after (step_of bits) store.shape.nodes store.nodes 0 (path store.shape at i) ≡ Some place → place_after (step_of bits) store.shape.nodes store.nodes 0 (path store.shape at (i + 1)) ≡ result
+pub place_next : (store : StoreWords) → IsWellFormed store → (bits : Bool) (at : Coord) (i place o : ℕ) (result : Option ℕ) → i < length store.shape.nodes → o ≡ slice_index (offsets store.shape.nodes at) i → StepIs store i place o bits result → place_after (step_of_walk bits) store.shape.nodes store.nodes 0 (path store.shape at i) ≡ Some place → place_after (step_of_walk bits) store.shape.nodes store.nodes 0 (path store.shape at (i + 1)) ≡ result
 place_next store is bits at i place o result below same step e =
     let nodes : List NodeShape = store.shape.nodes in
     let node = there nodes i below in
     let kept = there store.nodes i (omega (arith, words_many nodes store.nodes 1 is_root is.nodes_fit)) in
-    ap (place_after (step_of bits) nodes store.nodes 0) (path_next store.shape at i below ∙ ap (λ n. path store.shape at i ++ n ∷ []) (sym same))
-    ∙ step_more (step_of bits) nodes store.nodes i node.0 kept.0 node.1 kept.1 0 (path store.shape at i) o (path_long store.shape at i (omega (arith, below)))
-    ∙ ap (option_and_then (λ x. step_of bits node.0.kind node.0 kept.0 (slot_under node.0 x o))) e
+    ap (place_after (step_of_walk bits) nodes store.nodes 0) (path_next store.shape at i below ∙ ap (λ n. path store.shape at i ++ n ∷ []) (sym same))
+    ∙ step_more (step_of_walk bits) nodes store.nodes i node.0 kept.0 node.1 kept.1 0 (path store.shape at i) o (path_long store.shape at i (omega (arith, below)))
+    ∙ ap (option_and_then (λ x. step_of_walk bits node.0.kind node.0 kept.0 (slot_under node.0 x o))) e
     ∙ sym (step node.0 kept.0 node.1 kept.1)
 
 -- where it ends, the whole walk does
-pub place_ends : (store : StoreWords) (bits : Bool) (at : Coord) (i n : ℕ) → i ≤ n → place_after (step_of bits) store.shape.nodes store.nodes 0 (path store.shape at i) ≡ None → place_after (step_of bits) store.shape.nodes store.nodes 0 (path store.shape at n) ≡ None
+pub place_ends : (store : StoreWords) (bits : Bool) (at : Coord) (i n : ℕ) → i ≤ n → place_after (step_of_walk bits) store.shape.nodes store.nodes 0 (path store.shape at i) ≡ None → place_after (step_of_walk bits) store.shape.nodes store.nodes 0 (path store.shape at n) ≡ None
 place_ends store bits at i n below none =
     let rest = path_split (offsets store.shape.nodes at) i n below in
-    ap (place_after (step_of bits) store.shape.nodes store.nodes 0) rest.1 ∙ step_none (step_of bits) store.shape.nodes store.nodes 0 (path store.shape at i) rest.0 none
+    ap (place_after (step_of_walk bits) store.shape.nodes store.nodes 0) rest.1 ∙ step_none (step_of_walk bits) store.shape.nodes store.nodes 0 (path store.shape at i) rest.0 none
 
 -- the number of a slot, from the place of its container
 pub number_next : (store : StoreWords) → IsWellFormed store → (at : Coord) (i : ℕ) (place : Option ℕ) (o size : ℕ) → i < length store.shape.nodes → o ≡ slice_index (offsets store.shape.nodes at) i → size ≡ slice_index (sizes_of store.shape.nodes) i → place_after place_below store.shape.nodes store.nodes 0 (path store.shape at i) ≡ place → slot_in store (suc i) at ≡ option_map (λ x. x * size + o) place

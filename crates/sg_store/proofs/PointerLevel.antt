@@ -29,7 +29,7 @@ use Rattle.sg_store.specs.Walks.{slot_number_in, is_on}
 use Rattle.sg_store.specs.WellFormed.{IsNode, IsPointerNode, IsWithinCap, AreNodes, IsWellFormed, is_root}
 use Rattle.sg_store.specs.Reaching.{KeepsCells, IsOpenThrough}
 use Rattle.sg_store.specs.steps.AtNode.{OfNode, AtNode, AtNodeOf, AreNumbers}
-use Rattle.sg_store.specs.steps.Settling.{CanSettleLinks, IsRelinked, ChangesNode, Grows}
+use Rattle.sg_store.specs.steps.Settling.{CanSettleLinks, IsRelinked, ChangesNode, NodeGrows}
 use Rattle.sg_store.specs.steps.Filling.{IsPlan}
 use Rattle.sg_store.specs.steps.Keying.{as_linked}
 use Rattle.sg_store.specs.steps.Levels.{IsPointerOf, OpensNext, IsPastCap}
@@ -261,7 +261,7 @@ set_there [] i kept after has = absurd (none-some kept has)
 set_there (own ∷ words) zero kept after has = refl
 set_there (own ∷ words) (suc i) kept after has = set_there words i kept after has
 
-pub level_opened : (store : StoreWords) (i cap : ℕ) (wanted : List Coord) (slots : List ℕ) (plan : Plan) (after : NodeWords) → (o : Opening store i cap wanted slots) → IsPlan (with_links o.kept o.links) cap slots plan → plan.taken ≤ plan.room → ((q : ℕ) → is_set o.node.kind o.node after q ≡ not (slice_index plan.links q == 0)) → AtNodeOf (Grows after) store i → OpensNext store (with_node store i after) wanted i × KeepsCells store (with_node store i after)
+pub level_opened : (store : StoreWords) (i cap : ℕ) (wanted : List Coord) (slots : List ℕ) (plan : Plan) (after : NodeWords) → (o : Opening store i cap wanted slots) → IsPlan (with_links o.kept o.links) cap slots plan → plan.taken ≤ plan.room → ((q : ℕ) → is_set o.node.kind o.node after q ≡ not (slice_index plan.links q == 0)) → AtNodeOf (NodeGrows after) store i → OpensNext store (with_node store i after) wanted i × KeepsCells store (with_node store i after)
 level_opened store i cap wanted slots plan after o is fits set grown = (
   opens_next store i after wanted slots o.node o.kept o.wants grown o.is.at o.is.has (set_there store.nodes i o.kept after o.is.has)
       (adds_slots store i cap wanted slots plan after o is fits set),
@@ -270,7 +270,7 @@ level_opened store i cap wanted slots plan after o is fits set grown = (
 
 pub pointer_opened : (store now : StoreWords) (i cap : ℕ) (wanted : List Coord) (slots : List ℕ) (plan : Plan) → (o : Opening store i cap wanted slots) → o.links ≡ o.kept.links → o.node.kind ≡ Pointer → IsPlan (with_links o.kept o.links) cap slots plan → plan.taken ≤ plan.room → ChangesNode (IsRelinked plan.links (take plan.taken plan.stock)) store now i → OpensNext store now wanted i × KeepsCells store now
 pointer_opened store now i cap wanted slots plan o own_links pointer is fits changed =
-    let grown : AtNodeOf (Grows changed.after) store i = grows_at store i plan.links (take plan.taken plan.stock) changed.kept changed.after o.well_formed (can_settle store i cap wanted slots plan o own_links pointer is fits) changed.was changed.change in
+    let grown : AtNodeOf (NodeGrows changed.after) store i = grows_at store i plan.links (take plan.taken plan.stock) changed.kept changed.after o.well_formed (can_settle store i cap wanted slots plan o own_links pointer is fits) changed.was changed.change in
     let both = level_opened store i cap wanted slots plan changed.after o is fits
     (λ q. ap (λ k. is_set k o.node changed.after q) pointer ∙ ap (λ l. not (slice_index l q == 0)) changed.change.new_links) grown in
     (subst (λ s. OpensNext store s wanted i) (sym changed.now_is) both.0, subst (λ s. KeepsCells store s) (sym changed.now_is) both.1)

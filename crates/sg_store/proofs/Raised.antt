@@ -20,8 +20,8 @@ use Rattle.sg_dynamic.proofs.Uses.{chunks_rise}
 use Rattle.sg_store.specs.declared.node.NodeWords.{NodeWords}
 use Rattle.sg_store.specs.Slots.{below_length, is_set, place_below}
 use Rattle.sg_store.specs.WellFormed.{IsNode, IsDynamicNode, IsWithinCap, live_below}
-use Rattle.sg_store.specs.steps.Settling.{Grows}
-use Rattle.sg_store.specs.steps.Raising.{keeps_too, IsRaised, AreRaised, CanFitLengths, IsFitted, CanLengthen}
+use Rattle.sg_store.specs.steps.Settling.{NodeGrows}
+use Rattle.sg_store.specs.steps.Raising.{keeps_too, IsRaised, RiseByMany, CanFitLengths, IsRefitted, CanLengthen}
 use Rattle.sg_store.proofs.SlotPaths.{same_bool}
 use Rattle.sg_store.proofs.Chains.{cell_in_chunk}
 
@@ -104,13 +104,13 @@ or_assoc : (a b c : Bool) → ((a || b) || c) ≡ (a || (b || c))
 or_assoc true b c = refl
 or_assoc false b c = refl
 
-pub raised_none : (lengths : List ℕ) (size : ℕ) → AreRaised lengths lengths size []
+pub raised_none : (lengths : List ℕ) (size : ℕ) → RiseByMany lengths lengths size []
 raised_none lengths size = record { as_many = refl; below = λ other. sym (or_none (below_length lengths size other)); rise = λ q. omega arith; short = λ q within. within }
 
-pub raised_next : (before now after slots : List ℕ) (size i slot : ℕ) → AreRaised before now size (take i slots) → i < length slots → slot ≡ get_or slots i 0 → IsRaised now after size slot → AreRaised before after size (take (i + 1) slots)
+pub raised_next : (before now after slots : List ℕ) (size i slot : ℕ) → RiseByMany before now size (take i slots) → i < length slots → slot ≡ get_or slots i 0 → IsRaised now after size slot → RiseByMany before after size (take (i + 1) slots)
 raised_next before now after slots size i slot far within is one =
     let more : take (i + 1) slots ≡ take i slots ++ slot ∷ [] = take_more slots i 0 within ∙ ap (λ n. take i slots ++ n ∷ []) (sym is) in
-    subst (λ ss. AreRaised before after size ss) (sym more) (record {
+    subst (λ ss. RiseByMany before after size ss) (sym more) (record {
       as_many = one.as_many ∙ far.as_many;
       below = λ other.
           let p : ℕ → Bool = λ n. keeps_too size n other in
@@ -149,7 +149,7 @@ in_front [] (suc n) k x at = at
 in_front (y ∷ ys) (suc n) zero x at = at
 in_front (y ∷ ys) (suc n) (suc k) x at = in_front ys n k x at
 
-pub fitted_node : (lengths : List ℕ) (chunk : ℕ) (node : NodeShape) (kept after : NodeWords) (slots : ℕ) (live : ℕ → Bool) → IsDynamicNode node kept slots live → CanLengthen lengths chunk node kept slots live → IsFitted lengths chunk kept after → IsDynamicNode node after slots live
+pub fitted_node : (lengths : List ℕ) (chunk : ℕ) (node : NodeShape) (kept after : NodeWords) (slots : ℕ) (live : ℕ → Bool) → IsDynamicNode node kept slots live → CanLengthen lengths chunk node kept slots live → IsRefitted lengths chunk kept after → IsDynamicNode node after slots live
 fitted_node lengths chunk node kept after slots live is can fit =
     let many : length after.lengths ≡ length kept.lengths = ap length fit.new_lengths ∙ can.as_many in
     record {
@@ -166,7 +166,7 @@ fitted_node lengths chunk node kept after slots live is can fit =
       in_live = λ q on. can.in_live q (sym (ap (λ ls. below_length ls (size_of node.sizes) q) fit.new_lengths) ∙ on);
     }
 
-cell_stays : (lengths : List ℕ) (chunk : ℕ) (node : NodeShape) (kept after : NodeWords) (slots : ℕ) (live : ℕ → Bool) → IsDynamicNode node kept slots live → CanLengthen lengths chunk node kept slots live → IsFitted lengths chunk kept after → (q n : ℕ) → place_below Dynamic node kept q ≡ Some n → place_below Dynamic node after q ≡ Some n
+cell_stays : (lengths : List ℕ) (chunk : ℕ) (node : NodeShape) (kept after : NodeWords) (slots : ℕ) (live : ℕ → Bool) → IsDynamicNode node kept slots live → CanLengthen lengths chunk node kept slots live → IsRefitted lengths chunk kept after → (q n : ℕ) → place_below Dynamic node kept q ≡ Some n → place_below Dynamic node after q ≡ Some n
 cell_stays lengths chunk node kept after slots live is can fit q n e =
     let size : ℕ = size_of node.sizes in
     let own : ℕ = count_of node.chunk in
@@ -178,7 +178,7 @@ cell_stays lengths chunk node kept after slots live is can fit q n e =
     in_front (list_of after.chains (q / size)) (length old) ((q % size) / own) a.0 (ap (λ l. slice_get l ((q % size) / own)) front ∙ a.1) in
     ap (option_map (λ m. m * own + (q % size) % own)) at ∙ ap Some a.2
 
-pub lengths_grow : (lengths : List ℕ) (chunk : ℕ) (node : NodeShape) (kept after : NodeWords) (slots : ℕ) (live : ℕ → Bool) → IsNode node.kind node kept slots live → CanLengthen lengths chunk node kept slots live → IsFitted lengths chunk kept after → Grows after node kept slots live
+pub lengths_grow : (lengths : List ℕ) (chunk : ℕ) (node : NodeShape) (kept after : NodeWords) (slots : ℕ) (live : ℕ → Bool) → IsNode node.kind node kept slots live → CanLengthen lengths chunk node kept slots live → IsRefitted lengths chunk kept after → NodeGrows after node kept slots live
 lengths_grow lengths chunk node kept after slots live own can fit =
     let dynamic : Dynamic ≡ node.kind = sym can.is_dynamic in
     let is : IsDynamicNode node kept slots live = subst (λ k. IsNode k node kept slots live) can.is_dynamic own in
@@ -196,7 +196,7 @@ lengths_grow lengths chunk node kept after slots live own can fit =
     }
 
 -- as many chunks are live as the cap at most
-pub lengths_capped : (lengths : List ℕ) (chunk : ℕ) (node : NodeShape) (kept after : NodeWords) (slots : ℕ) (live : ℕ → Bool) → IsNode node.kind node kept slots live → CanLengthen lengths chunk node kept slots live → IsFitted lengths chunk kept after → IsWithinCap node.kind node after
+pub lengths_capped : (lengths : List ℕ) (chunk : ℕ) (node : NodeShape) (kept after : NodeWords) (slots : ℕ) (live : ℕ → Bool) → IsNode node.kind node kept slots live → CanLengthen lengths chunk node kept slots live → IsRefitted lengths chunk kept after → IsWithinCap node.kind node after
 lengths_capped lengths chunk node kept after slots live own can fit =
     let is : IsDynamicNode node kept slots live = subst (λ k. IsNode k node kept slots live) can.is_dynamic own in
     let low : live_count after.pool ≤ count_of node.cap = omega (arith, live_count_within after.pool, (fitted_node lengths chunk node kept after slots live is can fit).places) in

@@ -35,7 +35,7 @@ use Rattle.sg_store.specs.declared.node.NodeWords.{NodeWords}
 use Rattle.sg_store.specs.declared.reach.Full.{Full}
 use Rattle.sg_store.specs.StoreWords.{StoreWords, word_in}
 use Rattle.sg_store.specs.Walks.{cell_along, cell_in}
-use Rattle.sg_store.specs.WellFormed.{has_cap, IsWithinCap, IsWellFormed, is_root}
+use Rattle.sg_store.specs.WellFormed.{kind_has_cap, IsWithinCap, IsWellFormed, is_root}
 use Rattle.sg_store.specs.StandsFor.{HasValues, StandsFor}
 use Rattle.sg_store.specs.Reaching.{KeepsCells, IsOpenThrough, unless_full}
 use Rattle.sg_store.specs.steps.Levels.{OpensNext, IsFullNode, IfRefused}
@@ -153,7 +153,7 @@ need_laws : (shape : Shape) → ReachLaws shape → NeedLaws shape
 need_laws shape laws = record { is_slot = laws.paths; reached = laws.reached; once = laws.once; parents = laws.parents; up_to = laws.up_to }
 
 -- what a node needs is what is live there
-need_fits : (kind : Kind) (shape : Shape) (all : List Coord) (number : ℕ) (node : NodeShape) (kept : NodeWords) → node.kind ≡ kind → IsWithinCap kind node kept → (has_cap kind ≡ true → live_count kept.pool ≡ need_of shape all number node) → need_of shape all number node ≤ count_of node.cap
+need_fits : (kind : Kind) (shape : Shape) (all : List Coord) (number : ℕ) (node : NodeShape) (kept : NodeWords) → node.kind ≡ kind → IsWithinCap kind node kept → (kind_has_cap kind ≡ true → live_count kept.pool ≡ need_of shape all number node) → need_of shape all number node ≤ count_of node.cap
 need_fits Dense shape all number node kept e capped count = subst (λ k. need_by k shape all number (count_of node.chunk) ≤ count_of node.cap) (sym e) (omega arith)
 need_fits Bitmasked shape all number node kept e capped count = subst (λ k. need_by k shape all number (count_of node.chunk) ≤ count_of node.cap) (sym e) (omega arith)
 need_fits Pointer shape all number node kept e capped count = omega (arith, count refl, capped)

@@ -9,7 +9,7 @@ use Rattle.sg_store.specs.declared.node.NodeWords.{NodeWords}
 use Rattle.sg_store.specs.StoreWords.{StoreWords}
 use Rattle.sg_store.specs.WellFormed.{IsNode, IsPointerNode, IsWithinCap, IsWellFormed, is_root}
 use Rattle.sg_store.specs.steps.AtNode.{OfNode, AtNode, AtNodeOf}
-use Rattle.sg_store.specs.steps.Settling.{CanSettleLinks, CanRelink, IsRelinked, ChangesAt, Grows}
+use Rattle.sg_store.specs.steps.Settling.{CanSettleLinks, CanRelink, IsRelinked, ChangesAt, NodeGrows}
 use Rattle.sg_store.proofs.Opened.{OfWithinCap, well_formed_grown}
 use Rattle.sg_store.proofs.Counting.{node_of, Both, both_at, OfWellFormed, nodes_at, at_node_from}
 use Rattle.sg_store.proofs.Linked.{links_grow}
@@ -33,9 +33,9 @@ can_relink store i links taken is can kept has =
     subst (λ k. CanRelink links taken k) (same_Some found.kept kept (sym found.has ∙ has))
     (record { as_many = found.says.1.can.as_many ∙ sym own.link_count; free = found.says.1.can.free })
 
-pub grows_at : (store : StoreWords) (i : ℕ) (links taken : List ℕ) (kept after : NodeWords) → IsWellFormed store → AtNodeOf (CanSettleLinks links taken) store i → slice_get store.nodes i ≡ Some kept → IsRelinked links taken kept after → AtNodeOf (Grows after) store i
+pub grows_at : (store : StoreWords) (i : ℕ) (links taken : List ℕ) (kept after : NodeWords) → IsWellFormed store → AtNodeOf (CanSettleLinks links taken) store i → slice_get store.nodes i ≡ Some kept → IsRelinked links taken kept after → AtNodeOf (NodeGrows after) store i
 grows_at store i links taken kept after is can has re =
-    at_node_from (Both OfWellFormed (CanSettleLinks links taken)) (Grows after) store.shape.nodes store.nodes 1 is_root i
+    at_node_from (Both OfWellFormed (CanSettleLinks links taken)) (NodeGrows after) store.shape.nodes store.nodes 1 is_root i
     (λ node mine slots live at mine_at both.
     let again : IsRelinked links taken mine after = subst (λ k. IsRelinked links taken k after) (same_Some kept mine (sym has ∙ mine_at)) re in
     links_grow links taken node mine after slots live both.0 both.1.can (record { new_links = again.new_links; pool = again.pool }))

@@ -17,7 +17,7 @@ use Rattle.sg_layout.specs.declared.shape.Kind.{Kind}
 use Rattle.sg_layout.specs.declared.shape.Kind.TheVariants.{Dense, Bitmasked, Pointer, Hash, Dynamic}
 use Rattle.sg_layout.specs.declared.shape.NodeShape.{NodeShape}
 use Rattle.sg_layout.specs.Axes.{count_of, size_of, slots_of}
-use Rattle.sg_layout.specs.NeedLaws.{IsNode}
+use Rattle.sg_layout.specs.NeedLaws.{IsNumberedNode}
 use Rattle.sg_layout.specs.StorageWords.{ends_segment}
 use Rattle.sg_pool.specs.Numbers.{PoolNumbers, place_count, is_live_number, live_count, IsStock}
 use Rattle.sg_pool.proofs.Uses.{fewer, live_is_number, live_numbers, live_numbers_once, in_live_numbers, from_live_numbers, length-live_numbers, stock_is_rest}
@@ -157,7 +157,7 @@ stock_unlinked store number i node kept stock is linked of_pool taking has held 
     let alive : is_live_number kept.pool taking ≡ true = ((link_table store number i node kept is linked).linked taking).1 (subst (λ links. Contains links (suc taking)) (links_are store number i node kept is) held) in
     false≢true (sym ((of_pool.members taking).0 has).not_live ∙ alive)
 
-pub stock_rest : (store : StoreWords) (number i : ℕ) (node : NodeShape) (kept : NodeWords) (stock : List ℕ) → IsAt store number i node kept → ends_segment node.kind ≡ true → IsStock kept.pool stock → (shape : NodeShape) → IsNode store.shape number shape → length stock + live_count (pool_of store number) ≡ count_of shape.cap + 17
+pub stock_rest : (store : StoreWords) (number i : ℕ) (node : NodeShape) (kept : NodeWords) (stock : List ℕ) → IsAt store number i node kept → ends_segment node.kind ≡ true → IsStock kept.pool stock → (shape : NodeShape) → IsNumberedNode store.shape number shape → length stock + live_count (pool_of store number) ≡ count_of shape.cap + 17
 stock_rest store number i node kept stock is linked of_pool shape here =
     let back : number - 1 ≡ i = omega (arith, is.next) in
     let same : node ≡ shape = same_Some node shape (sym is.at ∙ ap (slice_get store.shape.nodes) (sym back) ∙ here.there) in

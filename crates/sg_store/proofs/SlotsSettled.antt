@@ -17,7 +17,7 @@ use Rattle.sg_store.specs.Reaching.{KeepsCells}
 use Rattle.sg_store.specs.Changes.{IsRelinked, ChangesNode}
 use Rattle.sg_store.specs.Opening.{links_of, CanSettleSlots, FitsCap, WantedHaveLinks, NewLinksAreWanted, OpensNode}
 use Rattle.sg_store.specs.steps.AtNode.{AtNodeOf}
-use Rattle.sg_store.specs.steps.Settling.{CanSettleLinks, Grows}
+use Rattle.sg_store.specs.steps.Settling.{CanSettleLinks, NodeGrows}
 use Rattle.sg_store.proofs.Settled.{grows_at}
 use Rattle.sg_store.proofs.Opened.{keeps_cells}
 use Rattle.sg_store.proofs.AtNumber.{IsAt, back_to, links_are, pool_is, says_with, EachInLive, each_in_live}
@@ -54,7 +54,7 @@ can_settle store number i node kept links taken is kind can fits =
       within_cap = fit;
     })
 
-pub slots_grow : (store now : StoreWords) (number i : ℕ) (node : NodeShape) (kept : NodeWords) (links taken : List ℕ) → IsAt store number i node kept → node.kind ≡ Pointer → CanSettleSlots store number links taken → FitsCap store number taken → (changed : ChangesNode (IsRelinked links taken) store now i) → AtNodeOf (Grows changed.after) store i
+pub slots_grow : (store now : StoreWords) (number i : ℕ) (node : NodeShape) (kept : NodeWords) (links taken : List ℕ) → IsAt store number i node kept → node.kind ≡ Pointer → CanSettleSlots store number links taken → FitsCap store number taken → (changed : ChangesNode (IsRelinked links taken) store now i) → AtNodeOf (NodeGrows changed.after) store i
 slots_grow store now number i node kept links taken is kind can fits changed =
     grows_at store i links taken changed.kept changed.after is.well (can_settle store number i node kept links taken is kind can fits) changed.was changed.change
 

@@ -27,7 +27,7 @@ use Rattle.sg_store.specs.Slots.{slot_under, is_set, place_below, active_below}
 use Rattle.sg_store.specs.Walks.{place_after, is_on, cell_along}
 use Rattle.sg_store.specs.WellFormed.{places_below, AreNodes, is_root, IsWellFormed}
 use Rattle.sg_store.specs.StandsFor.{StandsFor}
-use Rattle.sg_store.specs.Spots.{width_past, width_from, width_after, place_of, LeadsAlong, IsPassable}
+use Rattle.sg_store.specs.Spots.{width_past, width_from, width_after, place_of_spot, LeadsAlong, IsPassable}
 use Rattle.sg_store.specs.steps.AtNode.{AtNodeOf}
 use Rattle.sg_store.specs.steps.Fresh.{IsCapped}
 use Rattle.sg_store.specs.steps.Walking.{AreOffsets, IsPlaceAt}
@@ -173,14 +173,14 @@ pub record IsGoing (store : StoreWords) (spot : Spot) (path : List ℕ) (offset 
   pub has : slice_get store.nodes spot.node ≡ Some kept
   pub below : offset < size_of node.sizes
 
-pub spot_fits : (store : StoreWords) (spot : Spot) (path : List ℕ) → IsWellFormed store → LeadsAlong store spot path → spot.node < length store.shape.nodes → AtNodeOf (IsPlaceAt (place_of store.shape.nodes spot)) store spot.node
+pub spot_fits : (store : StoreWords) (spot : Spot) (path : List ℕ) → IsWellFormed store → LeadsAlong store spot path → spot.node < length store.shape.nodes → AtNodeOf (IsPlaceAt (place_of_spot store.shape.nodes spot)) store spot.node
 spot_fits store spot path well leads more =
-    subst (λ n. AtNodeOf (IsPlaceAt (place_of store.shape.nodes spot)) store n) (sym leads.node)
-    (place_fits store.shape.nodes store.nodes 1 is_root well.nodes_fit 0 (omega arith) path (slot_offsets store.shape.nodes spot.node path leads.is_slot) (place_of store.shape.nodes spot)
-    (links_lead store.shape.nodes store.nodes 0 path (place_of store.shape.nodes spot) leads.leads) (omega (arith, leads.node)))
+    subst (λ n. AtNodeOf (IsPlaceAt (place_of_spot store.shape.nodes spot)) store n) (sym leads.node)
+    (place_fits store.shape.nodes store.nodes 1 is_root well.nodes_fit 0 (omega arith) path (slot_offsets store.shape.nodes spot.node path leads.is_slot) (place_of_spot store.shape.nodes spot)
+    (links_lead store.shape.nodes store.nodes 0 path (place_of_spot store.shape.nodes spot) leads.leads) (omega (arith, leads.node)))
 
 -- the walk over one offset more
-pub goes_on : (store : StoreWords) (spot : Spot) (path : List ℕ) (offset : ℕ) (node : NodeShape) (kept : NodeWords) → IsGoing store spot path offset node kept → cell_along store (path ++ offset ∷ []) ≡ active_below node.kind node kept (slot_under node (place_of store.shape.nodes spot) offset)
+pub goes_on : (store : StoreWords) (spot : Spot) (path : List ℕ) (offset : ℕ) (node : NodeShape) (kept : NodeWords) → IsGoing store spot path offset node kept → cell_along store (path ++ offset ∷ []) ≡ active_below node.kind node kept (slot_under node (place_of_spot store.shape.nodes spot) offset)
 goes_on store spot path offset node kept going =
     step_more active_below store.shape.nodes store.nodes spot.node node kept going.at going.has 0 path offset (sym going.leads.node)
     ∙ ap (option_and_then (λ x. active_below node.kind node kept (slot_under node x offset))) going.leads.leads
@@ -210,11 +210,11 @@ spot_below store spot path offset node kept place wide below going leads is next
 
 -- ── Where the slot is live ──
 
-own_set : (store : StoreWords) (spot : Spot) (path : List ℕ) (offset : ℕ) (node : NodeShape) (kept : NodeWords) → IsGoing store spot path offset node kept → is_on store.shape.nodes store.nodes 0 (path ++ offset ∷ []) ≡ is_set node.kind node kept (slot_under node (place_of store.shape.nodes spot) offset)
+own_set : (store : StoreWords) (spot : Spot) (path : List ℕ) (offset : ℕ) (node : NodeShape) (kept : NodeWords) → IsGoing store spot path offset node kept → is_on store.shape.nodes store.nodes 0 (path ++ offset ∷ []) ≡ is_set node.kind node kept (slot_under node (place_of_spot store.shape.nodes spot) offset)
 own_set store spot path offset node kept going =
     ap (λ o. unwrap_or o false) (answer_more is_set store.shape.nodes store.nodes spot.node node kept going.at going.has 0 path offset (sym going.leads.node))
     ∙ ap (λ o. unwrap_or (option_map (λ x. is_set node.kind node kept (slot_under node x offset)) o) false)
-    (links_lead store.shape.nodes store.nodes 0 path (place_of store.shape.nodes spot) going.leads.leads)
+    (links_lead store.shape.nodes store.nodes 0 path (place_of_spot store.shape.nodes spot) going.leads.leads)
 
 slot_live : (store : StoreWords) (flat : FlatLayout) (spot : Spot) (path : List ℕ) (offset : ℕ) (node : NodeShape) (kept : NodeWords) → IsGoing store spot path offset node kept → StandsFor store flat → kind_at store.shape.nodes (suc spot.node) ≢ Dense → is_on store.shape.nodes store.nodes 0 (path ++ offset ∷ []) ≡ is_live store.shape flat.active (suc spot.node) (path ++ offset ∷ [])
 slot_live store flat spot path offset node kept going stands sparse =
@@ -236,7 +236,7 @@ passable_from store flat spot path offset node kept place going stands leads spa
 
 pub passes : (store : StoreWords) (flat : FlatLayout) (spot : Spot) (path : List ℕ) (offset : ℕ) (node : NodeShape) (kept : NodeWords) → IsGoing store spot path offset node kept → StandsFor store flat → IsPassable store.shape flat.active (suc spot.node) (path ++ offset ∷ []) → (place : ℕ) × (cell_along store (path ++ offset ∷ []) ≡ Some place)
 passes store flat spot path offset node kept going stands passable =
-    let slot : ℕ = slot_under node (place_of store.shape.nodes spot) offset in
+    let slot : ℕ = slot_under node (place_of_spot store.shape.nodes spot) offset in
     let one : suc spot.node - 1 ≡ spot.node = omega arith in
     let kind : kind_at store.shape.nodes (suc spot.node) ≡ node.kind = ap (λ n. kind_or (slice_get store.shape.nodes n)) one ∙ ap kind_or going.at in
     let set : is_set node.kind node kept slot ≡ true = first_set node.kind node kept slot (λ sparse.
@@ -258,7 +258,7 @@ pub record IsStepping (store : StoreWords) (spot : Spot) (path : List ℕ) (offs
   pub sized : size ≡ slice_index (sizes_of store.shape.nodes) spot.node
   pub below : offset < size
 
-place_is : (store : StoreWords) (spot : Spot) (path : List ℕ) (offset width place size : ℕ) → IsStepping store spot path offset width place size → place ≡ place_of store.shape.nodes spot
+place_is : (store : StoreWords) (spot : Spot) (path : List ℕ) (offset width place size : ℕ) → IsStepping store spot path offset width place size → place ≡ place_of_spot store.shape.nodes spot
 place_is store spot path offset width place size step = step.placed ∙ ap (λ w. spot.part * w + spot.slot) step.wide
 
 pub step_fits : (store : StoreWords) (spot : Spot) (path : List ℕ) (offset width place size : ℕ) → IsStepping store spot path offset width place size → AtNodeOf (IsPlaceAt place) store spot.node

@@ -15,7 +15,7 @@ use Rattle.sg_store.specs.StoreWords.{StoreWords}
 use Rattle.sg_store.specs.Slots.{slot_under, active_below}
 use Rattle.sg_store.specs.Walks.{cell_along}
 use Rattle.sg_store.specs.WellFormed.{IsWellFormed}
-use Rattle.sg_store.specs.Spots.{width_past, place_of, LeadsAlong}
+use Rattle.sg_store.specs.Spots.{width_past, place_of_spot, LeadsAlong}
 use Rattle.sg_store.specs.steps.Widths.{IsWidths, LeadsWithin, IsFound}
 use Rattle.sg_store.proofs.Walking.{active_leads}
 use Rattle.sg_store.proofs.Stepping.{size_at}
@@ -40,7 +40,7 @@ kind_here : (store : StoreWords) (spot : Spot) (path : List ℕ) (offset : ℕ) 
 kind_here store spot path offset node kept widths going is = is.kind_is node going.at
 
 -- the number of the slot over an offset
-number_is : (store : StoreWords) (spot : Spot) (path : List ℕ) (offset : ℕ) (node : NodeShape) (kept : NodeWords) (widths : NodeWidths) → IsGoing store spot path offset node kept → IsWidths store.shape.nodes spot.node widths → slot_under node (place_of store.shape.nodes spot) offset ≡ (spot.part * widths.before + spot.slot) * widths.size + offset
+number_is : (store : StoreWords) (spot : Spot) (path : List ℕ) (offset : ℕ) (node : NodeShape) (kept : NodeWords) (widths : NodeWidths) → IsGoing store spot path offset node kept → IsWidths store.shape.nodes spot.node widths → slot_under node (place_of_spot store.shape.nodes spot) offset ≡ (spot.part * widths.before + spot.slot) * widths.size + offset
 number_is store spot path offset node kept widths going is =
     ap (λ w. (spot.part * w + spot.slot) * size_of node.sizes + offset) (sym is.before_is)
     ∙ ap (λ n. (spot.part * widths.before + spot.slot) * n + offset) (sym (size_at store.shape.nodes spot.node node going.at) ∙ sym is.size_is)
@@ -58,9 +58,9 @@ found_at store spot path offset place widths rules is step leads =
     let p : ℕ = spot.part * widths.before + spot.slot in
     let going = going_of store spot path offset widths.before p widths.size step in
     let node : NodeShape = going.0 in
-    let here : active_below node.kind node going.1 (slot_under node (place_of store.shape.nodes spot) offset) ≡ Some place =
+    let here : active_below node.kind node going.1 (slot_under node (place_of_spot store.shape.nodes spot) offset) ≡ Some place =
     sym (goes_on store spot path offset node going.1 going.2) ∙ leads in
-    let slot : slot_under node (place_of store.shape.nodes spot) offset ≡ p * widths.size + offset = number_is store spot path offset node going.1 widths going.2 is in
+    let slot : slot_under node (place_of_spot store.shape.nodes spot) offset ≡ p * widths.size + offset = number_is store spot path offset node going.1 widths going.2 is in
     record {
       past_is = is.past_is;
       some_after = is.some_after;
@@ -76,7 +76,7 @@ dense_leads store spot path offset widths is step dense =
     let node : NodeShape = going.0 in
     let kind : node.kind ≡ Dense = sym (kind_here store spot path offset node going.1 widths going.2 is) ∙ dense in
     goes_on store spot path offset node going.1 going.2
-    ∙ ap (λ k. active_below k node going.1 (slot_under node (place_of store.shape.nodes spot) offset)) kind
+    ∙ ap (λ k. active_below k node going.1 (slot_under node (place_of_spot store.shape.nodes spot) offset)) kind
     ∙ ap Some (number_is store spot path offset node going.1 widths going.2 is)
 
 -- a slot in the same copy of a segment

@@ -13,16 +13,16 @@ use Rattle.sg_pool.proofs.Uses.{live_is_number}
 use Rattle.sg_store.specs.declared.node.NodeWords.{NodeWords}
 use Rattle.sg_store.specs.StoreWords.{StoreWords}
 use Rattle.sg_store.specs.Slots.{slot_under, place_below, active_below}
-use Rattle.sg_store.specs.Walks.{Step, place_after, own_answer}
+use Rattle.sg_store.specs.Walks.{NodeStep, place_after, own_answer}
 use Rattle.sg_store.specs.WellFormed.{IsPointerNode, IsNode, by_slots, places_below, AreNodes, is_root, cells_below}
 use Rattle.sg_store.specs.steps.AtNode.{AtNode, AtNodeOf}
-use Rattle.sg_store.specs.steps.Walking.{AreOffsets, IsPlaceAt, step_of}
+use Rattle.sg_store.specs.steps.Walking.{AreOffsets, IsPlaceAt, step_of_walk}
 use Rattle.sg_store.proofs.BySlots.{hash_leads}
 use Rattle.sg_store.proofs.Chains.{chunks_within}
 use Rattle.sg_store.proofs.Walking.{linked_is, index_contains, active_leads}
 
 -- the walk over one offset more, at the node with an index
-pub step_more : (step : Step) (nodes : List NodeShape) (words : List NodeWords) (i : ℕ) (node : NodeShape) (kept : NodeWords) → slice_get nodes i ≡ Some node → slice_get words i ≡ Some kept → (p : ℕ) (s : List ℕ) (o : ℕ) → length s ≡ i → place_after step nodes words p (s ++ o ∷ []) ≡ option_and_then (λ x. step node.kind node kept (slot_under node x o)) (place_after step nodes words p s)
+pub step_more : (step : NodeStep) (nodes : List NodeShape) (words : List NodeWords) (i : ℕ) (node : NodeShape) (kept : NodeWords) → slice_get nodes i ≡ Some node → slice_get words i ≡ Some kept → (p : ℕ) (s : List ℕ) (o : ℕ) → length s ≡ i → place_after step nodes words p (s ++ o ∷ []) ≡ option_and_then (λ x. step node.kind node kept (slot_under node x o)) (place_after step nodes words p s)
 step_more step [] words i node kept at has p s o long = absurd (none-some node at)
 step_more step (first ∷ later) [] i node kept at has p s o long = absurd (none-some kept has)
 step_more step (first ∷ later) (own ∷ words) zero node kept at has p [] o long =
@@ -65,7 +65,7 @@ answer_more {A} f (first ∷ later) (own ∷ words) (suc i) node kept at has p (
     same (Some n) h = h n
 
 -- a walk that ends leads nowhere however it goes on
-pub step_none : (step : Step) (nodes : List NodeShape) (words : List NodeWords) (p : ℕ) (s t : List ℕ) → place_after step nodes words p s ≡ None → place_after step nodes words p (s ++ t) ≡ None
+pub step_none : (step : NodeStep) (nodes : List NodeShape) (words : List NodeWords) (p : ℕ) (s t : List ℕ) → place_after step nodes words p s ≡ None → place_after step nodes words p (s ++ t) ≡ None
 step_none step nodes words p [] t none = absurd (cc)
 step_none step [] words p (v ∷ s) t none = refl
 step_none step (node ∷ later) [] p (v ∷ s) t none = refl
@@ -86,7 +86,7 @@ links_lead (node ∷ later) (kept ∷ words) p (v ∷ s) x e =
     ap (option_and_then (λ next. place_after place_below later words next s)) (active_leads node.kind node kept (slot_under node p v) n here).1
     ∙ links_lead later words n s x rest)
 
-pub either_leads : (bits : Bool) (nodes : List NodeShape) (words : List NodeWords) (p : ℕ) (s : List ℕ) (x : ℕ) → place_after (step_of bits) nodes words p s ≡ Some x → place_after place_below nodes words p s ≡ Some x
+pub either_leads : (bits : Bool) (nodes : List NodeShape) (words : List NodeWords) (p : ℕ) (s : List ℕ) (x : ℕ) → place_after (step_of_walk bits) nodes words p s ≡ Some x → place_after place_below nodes words p s ≡ Some x
 either_leads true nodes words p s x e = links_lead nodes words p s x e
 either_leads false nodes words p s x e = e
 
@@ -153,7 +153,7 @@ words_many (node ∷ later) (kept ∷ words) places live are = ap suc (words_man
 pub read_as : {A : Type 0} → (xs ys : List A) (i : ℕ) (x y : A) → xs ≡ ys → x ≡ get_or xs i x → slice_get ys i ≡ Some y → x ≡ y
 read_as xs ys i x y same is at = is ∙ ap (λ l. get_or l i x) same ∙ get_or_from_slice_get ys i y x at
 
-pub step_same : (bits : Bool) (n m : NodeShape) (k l : NodeWords) (place size o : ℕ) → n ≡ m → k ≡ l → size ≡ size_of m.sizes → step_of bits n.kind n k (place * size + o) ≡ step_of bits m.kind m l (slot_under m place o)
+pub step_same : (bits : Bool) (n m : NodeShape) (k l : NodeWords) (place size o : ℕ) → n ≡ m → k ≡ l → size ≡ size_of m.sizes → step_of_walk bits n.kind n k (place * size + o) ≡ step_of_walk bits m.kind m l (slot_under m place o)
 step_same bits n m k l place size o a b c =
-    ap (λ (n : NodeShape). step_of bits n.kind n k (place * size + o)) a ∙ ap (λ k. step_of bits m.kind m k (place * size + o)) b
-    ∙ ap (λ z. step_of bits m.kind m l (place * z + o)) c
+    ap (λ (n : NodeShape). step_of_walk bits n.kind n k (place * size + o)) a ∙ ap (λ k. step_of_walk bits m.kind m k (place * size + o)) b
+    ∙ ap (λ z. step_of_walk bits m.kind m l (place * z + o)) c

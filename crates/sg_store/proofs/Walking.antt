@@ -12,7 +12,7 @@ use Rattle.sg_layout.specs.Axes.{size_of}
 use Rattle.sg_layout.specs.Live.{kind_or, kind_at}
 use Rattle.sg_store.specs.declared.node.NodeWords.{NodeWords}
 use Rattle.sg_store.specs.Slots.{slot_under, linked, is_set, place_below, active_below}
-use Rattle.sg_store.specs.Walks.{Step, place_after, own_answer, slot_number_in, is_on}
+use Rattle.sg_store.specs.Walks.{NodeStep, place_after, own_answer, slot_number_in, is_on}
 use Rattle.sg_store.specs.WellFormed.{IsPointerNode, IsNode, by_slots, live_below, live_slot, AreNodes}
 use Rattle.sg_store.specs.steps.Walking.{AreOffsets}
 use Rattle.sg_store.proofs.BySlots.{hash_leads, hash_set}
@@ -44,7 +44,7 @@ active_leads kind node kept slot place e =
     split false o e = absurd (none-some place e)
 
 -- a step leads from different slots to different places
-abbrev pub IsOne : Step → NodeShape → NodeWords → Type 0
+abbrev pub IsOne : NodeStep → NodeShape → NodeWords → Type 0
 IsOne step node kept = (x y place : ℕ) → step node.kind node kept x ≡ Some place → step node.kind node kept y ≡ Some place → x ≡ y
 
 pointer_one : (node : NodeShape) (kept : NodeWords) (slots : ℕ) (live : ℕ → Bool) → IsPointerNode node kept slots live → (x y place : ℕ) → place_below Pointer node kept x ≡ Some place → place_below Pointer node kept y ≡ Some place → x ≡ y
@@ -82,7 +82,7 @@ node_is (first ∷ later) (own ∷ words) places live are (suc i) node kept at h
 -- ── Different slots lead to different places ──
 
 -- the steps of all nodes do so
-abbrev pub AreOne : Step → List NodeShape → List NodeWords → Type 0
+abbrev pub AreOne : NodeStep → List NodeShape → List NodeWords → Type 0
 AreOne step [] words = Unit {0}
 AreOne step (node ∷ later) [] = Unit {0}
 AreOne step (node ∷ later) (kept ∷ words) = IsOne step node kept × AreOne step later words
@@ -103,7 +103,7 @@ same_slots : (x y : ℕ) (s t : List ℕ) → x ≡ y → s ≡ t → x ∷ s �
 same_slots x y s t p q = ap (λ n. n ∷ s) p ∙ ap (λ l. y ∷ l) q
 
 -- the same place, from slots as long: the same start and the same slot
-pub walks_apart : (step : Step) (nodes : List NodeShape) (words : List NodeWords) → AreOne step nodes words → (p q : ℕ) (s t : List ℕ) (x : ℕ) → AreOffsets nodes s → AreOffsets nodes t → length s ≡ length t → place_after step nodes words p s ≡ Some x → place_after step nodes words q t ≡ Some x → (p ≡ q) × (s ≡ t)
+pub walks_apart : (step : NodeStep) (nodes : List NodeShape) (words : List NodeWords) → AreOne step nodes words → (p q : ℕ) (s t : List ℕ) (x : ℕ) → AreOffsets nodes s → AreOffsets nodes t → length s ≡ length t → place_after step nodes words p s ≡ Some x → place_after step nodes words q t ≡ Some x → (p ≡ q) × (s ≡ t)
 walks_apart step nodes words one p q [] [] x ins int long left right = (same_Some p x left ∙ sym (same_Some q x right), refl)
 walks_apart step nodes words one p q [] (r ∷ t) x ins int long left right = absurd (omega (arith, long))
 walks_apart step nodes words one p q (o ∷ s) [] x ins int long left right = absurd (omega (arith, long))

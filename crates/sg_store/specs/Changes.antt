@@ -33,7 +33,7 @@ pub record IsRemasked (masks : List ℕ) (kept after : NodeWords) : Type 0 where
   pub same_pool : after.pool ≡ kept.pool
 
 -- a dynamic node's words with other lengths, and chains that fit them
-pub record IsFitted (lengths : List ℕ) (chunk : ℕ) (kept after : NodeWords) : Type 0 where
+pub record IsRefitted (lengths : List ℕ) (chunk : ℕ) (kept after : NodeWords) : Type 0 where
   pub new_lengths : after.lengths ≡ lengths
   pub fitted : AreFitted kept.chains after.chains lengths chunk
   pub exact : IsExact after.chains after.pool

@@ -2,7 +2,7 @@
 use Rattle.std.specs.Prelude.{◌≡◌, true, false, [], ◌∷◌, Some, None, pos, replicate, refl}
 use Rattle.sg_layout.specs.declared.shape.Kind.TheVariants.{Dense, Bitmasked, Pointer, Hash}
 use Rattle.sg_layout.specs.declared.shape.Shape.{Shape}
-use Rattle.sg_layout.specs.Examples.{at1, blocks, masked_blocks, growing, node1, shape_of}
+use Rattle.sg_layout.specs.Examples.{at1, blocks, masked_blocks, growing, node1, shape_with}
 use Rattle.sg_links.specs.Lists.{Lists}
 use Rattle.sg_pool.specs.Numbers.{PoolNumbers}
 use Rattle.sg_store.specs.declared.node.NodeWords.{NodeWords}
@@ -11,7 +11,7 @@ use Rattle.sg_store.specs.StoreWords.{StoreWords, word_in}
 use Rattle.sg_store.specs.Slots.{links_by_slot}
 use Rattle.sg_store.specs.Walks.{is_on, cell_in, place_in}
 use Rattle.sg_store.specs.WellFormed.{cell_count}
-use Rattle.sg_store.specs.Spots.{width_after, place_of, root_offsets}
+use Rattle.sg_store.specs.Spots.{width_after, place_of_spot, root_offsets}
 
 -- a pool of 19 numbers, of which the first two are live
 abbrev pub two_live : PoolNumbers
@@ -88,7 +88,7 @@ five_has_no_bit = refl
 -- a link stands under a bit that isn't set: it is on, and has no cell
 abbrev pub linked_below : StoreWords
 linked_below = record {
-  shape = shape_of 1 (node1 Bitmasked (pos 2) (pos 0) (pos 0) ∷ (node1 Pointer (pos 4) (pos 2) (pos 0) ∷ []));
+  shape = shape_with 1 (node1 Bitmasked (pos 2) (pos 0) (pos 0) ∷ (node1 Pointer (pos 4) (pos 2) (pos 0) ∷ []));
   nodes = record { keys = []; links = []; masks = 1 ∷ []; lengths = []; chains = no_chains; pool = no_numbers }
       ∷ (record { keys = []; links = 0 ∷ (0 ∷ (0 ∷ (0 ∷ (0 ∷ (1 ∷ (0 ∷ (0 ∷ []))))))); masks = []; lengths = []; chains = no_chains; pool = two_live } ∷ []);
   fields = [];
@@ -107,7 +107,7 @@ width_of_blocks = refl
 abbrev pub nine_spot : Spot
 nine_spot = record { node = 2; part = 0; slot = 1 }
 
-spot_is_cell : place_of blocks.nodes nine_spot ≡ 1
+spot_is_cell : place_of_spot blocks.nodes nine_spot ≡ 1
 spot_is_cell = refl
 
 -- dynamic(i: 8) chunk 4 cap 2; with length 6: the first chunk of its chain is 1, the second 0
@@ -144,7 +144,7 @@ growing_cells = refl
 
 -- hash(i: 4) cap 2; dense(i: 4); with a table of 4 places: block 2 has container 1, and block 3, which comes first, container 0
 abbrev pub hashed : Shape
-hashed = shape_of 1 (node1 Hash (pos 4) (pos 2) (pos 0) ∷ (node1 Dense (pos 4) (pos 0) (pos 0) ∷ []))
+hashed = shape_with 1 (node1 Hash (pos 4) (pos 2) (pos 0) ∷ (node1 Dense (pos 4) (pos 0) (pos 0) ∷ []))
 
 abbrev pub hash_words : NodeWords
 hash_words = record { keys = 0 ∷ (0 ∷ (3 ∷ (4 ∷ []))); links = 0 ∷ (0 ∷ (2 ∷ (1 ∷ []))); masks = []; lengths = []; chains = no_chains; pool = two_live }

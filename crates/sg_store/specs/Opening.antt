@@ -6,7 +6,7 @@ use Rattle.sg_coord.specs.declared.coord.Coord.{Coord}
 use Rattle.sg_layout.specs.declared.shape.NodeShape.{NodeShape}
 use Rattle.sg_layout.specs.Axes.{count_of, sizes_of}
 use Rattle.sg_layout.specs.Path.{offsets}
-use Rattle.sg_layout.specs.NeedLaws.{IsNode}
+use Rattle.sg_layout.specs.NeedLaws.{IsNumberedNode}
 use Rattle.sg_layout.specs.Slots.{IsSlot}
 use Rattle.sg_hash.specs.Tables.{IsTable, AreBeside}
 use Rattle.sg_pool.specs.Numbers.{PoolNumbers, live_count, CanSettle}
@@ -89,7 +89,7 @@ pub record CanSettleSlots (store : StoreWords) (number : ℕ) (links taken : Lis
 -- and at most as many containers as the cap are live afterwards
 abbrev pub FitsCap : StoreWords → ℕ → List ℕ → Type 0
 FitsCap store number taken =
-    (node : NodeShape) → IsNode store.shape number node →
+    (node : NodeShape) → IsNumberedNode store.shape number node →
     live_count (pool_of store number) + length taken ≤ count_of node.cap
 
 -- keys and links of a hash node, which is the first: a table with a link beside each key; each old key and link stays, each

@@ -7,7 +7,7 @@ use Rattle.sg_layout.specs.Axes.{count_of}
 use Rattle.sg_layout.specs.Live.{kind_at}
 use Rattle.sg_layout.specs.Closure.{closure}
 use Rattle.sg_layout.specs.Need.{first_full}
-use Rattle.sg_layout.specs.NeedLaws.{IsNode, AllInside}
+use Rattle.sg_layout.specs.NeedLaws.{IsNumberedNode, AllInside}
 use Rattle.sg_flat.specs.declared.state.FlatLayout.{FlatLayout}
 use Rattle.sg_hash.specs.Tables.{IsTable}
 use Rattle.sg_dynamic.specs.declared.chunks.ChunkFull.{ChunkFull}
@@ -35,7 +35,7 @@ DenseOpens store =
 -- the first node whose need passes its cap
 abbrev pub FullIsFirst : StoreWords → Type 0
 FullIsFirst store =
-    IsWellFormed store → (old wanted : List Coord) (number : ℕ) (node : NodeShape) → IsNode store.shape number node →
+    IsWellFormed store → (old wanted : List Coord) (number : ℕ) (node : NodeShape) → IsNumberedNode store.shape number node →
     node.kind ≡ Pointer → IsOpenThrough store old (old ++ wanted) (number - 1) → (links taken : List ℕ) →
     CanSettleSlots store number links taken → NewLinksAreWanted store number links wanted →
     count_of node.cap < live_count (pool_of store number) + length taken →
@@ -46,7 +46,7 @@ FullIsFirst store =
 -- first node whose need passes its cap
 abbrev pub KeysFillFirst : StoreWords → Type 0
 KeysFillFirst store =
-    IsWellFormed store → (old wanted : List Coord) (node : NodeShape) → IsNode store.shape 1 node → node.kind ≡ Hash →
+    IsWellFormed store → (old wanted : List Coord) (node : NodeShape) → IsNumberedNode store.shape 1 node → node.kind ≡ Hash →
     IsOpenThrough store old (old ++ wanted) 0 → (keys words : List ℕ) → IsTable keys →
     ((place : ℕ) → slice_index (keys_of store 1) place ≢ 0 → slice_index keys place ≡ slice_index (keys_of store 1) place) →
     NewKeysAreWanted store keys wanted → ((place : ℕ) → slice_index words place ≢ 0 → slice_index keys place ≢ 0) →
@@ -57,7 +57,7 @@ KeysFillFirst store =
 -- is the first node whose need passes its cap
 abbrev pub LengthsFillFirst : StoreWords → Type 0
 LengthsFillFirst store =
-    IsWellFormed store → (old wanted : List Coord) (number : ℕ) (node : NodeShape) → IsNode store.shape number node →
+    IsWellFormed store → (old wanted : List Coord) (number : ℕ) (node : NodeShape) → IsNumberedNode store.shape number node →
     node.kind ≡ Dynamic → IsOpenThrough store old (old ++ wanted) (number - 1) → (lengths : List ℕ) →
     CanSettleLengths store number lengths → WantedAreBelow store number lengths wanted →
     NewLengthsAreWanted store number lengths wanted → (full : ChunkFull) →

@@ -33,8 +33,8 @@ abbrev pub width_after : List NodeShape → ℕ → ℕ
 width_after nodes through = width_from 1 nodes through
 
 -- the place of a spot: its slots are numbered copy by copy
-abbrev pub place_of : List NodeShape → Spot → ℕ
-place_of nodes spot = spot.part * width_after nodes spot.node + spot.slot
+abbrev pub place_of_spot : List NodeShape → Spot → ℕ
+place_of_spot nodes spot = spot.part * width_after nodes spot.node + spot.slot
 
 -- the spot leads along a path, which is a slot of the last of its nodes: the links and bits of the store lead from the
 -- root along the path to it
@@ -42,7 +42,7 @@ pub record LeadsAlong (store : StoreWords) (spot : Spot) (slot : List ℕ) : Typ
   pub node : spot.node ≡ length slot
   pub is_slot : IsSlot (take spot.node store.shape.nodes) slot
   pub within : spot.slot < width_after store.shape.nodes spot.node
-  pub leads : cell_along store slot ≡ Some (place_of store.shape.nodes spot)
+  pub leads : cell_along store slot ≡ Some (place_of_spot store.shape.nodes spot)
 
 -- a spot of the store: it leads along some path
 abbrev pub IsSpot : StoreWords → Spot → Type 0

@@ -2,14 +2,14 @@
 use Rattle.std.specs.Prelude.{◌≡◌, ◌↔◌, ℕ, ◌-◌, ◌<◌, true, length, Some, IsSome, Contains, slice_get}
 use Rattle.sg_coord.specs.declared.coord.Coord.{Coord}
 use Rattle.sg_layout.specs.declared.shape.NodeShape.{NodeShape}
-use Rattle.sg_layout.specs.NeedLaws.{IsNode}
+use Rattle.sg_layout.specs.NeedLaws.{IsNumberedNode}
 use Rattle.sg_layout.specs.Need.{need_of}
 use Rattle.sg_flat.specs.declared.state.FlatLayout.{FlatLayout}
 use Rattle.sg_pool.specs.Numbers.{live_count}
 use Rattle.sg_store.specs.declared.node.NodeWords.{NodeWords}
 use Rattle.sg_store.specs.StoreWords.{StoreWords, word_in}
 use Rattle.sg_store.specs.Walks.{cell_in}
-use Rattle.sg_store.specs.WellFormed.{has_cap, IsWellFormed}
+use Rattle.sg_store.specs.WellFormed.{kind_has_cap, IsWellFormed}
 use Rattle.sg_store.specs.StandsFor.{StandsFor}
 
 -- a store stands for at most one flat layout
@@ -32,7 +32,7 @@ CellsDiffer store =
 abbrev pub LiveIsNeed : StoreWords → Type 0
 LiveIsNeed store =
     IsWellFormed store → (flat : FlatLayout) → StandsFor store flat → (number : ℕ) (node : NodeShape) →
-    IsNode store.shape number node → has_cap node.kind ≡ true → (kept : NodeWords) →
+    IsNumberedNode store.shape number node → kind_has_cap node.kind ≡ true → (kept : NodeWords) →
     slice_get store.nodes (number - 1) ≡ Some kept → live_count kept.pool ≡ need_of store.shape flat.active number node
 
 -- two stores that stand for the same flat layout have the same values in the cells of a coordinate

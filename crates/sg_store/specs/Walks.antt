@@ -12,12 +12,12 @@ use Rattle.sg_store.specs.StoreWords.{StoreWords}
 use Rattle.sg_store.specs.Slots.{slot_under, word_number, is_set, place_below, active_below}
 
 -- how one node leads on from the slot with a number
-abbrev pub Step : Type 0
-Step = Kind → NodeShape → NodeWords → ℕ → Option ℕ
+abbrev pub NodeStep : Type 0
+NodeStep = Kind → NodeShape → NodeWords → ℕ → Option ℕ
 
 -- the place to which nodes lead from a place, over one offset at each node; none where a step leads nowhere, or where
 -- there are more offsets than nodes
-abbrev pub place_after : Step → List NodeShape → List NodeWords → ℕ → List ℕ → Option ℕ
+abbrev pub place_after : NodeStep → List NodeShape → List NodeWords → ℕ → List ℕ → Option ℕ
 place_after step nodes words place [] = Some place
 place_after step [] words place (offset ∷ slot) = None
 place_after step (node ∷ later) [] place (offset ∷ slot) = None

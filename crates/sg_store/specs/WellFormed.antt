@@ -109,12 +109,12 @@ abbrev pub is_root : ℕ → Bool
 is_root place = nat_lt place 1
 
 -- a node of this kind has a cap, and a pool
-abbrev pub has_cap : Kind → Bool
-has_cap Dense = false
-has_cap Bitmasked = false
-has_cap Pointer = true
-has_cap Hash = true
-has_cap Dynamic = true
+abbrev pub kind_has_cap : Kind → Bool
+kind_has_cap Dense = false
+kind_has_cap Bitmasked = false
+kind_has_cap Pointer = true
+kind_has_cap Hash = true
+kind_has_cap Dynamic = true
 
 -- at most as many containers are live as the node's cap
 abbrev pub IsWithinCap : Kind → NodeShape → NodeWords → Type 0

@@ -1,7 +1,7 @@
 ghost use Rattle.std.specs.Prelude.{◌≡◌, ◌≢◌, ◌↔◌, ℕ, ◌-◌, ◌+◌, ◌<◌, ◌≤◌, List, length, Contains, IsTrue, IsSome, IfSome, MatchOption, Some, slice_get, slice_set, slice_index_or, []};
 ghost use Rattle.sg_coord.specs.declared.coord.Coord.{Coord};
 ghost use Rattle.sg_layout.specs.declared.shape.NodeShape.{NodeShape};
-ghost use Rattle.sg_layout.specs.NeedLaws.{IsNode};
+ghost use Rattle.sg_layout.specs.NeedLaws.{IsNumberedNode};
 ghost use Rattle.sg_layout.specs.Need.{need_of};
 ghost use Rattle.sg_layout.specs.Live.{kind_at};
 ghost use Rattle.sg_flat.specs.declared.state.FlatLayout.{FlatLayout};
@@ -10,7 +10,7 @@ ghost use Rattle.sg_pool.specs.Numbers.{live_count};
 ghost use Rattle.sg_store.specs.declared.node.NodeWords.{NodeWords};
 ghost use Rattle.sg_store.specs.StoreWords.{StoreWords, word_in};
 ghost use Rattle.sg_store.specs.Walks.{cell_in};
-ghost use Rattle.sg_store.specs.WellFormed.{has_cap, IsReached};
+ghost use Rattle.sg_store.specs.WellFormed.{kind_has_cap, IsReached};
 ghost use Rattle.sg_store.specs.StandsFor.{StandsFor, SetsValue};
 
 use crate::laws::{cells_are_active, live_is_need};
@@ -66,10 +66,10 @@ impl Store {
 
     /// How many child containers of a pointer or hash node, or chunks of a dynamic one, numbered from 1, are live.
     pub fn live(&self, node: u32) -> u32
-        requires capped { IsTrue (has_cap (kind_at self.now.shape.nodes node)) }
+        requires capped { IsTrue (kind_has_cap (kind_at self.now.shape.nodes node)) }
         requires first { 1 ≤ node }
         ensures value { (kept : NodeWords) → slice_get self.now.nodes (node - 1) ≡ Some kept → result ≡ live_count kept.pool }
-        ensures need { (flat : FlatLayout) → StandsFor self.now flat → (shape : NodeShape) → IsNode self.now.shape node shape →
+        ensures need { (flat : FlatLayout) → StandsFor self.now flat → (shape : NodeShape) → IsNumberedNode self.now.shape node shape →
             result ≡ need_of self.now.shape flat.active node shape }
     {
         // for the law that it ensures

@@ -5,7 +5,7 @@ ghost use Rattle.sg_store.specs.declared.node.NodeWords.{NodeWords};
 ghost use Rattle.sg_store.specs.Reaching.{KeepsCells};
 ghost use Rattle.sg_store.specs.steps.AtNode.{AtNodeOf, AreNumbers};
 ghost use Rattle.sg_store.specs.steps.Settling.{ChangesAt, ChangesNode};
-ghost use Rattle.sg_store.specs.steps.Raising.{IsRaised, AreRaised, CanFitLengths, IsFitted, CanLengthen, AnswersFit, IsDynamicOf};
+ghost use Rattle.sg_store.specs.steps.Raising.{IsRaised, RiseByMany, CanFitLengths, IsRefitted, CanLengthen, AnswersFit, IsDynamicOf};
 ghost use Rattle.sg_store.specs.steps.Levels.{OpensNext, IsFullNode, IfRefused};
 
 use crate::node::{NodeWords, overwrite, word};
@@ -35,7 +35,7 @@ fn raise(lengths: &mut Items<u64>, size: usize, slot: usize)
 fn raise_all(lengths: &mut Items<u64>, size: usize, slots: &[usize])
     requires some { 0 < size }
     requires there { All (λ slot. slot / size < length lengths.old) slots.now }
-    ensures { AreRaised lengths.old lengths.new size slots.now }
+    ensures { RiseByMany lengths.old lengths.new size slots.now }
 {
     for slot in slots {
         raise(lengths, size, *slot);
@@ -48,7 +48,7 @@ impl NodeWords {
     fn relength(&mut self, lengths: &[u64], chunk: u32) -> Result<(), ChunkFull>
         requires { CanFitLengths lengths.now chunk self.old }
         ensures answer { result ≡ fit chunk lengths.now (place_count self.old.pool) }
-        ensures fitted { OnOk result (IsFitted lengths.now chunk self.old self.new) }
+        ensures fitted { OnOk result (IsRefitted lengths.now chunk self.old self.new) }
         ensures stays { OnErr result (self.new ≡ self.old) }
     {
         match fit_chunks(&mut self.chains, &mut self.pool, lengths, chunk) {
@@ -71,7 +71,7 @@ fn relength_at(
     requires there { index < length nodes.old.items }
     requires can { (kept : NodeWords) → slice_get nodes.old.items index ≡ Some kept → CanFitLengths lengths.now chunk kept }
     ensures answer { AnswersFit lengths.now chunk nodes.old.items index result }
-    ensures fitted { OnOk result (ChangesAt (IsFitted lengths.now chunk) nodes.old.items nodes.new.items index) }
+    ensures fitted { OnOk result (ChangesAt (IsRefitted lengths.now chunk) nodes.old.items nodes.new.items index) }
     ensures stays { OnErr result (nodes.new.items ≡ nodes.old.items) }
 {
     let kept = &mut nodes[index];
@@ -90,7 +90,7 @@ impl Store {
         requires there { index < length self.old.nodes }
         requires can { AtNodeOf (CanLengthen lengths.now chunk) self.old index }
         ensures answer { AnswersFit lengths.now chunk self.old.nodes index result }
-        ensures fitted { OnOk result (ChangesNode (IsFitted lengths.now chunk) self.old self.new index) }
+        ensures fitted { OnOk result (ChangesNode (IsRefitted lengths.now chunk) self.old self.new index) }
         ensures stays { OnErr result (self.new ≡ self.old) }
     {
         relength_at(&mut self.nodes, index, lengths, chunk)

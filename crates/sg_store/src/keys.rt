@@ -4,7 +4,7 @@ ghost use Rattle.sg_layout.specs.declared.shape.Kind.TheVariants.{Hash};
 ghost use Rattle.sg_layout.specs.declared.shape.NodeShape.{NodeShape};
 ghost use Rattle.sg_layout.specs.Axes.{count_of};
 ghost use Rattle.sg_layout.specs.Live.{kind_at};
-ghost use Rattle.sg_layout.specs.NeedLaws.{IsNode};
+ghost use Rattle.sg_layout.specs.NeedLaws.{IsNumberedNode};
 ghost use Rattle.sg_hash.specs.Tables.{IsTable, AreBeside};
 ghost use Rattle.sg_store.specs.WellFormed.{IsWellFormed};
 ghost use Rattle.sg_store.specs.Reaching.{KeepsCells};
@@ -49,7 +49,7 @@ impl Store {
         ensures words { IfOk result (λ keys. keys ≡ keys_of self.now 1) }
         ensures table { IfOk result IsTable }
         ensures beside { IfOk result (λ keys. AreBeside keys (links_of self.now 1)) }
-        ensures more { IfOk result (λ keys. (shape : NodeShape) → IsNode self.now.shape 1 shape →
+        ensures more { IfOk result (λ keys. (shape : NodeShape) → IsNumberedNode self.now.shape 1 shape →
             count_of shape.cap < length keys) }
     {
         // for the law that it ensures

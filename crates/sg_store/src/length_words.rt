@@ -4,11 +4,11 @@ ghost use Rattle.sg_layout.specs.declared.shape.Kind.TheVariants.{Dynamic};
 ghost use Rattle.sg_layout.specs.declared.shape.NodeShape.{NodeShape};
 ghost use Rattle.sg_layout.specs.Axes.{count_of};
 ghost use Rattle.sg_layout.specs.Live.{kind_at};
-ghost use Rattle.sg_layout.specs.NeedLaws.{IsNode};
+ghost use Rattle.sg_layout.specs.NeedLaws.{IsNumberedNode};
 ghost use Rattle.sg_dynamic.specs.Chunks.{fit};
 ghost use Rattle.sg_store.specs.WellFormed.{IsWellFormed};
 ghost use Rattle.sg_store.specs.Reaching.{KeepsCells};
-ghost use Rattle.sg_store.specs.Changes.{IsFitted, ChangesNode};
+ghost use Rattle.sg_store.specs.Changes.{IsRefitted, ChangesNode};
 ghost use Rattle.sg_store.specs.Opening.{lengths_of, CanSettleLengths, WantedAreBelow, NewLengthsAreWanted, OpensNode};
 
 use crate::node::chunk_of;
@@ -38,10 +38,10 @@ impl Store {
     pub fn settle_lengths(&mut self, lengths: &[u64]) -> Result<(), ChunkFull>
         requires dynamic { kind_at self.old.shape.nodes (length self.old.shape.nodes) ≡ Dynamic }
         requires can { CanSettleLengths self.old (length self.old.shape.nodes) lengths.now }
-        ensures answer { (node : NodeShape) → IsNode self.old.shape (length self.old.shape.nodes) node →
+        ensures answer { (node : NodeShape) → IsNumberedNode self.old.shape (length self.old.shape.nodes) node →
             result ≡ fit (count_of node.chunk) lengths.now (count_of node.cap) }
-        ensures settled { (node : NodeShape) → IsNode self.old.shape (length self.old.shape.nodes) node → OnOk result
-            (ChangesNode (IsFitted lengths.now (count_of node.chunk)) self.old self.new (length self.old.shape.nodes - 1)) }
+        ensures settled { (node : NodeShape) → IsNumberedNode self.old.shape (length self.old.shape.nodes) node → OnOk result
+            (ChangesNode (IsRefitted lengths.now (count_of node.chunk)) self.old self.new (length self.old.shape.nodes - 1)) }
         ensures keeps { OnOk result (KeepsCells self.old self.new) }
         ensures well_formed { IsWellFormed self.new }
         ensures opened { OnOk result ((wanted : List Coord) →

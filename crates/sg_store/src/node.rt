@@ -3,7 +3,7 @@ ghost use Rattle.sg_hash.specs.Tables.{beside};
 ghost use Rattle.sg_store.specs.Slots.{mask_bit, linked, chunk_cell};
 ghost use Rattle.sg_links.specs.Lists.{list_of};
 ghost use Rattle.sg_layout.specs.Axes.{count_of, size_of};
-ghost use Rattle.sg_store.specs.steps.Walking.{step_of, unless_unset, CanFind, IsTableFor, IsChainFor};
+ghost use Rattle.sg_store.specs.steps.Walking.{step_of_walk, unless_unset, CanFind, IsTableFor, IsChainFor};
 
 use sg_coord::count;
 use sg_hash::find;
@@ -41,7 +41,7 @@ impl NodeWords {
         requires below { offset < size }
         requires room { place * size + offset < 2 ^ 47 }
         requires find { CanFind node.now.kind node.now self.now (place * size + offset) }
-        ensures { result ≡ step_of bits node.now.kind node.now self.now (place * size + offset) }
+        ensures { result ≡ step_of_walk bits node.now.kind node.now self.now (place * size + offset) }
     {
         let slot = place * size + offset;
         match node.kind {

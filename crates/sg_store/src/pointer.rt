@@ -4,7 +4,7 @@ ghost use Rattle.sg_store.specs.declared.node.NodeWords.{NodeWords};
 ghost use Rattle.sg_store.specs.Reaching.{KeepsCells};
 ghost use Rattle.sg_store.specs.steps.AtNode.{AtNodeOf, AreNumbers};
 ghost use Rattle.sg_store.specs.steps.Settling.{CanSettleLinks, CanRelink, IsRelinked, ChangesAt, ChangesNode};
-ghost use Rattle.sg_store.specs.steps.Filling.{IsFresh, FilledTo, IsPlan};
+ghost use Rattle.sg_store.specs.steps.Filling.{IsUnlinkedStock, FilledTo, IsPlan};
 ghost use Rattle.sg_store.specs.steps.Levels.{IsPointerOf, OpensNext, IsPastCap, IfRefused};
 
 use crate::node::{NodeWords, overwrite, word};
@@ -29,7 +29,7 @@ pub(crate) struct Plan {
 /// than the room is taken. How many are taken.
 fn fill(links: &mut Items<u64>, stock: &[u32], room: usize, slots: &[usize]) -> usize
     requires roomy { room < length stock.now }
-    requires fresh { IsFresh links.old stock.now }
+    requires fresh { IsUnlinkedStock links.old stock.now }
     requires within { All (λ slot. slot < length links.old) slots.now }
     ensures { FilledTo links.old links.new stock.now room result slots.now }
 {

@@ -6,7 +6,7 @@ ghost use Rattle.sg_layout.specs.declared.shape.NodeShape.{NodeShape};
 ghost use Rattle.sg_layout.specs.Axes.{bounds_of_shape, count_of};
 ghost use Rattle.sg_layout.specs.Live.{kind_at};
 ghost use Rattle.sg_layout.specs.StorageWords.{ends_segment};
-ghost use Rattle.sg_layout.specs.NeedLaws.{IsNode};
+ghost use Rattle.sg_layout.specs.NeedLaws.{IsNumberedNode};
 ghost use Rattle.sg_pool.specs.Numbers.{live_count, IsStock};
 ghost use Rattle.sg_store.specs.Walks.{place_in};
 ghost use Rattle.sg_store.specs.WellFormed.{IsWellFormed};
@@ -46,7 +46,7 @@ impl Store {
         ensures stock { IfOk result (IsStock (pool_of self.now node)) }
         ensures unlinked { IfOk result (λ stock. (number : ℕ) → Contains stock number →
             Contains (links_of self.now node) (suc number) → ⊥) }
-        ensures rest { IfOk result (λ stock. (shape : NodeShape) → IsNode self.now.shape node shape →
+        ensures rest { IfOk result (λ stock. (shape : NodeShape) → IsNumberedNode self.now.shape node shape →
             length stock + live_count (pool_of self.now node) ≡ count_of shape.cap + 17) }
     {
         self.nodes.as_slice()[node as usize - 1].pool.stock(alloc)

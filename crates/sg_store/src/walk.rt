@@ -7,7 +7,7 @@ ghost use Rattle.sg_store.specs.declared.node.NodeWords.{NodeWords};
 ghost use Rattle.sg_store.specs.Slots.{slot_under};
 ghost use Rattle.sg_store.specs.Walks.{place_after, slot_in, place_in};
 ghost use Rattle.sg_store.specs.steps.AtNode.{AtNodeOf};
-ghost use Rattle.sg_store.specs.steps.Walking.{IsPlaceAt, step_of};
+ghost use Rattle.sg_store.specs.steps.Walking.{IsPlaceAt, step_of_walk};
 
 use crate::store::Store;
 use sg_coord::Coord;
@@ -28,7 +28,7 @@ impl Store {
         requires below { offset < slice_index (sizes_of self.now.shape.nodes) index }
         ensures { (node : NodeShape) (kept : NodeWords) → slice_get self.now.shape.nodes index ≡ Some node →
             slice_get self.now.nodes index ≡ Some kept →
-            result ≡ step_of bits node.kind node kept (slot_under node place offset) }
+            result ≡ step_of_walk bits node.kind node kept (slot_under node place offset) }
     {
         let nodes = self.layout.shape().nodes.as_slice();
         let size = self.layout.size(index) as usize;
@@ -40,7 +40,7 @@ impl Store {
     pub(crate) fn place_of(&self, at: Coord, through: usize, bits: bool) -> Option<usize>
         requires within { through ≤ length self.now.shape.nodes }
         requires inside { Inside (bounds_of_shape self.now.shape) at }
-        ensures { result ≡ place_after (step_of bits) self.now.shape.nodes self.now.nodes 0 (path self.now.shape at through) }
+        ensures { result ≡ place_after (step_of_walk bits) self.now.shape.nodes self.now.nodes 0 (path self.now.shape at through) }
     {
         // for the laws that it ensures
         paths_tell();

@@ -26,7 +26,7 @@ use Rattle.sg_types.specs.declared.typed.Form.TheVariants as form
 use Rattle.sg_types.specs.TypeTable.{is_numeric, is_signed, same_ty, bin_ty, un_ty}
 use Rattle.sg_types.specs.Scopes.{Known, NamedLocal, local_named, earlier_constant, local_or_constant}
 use Rattle.sg_types.specs.Expressions.{typed_expr, counts, field_axes, equals_some, number_ty, all_some, un_expr, bin_expr, mulq_expr, convert_expr, call_expr, access_expr, on_one, on_two, on_three, is_signed_expr}
-use Rattle.sg_types.specs.WellTyped.{Visible, Setting, setting, is_well_typed, is_ty, field_in, axes_in, is_visible, is_local}
+use Rattle.sg_types.specs.WellTyped.{Visible, Surroundings, setting, is_well_typed_expr, is_ty, field_in, axes_in, is_visible, is_local}
 use Rattle.sg_types.specs.Laws.{TablesFit}
 use Rattle.sg_types.proofs.Standing.{find_good}
 use Rattle.sg_types.proofs.Outcomes.{some_same, option_and_then_some, option_map_some, if_some}
@@ -113,19 +113,19 @@ module _ (known : Known) (shapes : List Shape) (fit : TablesFit known.tables sha
       axes_fit at.layout n (ap (λ (o : Option FieldAt). equals_some (option_and_then (λ at. axes_of known.tables at.layout) o) n) (sym is) ∙ h)
 
   module _ (types : List Ty) (scope : List NamedLocal) (visible : List Visible) (all_seen : AllSeen types visible scope) where
-    abbrev at : Setting
+    abbrev at : Surroundings
     at = setting shapes types visible
 
     abbrev FitsWell : Expr → Type 0
-    FitsWell expr = (typed : TypedExpr) → typed_expr known scope expr ≡ Some typed → counts known.tables expr ≡ true → is_well_typed at typed ≡ true
+    FitsWell expr = (typed : TypedExpr) → typed_expr known scope expr ≡ Some typed → counts known.tables expr ≡ true → is_well_typed_expr at typed ≡ true
 
-    same : (x typed : TypedExpr) → Some x ≡ Some typed → is_well_typed at x ≡ true → is_well_typed at typed ≡ true
-    same x typed h g = ap (is_well_typed at) (sym (some_same x typed h)) ∙ g
+    same : (x typed : TypedExpr) → Some x ≡ Some typed → is_well_typed_expr at x ≡ true → is_well_typed_expr at typed ≡ true
+    same x typed h g = ap (is_well_typed_expr at) (sym (some_same x typed h)) ∙ g
 
     name_fits : (name : Name) → FitsWell (e.Name name)
     name_fits name typed h g = go (local_named scope name) refl (earlier_constant known name) refl (sym (typed-Name known scope name) ∙ h)
       where
-        go : (local : Option Local) → local_named scope name ≡ local → (constant : Option Constant) → earlier_constant known name ≡ constant → local_or_constant local constant ≡ Some typed → is_well_typed at typed ≡ true
+        go : (local : Option Local) → local_named scope name ≡ local → (constant : Option Constant) → earlier_constant known name ≡ constant → local_or_constant local constant ≡ Some typed → is_well_typed_expr at typed ≡ true
         go (Some local) p constant q r =
             let sees = found_sees types visible name local scope all_seen p in
             same (record { ty = local.ty; form = form.Var local.var }) typed r
@@ -135,25 +135,25 @@ module _ (known : Known) (shapes : List Shape) (fit : TablesFit known.tables sha
         go None p None q r = let no_such : ◌≡◌ {A = Option TypedExpr} None (Some typed) = r in absurd (cc)
 
     all_fit : (exprs : List Expr) → AllByRecursion FitsWell exprs → (typed : List TypedExpr) → all_some (map (typed_expr known scope) exprs) ≡ Some typed
-        → list_all (counts known.tables) exprs ≡ true → (list_all (is_well_typed at) typed ≡ true) × (length typed ≡ length exprs)
-    all_fit [] all typed h g = let is = some_same [] typed h in (ap (list_all (is_well_typed at)) (sym is), ap (λ (xs : List TypedExpr). length xs) (sym is))
+        → list_all (counts known.tables) exprs ≡ true → (list_all (is_well_typed_expr at) typed ≡ true) × (length typed ≡ length exprs)
+    all_fit [] all typed h g = let is = some_same [] typed h in (ap (list_all (is_well_typed_expr at)) (sym is), ap (λ (xs : List TypedExpr). length xs) (sym is))
     all_fit (expr ∷ exprs) all typed h g =
         let first = option_and_then_some (λ a. option_map (λ more. a ∷ more) (all_some (map (typed_expr known scope) exprs))) (typed_expr known scope expr) typed h in
         let rest = option_map_some (λ more. first.0 ∷ more) (all_some (map (typed_expr known scope) exprs)) typed first.2 in
         let counted = and_parts (counts known.tables expr) (list_all (counts known.tables) exprs) g in
         let more = all_fit exprs all.1 rest.0 rest.1 counted.1 in (
-          ap (list_all (is_well_typed at)) (sym rest.2) ∙ and_from (is_well_typed at first.0) (list_all (is_well_typed at) rest.0) (all.0 first.0 first.1 counted.0) more.0,
+          ap (list_all (is_well_typed_expr at)) (sym rest.2) ∙ and_from (is_well_typed_expr at first.0) (list_all (is_well_typed_expr at) rest.0) (all.0 first.0 first.1 counted.0) more.0,
           ap (λ (xs : List TypedExpr). length xs) (sym rest.2) ∙ ap suc more.1,
         )
 
     -- indices of I32 that are well typed, as many as the layout has axes
     pub index_fits : (field : Name) (place : FieldAt) (index : List Expr) (typed : List TypedExpr) → field_named known.tables field ≡ Some place
-        → equals_some (field_axes known.tables field) (length index) ≡ true → list_all is_signed_expr typed ≡ true → list_all (is_well_typed at) typed ≡ true → length typed ≡ length index
-        → (equals_some (axes_in shapes place.layout) (length typed) && list_all (λ part. is_signed part.ty && is_well_typed at part) typed) ≡ true
+        → equals_some (field_axes known.tables field) (length index) ≡ true → list_all is_signed_expr typed ≡ true → list_all (is_well_typed_expr at) typed ≡ true → length typed ≡ length index
+        → (equals_some (axes_in shapes place.layout) (length typed) && list_all (λ part. is_signed part.ty && is_well_typed_expr at part) typed) ≡ true
     index_fits field place index typed is n signed well same_length =
-        and_from (equals_some (axes_in shapes place.layout) (length typed)) (list_all (λ part. is_signed part.ty && is_well_typed at part) typed)
+        and_from (equals_some (axes_in shapes place.layout) (length typed)) (list_all (λ part. is_signed part.ty && is_well_typed_expr at part) typed)
         (field_axes_fit field place (length typed) is (ap (equals_some (field_axes known.tables field)) same_length ∙ n))
-        (both_all is_signed_expr (is_well_typed at) typed signed well)
+        (both_all is_signed_expr (is_well_typed_expr at) typed signed well)
 
     read_fits : (field : Name) (index : List Expr) → AllByRecursion FitsWell index → FitsWell (e.Read field index)
     read_fits field index all typed h g =
@@ -163,34 +163,34 @@ module _ (known : Known) (shapes : List Shape) (fit : TablesFit known.tables sha
         let signed = if_some (list_all is_signed_expr parts.0) (record { ty = place.ty; form = form.Read place.layout place.place parts.0 }) typed parts.2 in
         let counted = and_parts (equals_some (field_axes known.tables field) (length index)) (list_all (counts known.tables) index) (sym (counts-Read known.tables field index) ∙ g) in
         let well = all_fit index all parts.0 parts.1 counted.1 in
-        ap (is_well_typed at) (sym signed.1)
+        ap (is_well_typed_expr at) (sym signed.1)
         ∙ (fits-Read at place.ty place.layout place.place parts.0
-        ∙ and_from (is_ty (field_in shapes place.layout place.place) place.ty) (equals_some (axes_in shapes place.layout) (length parts.0) && list_all (λ part. is_signed part.ty && is_well_typed at part) parts.0)
+        ∙ and_from (is_ty (field_in shapes place.layout place.place) place.ty) (equals_some (axes_in shapes place.layout) (length parts.0) && list_all (λ part. is_signed part.ty && is_well_typed_expr at part) parts.0)
         (is_ty-some (field_in shapes place.layout place.place) place.ty (fit.fields field place found.1))
         (index_fits field place index parts.0 found.1 counted.0 signed.0 well.0 well.1))
 
     paren_fits : (inner : Expr) → FitsWell inner → FitsWell (e.Paren inner)
     paren_fits inner fits typed h g =
         let found = option_map_some (λ (it : TypedExpr). record { ty = it.ty; form = form.Paren it }) (typed_expr known scope inner) typed (sym (typed-Paren known scope inner) ∙ h) in
-        ap (is_well_typed at) (sym found.2)
+        ap (is_well_typed_expr at) (sym found.2)
         ∙ (fits-Paren at found.0.ty found.0
-        ∙ and_from (same_ty found.0.ty found.0.ty) (is_well_typed at found.0) (same_ty-same found.0.ty) (fits found.0 found.1 (sym (counts-Paren known.tables inner) ∙ g)))
+        ∙ and_from (same_ty found.0.ty found.0.ty) (is_well_typed_expr at found.0) (same_ty-same found.0.ty) (fits found.0 found.1 (sym (counts-Paren known.tables inner) ∙ g)))
 
     un_fits : (op : UnOp) (operand : Expr) → FitsWell operand → FitsWell (e.Un op operand)
     un_fits op operand fits typed h g =
         let found = option_and_then_some (un_expr op) (typed_expr known scope operand) typed (sym (typed-Un known scope op operand) ∙ h) in
         let made = option_map_some (λ given. record { ty = given; form = form.Un op found.0 }) (un_ty op found.0.ty) typed found.2 in
-        ap (is_well_typed at) (sym made.2)
+        ap (is_well_typed_expr at) (sym made.2)
         ∙ (fits-Un at made.0 op found.0
-        ∙ and_from (is_ty (un_ty op found.0.ty) made.0) (is_well_typed at found.0) (is_ty-some (un_ty op found.0.ty) made.0 made.1) (fits found.0 found.1 (sym (counts-Un known.tables op operand) ∙ g)))
+        ∙ and_from (is_ty (un_ty op found.0.ty) made.0) (is_well_typed_expr at found.0) (is_ty-some (un_ty op found.0.ty) made.0 made.1) (fits found.0 found.1 (sym (counts-Un known.tables op operand) ∙ g)))
 
-    made_bin_fits : (op : BinOp) (left right typed : TypedExpr) → bin_expr op left right ≡ Some typed → is_well_typed at left ≡ true → is_well_typed at right ≡ true → is_well_typed at typed ≡ true
+    made_bin_fits : (op : BinOp) (left right typed : TypedExpr) → bin_expr op left right ≡ Some typed → is_well_typed_expr at left ≡ true → is_well_typed_expr at right ≡ true → is_well_typed_expr at typed ≡ true
     made_bin_fits op left right typed h l r =
         let made = option_map_some (λ given. record { ty = given; form = form.Bin op left right }) (bin_ty op left.ty right.ty) typed h in
-        ap (is_well_typed at) (sym made.2)
+        ap (is_well_typed_expr at) (sym made.2)
         ∙ (fits-Bin at made.0 op left right
-        ∙ and_from (is_ty (bin_ty op left.ty right.ty) made.0) (is_well_typed at left && is_well_typed at right) (is_ty-some (bin_ty op left.ty right.ty) made.0 made.1)
-        (and_from (is_well_typed at left) (is_well_typed at right) l r))
+        ∙ and_from (is_ty (bin_ty op left.ty right.ty) made.0) (is_well_typed_expr at left && is_well_typed_expr at right) (is_ty-some (bin_ty op left.ty right.ty) made.0 made.1)
+        (and_from (is_well_typed_expr at left) (is_well_typed_expr at right) l r))
 
     bin_fits : (op : BinOp) (left right : Expr) → FitsWell left → FitsWell right → FitsWell (e.Bin op left right)
     bin_fits op left right l r typed h g =
@@ -199,25 +199,25 @@ module _ (known : Known) (shapes : List Shape) (fit : TablesFit known.tables sha
         let counted = and_parts (counts known.tables left) (counts known.tables right) (sym (counts-Bin known.tables op left right) ∙ g) in
         made_bin_fits op first.0 second.0 typed second.2 (l first.0 first.1 counted.0) (r second.0 second.1 counted.1)
 
-    two_fit : (op : BinOp) (parts : List TypedExpr) (typed : TypedExpr) → on_two (bin_expr op) parts ≡ Some typed → list_all (is_well_typed at) parts ≡ true → is_well_typed at typed ≡ true
+    two_fit : (op : BinOp) (parts : List TypedExpr) (typed : TypedExpr) → on_two (bin_expr op) parts ≡ Some typed → list_all (is_well_typed_expr at) parts ≡ true → is_well_typed_expr at typed ≡ true
     two_fit op [] typed h g = let no_such : ◌≡◌ {A = Option TypedExpr} None (Some typed) = h in absurd (cc)
     two_fit op (x ∷ []) typed h g = let no_such : ◌≡◌ {A = Option TypedExpr} None (Some typed) = h in absurd (cc)
     two_fit op (x ∷ y ∷ []) typed h g =
-        let first = and_parts (is_well_typed at x) (list_all (is_well_typed at) (y ∷ [])) g in
-        let second = and_parts (is_well_typed at y) true first.1 in
+        let first = and_parts (is_well_typed_expr at x) (list_all (is_well_typed_expr at) (y ∷ [])) g in
+        let second = and_parts (is_well_typed_expr at y) true first.1 in
         made_bin_fits op x y typed h first.0 second.0
     two_fit op (x ∷ y ∷ z ∷ more) typed h g = let no_such : ◌≡◌ {A = Option TypedExpr} None (Some typed) = h in absurd (cc)
 
-    one_fits : (to : Ty) → is_numeric to ≡ true → (parts : List TypedExpr) (typed : TypedExpr) → on_one (convert_expr to) parts ≡ Some typed → list_all (is_well_typed at) parts ≡ true → is_well_typed at typed ≡ true
+    one_fits : (to : Ty) → is_numeric to ≡ true → (parts : List TypedExpr) (typed : TypedExpr) → on_one (convert_expr to) parts ≡ Some typed → list_all (is_well_typed_expr at) parts ≡ true → is_well_typed_expr at typed ≡ true
     one_fits to numeric [] typed h g = let no_such : ◌≡◌ {A = Option TypedExpr} None (Some typed) = h in absurd (cc)
     one_fits to numeric (x ∷ []) typed h g =
         let made = if_some (is_numeric x.ty) (record { ty = to; form = form.Convert x }) typed h in
-        let first = and_parts (is_well_typed at x) true g in
-        ap (is_well_typed at) (sym made.1)
-        ∙ (fits-Convert at to x ∙ and_from (is_numeric to) (is_numeric x.ty && is_well_typed at x) numeric (and_from (is_numeric x.ty) (is_well_typed at x) made.0 first.0))
+        let first = and_parts (is_well_typed_expr at x) true g in
+        ap (is_well_typed_expr at) (sym made.1)
+        ∙ (fits-Convert at to x ∙ and_from (is_numeric to) (is_numeric x.ty && is_well_typed_expr at x) numeric (and_from (is_numeric x.ty) (is_well_typed_expr at x) made.0 first.0))
     one_fits to numeric (x ∷ y ∷ more) typed h g = let no_such : ◌≡◌ {A = Option TypedExpr} None (Some typed) = h in absurd (cc)
 
-    three_fit : (parts : List TypedExpr) (typed : TypedExpr) → on_three mulq_expr parts ≡ Some typed → list_all (is_well_typed at) parts ≡ true → is_well_typed at typed ≡ true
+    three_fit : (parts : List TypedExpr) (typed : TypedExpr) → on_three mulq_expr parts ≡ Some typed → list_all (is_well_typed_expr at) parts ≡ true → is_well_typed_expr at typed ≡ true
     three_fit [] typed h g = let no_such : ◌≡◌ {A = Option TypedExpr} None (Some typed) = h in absurd (cc)
     three_fit (x ∷ []) typed h g = let no_such : ◌≡◌ {A = Option TypedExpr} None (Some typed) = h in absurd (cc)
     three_fit (x ∷ y ∷ []) typed h g = let no_such : ◌≡◌ {A = Option TypedExpr} None (Some typed) = h in absurd (cc)
@@ -225,18 +225,18 @@ module _ (known : Known) (shapes : List Shape) (fit : TablesFit known.tables sha
         let made = if_some (is_signed_expr x && (is_signed_expr y && is_signed_expr z)) (record { ty = ty.I32; form = form.Mulq x y z }) typed h in
         let signed = and_parts (is_signed_expr x) (is_signed_expr y && is_signed_expr z) made.0 in
         let signed_more = and_parts (is_signed_expr y) (is_signed_expr z) signed.1 in
-        let first = and_parts (is_well_typed at x) (list_all (is_well_typed at) (y ∷ z ∷ [])) g in
-        let second = and_parts (is_well_typed at y) (list_all (is_well_typed at) (z ∷ [])) first.1 in
-        let third = and_parts (is_well_typed at z) true second.1 in
-        ap (is_well_typed at) (sym made.1)
+        let first = and_parts (is_well_typed_expr at x) (list_all (is_well_typed_expr at) (y ∷ z ∷ [])) g in
+        let second = and_parts (is_well_typed_expr at y) (list_all (is_well_typed_expr at) (z ∷ [])) first.1 in
+        let third = and_parts (is_well_typed_expr at z) true second.1 in
+        ap (is_well_typed_expr at) (sym made.1)
         ∙ (fits-Mulq at ty.I32 x y z
-        ∙ and_from (is_signed x.ty && is_well_typed at x) ((is_signed y.ty && is_well_typed at y) && (is_signed z.ty && is_well_typed at z))
-        (and_from (is_signed x.ty) (is_well_typed at x) signed.0 first.0)
-        (and_from (is_signed y.ty && is_well_typed at y) (is_signed z.ty && is_well_typed at z)
-        (and_from (is_signed y.ty) (is_well_typed at y) signed_more.0 second.0) (and_from (is_signed z.ty) (is_well_typed at z) signed_more.1 third.0)))
+        ∙ and_from (is_signed x.ty && is_well_typed_expr at x) ((is_signed y.ty && is_well_typed_expr at y) && (is_signed z.ty && is_well_typed_expr at z))
+        (and_from (is_signed x.ty) (is_well_typed_expr at x) signed.0 first.0)
+        (and_from (is_signed y.ty && is_well_typed_expr at y) (is_signed z.ty && is_well_typed_expr at z)
+        (and_from (is_signed y.ty) (is_well_typed_expr at y) signed_more.0 second.0) (and_from (is_signed z.ty) (is_well_typed_expr at z) signed_more.1 third.0)))
     three_fit (x ∷ y ∷ z ∷ w ∷ more) typed h g = let no_such : ◌≡◌ {A = Option TypedExpr} None (Some typed) = h in absurd (cc)
 
-    made_call_fits : (callee : Callee) (parts : List TypedExpr) (typed : TypedExpr) → call_expr callee parts ≡ Some typed → list_all (is_well_typed at) parts ≡ true → is_well_typed at typed ≡ true
+    made_call_fits : (callee : Callee) (parts : List TypedExpr) (typed : TypedExpr) → call_expr callee parts ≡ Some typed → list_all (is_well_typed_expr at) parts ≡ true → is_well_typed_expr at typed ≡ true
     made_call_fits c.Min parts typed h g = two_fit b.Min parts typed h g
     made_call_fits c.Max parts typed h g = two_fit b.Max parts typed h g
     made_call_fits c.Mulq parts typed h g = three_fit parts typed h g
@@ -261,5 +261,5 @@ module _ (known : Known) (shapes : List Shape) (fit : TablesFit known.tables sha
     all_exprs (expr ∷ exprs) = (expr_fits expr, all_exprs exprs)
 
     pub exprs_fit : (exprs : List Expr) (typed : List TypedExpr) → all_some (map (typed_expr known scope) exprs) ≡ Some typed
-        → list_all (counts known.tables) exprs ≡ true → (list_all (is_well_typed at) typed ≡ true) × (length typed ≡ length exprs)
+        → list_all (counts known.tables) exprs ≡ true → (list_all (is_well_typed_expr at) typed ≡ true) × (length typed ≡ length exprs)
     exprs_fit exprs typed h g = all_fit exprs (all_exprs exprs) typed h g

@@ -23,10 +23,10 @@ use Rattle.sg_types.specs.declared.typed.TypedStmt.{TypedStmt}
 use Rattle.sg_types.specs.TypeTable.{is_signed, is_truth, same_ty}
 use Rattle.sg_types.specs.Scopes.{Known, NamedLocal, local_named}
 use Rattle.sg_types.specs.Expressions.{typed_expr, counts, field_axes, equals_some, all_some, is_signed_expr}
-use Rattle.sg_types.specs.Statements.{Reached, next_statement, with_variable, let_wrongs, if_wrongs, for_wrongs, may_not_assign, assign_kind, write_kind, way_of, typed_range, counts_range, in_turn, typed_stmt}
+use Rattle.sg_types.specs.Statements.{Reached, next_statement, with_variable, let_wrongs, if_wrongs, for_wrongs, may_not_assign, assign_kind, write_kind, declared_way, typed_range, counts_range, in_turn, typed_stmt}
 use Rattle.sg_words.specs.Options.{only_where}
 use Rattle.sg_types.specs.Counting.{block_count}
-use Rattle.sg_types.specs.WellTyped.{Visible, setting, is_well_typed, is_ty, field_in, axes_in, is_visible, is_local, Fitting, all_fit, fitting, is_well_typed_range}
+use Rattle.sg_types.specs.WellTyped.{Visible, setting, is_well_typed_expr, is_ty, field_in, axes_in, is_visible, is_local, Fitting, all_fit, fitting, is_well_typed_range}
 use Rattle.sg_types.specs.Laws.{TablesFit}
 use Rattle.sg_types.proofs.Outcomes.{Fits, option_and_then_some, option_map_some, if_some, only_where_some}
 use Rattle.sg_types.proofs.Walk.{of_kind, block_end, Turn, Cases, walk_turn}
@@ -120,7 +120,7 @@ module _ (known : Known) (shapes : List Shape) (fit : TablesFit known.tables sha
 
   -- an expression of which nothing is wrong
   well : (scope : List NamedLocal) (visible : List Visible) (expr : Expr) (typed : TypedExpr) → AllSeen types visible scope → typed_expr known scope expr ≡ Some typed → not (counts known.tables expr) ≡ false
-      → is_well_typed (setting shapes types visible) typed ≡ true
+      → is_well_typed_expr (setting shapes types visible) typed ≡ true
   well scope visible expr typed all h g = expr_fits known shapes fit types scope visible all expr typed h (not_false (counts known.tables expr) g)
 
   let_fits : (name : Name) (value : Expr) (at : Reached) (it : TypedExpr) → Fits (let_wrongs known at.scope name value) (typed_expr known at.scope value) it
@@ -128,9 +128,9 @@ module _ (known : Known) (shapes : List Shape) (fit : TablesFit known.tables sha
   let_fits name value at it part visible more is all =
       let seen = declares_seen visible (next_statement at) name it.ty false more is all in
       passes_by (fitting shapes types (of_kind at (kind.Let (length at.types) it))) visible (record { var = length at.types; is_loop = false } ∷ visible)
-      (is_well_typed (setting shapes types visible) it && is_ty (slice_get types (length at.types)) it.ty) (with_variable name it.ty false (next_statement at))
+      (is_well_typed_expr (setting shapes types visible) it && is_ty (slice_get types (length at.types)) it.ty) (with_variable name it.ty false (next_statement at))
       (fitting-Let shapes types at.number (length at.types) it visible)
-      (and_from (is_well_typed (setting shapes types visible) it) (is_ty (slice_get types (length at.types)) it.ty)
+      (and_from (is_well_typed_expr (setting shapes types visible) it) (is_ty (slice_get types (length at.types)) it.ty)
       (well at.scope visible value it all part.is part.counted) (is_ty-some (slice_get types (length at.types)) it.ty seen.0)) seen.1
 
   assigned_fits : (at : Reached) (name : Name) (value : Expr) (visible : List Visible) → AllSeen types visible at.scope → not (counts known.tables value) ≡ false → (found : Option Local) → local_named at.scope name ≡ found → may_not_assign found ≡ false
@@ -143,10 +143,10 @@ module _ (known : Known) (shapes : List Shape) (fit : TablesFit known.tables sha
       let sees = found_sees types visible name local at.scope all found in
       subst (λ (k : TypedKind). Passes (fitting shapes types (record { number = at.number; kind = k })) visible (next_statement at)) made.2
       (passes_by (fitting shapes types (record { number = at.number; kind = kind.Assign local.var it })) visible visible
-      (is_local visible local.var && (is_well_typed (setting shapes types visible) it && is_ty (slice_get types local.var) it.ty)) (next_statement at)
+      (is_local visible local.var && (is_well_typed_expr (setting shapes types visible) it && is_ty (slice_get types local.var) it.ty)) (next_statement at)
       (fitting-Assign shapes types at.number local.var it visible)
-      (and_from (is_local visible local.var) (is_well_typed (setting shapes types visible) it && is_ty (slice_get types local.var) it.ty) (sees.free free)
-      (and_from (is_well_typed (setting shapes types visible) it) (is_ty (slice_get types local.var) it.ty)
+      (and_from (is_local visible local.var) (is_well_typed_expr (setting shapes types visible) it && is_ty (slice_get types local.var) it.ty) (sees.free free)
+      (and_from (is_well_typed_expr (setting shapes types visible) it) (is_ty (slice_get types local.var) it.ty)
       (well at.scope visible value it all passed.0 counted)
       (is_ty-some (slice_get types local.var) it.ty (sees.typed ∙ ap Some (sym (same_ty-equal it.ty local.ty passed.1)))))) all)
 
@@ -156,12 +156,12 @@ module _ (known : Known) (shapes : List Shape) (fit : TablesFit known.tables sha
       → (k : TypedKind) → write_kind how place (all_some (map (typed_expr known at.scope) index)) (typed_expr known at.scope value) ≡ Some k → Passes (fitting shapes types (record { number = at.number; kind = k })) visible (next_statement at)
   written_fits at field index how value visible all counted None found k h = let no_such : ◌≡◌ {A = Option TypedKind} None (Some k) = h in absurd (cc)
   written_fits at field index how value visible all counted (Some place) found k h =
-      let outer = option_and_then_some (λ (is : List TypedExpr). option_map (λ (t : TypedExpr). kind.Write place.layout place.place is (way_of how) t) (only_where (λ t. same_ty t.ty place.ty) (typed_expr known at.scope value)))
+      let outer = option_and_then_some (λ (is : List TypedExpr). option_map (λ (t : TypedExpr). kind.Write place.layout place.place is (declared_way how) t) (only_where (λ t. same_ty t.ty place.ty) (typed_expr known at.scope value)))
       (option_and_then (λ (is : List TypedExpr). if list_all is_signed_expr is then Some is else None) (all_some (map (typed_expr known at.scope) index))) k h in
       let is = outer.0 in
       let inner = option_and_then_some (λ (is : List TypedExpr). if list_all is_signed_expr is then Some is else None) (all_some (map (typed_expr known at.scope) index)) is outer.1 in
       let signed = if_some (list_all is_signed_expr inner.0) inner.0 is inner.2 in
-      let made = option_map_some (λ (t : TypedExpr). kind.Write place.layout place.place is (way_of how) t) (only_where (λ t. same_ty t.ty place.ty) (typed_expr known at.scope value)) k outer.2 in
+      let made = option_map_some (λ (t : TypedExpr). kind.Write place.layout place.place is (declared_way how) t) (only_where (λ t. same_ty t.ty place.ty) (typed_expr known at.scope value)) k outer.2 in
       let it = made.0 in
       let passed = only_where_some (λ t. same_ty t.ty place.ty) (typed_expr known at.scope value) it made.1 in
       let own = and_parts (equals_some (field_axes known.tables field) (length index)) (list_all (counts known.tables) index && counts known.tables value) counted in
@@ -170,13 +170,13 @@ module _ (known : Known) (shapes : List Shape) (fit : TablesFit known.tables sha
       let is_signed_all : list_all is_signed_expr is ≡ true = ap (list_all is_signed_expr) (sym signed.1) ∙ signed.0 in
       let wells = exprs_fit known shapes fit types at.scope visible all index is index_is parts.0 in
       subst (λ (k : TypedKind). Passes (fitting shapes types (record { number = at.number; kind = k })) visible (next_statement at)) made.2
-      (passes_by (fitting shapes types (record { number = at.number; kind = kind.Write place.layout place.place is (way_of how) it })) visible visible
-      ((is_ty (field_in shapes place.layout place.place) it.ty && is_well_typed (setting shapes types visible) it)
-      && (equals_some (axes_in shapes place.layout) (length is) && list_all (λ part. is_signed part.ty && is_well_typed (setting shapes types visible) part) is)) (next_statement at)
-      (fitting-Write shapes types at.number place.layout place.place is (way_of how) it visible)
-      (and_from (is_ty (field_in shapes place.layout place.place) it.ty && is_well_typed (setting shapes types visible) it)
-      (equals_some (axes_in shapes place.layout) (length is) && list_all (λ part. is_signed part.ty && is_well_typed (setting shapes types visible) part) is)
-      (and_from (is_ty (field_in shapes place.layout place.place) it.ty) (is_well_typed (setting shapes types visible) it)
+      (passes_by (fitting shapes types (record { number = at.number; kind = kind.Write place.layout place.place is (declared_way how) it })) visible visible
+      ((is_ty (field_in shapes place.layout place.place) it.ty && is_well_typed_expr (setting shapes types visible) it)
+      && (equals_some (axes_in shapes place.layout) (length is) && list_all (λ part. is_signed part.ty && is_well_typed_expr (setting shapes types visible) part) is)) (next_statement at)
+      (fitting-Write shapes types at.number place.layout place.place is (declared_way how) it visible)
+      (and_from (is_ty (field_in shapes place.layout place.place) it.ty && is_well_typed_expr (setting shapes types visible) it)
+      (equals_some (axes_in shapes place.layout) (length is) && list_all (λ part. is_signed part.ty && is_well_typed_expr (setting shapes types visible) part) is)
+      (and_from (is_ty (field_in shapes place.layout place.place) it.ty) (is_well_typed_expr (setting shapes types visible) it)
       (is_ty-some (field_in shapes place.layout place.place) it.ty (fit.fields field place found ∙ ap Some (sym (same_ty-equal it.ty place.ty passed.1))))
       (expr_fits known shapes fit types at.scope visible all value it passed.0 parts.1))
       (index_fits known shapes fit types at.scope visible all field place index is found own.0 is_signed_all wells.0 wells.1)) all)
@@ -196,9 +196,9 @@ module _ (known : Known) (shapes : List Shape) (fit : TablesFit known.tables sha
       let high_is = only_where_some is_signed_expr (typed_expr known scope range.hi) high inner.1 in
       let parts = and_parts (counts known.tables range.lo) (counts known.tables range.hi) counted in
       ap (is_well_typed_range (setting shapes types visible)) (sym inner.2)
-      ∙ and_from (is_signed low.ty && is_well_typed (setting shapes types visible) low) (is_signed high.ty && is_well_typed (setting shapes types visible) high)
-      (and_from (is_signed low.ty) (is_well_typed (setting shapes types visible) low) low_is.1 (expr_fits known shapes fit types scope visible all range.lo low low_is.0 parts.0))
-      (and_from (is_signed high.ty) (is_well_typed (setting shapes types visible) high) high_is.1 (expr_fits known shapes fit types scope visible all range.hi high high_is.0 parts.1))
+      ∙ and_from (is_signed low.ty && is_well_typed_expr (setting shapes types visible) low) (is_signed high.ty && is_well_typed_expr (setting shapes types visible) high)
+      (and_from (is_signed low.ty) (is_well_typed_expr (setting shapes types visible) low) low_is.1 (expr_fits known shapes fit types scope visible all range.lo low low_is.0 parts.0))
+      (and_from (is_signed high.ty) (is_well_typed_expr (setting shapes types visible) high) high_is.1 (expr_fits known shapes fit types scope visible all range.hi high high_is.0 parts.1))
 
   -- a block behind a condition is well typed, and behind it the names of before are seen
   block_fits : (at mid : Reached) (block : List Stmt) (ys : List TypedStmt) (visible : List Visible) (more : List Ty) → AllWellDone block (next_statement at) ys mid
@@ -213,12 +213,12 @@ module _ (known : Known) (shapes : List Shape) (fit : TablesFit known.tables sha
   branch_fits condition at last it ys ns has visible says all b o =
       let truth = only_where_some (λ t. is_truth t.ty) (typed_expr known at.scope condition) it says.is in
       passes_by (fitting shapes types (of_kind at (kind.If it ys ns has))) visible visible
-      ((is_truth it.ty && is_well_typed (setting shapes types visible) it)
+      ((is_truth it.ty && is_well_typed_expr (setting shapes types visible) it)
       && ((all_fit (map (fitting shapes types) ys) visible).0 && (all_fit (map (fitting shapes types) ns) visible).0)) (block_end at last)
       (fitting-If shapes types at.number it ys ns has visible)
-      (and_from (is_truth it.ty && is_well_typed (setting shapes types visible) it)
+      (and_from (is_truth it.ty && is_well_typed_expr (setting shapes types visible) it)
       ((all_fit (map (fitting shapes types) ys) visible).0 && (all_fit (map (fitting shapes types) ns) visible).0)
-      (and_from (is_truth it.ty) (is_well_typed (setting shapes types visible) it) truth.1 (well at.scope visible condition it all truth.0 says.counted))
+      (and_from (is_truth it.ty) (is_well_typed_expr (setting shapes types visible) it) truth.1 (well at.scope visible condition it all truth.0 says.counted))
       (and_from (all_fit (map (fitting shapes types) ys) visible).0 (all_fit (map (fitting shapes types) ns) visible).0 b o)) all
 
   for_fits : (name : Name) (range : RangeDecl) (body : List Stmt) (at : Reached) (bounds : TypedRange) (typed : List TypedStmt) (last : Reached)

@@ -19,7 +19,7 @@ use Rattle.sg_types.specs.declared.typed.TypedKind.TheOpen as k
 use Rattle.sg_types.specs.declared.typed.TypedKind.TheOpen.{TypedStmt-F}
 use Rattle.sg_types.specs.declared.typed.TypedStmt.{TypedStmt}
 use Rattle.sg_types.specs.Values.{World, Moment, TypedWord, coord_of, read_word, value_step, typed_word, expr_word}
-use Rattle.sg_types.specs.Iterations.{Action, set_var, add_write, run_all, range_numbers, kind_step, action_of}
+use Rattle.sg_types.specs.Iterations.{StmtAction, set_var, add_write, run_all, range_numbers, kind_step, action_of}
 use Rattle.sg_types.proofs.FoldWords.{fold-expr, fold-stmt}
 
 map-map : {A B C : Type 0} (g : B → C) (h : A → B) (xs : List A) → map g (map h xs) ≡ map (λ x. g (h x)) xs
@@ -29,7 +29,7 @@ map-map g h (x ∷ xs) = ap (λ more. g (h x) ∷ more) (map-map g h xs)
 abbrev shown_word : TypedExpr-F ℕ TypedWord → TypedWord
 shown_word expr = (expr.ty, expr.form)
 
-abbrev shown_action : TypedStmt-F (ℕ → Action) Action → Action
+abbrev shown_action : TypedStmt-F (ℕ → StmtAction) StmtAction → StmtAction
 shown_action stmt = stmt.kind stmt.number
 
 module _ (world : World) (now : Moment) where
@@ -70,26 +70,26 @@ module _ (world : World) (now : Moment) where
   value-Convert given inner = word_of_form given (form.Convert inner) ∙ (ap word_in (sym (rolls-Convert inner)) ∙ fold-roll-Form ℕ TypedWord (value_step world now) shown_word (f.Convert inner))
 
 module _ (world : World) (number : ℕ) where
-  abbrev done_by : TypedKind → ℕ → Action
-  done_by = fold-TypedKind (ℕ → Action) Action (kind_step world) shown_action
+  abbrev done_by : TypedKind → ℕ → StmtAction
+  done_by = fold-TypedKind (ℕ → StmtAction) StmtAction (kind_step world) shown_action
 
   action_of_kind : (it : TypedKind) (now : Moment) → action_of world (record { number = number; kind = it }) now ≡ done_by it number now
-  action_of_kind it now = ap (λ (action : Action). action now) (fold-stmt (ℕ → Action) Action (kind_step world) shown_action (record { number = number; kind = it }))
+  action_of_kind it now = ap (λ (action : StmtAction). action now) (fold-stmt (ℕ → StmtAction) StmtAction (kind_step world) shown_action (record { number = number; kind = it }))
 
   pub action-Let : (var : ℕ) (value : TypedExpr) (now : Moment) → action_of world (record { number = number; kind = kind.Let var value }) now ≡ set_var var (expr_word world now value) now
-  action-Let var value now = action_of_kind (kind.Let var value) now ∙ (ap (λ (it : TypedKind). done_by it number now) (sym (rolls-Let var value)) ∙ ap (λ (it : ℕ → Action). it number now) (fold-roll-TypedKind (ℕ → Action) Action (kind_step world) shown_action (k.Let var value)))
+  action-Let var value now = action_of_kind (kind.Let var value) now ∙ (ap (λ (it : TypedKind). done_by it number now) (sym (rolls-Let var value)) ∙ ap (λ (it : ℕ → StmtAction). it number now) (fold-roll-TypedKind (ℕ → StmtAction) StmtAction (kind_step world) shown_action (k.Let var value)))
 
   pub action-Assign : (var : ℕ) (value : TypedExpr) (now : Moment) → action_of world (record { number = number; kind = kind.Assign var value }) now ≡ set_var var (expr_word world now value) now
-  action-Assign var value now = action_of_kind (kind.Assign var value) now ∙ (ap (λ (it : TypedKind). done_by it number now) (sym (rolls-Assign var value)) ∙ ap (λ (it : ℕ → Action). it number now) (fold-roll-TypedKind (ℕ → Action) Action (kind_step world) shown_action (k.Assign var value)))
+  action-Assign var value now = action_of_kind (kind.Assign var value) now ∙ (ap (λ (it : TypedKind). done_by it number now) (sym (rolls-Assign var value)) ∙ ap (λ (it : ℕ → StmtAction). it number now) (fold-roll-TypedKind (ℕ → StmtAction) StmtAction (kind_step world) shown_action (k.Assign var value)))
 
   pub action-Write : (layout : ℕ) (place : ℕ) (index : List TypedExpr) (way : Way) (value : TypedExpr) (now : Moment) → action_of world (record { number = number; kind = kind.Write layout place index way value }) now ≡ add_write (record { layout = layout; place = place; stmt = number; at = coord_of (map (expr_word world now) index); way = way; value = expr_word world now value }) now
-  action-Write layout place index way value now = action_of_kind (kind.Write layout place index way value) now ∙ (ap (λ (it : TypedKind). done_by it number now) (sym (rolls-Write layout place index way value)) ∙ ap (λ (it : ℕ → Action). it number now) (fold-roll-TypedKind (ℕ → Action) Action (kind_step world) shown_action (k.Write layout place index way value)))
+  action-Write layout place index way value now = action_of_kind (kind.Write layout place index way value) now ∙ (ap (λ (it : TypedKind). done_by it number now) (sym (rolls-Write layout place index way value)) ∙ ap (λ (it : ℕ → StmtAction). it number now) (fold-roll-TypedKind (ℕ → StmtAction) StmtAction (kind_step world) shown_action (k.Write layout place index way value)))
 
   pub action-If : (condition : TypedExpr) (block : List TypedStmt) (otherwise : List TypedStmt) (has_else : Bool) (now : Moment) → action_of world (record { number = number; kind = kind.If condition block otherwise has_else }) now ≡ run_all (if expr_word world now condition == 0 then map (action_of world) otherwise else map (action_of world) block) now
-  action-If condition block otherwise has_else now = action_of_kind (kind.If condition block otherwise has_else) now ∙ (ap (λ (it : TypedKind). done_by it number now) (sym (rolls-If condition block otherwise has_else)) ∙ ap (λ (it : ℕ → Action). it number now) (fold-roll-TypedKind (ℕ → Action) Action (kind_step world) shown_action (k.If condition block otherwise has_else)))
+  action-If condition block otherwise has_else now = action_of_kind (kind.If condition block otherwise has_else) now ∙ (ap (λ (it : TypedKind). done_by it number now) (sym (rolls-If condition block otherwise has_else)) ∙ ap (λ (it : ℕ → StmtAction). it number now) (fold-roll-TypedKind (ℕ → StmtAction) StmtAction (kind_step world) shown_action (k.If condition block otherwise has_else)))
 
   pub action-For : (var : ℕ) (range : TypedRange) (body : List TypedStmt) (now : Moment) → action_of world (record { number = number; kind = kind.For var range body }) now ≡ fold (λ reached turn. run_all (map (action_of world) body) (set_var var (word_of turn) reached)) now (range_numbers world now range)
-  action-For var range body now = action_of_kind (kind.For var range body) now ∙ (ap (λ (it : TypedKind). done_by it number now) (sym (rolls-For var range body)) ∙ ap (λ (it : ℕ → Action). it number now) (fold-roll-TypedKind (ℕ → Action) Action (kind_step world) shown_action (k.For var range body)))
+  action-For var range body now = action_of_kind (kind.For var range body) now ∙ (ap (λ (it : TypedKind). done_by it number now) (sym (rolls-For var range body)) ∙ ap (λ (it : ℕ → StmtAction). it number now) (fold-roll-TypedKind (ℕ → StmtAction) StmtAction (kind_step world) shown_action (k.For var range body)))
 
 -- all of them, to compute with
 pub ruleset effect_equations = (

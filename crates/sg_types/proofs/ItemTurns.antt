@@ -15,7 +15,7 @@ use Rattle.sg_types.specs.declared.typed.TypedKernel.{TypedKernel}
 use Rattle.sg_types.specs.Scopes.{Known}
 use Rattle.sg_words.specs.Results.{◌>>=◌}
 use Rattle.sg_types.specs.Programs.{typed_items, typed_kernel, typed_program}
-use Rattle.sg_types.specs.steps.Taking.{after, typed_after, Takes}
+use Rattle.sg_types.specs.steps.Taking.{behind_typed, typed_after, Takes}
 
 -- an error that is passed on answers as it did
 pub error_goes_on : {A B C D : Type 0} (r : Result A (Stop TypeFault)) (e : Stop TypeFault) (shown : C → D) (view : A → B) (meaning : Result D TypeFault) (whole : Result B TypeFault)
@@ -25,35 +25,35 @@ error_goes_on (Err stop.Memory) e shown view meaning whole is h on = tt
 error_goes_on {C = C} {D = D} (Err (stop.Refused fault)) e shown view meaning whole is h on =
     on fault (subst (λ (x : Stop TypeFault). AnswersAs {A = C} {B = D} shown (Err x) meaning) (sym is) h)
 
-after-fault : (done : List TypedKernel) (r : Result (List TypedKernel) TypeFault) (fault : TypeFault) → r ≡ Err fault → after done r ≡ Err fault
-after-fault done r fault e = ap (after done) e
+after-fault : (done : List TypedKernel) (r : Result (List TypedKernel) TypeFault) (fault : TypeFault) → r ≡ Err fault → behind_typed done r ≡ Err fault
+after-fault done r fault e = ap (behind_typed done) e
 
 module _ (tables : Tables) (done : List TypedKernel) (constants : ℕ) where
   abbrev pub known_at : Known
   known_at = record { kernel = length done; tables = tables; constants = constants }
 
   -- a kernel is typed
-  kernel_next : (kernel : TypedKernel) (rest : Result (List TypedKernel) TypeFault) → after done (rest >>= (λ more. Ok (kernel ∷ more))) ≡ after (done ++ kernel ∷ []) rest
+  kernel_next : (kernel : TypedKernel) (rest : Result (List TypedKernel) TypeFault) → behind_typed done (rest >>= (λ more. Ok (kernel ∷ more))) ≡ behind_typed (done ++ kernel ∷ []) rest
   kernel_next kernel (Ok more) = ap Ok (sym (append_assoc done (kernel ∷ []) more))
   kernel_next kernel (Err fault) = refl
 
   pub kernel_taken : (decl : KernelDecl) (kernel : TypedKernel) → typed_kernel known_at decl ≡ Ok kernel → (rest : List Item)
       → typed_after tables done constants (item.Kernel decl ∷ rest) ≡ typed_after tables (done ++ kernel ∷ []) constants rest
   kernel_taken decl kernel e rest =
-      ap (λ (r : Result TypedKernel TypeFault). after done (r >>= (λ kernel. typed_items tables (suc (length done)) constants rest >>= (λ more. Ok (kernel ∷ more))))) e
+      ap (λ (r : Result TypedKernel TypeFault). behind_typed done (r >>= (λ kernel. typed_items tables (suc (length done)) constants rest >>= (λ more. Ok (kernel ∷ more))))) e
       ∙ (kernel_next kernel (typed_items tables (suc (length done)) constants rest)
-      ∙ ap (λ (n : ℕ). after (done ++ kernel ∷ []) (typed_items tables n constants rest)) (omega (arith, length-append done (kernel ∷ []))))
+      ∙ ap (λ (n : ℕ). behind_typed (done ++ kernel ∷ []) (typed_items tables n constants rest)) (omega (arith, length-append done (kernel ∷ []))))
 
   -- a kernel has a fault
   pub kernel_fault : (decl : KernelDecl) (fault : TypeFault) → typed_kernel known_at decl ≡ Err fault → (rest : List Item)
       → typed_after tables done constants (item.Kernel decl ∷ rest) ≡ Err fault
   kernel_fault decl fault e rest =
-      ap (λ (r : Result TypedKernel TypeFault). after done (r >>= (λ kernel. typed_items tables (suc (length done)) constants rest >>= (λ more. Ok (kernel ∷ more))))) e
+      ap (λ (r : Result TypedKernel TypeFault). behind_typed done (r >>= (λ kernel. typed_items tables (suc (length done)) constants rest >>= (λ more. Ok (kernel ∷ more))))) e
 
   pub constant_taken : (given : Item) (n : ℕ) → n ≡ constants + 1 → (is : (rest : List Item) → typed_items tables (length done) constants (given ∷ rest) ≡ typed_items tables (length done) (suc constants) rest) → (rest : List Item)
       → typed_after tables done constants (given ∷ rest) ≡ typed_after tables done n rest
   constant_taken given n e is rest =
-      ap (after done) (is rest) ∙ ap (λ (k : ℕ). after done (typed_items tables (length done) k rest)) (omega arith)
+      ap (behind_typed done) (is rest) ∙ ap (λ (k : ℕ). behind_typed done (typed_items tables (length done) k rest)) (omega arith)
 
 -- one item is taken: what is left of the items, from what is typed
 pub item_taken : (tables : Tables) (items : List Item) (i : ℕ) (given : Item) (done done' : List TypedKernel) (constants constants' : ℕ) → i < length items → given ≡ get_or items i given
@@ -72,7 +72,7 @@ item_fault tables items i given done constants fault within is takes =
 pub items_done : (tables : Tables) (items : List Item) (i : ℕ) (done : List TypedKernel) (constants : ℕ) → length items ≤ i → typed_after tables done constants (drop i items) ≡ Ok done
 items_done tables items i done constants h = at_drop_all (typed_after tables done constants) items i h ∙ ap Ok (append-nil done)
 
-after-none : (r : Result (List TypedKernel) TypeFault) → after [] r ≡ r
+after-none : (r : Result (List TypedKernel) TypeFault) → behind_typed [] r ≡ r
 after-none (Ok kernels) = refl
 after-none (Err fault) = refl
 

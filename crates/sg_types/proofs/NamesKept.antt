@@ -40,7 +40,7 @@ use Rattle.sg_types.specs.declared.typed.TypedKernel.{TypedKernel}
 use Rattle.sg_types.specs.TypeTable.{is_numeric, is_truth, same_ty, bin_ty, un_ty}
 use Rattle.sg_types.specs.Scopes.{Known, NamedLocal, local_named, earlier_constant, is_taken, local_or_constant}
 use Rattle.sg_types.specs.Expressions.{typed_expr, number_ty, all_some, un_expr, bin_expr, mulq_expr, convert_expr, call_expr, access_expr, on_one, on_two, on_three, is_signed_expr}
-use Rattle.sg_types.specs.Statements.{Reached, next_statement, with_variable, let_wrongs, if_wrongs, for_wrongs, assign_kind, write_kind, way_of, typed_range}
+use Rattle.sg_types.specs.Statements.{Reached, next_statement, with_variable, let_wrongs, if_wrongs, for_wrongs, assign_kind, write_kind, declared_way, typed_range}
 use Rattle.sg_words.specs.Options.{only_where}
 use Rattle.sg_types.specs.Programs.{any_earlier, typed_domain, first_reached}
 use Rattle.sg_types.specs.NamesBack.{no_name, field_mark, marked_constant, marked_field, marked_layout, call_or_operator, marked_expr, marked_range, marked_stmt, marked_domain, stmt_names, block_names, else_names, variable_names, literal_expr, named_expr, named_range, way_back, named_stmt, named_domain, named_kernel}
@@ -68,7 +68,7 @@ truth_kept : (truth : Bool) → literal_expr ty.Bool (flag truth) ≡ e.Truth tr
 truth_kept true = refl
 truth_kept false = refl
 
-way_kept : (how : WayDecl) → way_back (way_of how) ≡ how
+way_kept : (how : WayDecl) → way_back (declared_way how) ≡ how
 way_kept way.Own = refl
 way_kept (way.Acc op) = refl
 
@@ -290,19 +290,19 @@ module _ (known : Known) (names : List Name) where
       → named_stmt names (record { number = at.number; kind = k }) ≡ marked_stmt known (stmt.Write field index how value)
   written_back at field index how value all None found k h = let no_such : ◌≡◌ {A = Option TypedKind} None (Some k) = h in absurd (cc)
   written_back at field index how value all (Some place) found k h =
-      let outer = option_and_then_some (λ (is : List TypedExpr). option_map (λ (t : TypedExpr). kind.Write place.layout place.place is (way_of how) t) (only_where (λ t. same_ty t.ty place.ty) (typed_expr known at.scope value)))
+      let outer = option_and_then_some (λ (is : List TypedExpr). option_map (λ (t : TypedExpr). kind.Write place.layout place.place is (declared_way how) t) (only_where (λ t. same_ty t.ty place.ty) (typed_expr known at.scope value)))
       (option_and_then (λ (is : List TypedExpr). if list_all is_signed_expr is then Some is else None) (all_some (map (typed_expr known at.scope) index))) k h in
       let is = outer.0 in
       let inner = option_and_then_some (λ (is : List TypedExpr). if list_all is_signed_expr is then Some is else None) (all_some (map (typed_expr known at.scope) index)) is outer.1 in
       let signed = if_some (list_all is_signed_expr inner.0) inner.0 is inner.2 in
-      let made = option_map_some (λ (t : TypedExpr). kind.Write place.layout place.place is (way_of how) t) (only_where (λ t. same_ty t.ty place.ty) (typed_expr known at.scope value)) k outer.2 in
+      let made = option_map_some (λ (t : TypedExpr). kind.Write place.layout place.place is (declared_way how) t) (only_where (λ t. same_ty t.ty place.ty) (typed_expr known at.scope value)) k outer.2 in
       let it = made.0 in
       let passed = only_where_some (λ t. same_ty t.ty place.ty) (typed_expr known at.scope value) it made.1 in
       let index_is : all_some (map (typed_expr known at.scope) index) ≡ Some is = inner.1 ∙ ap Some signed.1 in
       let mark = field_mark place.layout place.place in
       ap (λ (k : TypedKind). named_stmt names (record { number = at.number; kind = k })) (sym made.2)
-      ∙ (named_stmt-Write names at.number place.layout place.place is (way_of how) it
-      ∙ (ap (λ (xs : List Expr). stmt.Write mark xs (way_back (way_of how)) (named_expr names it)) (all_kept at.scope all index (exprs_all at.scope all index) is index_is)
+      ∙ (named_stmt-Write names at.number place.layout place.place is (declared_way how) it
+      ∙ (ap (λ (xs : List Expr). stmt.Write mark xs (way_back (declared_way how)) (named_expr names it)) (all_kept at.scope all index (exprs_all at.scope all index) is index_is)
       ∙ (ap (λ (w : WayDecl). stmt.Write mark (map (marked_expr known) index) w (named_expr names it)) (way_kept how)
       ∙ (ap (stmt.Write mark (map (marked_expr known) index) how) (expr_kept at.scope all value it passed.0)
       ∙ (ap (λ (o : Option FieldAt). stmt.Write (marked_field field o) (map (marked_expr known) index) how (marked_expr known value)) (sym found) ∙ sym (marked_stmt-Write known field index how value))))))

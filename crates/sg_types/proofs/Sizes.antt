@@ -16,7 +16,7 @@ use Rattle.sg_ast.specs.declared.command.Command.{Command}
 use Rattle.sg_ast.specs.declared.program.Item.{Item}
 use Rattle.sg_ast.specs.declared.program.Item.TheVariants as item
 use Rattle.sg_ast.specs.Expr.{tokens_of, access_tokens, each_more}
-use Rattle.sg_ast.specs.Stmt.{joined, stmt_tokens, block_tokens, way_tokens, range_tokens, else_tokens}
+use Rattle.sg_ast.specs.Stmt.{joined_lists, stmt_tokens, block_tokens, way_tokens, range_tokens, else_tokens}
 use Rattle.sg_ast.specs.Layout.{names_tokens}
 use Rattle.sg_ast.specs.Kernel.{kernel_tokens, domain_tokens}
 use Rattle.sg_ast.specs.Command.{command_tokens}
@@ -30,13 +30,13 @@ use Rattle.sg_types.proofs.StmtWords.{count-Let, count-Assign, count-Write, coun
 abbrev IsLong : Stmt → Type 0
 IsLong statement = stmt_count statement ≤ length (stmt_tokens statement)
 
-joined_long : (block : List Stmt) → AllByRecursion IsLong block → block_count block ≤ length (joined (map stmt_tokens block))
+joined_long : (block : List Stmt) → AllByRecursion IsLong block → block_count block ≤ length (joined_lists (map stmt_tokens block))
 joined_long [] all = omega arith
 joined_long (statement ∷ more) all =
-    omega (arith, all.0, joined_long more all.1, length-append (stmt_tokens statement) (joined (map stmt_tokens more)))
+    omega (arith, all.0, joined_long more all.1, length-append (stmt_tokens statement) (joined_lists (map stmt_tokens more)))
 
 braced_long : (block : List Stmt) → AllByRecursion IsLong block → block_count block ≤ length (block_tokens block)
-braced_long block all = omega (arith, joined_long block all, length-append (joined (map stmt_tokens block)) (t.Sign s.CloseBrace ∷ []))
+braced_long block all = omega (arith, joined_long block all, length-append (joined_lists (map stmt_tokens block)) (t.Sign s.CloseBrace ∷ []))
 
 else_long : (otherwise : Option (List Stmt)) → AllInElse IsLong otherwise → else_count otherwise ≤ length (else_tokens (option_map (map stmt_tokens) otherwise))
 else_long None all = omega arith
@@ -119,15 +119,15 @@ item_long (item.Kernel kernel) = kernel_long kernel
 item_long (item.Command command) = command_long command
 
 -- as many items as tokens at most
-pub items_within : (items : List Item) → length items ≤ length (joined (map item_tokens items))
+pub items_within : (items : List Item) → length items ≤ length (joined_lists (map item_tokens items))
 items_within [] = omega arith
-items_within (given ∷ items) = omega (arith, item_long given, items_within items, length-append (item_tokens given) (joined (map item_tokens items)))
+items_within (given ∷ items) = omega (arith, item_long given, items_within items, length-append (item_tokens given) (joined_lists (map item_tokens items)))
 
 -- each item is no larger than there are tokens
-pub size_within : (items : List Item) (i : ℕ) (given : Item) → i < length items → given ≡ get_or items i given → item_size given ≤ length (joined (map item_tokens items))
+pub size_within : (items : List Item) (i : ℕ) (given : Item) → i < length items → given ≡ get_or items i given → item_size given ≤ length (joined_lists (map item_tokens items))
 size_within [] i given h is = absurd (omega arith)
 size_within (first ∷ items) zero given h is =
     let same = ap item_size is in
-    omega (arith, same, item_long first, length-append (item_tokens first) (joined (map item_tokens items)))
+    omega (arith, same, item_long first, length-append (item_tokens first) (joined_lists (map item_tokens items)))
 size_within (first ∷ items) (suc i) given h is =
-    omega (arith, size_within items i given (omega arith) is, length-append (item_tokens first) (joined (map item_tokens items)))
+    omega (arith, size_within items i given (omega arith) is, length-append (item_tokens first) (joined_lists (map item_tokens items)))

@@ -8,17 +8,17 @@ use Rattle.sg_ast.specs.declared.stmt.Stmt.{Stmt}
 use Rattle.sg_ast.specs.declared.stmt.Stmt.TheVariants as stmt
 use Rattle.sg_ast.proofs.Uses.{fold-Let_stmt, fold-Assign_stmt, fold-Write_stmt, fold-If_stmt, fold-If_else_stmt, fold-For_stmt}
 use Rattle.sg_types.specs.Scopes.{Known}
-use Rattle.sg_types.specs.Statements.{typed_stmt_step, typed_stmt, let_step, plain_step, if_step, for_step, assign_part, write_part}
+use Rattle.sg_types.specs.Statements.{typed_stmt_step, typed_stmt, let_step, simple_step, if_step, for_step, assign_part, write_part}
 use Rattle.sg_types.specs.Counting.{stmt_count, count_step, block_count, else_count}
 
 module _ (known : Known) where
   pub typed-Let : (name : Name) (value : Expr) → typed_stmt known (stmt.Let name value) ≡ let_step known name value
   typed-Let name value = fold-Let_stmt (typed_stmt_step known) name value
 
-  pub typed-Assign : (name : Name) (value : Expr) → typed_stmt known (stmt.Assign name value) ≡ (λ at. plain_step known (assign_part known at.scope name value) at)
+  pub typed-Assign : (name : Name) (value : Expr) → typed_stmt known (stmt.Assign name value) ≡ (λ at. simple_step known (assign_part known at.scope name value) at)
   typed-Assign name value = fold-Assign_stmt (typed_stmt_step known) name value
 
-  pub typed-Write : (field : Name) (index : List Expr) (how : WayDecl) (value : Expr) → typed_stmt known (stmt.Write field index how value) ≡ (λ at. plain_step known (write_part known at.scope field index how value) at)
+  pub typed-Write : (field : Name) (index : List Expr) (how : WayDecl) (value : Expr) → typed_stmt known (stmt.Write field index how value) ≡ (λ at. simple_step known (write_part known at.scope field index how value) at)
   typed-Write field index how value = fold-Write_stmt (typed_stmt_step known) field index how value
 
   pub typed-If : (condition : Expr) (block : List Stmt) (otherwise : Option (List Stmt)) → typed_stmt known (stmt.If condition block otherwise) ≡ if_step known condition (map (typed_stmt known) block) (option_map (map (typed_stmt known)) otherwise)

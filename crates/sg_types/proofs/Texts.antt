@@ -21,9 +21,9 @@ use Rattle.sg_types.specs.declared.typed.TypedKind.TheOpen as k
 use Rattle.sg_types.specs.declared.typed.TypedKind.TheOpen.{TypedKind-F, TypedStmt-F}
 use Rattle.sg_types.specs.declared.typed.TypedStmt.{TypedStmt, fold-TypedStmt}
 use Rattle.sg_types.specs.Values.{World, Moment, coord_of, expr_word}
-use Rattle.sg_types.specs.Iterations.{Action, set_var, run_all, range_numbers, action_of, first_moment}
-use Rattle.sg_ast.specs.Stmt.{joined}
-use Rattle.sg_types.specs.Written.{TextWrite, text_step, text_writes, kernel_writes, same_acc, same_way, is_of, is_written}
+use Rattle.sg_types.specs.Iterations.{StmtAction, set_var, run_all, range_numbers, action_of, first_moment}
+use Rattle.sg_ast.specs.Stmt.{joined_lists}
+use Rattle.sg_types.specs.Written.{TextWrite, writes_step, text_writes, kernel_writes, same_acc, same_way, is_write_of, is_written}
 use Rattle.sg_types.specs.Laws.{EffectsAreWritten}
 use Rattle.sg_types.proofs.FoldWords.{fold-stmt}
 use Rattle.sg_types.proofs.FormWords.{action-Let, action-Assign, action-Write, action-If, action-For}
@@ -78,24 +78,24 @@ shown_text stmt = stmt.kind stmt.number
 
 module _ (number : ℕ) where
   abbrev text_of : TypedKind → List TextWrite
-  text_of it = fold-TypedKind (ℕ → List TextWrite) (List TextWrite) text_step shown_text it number
+  text_of it = fold-TypedKind (ℕ → List TextWrite) (List TextWrite) writes_step shown_text it number
 
   text_of_kind : (it : TypedKind) → text_writes (record { number = number; kind = it }) ≡ text_of it
-  text_of_kind it = fold-stmt (ℕ → List TextWrite) (List TextWrite) text_step shown_text (record { number = number; kind = it })
+  text_of_kind it = fold-stmt (ℕ → List TextWrite) (List TextWrite) writes_step shown_text (record { number = number; kind = it })
 
   text-Write : (layout place : ℕ) (index : List TypedExpr) (way : Way) (value : TypedExpr) → text_writes (record { number = number; kind = kind.Write layout place index way value })
       ≡ record { stmt = number; layout = layout; place = place; indices = length index; way = way } ∷ []
   text-Write layout place index way value = text_of_kind (kind.Write layout place index way value) ∙ (ap text_of (sym (rolls-Write layout place index way value))
-      ∙ ap (λ (it : ℕ → List TextWrite). it number) (fold-roll-TypedKind (ℕ → List TextWrite) (List TextWrite) text_step shown_text (k.Write layout place index way value)))
+      ∙ ap (λ (it : ℕ → List TextWrite). it number) (fold-roll-TypedKind (ℕ → List TextWrite) (List TextWrite) writes_step shown_text (k.Write layout place index way value)))
 
   text-If : (condition : TypedExpr) (block otherwise : List TypedStmt) (has_else : Bool) → text_writes (record { number = number; kind = kind.If condition block otherwise has_else })
-      ≡ joined (map text_writes block) ++ joined (map text_writes otherwise)
+      ≡ joined_lists (map text_writes block) ++ joined_lists (map text_writes otherwise)
   text-If condition block otherwise has_else = text_of_kind (kind.If condition block otherwise has_else) ∙ (ap text_of (sym (rolls-If condition block otherwise has_else))
-      ∙ ap (λ (it : ℕ → List TextWrite). it number) (fold-roll-TypedKind (ℕ → List TextWrite) (List TextWrite) text_step shown_text (k.If condition block otherwise has_else)))
+      ∙ ap (λ (it : ℕ → List TextWrite). it number) (fold-roll-TypedKind (ℕ → List TextWrite) (List TextWrite) writes_step shown_text (k.If condition block otherwise has_else)))
 
-  text-For : (var : ℕ) (range : TypedRange) (body : List TypedStmt) → text_writes (record { number = number; kind = kind.For var range body }) ≡ joined (map text_writes body)
+  text-For : (var : ℕ) (range : TypedRange) (body : List TypedStmt) → text_writes (record { number = number; kind = kind.For var range body }) ≡ joined_lists (map text_writes body)
   text-For var range body = text_of_kind (kind.For var range body) ∙ (ap text_of (sym (rolls-For var range body))
-      ∙ ap (λ (it : ℕ → List TextWrite). it number) (fold-roll-TypedKind (ℕ → List TextWrite) (List TextWrite) text_step shown_text (k.For var range body)))
+      ∙ ap (λ (it : ℕ → List TextWrite). it number) (fold-roll-TypedKind (ℕ → List TextWrite) (List TextWrite) writes_step shown_text (k.For var range body)))
 
 -- ---- what is written stands in the text
 
@@ -132,23 +132,23 @@ abbrev Among : List TextWrite → List TextWrite → Type 0
 Among some texts = (write : Write) → is_written some write ≡ true → is_written texts write ≡ true
 
 among_front : (xs ys texts : List TextWrite) → Among (xs ++ ys) texts → Among xs texts
-among_front xs ys texts h write w = h write (list_any-append (is_of write) xs ys ∙ or_left (is_written xs write) (is_written ys write) w)
+among_front xs ys texts h write w = h write (list_any-append (is_write_of write) xs ys ∙ or_left (is_written xs write) (is_written ys write) w)
 
 among_back : (xs ys texts : List TextWrite) → Among (xs ++ ys) texts → Among ys texts
-among_back xs ys texts h write w = h write (list_any-append (is_of write) xs ys ∙ or_right (is_written xs write) (is_written ys write) w)
+among_back xs ys texts h write w = h write (list_any-append (is_write_of write) xs ys ∙ or_right (is_written xs write) (is_written ys write) w)
 
 module _ (world : World) (texts : List TextWrite) where
   abbrev Stands : Moment → Type 0
   Stands now = list_all (is_written texts) now.writes ≡ true
 
-  abbrev Keeps : Action → Type 0
+  abbrev Keeps : StmtAction → Type 0
   Keeps action = (now : Moment) → Stands now → Stands (action now)
 
-  all_keep : (actions : List Action) → AllByRecursion Keeps actions → Keeps (run_all actions)
+  all_keep : (actions : List StmtAction) → AllByRecursion Keeps actions → Keeps (run_all actions)
   all_keep [] all now h = h
   all_keep (action ∷ actions) all now h = all_keep actions all.1 (action now) (all.0 now h)
 
-  turns_keep : (var : ℕ) (actions : List Action) → AllByRecursion Keeps actions → (turns : List ℤ) → Keeps (λ now. fold (λ reached turn. run_all actions (set_var var (word_of turn) reached)) now turns)
+  turns_keep : (var : ℕ) (actions : List StmtAction) → AllByRecursion Keeps actions → (turns : List ℤ) → Keeps (λ now. fold (λ reached turn. run_all actions (set_var var (word_of turn) reached)) now turns)
   turns_keep var actions all [] now h = h
   turns_keep var actions all (turn ∷ turns) now h =
       turns_keep var actions all turns (run_all actions (set_var var (word_of turn) now)) (all_keep actions all (set_var var (word_of turn) now) h)
@@ -156,11 +156,11 @@ module _ (world : World) (texts : List TextWrite) where
   abbrev KeepsWithin : TypedStmt → Type 0
   KeepsWithin stmt = Among (text_writes stmt) texts → Keeps (action_of world stmt)
 
-  keeps_block : (block : List TypedStmt) → AllByRecursion KeepsWithin block → Among (joined (map text_writes block)) texts → AllByRecursion Keeps (map (action_of world) block)
+  keeps_block : (block : List TypedStmt) → AllByRecursion KeepsWithin block → Among (joined_lists (map text_writes block)) texts → AllByRecursion Keeps (map (action_of world) block)
   keeps_block [] all among = tt
   keeps_block (stmt ∷ block) all among = (
-    all.0 (among_front (text_writes stmt) (joined (map text_writes block)) texts among),
-    keeps_block block all.1 (among_back (text_writes stmt) (joined (map text_writes block)) texts among),
+    all.0 (among_front (text_writes stmt) (joined_lists (map text_writes block)) texts among),
+    keeps_block block all.1 (among_back (text_writes stmt) (joined_lists (map text_writes block)) texts among),
   )
 
   keeps_write : (number layout place : ℕ) (index : List TypedExpr) (way : Way) (value : TypedExpr) → KeepsWithin (record { number = number; kind = kind.Write layout place index way value })
@@ -168,10 +168,10 @@ module _ (world : World) (texts : List TextWrite) where
       let text : TextWrite = record { stmt = number; layout = layout; place = place; indices = length index; way = way } in
       let write : Write = record { layout = layout; place = place; stmt = number; at = coord_of (map (expr_word world now) index); way = way; value = expr_word world now value } in
       let count : (length (map (expr_word world now) index) == length index) ≡ true = ap (λ (n : ℕ). n == length index) (length-map index (expr_word world now)) ∙ same_number (length index) in
-      let is : is_of write text ≡ true = and_from ((number == number) && ((layout == layout) && (place == place))) ((length (map (expr_word world now) index) == length index) && same_way way way)
+      let is : is_write_of write text ≡ true = and_from ((number == number) && ((layout == layout) && (place == place))) ((length (map (expr_word world now) index) == length index) && same_way way way)
       (and_from (number == number) ((layout == layout) && (place == place)) (same_number number) (and_from (layout == layout) (place == place) (same_number layout) (same_number place)))
       (and_from (length (map (expr_word world now) index) == length index) (same_way way way) count (same_way-same way)) in
-      let stands : is_written texts write ≡ true = among write (ap (λ (xs : List TextWrite). is_written xs write) (text-Write number layout place index way value) ∙ or_left (is_of write text) false is) in
+      let stands : is_written texts write ≡ true = among write (ap (λ (xs : List TextWrite). is_written xs write) (text-Write number layout place index way value) ∙ or_left (is_write_of write text) false is) in
       ap (λ (m : Moment). list_all (is_written texts) m.writes) (action-Write world number layout place index way value now)
       ∙ (list_all-append (is_written texts) now.writes (write ∷ []) ∙ and_from (list_all (is_written texts) now.writes) (is_written texts write && true) h (and_from (is_written texts write) true stands refl))
 
@@ -189,22 +189,22 @@ module _ (world : World) (texts : List TextWrite) where
         (λ var value h among now stands. ap (λ (m : Moment). list_all (is_written texts) m.writes) (action-Assign world number var value now) ∙ stands)
         (λ layout place index way value h. keeps_write number layout place index way value)
         (λ condition block otherwise has_else h among now stands.
-        let within : Among (joined (map text_writes block) ++ joined (map text_writes otherwise)) texts =
+        let within : Among (joined_lists (map text_writes block) ++ joined_lists (map text_writes otherwise)) texts =
         λ write w. among write (ap (λ (xs : List TextWrite). is_written xs write) (text-If number condition block otherwise has_else) ∙ w) in
         let b = keeps_block block (parts block (omega (arith, depth-If condition block otherwise has_else, le-max_left (largest (map stmt_depth block)) (largest (map stmt_depth otherwise)))))
-        (among_front (joined (map text_writes block)) (joined (map text_writes otherwise)) texts within) in
+        (among_front (joined_lists (map text_writes block)) (joined_lists (map text_writes otherwise)) texts within) in
         let o = keeps_block otherwise (parts otherwise (omega (arith, depth-If condition block otherwise has_else, le-max_right (largest (map stmt_depth block)) (largest (map stmt_depth otherwise)))))
-        (among_back (joined (map text_writes block)) (joined (map text_writes otherwise)) texts within) in
+        (among_back (joined_lists (map text_writes block)) (joined_lists (map text_writes otherwise)) texts within) in
         ap (λ (m : Moment). list_all (is_written texts) m.writes) (action-If world number condition block otherwise has_else now)
         ∙ either (expr_word world now condition == 0) (map (action_of world) block) (map (action_of world) otherwise) b o now stands)
         (λ var range body h among now stands.
-        let within : Among (joined (map text_writes body)) texts =
+        let within : Among (joined_lists (map text_writes body)) texts =
         λ write w. among write (ap (λ (xs : List TextWrite). is_written xs write) (text-For number var range body) ∙ w) in
         let b = keeps_block body (parts body (omega (arith, depth-For var range body))) within in
         ap (λ (m : Moment). list_all (is_written texts) m.writes) (action-For world number var range body now)
         ∙ turns_keep var (map (action_of world) body) b (range_numbers world now range) now stands)
       where
-        either : (no : Bool) (block otherwise : List Action) → AllByRecursion Keeps block → AllByRecursion Keeps otherwise → Keeps (run_all (if no then otherwise else block))
+        either : (no : Bool) (block otherwise : List StmtAction) → AllByRecursion Keeps block → AllByRecursion Keeps otherwise → Keeps (run_all (if no then otherwise else block))
         either true block otherwise b o = all_keep otherwise o
         either false block otherwise b o = all_keep block b
 

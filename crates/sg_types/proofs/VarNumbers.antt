@@ -27,7 +27,7 @@ use Rattle.sg_types.specs.declared.typed.TypedKernel.{TypedKernel}
 use Rattle.sg_types.specs.TypeTable.{same_ty}
 use Rattle.sg_types.specs.Scopes.{Known, local_named}
 use Rattle.sg_types.specs.Expressions.{typed_expr, all_some}
-use Rattle.sg_types.specs.Statements.{Reached, assign_kind, write_kind, way_of}
+use Rattle.sg_types.specs.Statements.{Reached, assign_kind, write_kind, declared_way}
 use Rattle.sg_words.specs.Options.{only_where}
 use Rattle.sg_types.specs.Programs.{first_reached}
 use Rattle.sg_types.specs.Numbers.{var_step, stmt_vars, block_vars, kernel_vars}
@@ -87,9 +87,9 @@ module _ (number : ℕ) where
       → write_kind how place index value ≡ Some it → vars_with it ≡ []
   vars_written how None index value it h = let no_such : ◌≡◌ {A = Option TypedKind} None (Some it) = h in absurd (cc)
   vars_written how (Some place) index value it h =
-      let found = option_and_then_some (λ is. option_map (λ typed. kind.Write place.layout place.place is (way_of how) typed) (only_where (λ typed. same_ty typed.ty place.ty) value)) _ it h in
-      let made = option_map_some (λ typed. kind.Write place.layout place.place found.0 (way_of how) typed) (only_where (λ typed. same_ty typed.ty place.ty) value) it found.2 in
-      ap vars_with (sym made.2) ∙ vars-Write place.layout place.place found.0 (way_of how) made.0
+      let found = option_and_then_some (λ is. option_map (λ typed. kind.Write place.layout place.place is (declared_way how) typed) (only_where (λ typed. same_ty typed.ty place.ty) value)) _ it h in
+      let made = option_map_some (λ typed. kind.Write place.layout place.place found.0 (declared_way how) typed) (only_where (λ typed. same_ty typed.ty place.ty) value) it found.2 in
+      ap vars_with (sym made.2) ∙ vars-Write place.layout place.place found.0 (declared_way how) made.0
 
 -- ---- how many variables come in, and their numbers
 

@@ -24,7 +24,7 @@ use Rattle.sg_types.specs.declared.typed.TypedKernel.{TypedKernel}
 use Rattle.sg_types.specs.TypeTable.{is_truth}
 use Rattle.sg_types.specs.Scopes.{Known, local_named}
 use Rattle.sg_types.specs.Expressions.{typed_expr, all_some}
-use Rattle.sg_types.specs.Statements.{Reached, Step, next_statement, with_variable, numbered_stmt, stmt_fault, let_wrongs, assign_wrongs, write_wrongs, if_wrongs, for_wrongs, let_part, assign_part, write_part, if_part, for_part, assign_kind, write_kind, typed_range, in_turn, in_block, in_else, typed_stmt, typed_block}
+use Rattle.sg_types.specs.Statements.{Reached, TypingStep, next_statement, with_variable, numbered_stmt, stmt_fault, let_wrongs, assign_wrongs, write_wrongs, if_wrongs, for_wrongs, let_part, assign_part, write_part, if_part, for_part, assign_kind, write_kind, typed_range, in_turn, in_block, in_else, typed_stmt, typed_block}
 use Rattle.sg_types.specs.Programs.{typed_domain, loop_wrongs, loop_part, first_reached, typed_kernel}
 use Rattle.sg_types.proofs.Outcomes.{then_ok, stmt_fault_ok, Fits, judged_ok, ok_same}
 use Rattle.sg_types.proofs.StmtWords.{typed-Let, typed-Assign, typed-Write, typed-If, typed-For}
@@ -97,7 +97,7 @@ module _ (known : Known) (P : Stmt → Reached → TypedStmt → Reached → Typ
     let_holds : (name : Name) (value : Expr) → Holds (stmt.Let name value)
     let_holds name value at typed after h =
         let part = let_part known at.scope name value in
-        let g = ap (λ (step : Step). step at) (sym (typed-Let known name value)) ∙ h in
+        let g = ap (λ (step : TypingStep). step at) (sym (typed-Let known name value)) ∙ h in
         let done = then_ok (stmt_fault known at.number part) _ (typed, after) g in
         at_pair (λ t last. P (stmt.Let name value) at t last) _ typed _ after done.2
         (cases.on_let name value at done.0 (judged_ok (let_wrongs known at.scope name value) (typed_expr known at.scope value) done.0 (stmt_fault_ok known at.number part done.0 done.1)))
@@ -105,7 +105,7 @@ module _ (known : Known) (P : Stmt → Reached → TypedStmt → Reached → Typ
     assign_holds : (name : Name) (value : Expr) → Holds (stmt.Assign name value)
     assign_holds name value at typed after h =
         let part = assign_part known at.scope name value in
-        let g = ap (λ (step : Step). step at) (sym (typed-Assign known name value)) ∙ h in
+        let g = ap (λ (step : TypingStep). step at) (sym (typed-Assign known name value)) ∙ h in
         let done = then_ok (stmt_fault known at.number part) _ (typed, after) g in
         at_pair (λ t last. P (stmt.Assign name value) at t last) _ typed _ after done.2
         (cases.on_assign name value at done.0
@@ -114,7 +114,7 @@ module _ (known : Known) (P : Stmt → Reached → TypedStmt → Reached → Typ
     write_holds : (field : Name) (index : List Expr) (how : WayDecl) (value : Expr) → Holds (stmt.Write field index how value)
     write_holds field index how value at typed after h =
         let part = write_part known at.scope field index how value in
-        let g = ap (λ (step : Step). step at) (sym (typed-Write known field index how value)) ∙ h in
+        let g = ap (λ (step : TypingStep). step at) (sym (typed-Write known field index how value)) ∙ h in
         let done = then_ok (stmt_fault known at.number part) _ (typed, after) g in
         at_pair (λ t last. P (stmt.Write field index how value) at t last) _ typed _ after done.2
         (cases.on_write field index how value at done.0
@@ -130,7 +130,7 @@ module _ (known : Known) (P : Stmt → Reached → TypedStmt → Reached → Typ
 
     if_holds : (condition : Expr) (block : List Stmt) (otherwise : Option (List Stmt)) → AllByRecursion Holds block → AllInElse Holds otherwise → Holds (stmt.If condition block otherwise)
     if_holds condition block otherwise all else_all at typed after h =
-        let g = ap (λ (step : Step). step at) (sym (typed-If known condition block otherwise)) ∙ h in
+        let g = ap (λ (step : TypingStep). step at) (sym (typed-If known condition block otherwise)) ∙ h in
         let part = then_ok (stmt_fault known at.number (if_part known at.scope condition)) _ (typed, after) g in
         let it = part.0 in
         let fits = judged_ok (if_wrongs known at.scope condition) (only_where (λ t. is_truth t.ty) (typed_expr known at.scope condition)) it
@@ -160,7 +160,7 @@ module _ (known : Known) (P : Stmt → Reached → TypedStmt → Reached → Typ
     for_holds : (name : Name) (range : RangeDecl) (body : List Stmt) → AllByRecursion Holds body → Holds (stmt.For name range body)
     for_holds name range body all at typed after h =
         let start = with_variable name ty.I32 true (next_statement at) in
-        let g = ap (λ (step : Step). step at) (sym (typed-For known name range body)) ∙ h in
+        let g = ap (λ (step : TypingStep). step at) (sym (typed-For known name range body)) ∙ h in
         let part = then_ok (stmt_fault known at.number (for_part known at.scope name range)) _ (typed, after) g in
         let fits = judged_ok (for_wrongs known at.scope name range) (typed_range known at.scope range) part.0 (stmt_fault_ok known at.number (for_part known at.scope name range) part.0 part.1) in
         let inside = then_ok (in_turn (map (typed_stmt known) body) start) _ (typed, after) part.2 in

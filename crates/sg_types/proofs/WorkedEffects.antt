@@ -5,7 +5,7 @@ use Rattle.sg_words.specs.declared.operators.BinOp.{BinOp}
 use Rattle.sg_words.specs.declared.operators.BinOp.TheVariants as b
 use Rattle.sg_words.specs.declared.operators.AccOp.TheVariants as acc
 use Rattle.sg_coord.specs.declared.coord.Coord.{Coord}
-use Rattle.sg_layout.specs.Examples.{at1, four}
+use Rattle.sg_layout.specs.Examples.{at1, line_of_four}
 use Rattle.sg_flat.specs.Examples.{state1}
 use Rattle.sg_flat.specs.declared.effects.Way.{Way}
 use Rattle.sg_flat.specs.declared.effects.Way.TheVariants.{Own, Acc}
@@ -24,7 +24,7 @@ use Rattle.sg_types.proofs.FormWords.{value-Literal, value-Var, value-Read, valu
 
 -- one layout of four points with one field, whose value is 7 at the point 1
 abbrev world : World
-world = record { shapes = four ∷ []; state = state1 (map at1 (0 ∷ 1 ∷ 2 ∷ 3 ∷ [])) ((1, 7) ∷ []) }
+world = record { shapes = line_of_four ∷ []; state = state1 (map at1 (0 ∷ 1 ∷ 2 ∷ 3 ∷ [])) ((1, 7) ∷ []) }
 
 abbrev literal : ℕ → TypedExpr
 literal word = record { ty = ty.I32; form = form.Literal word }

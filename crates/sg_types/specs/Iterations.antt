@@ -26,11 +26,11 @@ abbrev pub add_write : Write → Moment → Moment
 add_write write now = record { words = now.words; writes = now.writes ++ write ∷ [] }
 
 -- what a statement makes of a moment
-abbrev pub Action : Type 0
-Action = Moment → Moment
+abbrev pub StmtAction : Type 0
+StmtAction = Moment → Moment
 
 -- statements one after the other
-abbrev pub run_all : List Action → Action
+abbrev pub run_all : List StmtAction → StmtAction
 run_all actions now = fold (λ reached action. action reached) now actions
 
 -- the numbers of a range, whose bounds are evaluated at the moment
@@ -39,7 +39,7 @@ range_numbers world now range = numbers (number ty.I32 (expr_word world now rang
 
 -- One layer of a statement, where its number and what the statements in it do are given. The bounds of an inner loop are
 -- evaluated once, before its first turn.
-abbrev pub kind_step : World → TypedKind-F (ℕ → Action) Action → ℕ → Action
+abbrev pub kind_step : World → TypedKind-F (ℕ → StmtAction) StmtAction → ℕ → StmtAction
 kind_step world (k.Let var value) stmt now = set_var var (expr_word world now value) now
 kind_step world (k.Assign var value) stmt now = set_var var (expr_word world now value) now
 kind_step world (k.Write layout place index way value) stmt now =
@@ -57,8 +57,8 @@ kind_step world (k.For var range body) stmt now =
     fold (λ reached turn. run_all body (set_var var (word_of turn) reached)) now (range_numbers world now range)
 
 -- what a statement does
-abbrev pub action_of : World → TypedStmt → Action
-action_of world = fold-TypedStmt (ℕ → Action) Action (kind_step world) (λ stmt. stmt.kind stmt.number)
+abbrev pub action_of : World → TypedStmt → StmtAction
+action_of world = fold-TypedStmt (ℕ → StmtAction) StmtAction (kind_step world) (λ stmt. stmt.kind stmt.number)
 
 -- the words of a coordinate's parts
 abbrev pub part_words : Coord → List ℕ

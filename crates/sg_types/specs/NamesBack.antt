@@ -26,7 +26,7 @@ use Rattle.sg_flat.specs.declared.effects.Way.TheVariants.{Own, Acc}
 use Rattle.sg_names.specs.declared.tables.Constant.{Constant}
 use Rattle.sg_names.specs.declared.tables.FieldAt.{FieldAt}
 use Rattle.sg_names.specs.Tables.{field_named, layout_named}
-use Rattle.sg_ast.specs.Stmt.{joined}
+use Rattle.sg_ast.specs.Stmt.{joined_lists}
 use Rattle.sg_types.specs.declared.typed.TypedExpr.{TypedExpr, fold-TypedExpr}
 use Rattle.sg_types.specs.declared.typed.Form.TheOpen as f
 use Rattle.sg_types.specs.declared.typed.Form.TheOpen.{Form-F}
@@ -133,15 +133,15 @@ marked_kernel known kernel = record {
 -- the names in an `else`, where there is one
 abbrev pub else_names : Option (List (List Name)) → List Name
 else_names None = []
-else_names (Some names) = joined names
+else_names (Some names) = joined_lists names
 
 -- one layer of a statement, where the names that each statement in it declares are given
 abbrev pub names_step : Stmt-F (List Name) → List Name
 names_step (s.Let name value) = name ∷ []
 names_step (s.Assign name value) = []
 names_step (s.Write field index how value) = []
-names_step (s.If condition block otherwise) = joined block ++ else_names otherwise
-names_step (s.For name range body) = name ∷ joined body
+names_step (s.If condition block otherwise) = joined_lists block ++ else_names otherwise
+names_step (s.For name range body) = name ∷ joined_lists body
 
 -- the names that a statement and those in it declare: locals, and variables of inner loops
 abbrev pub stmt_names : Stmt → List Name
@@ -149,7 +149,7 @@ stmt_names = fold-Stmt (List Name) names_step
 
 -- the names that the statements of a block declare
 abbrev pub block_names : List Stmt → List Name
-block_names block = joined (map stmt_names block)
+block_names block = joined_lists (map stmt_names block)
 
 -- the names of a kernel: those of its loop, and then those that its body declares
 abbrev pub variable_names : KernelDecl → List Name

@@ -88,15 +88,15 @@ abbrev pub assign_part : Known → List NamedLocal → Name → Expr → Result 
 assign_part known scope name value = judged_part (assign_wrongs known scope name value) (assign_kind (local_named scope name) (typed_expr known scope value))
 
 -- how a declared write writes
-abbrev pub way_of : WayDecl → Way
-way_of way.Own = Own
-way_of (way.Acc op) = Acc op
+abbrev pub declared_way : WayDecl → Way
+declared_way way.Own = Own
+declared_way (way.Acc op) = Acc op
 
 -- indices of I32, and a value of the field's type
 abbrev pub write_kind : WayDecl → Option FieldAt → Option (List TypedExpr) → Option TypedExpr → Option TypedKind
 write_kind how None index value = None
 write_kind how (Some at) index value =
-    option_and_then (λ is. option_map (λ typed. kind.Write at.layout at.place is (way_of how) typed) (only_where (λ typed. same_ty typed.ty at.ty) value))
+    option_and_then (λ is. option_map (λ typed. kind.Write at.layout at.place is (declared_way how) typed) (only_where (λ typed. same_ty typed.ty at.ty) value))
     (option_and_then (λ is. if list_all is_signed_expr is then Some is else None) index)
 
 -- what may be wrong with `FIELD[INDEX, ..] = VALUE;` and the accumulations, and what they are typed to
@@ -180,11 +180,11 @@ with_variable name given is_loop at = record {
 }
 
 -- a statement is typed from where typing has come to; with it, how far typing comes
-abbrev pub Step : Type 0
-Step = Reached → Result (TypedStmt × Reached) TypeFault
+abbrev pub TypingStep : Type 0
+TypingStep = Reached → Result (TypedStmt × Reached) TypeFault
 
 -- statements one after the other
-abbrev pub in_turn : List Step → Reached → Result (List TypedStmt × Reached) TypeFault
+abbrev pub in_turn : List TypingStep → Reached → Result (List TypedStmt × Reached) TypeFault
 in_turn [] at = Ok ([], at)
 in_turn (step ∷ steps) at = do
   first ← step at
@@ -192,13 +192,13 @@ in_turn (step ∷ steps) at = do
   Ok (first.0 ∷ more.0, more.1)
 
 -- a block: what it declares is in scope to its end
-abbrev pub in_block : List Step → Reached → Result (List TypedStmt × Reached) TypeFault
+abbrev pub in_block : List TypingStep → Reached → Result (List TypedStmt × Reached) TypeFault
 in_block steps at = do
   done ← in_turn steps at
   Ok (done.0, record done.1 { scope = at.scope })
 
 -- an `else`, with whether there is one
-abbrev pub in_else : Option (List Step) → Reached → Result (List TypedStmt × Bool × Reached) TypeFault
+abbrev pub in_else : Option (List TypingStep) → Reached → Result (List TypedStmt × Bool × Reached) TypeFault
 in_else None at = Ok ([], false, at)
 in_else (Some steps) at = do
   done ← in_block steps at
@@ -209,19 +209,19 @@ abbrev pub numbered_stmt : Reached → TypedKind → Reached → TypedStmt × Re
 numbered_stmt at kind after = (record { number = at.number; kind = kind }, after)
 
 -- a local is in scope from after its `let`
-abbrev pub let_step : Known → Name → Expr → Step
+abbrev pub let_step : Known → Name → Expr → TypingStep
 let_step known name value at = do
   typed ← stmt_fault known at.number (let_part known at.scope name value)
   Ok (numbered_stmt at (kind.Let (length at.types) typed) (with_variable name typed.ty false (next_statement at)))
 
 -- a statement that declares nothing and has no blocks
-abbrev pub plain_step : Known → Result TypedKind ℕ → Step
-plain_step known part at = do
+abbrev pub simple_step : Known → Result TypedKind ℕ → TypingStep
+simple_step known part at = do
   typed ← stmt_fault known at.number part
   Ok (numbered_stmt at typed (next_statement at))
 
 -- the condition, then the block, and then what is behind `else`
-abbrev pub if_step : Known → Expr → List Step → Option (List Step) → Step
+abbrev pub if_step : Known → Expr → List TypingStep → Option (List TypingStep) → TypingStep
 if_step known condition block otherwise at = do
   typed ← stmt_fault known at.number (if_part known at.scope condition)
   inside ← in_block block (next_statement at)
@@ -229,23 +229,23 @@ if_step known condition block otherwise at = do
   Ok (numbered_stmt at (kind.If typed inside.0 behind.0 behind.1) behind.2)
 
 -- the bounds, and then the block, in which the loop's variable is in scope
-abbrev pub for_step : Known → Name → RangeDecl → List Step → Step
+abbrev pub for_step : Known → Name → RangeDecl → List TypingStep → TypingStep
 for_step known name range body at = do
   typed ← stmt_fault known at.number (for_part known at.scope name range)
   done ← in_turn body (with_variable name ty.I32 true (next_statement at))
   Ok (numbered_stmt at (kind.For (length at.types) typed done.0) (record done.1 { scope = at.scope }))
 
 -- one layer of a statement, where the steps of the statements in it are given
-abbrev pub typed_stmt_step : Known → Stmt-F Step → Step
+abbrev pub typed_stmt_step : Known → Stmt-F TypingStep → TypingStep
 typed_stmt_step known (s.Let name value) at = let_step known name value at
-typed_stmt_step known (s.Assign name value) at = plain_step known (assign_part known at.scope name value) at
-typed_stmt_step known (s.Write field index how value) at = plain_step known (write_part known at.scope field index how value) at
+typed_stmt_step known (s.Assign name value) at = simple_step known (assign_part known at.scope name value) at
+typed_stmt_step known (s.Write field index how value) at = simple_step known (write_part known at.scope field index how value) at
 typed_stmt_step known (s.If condition block otherwise) at = if_step known condition block otherwise at
 typed_stmt_step known (s.For name range body) at = for_step known name range body at
 
 -- the typed statement, or the first fault
-abbrev pub typed_stmt : Known → Stmt → Step
-typed_stmt known = fold-Stmt Step (typed_stmt_step known)
+abbrev pub typed_stmt : Known → Stmt → TypingStep
+typed_stmt known = fold-Stmt TypingStep (typed_stmt_step known)
 
 -- the typed statements of a block
 abbrev pub typed_block : Known → List Stmt → Reached → Result (List TypedStmt × Reached) TypeFault

@@ -24,7 +24,7 @@ pub record Visible : Type 0 where
   pub is_loop : Bool
 
 -- what expressions stand in: the layouts, the type of each variable, and the variables in scope
-pub record Setting : Type 0 where
+pub record Surroundings : Type 0 where
   pub shapes : List Shape
   pub types : List Ty
   pub scope : List Visible
@@ -61,7 +61,7 @@ abbrev pub is_index : Judged → Bool
 is_index part = is_signed part.0 && part.1
 
 -- one layer of an expression, where its parts are judged: whether it has the given type; a truth value is 0 or 1
-abbrev pub form_step : Setting → Form-F (Ty → Bool) Judged → Ty → Bool
+abbrev pub form_step : Surroundings → Form-F (Ty → Bool) Judged → Ty → Bool
 form_step at (f.Literal word) given = is_numeric given || nat_lt word 2
 form_step at (f.Constant word) given = is_numeric given
 form_step at (f.Var var) given = is_visible at.scope var && is_ty (slice_get at.types var) given
@@ -74,12 +74,12 @@ form_step at (f.Mulq a b s) given = is_signed given && (is_index a && (is_index 
 form_step at (f.Convert inner) given = is_numeric given && (is_numeric inner.0 && inner.1)
 
 -- an expression with its type, judged
-abbrev pub judged_expr : Setting → TypedExpr → Judged
+abbrev pub judged_expr : Surroundings → TypedExpr → Judged
 judged_expr at = fold-TypedExpr (Ty → Bool) Judged (form_step at) (λ expr. (expr.ty, expr.form expr.ty))
 
 -- every part of an expression has the type that the table gives it, and every read as many indices as its layout has axes
-abbrev pub is_well_typed : Setting → TypedExpr → Bool
-is_well_typed at expr = (judged_expr at expr).1
+abbrev pub is_well_typed_expr : Surroundings → TypedExpr → Bool
+is_well_typed_expr at expr = (judged_expr at expr).1
 
 -- ---- statements
 
@@ -94,28 +94,28 @@ all_fit (statement ∷ more) scope =
     ((statement scope).0 && (all_fit more (statement scope).1).0, (all_fit more (statement scope).1).1)
 
 -- a setting of its parts
-abbrev pub setting : List Shape → List Ty → List Visible → Setting
+abbrev pub setting : List Shape → List Ty → List Visible → Surroundings
 setting shapes types scope = record { shapes = shapes; types = types; scope = scope }
 
 -- bounds of I32 that are well typed
-abbrev pub is_well_typed_range : Setting → TypedRange → Bool
-is_well_typed_range at range = (is_signed range.lo.ty && is_well_typed at range.lo) && (is_signed range.hi.ty && is_well_typed at range.hi)
+abbrev pub is_well_typed_range : Surroundings → TypedRange → Bool
+is_well_typed_range at range = (is_signed range.lo.ty && is_well_typed_expr at range.lo) && (is_signed range.hi.ty && is_well_typed_expr at range.hi)
 
 -- One layer of a statement. A local is in scope from after its `let` to the end of its block, the variable of a loop in its block. Only
 -- locals are assigned. Conditions are truth values, bounds and indices I32, and what is assigned or written has the type of the
 -- variable or field.
 abbrev pub kind_fits : List Shape → List Ty → TypedKind-F Fitting Fitting → Fitting
 kind_fits shapes types (k.Let var value) scope =
-    (is_well_typed (setting shapes types scope) value && is_ty (slice_get types var) value.ty, record { var = var; is_loop = false } ∷ scope)
+    (is_well_typed_expr (setting shapes types scope) value && is_ty (slice_get types var) value.ty, record { var = var; is_loop = false } ∷ scope)
 kind_fits shapes types (k.Assign var value) scope =
-    (is_local scope var && (is_well_typed (setting shapes types scope) value && is_ty (slice_get types var) value.ty), scope)
+    (is_local scope var && (is_well_typed_expr (setting shapes types scope) value && is_ty (slice_get types var) value.ty), scope)
 kind_fits shapes types (k.Write layout place index way value) scope = (
-  (is_ty (field_in shapes layout place) value.ty && is_well_typed (setting shapes types scope) value)
-      && (equals_some (axes_in shapes layout) (length index) && list_all (λ part. is_signed part.ty && is_well_typed (setting shapes types scope) part) index),
+  (is_ty (field_in shapes layout place) value.ty && is_well_typed_expr (setting shapes types scope) value)
+      && (equals_some (axes_in shapes layout) (length index) && list_all (λ part. is_signed part.ty && is_well_typed_expr (setting shapes types scope) part) index),
   scope,
 )
 kind_fits shapes types (k.If condition block otherwise has_else) scope =
-    ((is_truth condition.ty && is_well_typed (setting shapes types scope) condition) && ((all_fit block scope).0 && (all_fit otherwise scope).0), scope)
+    ((is_truth condition.ty && is_well_typed_expr (setting shapes types scope) condition) && ((all_fit block scope).0 && (all_fit otherwise scope).0), scope)
 kind_fits shapes types (k.For var range body) scope = (
   is_well_typed_range (setting shapes types scope) range
       && (is_ty (slice_get types var) ty.I32 && (all_fit body (record { var = var; is_loop = true } ∷ scope)).0),

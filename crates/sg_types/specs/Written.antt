@@ -1,7 +1,7 @@
 -- The writes that stand in the text of a kernel.
 use Rattle.std.specs.Prelude.{ℕ, Bool, true, false, ◌&&◌, ◌==◌, List, [], ◌∷◌, ◌++◌, map, length}
 use Rattle.std.specs.List.{list_any}
-use Rattle.sg_ast.specs.Stmt.{joined}
+use Rattle.sg_ast.specs.Stmt.{joined_lists}
 use Rattle.sg_words.specs.declared.operators.AccOp.{AccOp}
 use Rattle.sg_words.specs.declared.operators.AccOp.TheVariants as acc
 use Rattle.sg_flat.specs.declared.effects.Way.{Way}
@@ -21,20 +21,20 @@ pub record TextWrite : Type 0 where
   pub way : Way
 
 -- one layer of a statement, where the writes in the statements in it are given
-abbrev pub text_step : TypedKind-F (ℕ → List TextWrite) (List TextWrite) → ℕ → List TextWrite
-text_step (k.Let var value) stmt = []
-text_step (k.Assign var value) stmt = []
-text_step (k.Write layout place index way value) stmt = record { stmt = stmt; layout = layout; place = place; indices = length index; way = way } ∷ []
-text_step (k.If condition block otherwise has_else) stmt = joined block ++ joined otherwise
-text_step (k.For var range body) stmt = joined body
+abbrev pub writes_step : TypedKind-F (ℕ → List TextWrite) (List TextWrite) → ℕ → List TextWrite
+writes_step (k.Let var value) stmt = []
+writes_step (k.Assign var value) stmt = []
+writes_step (k.Write layout place index way value) stmt = record { stmt = stmt; layout = layout; place = place; indices = length index; way = way } ∷ []
+writes_step (k.If condition block otherwise has_else) stmt = joined_lists block ++ joined_lists otherwise
+writes_step (k.For var range body) stmt = joined_lists body
 
 -- the writes that stand in a statement
 abbrev pub text_writes : TypedStmt → List TextWrite
-text_writes = fold-TypedStmt (ℕ → List TextWrite) (List TextWrite) text_step (λ stmt. stmt.kind stmt.number)
+text_writes = fold-TypedStmt (ℕ → List TextWrite) (List TextWrite) writes_step (λ stmt. stmt.kind stmt.number)
 
 -- the writes that stand in the text of a kernel
 abbrev pub kernel_writes : TypedKernel → List TextWrite
-kernel_writes kernel = joined (map text_writes kernel.body)
+kernel_writes kernel = joined_lists (map text_writes kernel.body)
 
 -- two accumulations are one
 abbrev pub same_acc : AccOp → AccOp → Bool
@@ -50,11 +50,11 @@ same_way (Acc x) (Acc y) = same_acc x y
 same_way _ _ = false
 
 -- a write is one of a statement that writes: of its number, to its field, with as many parts as it has indices, in its way
-abbrev pub is_of : Write → TextWrite → Bool
-is_of write text =
+abbrev pub is_write_of : Write → TextWrite → Bool
+is_write_of write text =
     ((write.stmt == text.stmt) && ((write.layout == text.layout) && (write.place == text.place)))
     && ((write.at.n == text.indices) && same_way write.way text.way)
 
 -- a write of an iteration is one of those in the text
 abbrev pub is_written : List TextWrite → Write → Bool
-is_written texts write = list_any (is_of write) texts
+is_written texts write = list_any (is_write_of write) texts

@@ -8,7 +8,7 @@ ghost use Rattle.sg_names.specs.Names as repeats;
 ghost use Rattle.sg_types.specs.Expressions.{all_some, equals_some};
 ghost use Rattle.sg_types.specs.Statements as stmts;
 ghost use Rattle.sg_types.specs.Programs as spec;
-ghost use Rattle.sg_types.specs.steps.Views.{known_of};
+ghost use Rattle.sg_types.specs.steps.Views.{known_view};
 
 use crate::fault::TypeFault;
 use crate::known::Known;
@@ -22,7 +22,7 @@ impl<'a> Known<'a> {
     /// The loop of a kernel, which is statement 0.
     pub fn loop_part(&self, kernel: &KernelDecl) -> Result<TypedDomain, Stop<TypeFault>>
         ensures { Answers result
-            (stmts.stmt_fault (known_of self.now) 0 (spec.loop_part (known_of self.now) kernel.now)) }
+            (stmts.stmt_fault (known_view self.now) 0 (spec.loop_part (known_view self.now) kernel.now)) }
     {
         let vars = kernel.vars.as_slice();
         let typed = self.typed_domain(&kernel.domain)?;
@@ -36,7 +36,7 @@ impl<'a> Known<'a> {
     }
 
     fn any_earlier(&self, names: &[Name]) -> bool
-        ensures { result ≡ spec.any_earlier (known_of self.now) names.now }
+        ensures { result ≡ spec.any_earlier (known_view self.now) names.now }
     {
         for name in names {
             if self.earlier_constant(name).is_some() {
@@ -47,7 +47,7 @@ impl<'a> Known<'a> {
     }
 
     fn knows_domain(&self, domain: &DomainDecl) -> bool
-        ensures { result ≡ spec.knows_domain (known_of self.now) domain.now }
+        ensures { result ≡ spec.knows_domain (known_view self.now) domain.now }
     {
         match domain {
             DomainDecl::Layout(name) => self.names.layout(name).is_some(),
@@ -58,7 +58,7 @@ impl<'a> Known<'a> {
     }
 
     fn knows_ranges(&self, scope: &Scope, ranges: &[RangeDecl]) -> bool
-        ensures { result ≡ list_all (stmts.knows_range (known_of self.now) scope.now) ranges.now }
+        ensures { result ≡ list_all (stmts.knows_range (known_view self.now) scope.now) ranges.now }
     {
         for range in ranges {
             if !self.knows_range(scope, range) {
@@ -69,7 +69,7 @@ impl<'a> Known<'a> {
     }
 
     fn counts_domain(&self, vars: usize, domain: &DomainDecl) -> bool
-        ensures { result ≡ spec.counts_domain (known_of self.now) vars domain.now }
+        ensures { result ≡ spec.counts_domain (known_view self.now) vars domain.now }
     {
         match domain {
             DomainDecl::Layout(name) => self.layout_has_axes(name, vars),
@@ -89,7 +89,7 @@ impl<'a> Known<'a> {
     }
 
     fn counts_ranges(&self, ranges: &[RangeDecl]) -> bool
-        ensures { result ≡ list_all (stmts.counts_range (known_of self.now)) ranges.now }
+        ensures { result ≡ list_all (stmts.counts_range (known_view self.now)) ranges.now }
     {
         for range in ranges {
             if !self.counts_range(range) {
@@ -100,7 +100,7 @@ impl<'a> Known<'a> {
     }
 
     fn typed_domain(&self, domain: &DomainDecl) -> Result<Option<TypedDomain>, Memory>
-        ensures { IfOk result (λ typed. typed ≡ spec.typed_domain (known_of self.now) domain.now) }
+        ensures { IfOk result (λ typed. typed ≡ spec.typed_domain (known_view self.now) domain.now) }
     {
         match domain {
             DomainDecl::Layout(name) => match self.names.layout(name) {
@@ -122,7 +122,7 @@ impl<'a> Known<'a> {
         ranges: &[RangeDecl],
     ) -> Result<Option<Items<TypedRange>>, Memory>
         ensures { IfOk result (λ typed. typed ≡
-            all_some (map (stmts.typed_range (known_of self.now) scope.now) ranges.now)) }
+            all_some (map (stmts.typed_range (known_view self.now) scope.now) ranges.now)) }
     {
         let mut typed = Items::new(self.alloc);
         for range in ranges {

@@ -3,7 +3,7 @@
 ghost use Rattle.std.specs.Prelude.{◌≡◌, map, IfOk};
 ghost use Rattle.std.specs.List.{list_all};
 ghost use Rattle.sg_types.specs.Expressions as spec;
-ghost use Rattle.sg_types.specs.steps.Views.{known_of};
+ghost use Rattle.sg_types.specs.steps.Views.{known_view};
 
 use crate::known::Known;
 use crate::make;
@@ -16,7 +16,7 @@ impl<'a> Known<'a> {
     /// Whether every name in an expression is known.
     #[cycle(knows)]
     pub fn knows(&self, scope: &Scope, expr: &Expr) -> bool
-        ensures { result ≡ spec.knows (known_of self.now) scope.now expr.now }
+        ensures { result ≡ spec.knows (known_view self.now) scope.now expr.now }
     {
         match expr {
             Expr::Number { .. } | Expr::Truth(_) => true,
@@ -35,7 +35,7 @@ impl<'a> Known<'a> {
 
     #[cycle(knows)]
     pub fn knows_all(&self, scope: &Scope, exprs: &[Expr]) -> bool
-        ensures { result ≡ list_all (spec.knows (known_of self.now) scope.now) exprs.now }
+        ensures { result ≡ list_all (spec.knows (known_view self.now) scope.now) exprs.now }
     {
         for expr in exprs {
             if !self.knows(scope, expr) {
@@ -77,7 +77,7 @@ impl<'a> Known<'a> {
     /// The typed expression, where its names are known and all types fit.
     #[cycle(typed)]
     pub fn typed_expr(&self, scope: &Scope, expr: &Expr) -> Result<Option<TypedExpr>, Memory>
-        ensures { IfOk result (λ typed. typed ≡ spec.typed_expr (known_of self.now) scope.now expr.now) }
+        ensures { IfOk result (λ typed. typed ≡ spec.typed_expr (known_view self.now) scope.now expr.now) }
     {
         match expr {
             Expr::Number { value, unsigned } => Ok(Some(make::number(*value, *unsigned))),
@@ -127,7 +127,7 @@ impl<'a> Known<'a> {
         exprs: &[Expr],
     ) -> Result<Option<Items<TypedExpr>>, Memory>
         ensures { IfOk result (λ typed. typed ≡
-            spec.all_some (map (spec.typed_expr (known_of self.now) scope.now) exprs.now)) }
+            spec.all_some (map (spec.typed_expr (known_view self.now) scope.now) exprs.now)) }
     {
         let mut typed = Items::new(self.alloc);
         for expr in exprs {

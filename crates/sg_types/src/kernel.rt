@@ -5,7 +5,7 @@ ghost use Rattle.sg_words.specs.Answers.{Answers};
 ghost use Rattle.sg_names.specs.Names.{has_repeat};
 ghost use Rattle.sg_types.specs.Programs as spec;
 ghost use Rattle.sg_types.specs.steps.Sizes.{kernel_size};
-ghost use Rattle.sg_types.specs.steps.Views.{known_of, reached_of};
+ghost use Rattle.sg_types.specs.steps.Views.{known_view, reached_of};
 
 use crate::fault::TypeFault;
 use crate::known::Known;
@@ -19,7 +19,7 @@ impl<'a> Known<'a> {
     /// The typed kernel, or its first fault.
     pub fn kernel(&self, decl: &'a KernelDecl) -> Result<TypedKernel, Stop<TypeFault>>
         requires { kernel_size decl.now < 2 ^ 32 }
-        ensures { Answers result (spec.typed_kernel (known_of self.now) decl.now) }
+        ensures { Answers result (spec.typed_kernel (known_view self.now) decl.now) }
     {
         let domain = self.loop_part(decl)?;
         let mut at = self.first_reached(decl.vars.as_slice())?;

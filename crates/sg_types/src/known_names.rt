@@ -2,7 +2,7 @@ ghost use Rattle.std.specs.Prelude.{◌≡◌, is_some};
 ghost use Rattle.sg_types.specs.Scopes as scopes;
 ghost use Rattle.sg_types.specs.Expressions as exprs;
 ghost use Rattle.sg_names.specs.Tables.{field_named};
-ghost use Rattle.sg_types.specs.steps.Views.{known_of};
+ghost use Rattle.sg_types.specs.steps.Views.{known_view};
 
 use crate::known::Known;
 use crate::scope::Scope;
@@ -13,7 +13,7 @@ use sg_names::Constant;
 impl<'a> Known<'a> {
     /// The constant of a name, where an earlier item declares it.
     pub fn earlier_constant(&self, name: &Name) -> Option<Constant>
-        ensures { result ≡ scopes.earlier_constant (known_of self.now) name.now }
+        ensures { result ≡ scopes.earlier_constant (known_view self.now) name.now }
     {
         match self.names.constant_number(name) {
             Some(number) => {
@@ -29,14 +29,14 @@ impl<'a> Known<'a> {
 
     /// Whether a name is a local, a variable of a loop round it, or an earlier constant.
     pub fn is_taken(&self, scope: &Scope, name: &Name) -> bool
-        ensures { result ≡ scopes.is_taken (known_of self.now) scope.now name.now }
+        ensures { result ≡ scopes.is_taken (known_view self.now) scope.now name.now }
     {
         scope.get(name).is_some() || self.earlier_constant(name).is_some()
     }
 
     /// What a plain name stands for, as an expression.
     pub fn name_expr(&self, scope: &Scope, name: &Name) -> Option<TypedExpr>
-        ensures { result ≡ scopes.name_expr (known_of self.now) scope.now name.now }
+        ensures { result ≡ scopes.name_expr (known_view self.now) scope.now name.now }
     {
         match scope.get(name) {
             Some(local) => Some(TypedExpr {

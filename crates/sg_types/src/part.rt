@@ -5,7 +5,7 @@ ghost use Rattle.sg_words.specs.Answers.{Answers};
 ghost use Rattle.sg_words.specs.Options.{only_where};
 ghost use Rattle.sg_types.specs.TypeTable as table;
 ghost use Rattle.sg_types.specs.Statements as spec;
-ghost use Rattle.sg_types.specs.steps.Views.{known_of};
+ghost use Rattle.sg_types.specs.steps.Views.{known_view};
 
 use crate::fault::TypeFault;
 use crate::known::Known;
@@ -27,7 +27,7 @@ impl<'a> Known<'a> {
         wrongs: Wrongs,
         typed: Option<T>,
     ) -> Result<T, Stop<TypeFault>>
-        ensures { Answers result (spec.stmt_fault (known_of self.now) number (spec.judged_part wrongs typed)) }
+        ensures { Answers result (spec.stmt_fault (known_view self.now) number (spec.judged_part wrongs typed)) }
     {
         let code = match wrongs.first_code() {
             Some(code) => code,
@@ -52,8 +52,8 @@ impl<'a> Known<'a> {
         value: &Expr,
     ) -> Result<TypedExpr, Stop<TypeFault>>
         ensures { Answers result
-            (spec.stmt_fault (known_of self.now) number (spec.let_part
-            (known_of self.now) scope.now name.now value.now)) }
+            (spec.stmt_fault (known_view self.now) number (spec.let_part
+            (known_view self.now) scope.now name.now value.now)) }
     {
         let typed = self.typed_expr(scope, value)?;
         let wrongs = Wrongs {
@@ -74,8 +74,8 @@ impl<'a> Known<'a> {
         value: &Expr,
     ) -> Result<TypedKind, Stop<TypeFault>>
         ensures { Answers result
-            (spec.stmt_fault (known_of self.now) number (spec.assign_part
-            (known_of self.now) scope.now name.now value.now)) }
+            (spec.stmt_fault (known_view self.now) number (spec.assign_part
+            (known_view self.now) scope.now name.now value.now)) }
     {
         let typed = self.typed_expr(scope, value)?;
         let local = scope.get(name);
@@ -99,8 +99,8 @@ impl<'a> Known<'a> {
         value: &Expr,
     ) -> Result<TypedKind, Stop<TypeFault>>
         ensures { Answers result
-            (spec.stmt_fault (known_of self.now) number (spec.write_part
-            (known_of self.now) scope.now field.now index.now way value.now)) }
+            (spec.stmt_fault (known_view self.now) number (spec.write_part
+            (known_view self.now) scope.now field.now index.now way value.now)) }
     {
         let typed_index = self.typed_all(scope, index)?;
         let typed = self.typed_expr(scope, value)?;
@@ -124,7 +124,7 @@ impl<'a> Known<'a> {
         cond: &Expr,
     ) -> Result<TypedExpr, Stop<TypeFault>>
         ensures { Answers result
-            (spec.stmt_fault (known_of self.now) number (spec.if_part (known_of self.now) scope.now cond.now)) }
+            (spec.stmt_fault (known_view self.now) number (spec.if_part (known_view self.now) scope.now cond.now)) }
     {
         let typed = self.typed_expr(scope, cond)?;
         let wrongs = Wrongs {
@@ -145,8 +145,8 @@ impl<'a> Known<'a> {
         range: &RangeDecl,
     ) -> Result<TypedRange, Stop<TypeFault>>
         ensures { Answers result
-            (spec.stmt_fault (known_of self.now) number (spec.for_part
-            (known_of self.now) scope.now name.now range.now)) }
+            (spec.stmt_fault (known_view self.now) number (spec.for_part
+            (known_view self.now) scope.now name.now range.now)) }
     {
         let typed = self.typed_range(scope, range)?;
         let wrongs = Wrongs {
@@ -159,13 +159,13 @@ impl<'a> Known<'a> {
     }
 
     pub fn knows_range(&self, scope: &Scope, range: &RangeDecl) -> bool
-        ensures { result ≡ spec.knows_range (known_of self.now) scope.now range.now }
+        ensures { result ≡ spec.knows_range (known_view self.now) scope.now range.now }
     {
         self.knows(scope, &range.lo) && self.knows(scope, &range.hi)
     }
 
     pub fn counts_range(&self, range: &RangeDecl) -> bool
-        ensures { result ≡ spec.counts_range (known_of self.now) range.now }
+        ensures { result ≡ spec.counts_range (known_view self.now) range.now }
     {
         self.counts(&range.lo) && self.counts(&range.hi)
     }
@@ -175,7 +175,7 @@ impl<'a> Known<'a> {
         scope: &Scope,
         range: &RangeDecl,
     ) -> Result<Option<TypedRange>, Memory>
-        ensures { IfOk result (λ typed. typed ≡ spec.typed_range (known_of self.now) scope.now range.now) }
+        ensures { IfOk result (λ typed. typed ≡ spec.typed_range (known_view self.now) scope.now range.now) }
     {
         let lo = self.typed_expr(scope, &range.lo)?;
         let hi = self.typed_expr(scope, &range.hi)?;
@@ -208,7 +208,7 @@ fn assign_kind(local: Option<Local>, value: Option<TypedExpr>) -> Option<TypedKi
 }
 
 fn way_of(way: WayDecl) -> Way
-    ensures { result ≡ spec.way_of way }
+    ensures { result ≡ spec.declared_way way }
 {
     match way {
         WayDecl::Own => Way::Own,

@@ -4,7 +4,7 @@ ghost use Rattle.std.specs.Prelude.{◌≡◌, ◌+◌, map, option_map};
 ghost use Rattle.sg_words.specs.Answers.{AnswersAs};
 ghost use Rattle.sg_types.specs.Statements as spec;
 ghost use Rattle.sg_types.specs.Counting.{stmt_count, block_count, else_count};
-ghost use Rattle.sg_types.specs.steps.Views.{known_of, reached_of, HasRoom};
+ghost use Rattle.sg_types.specs.steps.Views.{known_view, reached_of, HasRoom};
 
 use crate::fault::TypeFault;
 use crate::known::Known;
@@ -22,7 +22,7 @@ impl<'a> Known<'a> {
     ) -> Result<TypedStmt, Stop<TypeFault>>
         requires { HasRoom (reached_of at.old) 1 }
         ensures { AnswersAs (λ typed. (typed, reached_of at.new)) result
-            (spec.let_step (known_of self.now) name.now value.now (reached_of at.old)) }
+            (spec.let_step (known_view self.now) name.now value.now (reached_of at.old)) }
     {
         let number = at.number;
         let value = self.let_part(number, &at.scope, name, value)?;
@@ -42,8 +42,8 @@ impl<'a> Known<'a> {
     ) -> Result<TypedStmt, Stop<TypeFault>>
         requires { HasRoom (reached_of at.old) 1 }
         ensures { AnswersAs (λ typed. (typed, reached_of at.new)) result
-            (spec.plain_step (known_of self.now) (spec.assign_part
-            (known_of self.now) at.old.scope name.now value.now) (reached_of at.old)) }
+            (spec.simple_step (known_view self.now) (spec.assign_part
+            (known_view self.now) at.old.scope name.now value.now) (reached_of at.old)) }
     {
         let number = at.number;
         let kind = self.assign_part(number, &at.scope, name, value)?;
@@ -61,8 +61,8 @@ impl<'a> Known<'a> {
     ) -> Result<TypedStmt, Stop<TypeFault>>
         requires { HasRoom (reached_of at.old) 1 }
         ensures { AnswersAs (λ typed. (typed, reached_of at.new)) result
-            (spec.plain_step (known_of self.now) (spec.write_part
-            (known_of self.now) at.old.scope field.now index.now way value.now) (reached_of at.old)) }
+            (spec.simple_step (known_view self.now) (spec.write_part
+            (known_view self.now) at.old.scope field.now index.now way value.now) (reached_of at.old)) }
     {
         let number = at.number;
         let kind = self.write_part(number, &at.scope, field, index, way, value)?;
@@ -80,8 +80,8 @@ impl<'a> Known<'a> {
     ) -> Result<TypedStmt, Stop<TypeFault>>
         requires { HasRoom (reached_of at.old) (1 + (block_count yes.now + else_count no.now)) }
         ensures { AnswersAs (λ typed. (typed, reached_of at.new)) result
-            (spec.if_step (known_of self.now) cond.now (map (spec.typed_stmt (known_of self.now)) yes.now)
-            (option_map (map (spec.typed_stmt (known_of self.now))) no.now) (reached_of at.old)) }
+            (spec.if_step (known_view self.now) cond.now (map (spec.typed_stmt (known_view self.now)) yes.now)
+            (option_map (map (spec.typed_stmt (known_view self.now))) no.now) (reached_of at.old)) }
     {
         let number = at.number;
         let cond = self.if_part(number, &at.scope, cond)?;
@@ -107,7 +107,7 @@ impl<'a> Known<'a> {
     ) -> Result<(Items<TypedStmt>, bool), Stop<TypeFault>>
         requires { HasRoom (reached_of at.old) (else_count block.now) }
         ensures { AnswersAs (λ typed. (typed.0, typed.1, reached_of at.new)) result
-            (spec.in_else (option_map (map (spec.typed_stmt (known_of self.now))) block.now) (reached_of at.old)) }
+            (spec.in_else (option_map (map (spec.typed_stmt (known_view self.now))) block.now) (reached_of at.old)) }
     {
         match block {
             Some(block) => {
@@ -128,8 +128,8 @@ impl<'a> Known<'a> {
     ) -> Result<TypedStmt, Stop<TypeFault>>
         requires { HasRoom (reached_of at.old) (1 + block_count body.now) }
         ensures { AnswersAs (λ typed. (typed, reached_of at.new)) result
-            (spec.for_step (known_of self.now) name.now range.now (map (spec.typed_stmt
-            (known_of self.now)) body.now) (reached_of at.old)) }
+            (spec.for_step (known_view self.now) name.now range.now (map (spec.typed_stmt
+            (known_view self.now)) body.now) (reached_of at.old)) }
     {
         let number = at.number;
         let names = at.scope.len();
@@ -148,7 +148,7 @@ impl<'a> Known<'a> {
     fn stmt(&self, at: &mut Reached<'a>, stmt: &'a Stmt) -> Result<TypedStmt, Stop<TypeFault>>
         requires { HasRoom (reached_of at.old) (stmt_count stmt.now) }
         ensures { AnswersAs (λ typed. (typed, reached_of at.new)) result
-            (spec.typed_stmt (known_of self.now) stmt.now (reached_of at.old)) }
+            (spec.typed_stmt (known_view self.now) stmt.now (reached_of at.old)) }
     {
         match stmt {
             Stmt::Let { name, value } => self.let_stmt(at, name, value),
@@ -172,7 +172,7 @@ impl<'a> Known<'a> {
     ) -> Result<Items<TypedStmt>, Stop<TypeFault>>
         requires { HasRoom (reached_of at.old) (block_count block.now) }
         ensures { AnswersAs (λ typed. (typed, reached_of at.new)) result
-            (spec.in_turn (map (spec.typed_stmt (known_of self.now)) block.now) (reached_of at.old)) }
+            (spec.in_turn (map (spec.typed_stmt (known_view self.now)) block.now) (reached_of at.old)) }
     {
         let mut typed = Items::new(self.alloc);
         for stmt in block {
@@ -191,7 +191,7 @@ impl<'a> Known<'a> {
     ) -> Result<Items<TypedStmt>, Stop<TypeFault>>
         requires { HasRoom (reached_of at.old) (block_count block.now) }
         ensures { AnswersAs (λ typed. (typed, reached_of at.new)) result
-            (spec.typed_block (known_of self.now) block.now (reached_of at.old)) }
+            (spec.typed_block (known_view self.now) block.now (reached_of at.old)) }
     {
         let names = at.scope.len();
         let typed = self.stmts(at, block)?;

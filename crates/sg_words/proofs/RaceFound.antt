@@ -8,8 +8,8 @@ use prog.Atomic.{either}
 use lib.ListN.{get_elem?}
 use Rattle.sg_words.specs.declared.race.Worker.{Worker}
 use Rattle.sg_words.specs.Counts.{total, pairs}
-use Rattle.sg_words.specs.RaceMachine.{Setting, Race, nobody, number_at, Known, after_see, after_miss, after_link}
-use Rattle.sg_words.specs.RaceInvariant.{Standing, Team, weight, MeetsRaceInvariant}
+use Rattle.sg_words.specs.RaceMachine.{Setting, Race, nobody, ticket_number, KnowsContainer, after_see, after_miss, after_link}
+use Rattle.sg_words.specs.RaceInvariant.{Standing, Team, handed_share, MeetsRaceInvariant}
 use Rattle.sg_words.specs.steps.RaceSteps.{after_look, after_try}
 use Rattle.sg_words.proofs.RaceTotals.{total-two}
 use Rattle.sg_words.proofs.RaceSteps.{kept-see, kept-miss, kept-link}
@@ -28,17 +28,17 @@ kept-look g s id v i at st k = found_case (λ w. MeetsRaceInvariant g (record s 
     (λ _. kept-miss g s id v i at st k) (λ full. kept-see g s id v i at st full k)
 
 pub kept-try : (g : Setting) (s : Race) (id : ℕ) (v : Worker) (i t : ℕ) → get_elem? s.workers id ≡ some v → Standing v → i < length s.slots
-    → 0 < pairs (g.node i) t v.spare → Known g v (g.over_slot i) → MeetsRaceInvariant g s
+    → 0 < pairs (g.node i) t v.spare → KnowsContainer g v (g.over_slot i) → MeetsRaceInvariant g s
     → MeetsRaceInvariant g (record s {
-      slots = set s.slots i (either (slice_index s.slots i == 0) (number_at g (g.node i) t + 1) (slice_index s.slots i));
-      workers = set s.workers id (after_try (g.node i) i t (number_at g (g.node i) t) (slice_index s.slots i) v);
+      slots = set s.slots i (either (slice_index s.slots i == 0) (ticket_number g (g.node i) t + 1) (slice_index s.slots i));
+      workers = set s.workers id (after_try (g.node i) i t (ticket_number g (g.node i) t) (slice_index s.slots i) v);
     })
 kept-try g s id v i t at st below has known k = go (slice_index s.slots i == 0) refl
   where
     go : (b : Bool) → (slice_index s.slots i == 0) ≡ b
         → MeetsRaceInvariant g (record s {
-          slots = set s.slots i (either b (number_at g (g.node i) t + 1) (slice_index s.slots i));
-          workers = set s.workers id (cond b (after_link (g.node i) i t (number_at g (g.node i) t) v) (after_see i (slice_index s.slots i - 1) v));
+          slots = set s.slots i (either b (ticket_number g (g.node i) t + 1) (slice_index s.slots i));
+          workers = set s.workers id (cond b (after_link (g.node i) i t (ticket_number g (g.node i) t) v) (after_see i (slice_index s.slots i - 1) v));
         })
     go true e = let empty : slice_index s.slots i ≡ 0 = grind (arith, nat_tests) in kept-link g s id v i t at st below empty has known k
     go false e =
@@ -48,9 +48,9 @@ kept-try g s id v i t at st below has known k = go (slice_index s.slots i == 0) 
 
 -- ---- the last worker
 -- where one worker has all shares, every other was joined, so each sum is its own number
-weigh-nothing : (ws : List Worker) (id : ℕ) (v : Worker) → get_elem? ws id ≡ some v → Team ws → weight v ≡ 16 → (w : ℕ) (u : Worker) → w ≢ id → get_elem? ws w ≡ some u → u ≡ nobody
+weigh-nothing : (ws : List Worker) (id : ℕ) (v : Worker) → get_elem? ws id ≡ some v → Team ws → handed_share v ≡ 16 → (w : ℕ) (u : Worker) → w ≢ id → get_elem? ws w ≡ some u → u ≡ nobody
 weigh-nothing ws id v at k all w u ne at' = ⊎_elim (λ e. e) (λ st. absurd
-    (let two = total-two weight ws w id u v ne at' at in let some' = st.share in let shares = k.shares in let few = sixteen ws in omega arith)) (k.each w u at')
+    (let two = total-two handed_share ws w id u v ne at' at in let some' = st.share in let shares = k.shares in let few = sixteen ws in omega arith)) (k.each w u at')
   where
     sixteen : (ws : List Worker) → Rattle.sg_words.specs.RaceInvariant.all_shares ws ≤ 16
     sixteen [] = omega arith
@@ -69,5 +69,5 @@ total-alone f (x ∷ xs) (suc id) v at none =
     let a = none zero x (λ h. omega arith) refl in
     let rest = total-alone f xs id v at (λ w u ne e. none (suc w) u (λ h. ne (omega arith)) e) in omega arith
 
-pub alone : (f : Worker → ℕ) (ws : List Worker) (id : ℕ) (v : Worker) → get_elem? ws id ≡ some v → Team ws → weight v ≡ 16 → f nobody ≡ 0 → total f ws ≡ f v
+pub alone : (f : Worker → ℕ) (ws : List Worker) (id : ℕ) (v : Worker) → get_elem? ws id ≡ some v → Team ws → handed_share v ≡ 16 → f nobody ≡ 0 → total f ws ≡ f v
 alone f ws id v at k all none = total-alone f ws id v at (λ w u ne at'. ap f (weigh-nothing ws id v at k all w u ne at') ∙ none)

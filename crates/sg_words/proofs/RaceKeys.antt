@@ -11,8 +11,8 @@ use native.Mathlib.Decide.{ℕ_discrete, dec_le}
 use lib.ListN.{get_elem?}
 use Rattle.sg_words.specs.declared.race.Worker.{Worker}
 use Rattle.sg_words.specs.Counts.{one, total, greatest, bit_in}
-use Rattle.sg_words.specs.RaceMachine.{Setting, place_of, Known, MayPut, after_mark, after_raise, after_add, after_put, mark_word}
-use Rattle.sg_words.specs.RaceInvariant.{has_seen, has_key, SeenIsThere, SeenKeysAreThere, has_put, KeysArePut, Probed, has_marked, BitsAreMarked, reach_of, LengthsAreRaised, with_one, fold_in, fold_all, CellsAreFolded, Reached, Hanging}
+use Rattle.sg_words.specs.RaceMachine.{Setting, place_in_order, KnowsContainer, MayPut, after_mark, after_raise, after_add, after_key_put, mark_word}
+use Rattle.sg_words.specs.RaceInvariant.{has_seen, has_key, SeenIsThere, SeenKeysAreThere, has_put, KeysArePut, Probed, has_marked, BitsAreMarked, raised_to, LengthsAreRaised, with_one, fold_in, fold_all, CellsAreFolded, IsReachedContainer, Hanging}
 use Rattle.sg_words.proofs.RaceTotals.{total-more, total-snoc, le-total, first_cases, greatest-more, greatest-append, set_other_at}
 use Rattle.sg_words.proofs.RaceLinks.{written, full-stays}
 
@@ -35,7 +35,7 @@ turn_apart n k i j lt below e =
         mul-suc' : (n p : ℕ) → n * suc p ≡ n * p + n
         mul-suc' n p = grind arith
 
-pub one_place : (n k i j : ℕ) → i < n → j < n → place_of n k i ≡ place_of n k j → i ≡ j
+pub one_place : (n k i j : ℕ) → i < n → j < n → place_in_order n k i ≡ place_in_order n k j → i ≡ j
 one_place n k i j a b e = dite (ℕ_discrete i j) (λ h. h) (λ ne. dite (dec_le i j)
     (λ le. absurd (turn_apart n k i j (omega arith) b e))
     (λ gt. absurd (turn_apart n k j i (omega arith) a (sym e))))
@@ -47,36 +47,36 @@ probed-put keys ws id p k v at empty may seen probed below = λ m j i under is l
     let n = length keys in
     let long : length (set keys p (k + 1)) ≡ n = length-set keys p (k + 1) in
     let under' : j < n = omega arith in
-    let is' : slice_index (set keys p (k + 1)) (place_of n m j) ≡ m + 1 = subst (λ n. slice_index (set keys p (k + 1)) (place_of n m j) ≡ m + 1) long is in
-    subst (λ n. (slice_index (set keys p (k + 1)) (place_of n m i) ≢ 0) × (slice_index (set keys p (k + 1)) (place_of n m i) ≢ m + 1)) (sym long)
+    let is' : slice_index (set keys p (k + 1)) (place_in_order n m j) ≡ m + 1 = subst (λ n. slice_index (set keys p (k + 1)) (place_in_order n m j) ≡ m + 1) long is in
+    subst (λ n. (slice_index (set keys p (k + 1)) (place_in_order n m i) ≢ 0) × (slice_index (set keys p (k + 1)) (place_in_order n m i) ≢ m + 1)) (sym long)
     (goal m j i under' is' lt)
   where
-    goal : (m j i : ℕ) → j < length keys → slice_index (set keys p (k + 1)) (place_of (length keys) m j) ≡ m + 1 → i < j
-        → (slice_index (set keys p (k + 1)) (place_of (length keys) m i) ≢ 0) × (slice_index (set keys p (k + 1)) (place_of (length keys) m i) ≢ m + 1)
+    goal : (m j i : ℕ) → j < length keys → slice_index (set keys p (k + 1)) (place_in_order (length keys) m j) ≡ m + 1 → i < j
+        → (slice_index (set keys p (k + 1)) (place_in_order (length keys) m i) ≢ 0) × (slice_index (set keys p (k + 1)) (place_in_order (length keys) m i) ≢ m + 1)
     goal m j i under is lt =
         let n = length keys in
-        let keep : (slice_index keys (place_of n m i) ≢ 0) × (slice_index keys (place_of n m i) ≢ m + 1)
-        → (slice_index (set keys p (k + 1)) (place_of n m i) ≢ 0) × (slice_index (set keys p (k + 1)) (place_of n m i) ≢ m + 1) =
-        λ old. written keys p (place_of n m i) (k + 1) (λ w. (w ≢ 0) × (w ≢ m + 1)) below
+        let keep : (slice_index keys (place_in_order n m i) ≢ 0) × (slice_index keys (place_in_order n m i) ≢ m + 1)
+        → (slice_index (set keys p (k + 1)) (place_in_order n m i) ≢ 0) × (slice_index (set keys p (k + 1)) (place_in_order n m i) ≢ m + 1) =
+        λ old. written keys p (place_in_order n m i) (k + 1) (λ w. (w ≢ 0) × (w ≢ m + 1)) below
         (λ e. absurd (old.0 (ap (λ q. slice_index keys q) (sym e) ∙ empty))) (λ _. old) in
-        dite (ℕ_discrete p (place_of n m j))
+        dite (ℕ_discrete p (place_in_order n m j))
         (λ e.
         let word : k + 1 ≡ m + 1 = sym (get_or-set_same keys p (k + 1) 0 below) ∙ subst (λ q. slice_index (set keys p (k + 1)) q ≡ m + 1) (sym e) is in
         let same : k ≡ m = omega arith in
-        let place : place_of n k may.0 ≡ place_of n k j = sym may.2 ∙ e ∙ ap (λ x. place_of n x j) (sym same) in
+        let place : place_in_order n k may.0 ≡ place_in_order n k j = sym may.2 ∙ e ∙ ap (λ x. place_in_order n x j) (sym same) in
         let turn : may.0 ≡ j = one_place n k may.0 j may.1 under place in
         let lt' : i < may.0 = omega arith in
         let other = may.3 i lt' in
-        let found : slice_index keys (place_of n k i) ≡ other.0 + 1 = seen (place_of n k i) other.0 (let le = le-total (has_key (place_of n k i) other.0) ws id v at in let h = other.2 in omega arith) in
-        let found' : slice_index keys (place_of n m i) ≡ other.0 + 1 = subst (λ x. slice_index keys (place_of n x i) ≡ other.0 + 1) same found in
+        let found : slice_index keys (place_in_order n k i) ≡ other.0 + 1 = seen (place_in_order n k i) other.0 (let le = le-total (has_key (place_in_order n k i) other.0) ws id v at in let h = other.2 in omega arith) in
+        let found' : slice_index keys (place_in_order n m i) ≡ other.0 + 1 = subst (λ x. slice_index keys (place_in_order n x i) ≡ other.0 + 1) same found in
         let ne = other.1 in
         keep ((λ z. omega arith), (λ z. ne (omega arith))))
-        (λ ne. keep (probed m j i under (sym (get_or-set_other keys p (place_of n m j) (k + 1) 0 (λ h. ne (sym h))) ∙ is) lt))
+        (λ ne. keep (probed m j i under (sym (get_or-set_other keys p (place_in_order n m j) (k + 1) 0 (λ h. ne (sym h))) ∙ is) lt))
 
 pub keys-put : (g : Setting) (keys : List ℕ) (ws : List Worker) (id p k : ℕ) (v : Worker) → get_elem? ws id ≡ some v → slice_index keys p ≡ 0 → MayPut (length keys) p k v
-    → SeenKeysAreThere keys ws → p < length keys → KeysArePut g keys ws → KeysArePut g (set keys p (k + 1)) (set ws id (after_put p k v))
+    → SeenKeysAreThere keys ws → p < length keys → KeysArePut g keys ws → KeysArePut g (set keys p (k + 1)) (set ws id (after_key_put p k v))
 keys-put g keys ws id p k v at empty may seen below old =
-    let w = after_put p k v in
+    let w = after_key_put p k v in
     record {
       probed = probed-put keys ws id p k v at empty may seen old.probed below;
       put = λ q m start is.
@@ -123,9 +123,9 @@ lengths-raise g lengths ws id q i v at below k =
     let n = max (slice_index lengths q) (i + 1) in (
       length-set lengths q n ∙ k.0,
       λ r. let up = greatest-append (λ (x : ℕ × ℕ). cond (x.0 == r) (x.1 + 1) 0) v.raised ((q, i) ∷ []) in
-          let more = greatest-more (reach_of r) ws id v w (max (cond (q == r) (i + 1) 0) 0) at up in
+          let more = greatest-more (raised_to r) ws id v w (max (cond (q == r) (i + 1) 0) 0) at up in
           let old = k.1 r in
-          written lengths q r n (λ x. x ≡ max (slice_index g.lengths r) (greatest (reach_of r) (set ws id w))) below
+          written lengths q r n (λ x. x ≡ max (slice_index g.lengths r) (greatest (raised_to r) (set ws id w))) below
           (λ e. let test : cond (q == r) (i + 1) 0 ≡ i + 1 = grind (arith, nat_tests) in
           let here : slice_index lengths q ≡ slice_index lengths r = ap (λ q. slice_index lengths q) e in omega arith)
           (λ ne. let test : cond (q == r) (i + 1) 0 ≡ 0 = grind (arith, nat_tests) in omega arith),
@@ -209,40 +209,40 @@ cells-add g cells ws id c x v ex at below k =
     )
 
 -- ---- containers
-pub known-reached : (g : Setting) (slots : List ℕ) (ws : List Worker) (id : ℕ) (v : Worker) (c : ℕ × ℕ) → get_elem? ws id ≡ some v → SeenIsThere slots ws → Known g v c → Reached g slots c
+pub known-reached : (g : Setting) (slots : List ℕ) (ws : List Worker) (id : ℕ) (v : Worker) (c : ℕ × ℕ) → get_elem? ws id ≡ some v → SeenIsThere slots ws → KnowsContainer g v c → IsReachedContainer g slots c
 known-reached g slots ws id v c at seen (inl live) = inl live
 known-reached g slots ws id v c at seen (inr k) = inr (k.0, k.1, seen k.0 c.1 (let le = le-total (has_seen k.0 c.1) ws id v at in let h = k.2 in omega arith))
 
-reached-stays : (g : Setting) (slots : List ℕ) (i n : ℕ) (c : ℕ × ℕ) → i < length slots → slice_index slots i ≡ 0 → Reached g slots c → Reached g (set slots i n) c
+reached-stays : (g : Setting) (slots : List ℕ) (i n : ℕ) (c : ℕ × ℕ) → i < length slots → slice_index slots i ≡ 0 → IsReachedContainer g slots c → IsReachedContainer g (set slots i n) c
 reached-stays g slots i n c below empty (inl live) = inl live
 reached-stays g slots i n c below empty (inr k) = inr (k.0, k.1, full-stays slots i n k.0 c.1 below empty k.2)
 
-pub hanging-link : (g : Setting) (slots masks lengths : List ℕ) (i n : ℕ) → i < length slots → slice_index slots i ≡ 0 → Reached g slots (g.over_slot i)
+pub hanging-link : (g : Setting) (slots masks lengths : List ℕ) (i n : ℕ) → i < length slots → slice_index slots i ≡ 0 → IsReachedContainer g slots (g.over_slot i)
     → Hanging g slots masks lengths → Hanging g (set slots i n) masks lengths
 hanging-link g slots masks lengths i n below empty known k = record {
-  by_slot = λ j full. written slots i j n (λ m. 0 < m → Reached g (set slots i n) (g.over_slot j)) below
-      (λ e _. subst (λ j. Reached g (set slots i n) (g.over_slot j)) e (reached-stays g slots i n (g.over_slot i) below empty known))
+  by_slot = λ j full. written slots i j n (λ m. 0 < m → IsReachedContainer g (set slots i n) (g.over_slot j)) below
+      (λ e _. subst (λ j. IsReachedContainer g (set slots i n) (g.over_slot j)) e (reached-stays g slots i n (g.over_slot i) below empty known))
       (λ _ h. reached-stays g slots i n (g.over_slot j) below empty (k.by_slot j h)) full;
   by_bit = λ b h. reached-stays g slots i n (g.over_bit b) below empty (k.by_bit b h);
   by_length = λ q h. reached-stays g slots i n (g.over_length q) below empty (k.by_length q h);
 }
 
-pub hanging-mark : (g : Setting) (slots masks lengths : List ℕ) (b : ℕ) → b / 64 < length masks → Reached g slots (g.over_bit b)
+pub hanging-mark : (g : Setting) (slots masks lengths : List ℕ) (b : ℕ) → b / 64 < length masks → IsReachedContainer g slots (g.over_bit b)
     → Hanging g slots masks lengths → Hanging g slots (set masks (b / 64) (mark_word b (slice_index masks (b / 64)))) lengths
 hanging-mark g slots masks lengths b below known k = record {
   by_slot = k.by_slot;
   by_bit = λ c h.
       (let bit = bit-mark masks b c below in
-      first_cases (λ x. bit_in (set masks (b / 64) (mark_word b (slice_index masks (b / 64)))) c ≡ min 1 (bit_in masks c + x) → Reached g slots (g.over_bit c)) b c
-      (λ e _. subst (λ c. Reached g slots (g.over_bit c)) e known) (λ _ e. k.by_bit c (omega arith)) bit);
+      first_cases (λ x. bit_in (set masks (b / 64) (mark_word b (slice_index masks (b / 64)))) c ≡ min 1 (bit_in masks c + x) → IsReachedContainer g slots (g.over_bit c)) b c
+      (λ e _. subst (λ c. IsReachedContainer g slots (g.over_bit c)) e known) (λ _ e. k.by_bit c (omega arith)) bit);
   by_length = k.by_length;
 }
 
-pub hanging-raise : (g : Setting) (slots masks lengths : List ℕ) (q n : ℕ) → q < length lengths → Reached g slots (g.over_length q)
+pub hanging-raise : (g : Setting) (slots masks lengths : List ℕ) (q n : ℕ) → q < length lengths → IsReachedContainer g slots (g.over_length q)
     → Hanging g slots masks lengths → Hanging g slots masks (set lengths q n)
 hanging-raise g slots masks lengths q n below known k = record {
   by_slot = k.by_slot;
   by_bit = k.by_bit;
-  by_length = λ r h. written lengths q r n (λ m. 0 < m → Reached g slots (g.over_length r)) below
-      (λ e _. subst (λ r. Reached g slots (g.over_length r)) e known) (λ _ old. k.by_length r old) h;
+  by_length = λ r h. written lengths q r n (λ m. 0 < m → IsReachedContainer g slots (g.over_length r)) below
+      (λ e _. subst (λ r. IsReachedContainer g slots (g.over_length r)) e known) (λ _ old. k.by_length r old) h;
 }

@@ -9,7 +9,7 @@ use native.Mathlib.Decide.{ℕ_discrete}
 use lib.ListN.{get_elem?}
 use Rattle.sg_words.specs.declared.race.Worker.{Worker}
 use Rattle.sg_words.specs.Counts.{one, once_below, total, pairs, firsts, without}
-use Rattle.sg_words.specs.RaceMachine.{Setting, number_at, after_draw, after_link}
+use Rattle.sg_words.specs.RaceMachine.{Setting, ticket_number, after_draw, after_link}
 use Rattle.sg_words.specs.RaceInvariant.{Stay, made_at, holds_ticket, held_past, TicketsStandOnce, has_made, has_linked, LinksAreMade, links_from, links_made, Tally}
 use Rattle.sg_words.proofs.RaceTotals.{total-same, total-more, total-snoc, pair_cases, first_cases, pairs-snoc, firsts-snoc, pairs-le-firsts, pairs-two, pairs-without_same, pairs-without_other}
 
@@ -114,20 +114,20 @@ holds-link node i t n v few has m u =
 
 pub links-link : (g : Setting) (slots : List ℕ) (ws : List Worker) (id i t : ℕ) (v : Worker) → get_elem? ws id ≡ some v → i < length slots → slice_index slots i ≡ 0
     → Stay g.slots slots → LinksAreMade g slots ws
-    → LinksAreMade g (set slots i (number_at g (g.node i) t + 1)) (set ws id (after_link (g.node i) i t (number_at g (g.node i) t) v))
+    → LinksAreMade g (set slots i (ticket_number g (g.node i) t + 1)) (set ws id (after_link (g.node i) i t (ticket_number g (g.node i) t) v))
 links-link g slots ws id i t v at below empty stay k =
-    let n = number_at g (g.node i) t in
+    let n = ticket_number g (g.node i) t in
     let w = after_link (g.node i) i t n v in
     let start : slice_index g.slots i ≡ 0 = was_empty g.slots slots i empty stay in
     record {
       made = λ j u h.
           (let more = total-more (has_made j u) ws id v w (one ((i == j) && (t == u))) at (pairs-snoc j u v.made (i, t)) in
           let h' : 0 < total (has_made j u) ws + one ((i == j) && (t == u)) = omega arith in
-          let full : 0 < total (has_made j u) ws → (slice_index g.slots j ≡ 0) × (j < length (set slots i (n + 1))) × (slice_index (set slots i (n + 1)) j ≡ number_at g (g.node j) u + 1) =
-          λ old. (let m = k.made j u old in (m.0, subst (λ x. j < x) (sym (length-set slots i (n + 1))) m.1, full-stays slots i (n + 1) j (number_at g (g.node j) u) below empty m.2)) in
-          pair_cases (λ x. 0 < total (has_made j u) ws + x → (slice_index g.slots j ≡ 0) × (j < length (set slots i (n + 1))) × (slice_index (set slots i (n + 1)) j ≡ number_at g (g.node j) u + 1)) i t j u
-          (λ e e' _. subst (λ j. (slice_index g.slots j ≡ 0) × (j < length (set slots i (n + 1))) × (slice_index (set slots i (n + 1)) j ≡ number_at g (g.node j) u + 1)) e
-          (start, subst (λ x. i < x) (sym (length-set slots i (n + 1))) below, get_or-set_same slots i (n + 1) 0 below ∙ ap (λ u. number_at g (g.node i) u + 1) e'))
+          let full : 0 < total (has_made j u) ws → (slice_index g.slots j ≡ 0) × (j < length (set slots i (n + 1))) × (slice_index (set slots i (n + 1)) j ≡ ticket_number g (g.node j) u + 1) =
+          λ old. (let m = k.made j u old in (m.0, subst (λ x. j < x) (sym (length-set slots i (n + 1))) m.1, full-stays slots i (n + 1) j (ticket_number g (g.node j) u) below empty m.2)) in
+          pair_cases (λ x. 0 < total (has_made j u) ws + x → (slice_index g.slots j ≡ 0) × (j < length (set slots i (n + 1))) × (slice_index (set slots i (n + 1)) j ≡ ticket_number g (g.node j) u + 1)) i t j u
+          (λ e e' _. subst (λ j. (slice_index g.slots j ≡ 0) × (j < length (set slots i (n + 1))) × (slice_index (set slots i (n + 1)) j ≡ ticket_number g (g.node j) u + 1)) e
+          (start, subst (λ x. i < x) (sym (length-set slots i (n + 1))) below, get_or-set_same slots i (n + 1) 0 below ∙ ap (λ u. ticket_number g (g.node i) u + 1) e'))
           (λ _ old. full (omega arith)) h');
       bare = λ j zero' none.
           (let more = total-more (has_linked j) ws id v w (one (i == j)) at (firsts-snoc j v.made (i, t)) in

@@ -7,7 +7,7 @@ use lib.ListN.{get_elem?}
 use Rattle.sg_words.specs.declared.race.Worker.{Worker}
 use Rattle.sg_words.specs.Counts.{one, total, greatest, bit_in}
 use Rattle.sg_words.specs.RaceMachine.{Setting, nobody, newcomer, after_split, other_half, after_join}
-use Rattle.sg_words.specs.RaceInvariant.{holds_ticket, held_past, TicketsStandOnce, has_made, has_linked, LinksAreMade, has_seen, has_key, SeenIsThere, SeenKeysAreThere, Standing, weight, all_shares, Team, has_put, KeysArePut, has_marked, BitsAreMarked, reach_of, LengthsAreRaised, fold_all, CellsAreFolded, links_made, Tally}
+use Rattle.sg_words.specs.RaceInvariant.{holds_ticket, held_past, TicketsStandOnce, has_made, has_linked, LinksAreMade, has_seen, has_key, SeenIsThere, SeenKeysAreThere, Standing, handed_share, all_shares, Team, has_put, KeysArePut, has_marked, BitsAreMarked, raised_to, LengthsAreRaised, fold_all, CellsAreFolded, links_made, Tally}
 use Rattle.sg_words.proofs.RaceTotals.{total-set, total-same, total-snoc, total-join, total-append, each-set, each-snoc}
 
 module _ (ws vs : List Worker) where
@@ -34,7 +34,7 @@ module _ (ws vs : List Worker) where
   pub bits-as : (g : Setting) (masks : List ℕ) → ((b : ℕ) → total (has_marked b) vs ≡ total (has_marked b) ws) → BitsAreMarked g masks ws → BitsAreMarked g masks vs
   bits-as g masks a h = (h.0, λ b. h.1 b ∙ ap (λ n. min 1 (bit_in g.masks b + n)) (sym (a b)))
 
-  pub lengths-as : (g : Setting) (lengths : List ℕ) → ((q : ℕ) → greatest (reach_of q) vs ≡ greatest (reach_of q) ws) → LengthsAreRaised g lengths ws → LengthsAreRaised g lengths vs
+  pub lengths-as : (g : Setting) (lengths : List ℕ) → ((q : ℕ) → greatest (raised_to q) vs ≡ greatest (raised_to q) ws) → LengthsAreRaised g lengths ws → LengthsAreRaised g lengths vs
   lengths-as g lengths a h = (h.0, λ q. h.1 q ∙ ap (λ n. max (slice_index g.lengths q) n) (sym (a q)))
 
   pub cells-as : (g : Setting) (cells : List ℕ) → ((c a : ℕ) → fold_all g.into c a vs ≡ fold_all g.into c a ws) → CellsAreFolded g cells ws → CellsAreFolded g cells vs
@@ -53,11 +53,11 @@ all_shares-snoc : (ws : List Worker) (id : ℕ) (v w : Worker) → get_elem? ws 
 all_shares-snoc [] id v w e = absurd (some-ne-none v (sym e))
 all_shares-snoc (x ∷ xs) id v w e = refl
 
-pub team-set : (ws : List Worker) (id : ℕ) (v w : Worker) → get_elem? ws id ≡ some v → w.size ≡ v.size → weight w ≡ weight v → Standing w → Team ws → Team (set ws id w)
+pub team-set : (ws : List Worker) (id : ℕ) (v w : Worker) → get_elem? ws id ≡ some v → w.size ≡ v.size → handed_share w ≡ handed_share v → Standing w → Team ws → Team (set ws id w)
 team-set ws id v w at size same st k = record {
   each = each-set (λ v. (v ≡ nobody) ⊎ Standing v) ws id w k.each (inr st);
   sizes = total-same (λ v. v.size) ws id v w at size ∙ k.sizes ∙ sym (length-set ws id w);
-  shares = total-same weight ws id v w at same ∙ k.shares ∙ sym (all_shares-set ws id w);
+  shares = total-same handed_share ws id v w at same ∙ k.shares ∙ sym (all_shares-set ws id w);
 }
 
 pub here : (ws : List Worker) (id : ℕ) (v w : Worker) → get_elem? ws id ≡ some v → get_elem? (set ws id w) id ≡ some w
@@ -76,15 +76,15 @@ team-split ws id v at h st k =
     let left = after_split v in
     let right = other_half v in
     let size = total-snoc (λ (v : Worker). v.size) (set ws id left) right in
-    let share = total-snoc weight (set ws id left) right in
+    let share = total-snoc handed_share (set ws id left) right in
     let size' = total-same (λ (v : Worker). v.size) ws id v left at refl in
-    let share' = total-set weight ws id v left at in
+    let share' = total-set handed_share ws id v left at in
     let many = length-append (set ws id left) (right ∷ []) in
     let long = length-set ws id left in
     let shares = k.shares in
     let sizes = k.sizes in
     let all : all_shares (set ws id left ++ right ∷ []) ≡ all_shares ws = all_shares-snoc (set ws id left) id left right (here ws id v left at) ∙ all_shares-set ws id left in
-    let sum : total weight (set ws id left ++ right ∷ []) ≡ all_shares ws = omega arith in
+    let sum : total handed_share (set ws id left ++ right ∷ []) ≡ all_shares ws = omega arith in
     record {
       each = each-snoc (λ v. (v ≡ nobody) ⊎ Standing v) (set ws id left) right (each-set (λ v. (v ≡ nobody) ⊎ Standing v) ws id left k.each (inr (standing-split v h st))) (inr (standing-newcomer v.told (v.share / 2) (omega arith)));
       sizes = omega arith;
@@ -114,7 +114,7 @@ team-join ws i j v w n at at' a b k =
     record {
       each = each-set (λ v. (v ≡ nobody) ⊎ Standing v) (set ws i both) j nobody (each-set (λ v. (v ≡ nobody) ⊎ Standing v) ws i both k.each (inr (standing-join v w a b))) (inl refl);
       sizes = total-join (λ v. v.size) ws i j v w both nobody n at at' (omega arith) ∙ k.sizes ∙ sym long;
-      shares = total-join weight ws i j v w both nobody n at at' (omega arith) ∙ k.shares ∙ sym all;
+      shares = total-join handed_share ws i j v w both nobody n at at' (omega arith) ∙ k.shares ∙ sym all;
     }
 
 -- a worker with a share stands

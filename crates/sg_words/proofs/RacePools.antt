@@ -7,8 +7,8 @@ use native.Mathlib.Decide.{ℕ_discrete, dec_le}
 use lib.ListN.{get_elem?}
 use Rattle.sg_words.specs.declared.race.Worker.{Worker}
 use Rattle.sg_words.specs.Counts.{one, once_below, total, Each, pairs, firsts}
-use Rattle.sg_words.specs.RaceMachine.{Setting, Race, nobody, worker, number_at}
-use Rattle.sg_words.specs.RaceInvariant.{made_at, holds_ticket, held_past, has_made, has_linked, Standing, weight, all_shares, Team, links_made, MeetsRaceInvariant}
+use Rattle.sg_words.specs.RaceMachine.{Setting, Race, nobody, worker, ticket_number}
+use Rattle.sg_words.specs.RaceInvariant.{made_at, holds_ticket, held_past, has_made, has_linked, Standing, handed_share, all_shares, Team, links_made, MeetsRaceInvariant}
 use Rattle.sg_words.specs.RaceLaws.{FewWorkers, CountIsSmall, TicketStandsOnce, KeyStandsOnce, NewLinksDiffer, SparesNeverFill}
 use Rattle.sg_words.proofs.RaceTotals.{total-le, total-add, total-two, le-total, part-of, pair_cases, first_cases, firsts-pair, at_or, at_where}
 
@@ -26,7 +26,7 @@ shares-few (v ∷ vs) = omega arith
 
 pub sizes-few : (ws : List Worker) → Team ws → total (λ v. v.size) ws ≤ 16
 sizes-few ws k =
-    let le = total-each (λ v. v.size) weight ws (each-stands (λ v. v.size ≤ weight v) ws k (omega arith) (λ v st. let a = st.share in let b = st.size in omega arith)) in
+    let le = total-each (λ v. v.size) handed_share ws (each-stands (λ v. v.size ≤ handed_share v) ws k (omega arith) (λ v st. let a = st.share in let b = st.size in omega arith)) in
     let few = shares-few ws in let all = k.shares in omega arith
 
 pub few_workers : (g : Setting) (s : Race) → FewWorkers g s
@@ -133,7 +133,7 @@ key_stands_once g s k' i j k a b is is' = dite (ℕ_discrete i j) (λ e. e) (λ 
 -- ---- links
 -- a new link was made by a worker with a ticket of the stock
 pub made-ticket : (g : Setting) (s : Race) (i : ℕ) → MeetsRaceInvariant g s → slice_index g.slots i ≡ 0 → 0 < slice_index s.slots i
-    → (t : ℕ) × (0 < total (has_made i t) s.workers) × (slice_index s.slots i ≡ number_at g (g.node i) t + 1) × (t < length (g.stock (g.node i)))
+    → (t : ℕ) × (0 < total (has_made i t) s.workers) × (slice_index s.slots i ≡ ticket_number g (g.node i) t + 1) × (t < length (g.stock (g.node i)))
 made-ticket g s i k start full =
     let linked : 0 < total (has_linked i) s.workers = dite (ℕ_discrete (total (has_linked i) s.workers) 0) (λ e. absurd (let z = k.links.bare i start e in omega arith)) (λ ne. omega arith) in
     let p = part-of (has_linked i) s.workers linked in
@@ -178,7 +178,7 @@ new_links_differ g s i j k fresh start full same is =
     (λ start'.
     let b = made-ticket g s j k start' (omega arith) in
     let below' : b.0 < length (g.stock (g.node i)) = subst (λ l. b.0 < length (g.stock l)) (sym same) b.3 in
-    let word' : slice_index s.slots j ≡ number_at g (g.node i) b.0 + 1 = subst (λ l. slice_index s.slots j ≡ number_at g l b.0 + 1) (sym same) b.2 in
+    let word' : slice_index s.slots j ≡ ticket_number g (g.node i) b.0 + 1 = subst (λ l. slice_index s.slots j ≡ ticket_number g l b.0 + 1) (sym same) b.2 in
     let word = a.2 in
     let one' : a.0 ≡ b.0 = fresh.distinct a.0 b.0 a.3 below' (omega arith) in
     dite (ℕ_discrete i j) (λ e. e) (λ ne. absurd (made-apart g s i j a.0 k ne same a.1 (subst (λ t. 0 < total (has_made j t) s.workers) (sym one') b.1))))

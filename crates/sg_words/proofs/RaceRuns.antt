@@ -8,7 +8,7 @@ use mathlib.Core.Option.{some, some-ne-none}
 use lib.ListN.{get_elem?}
 use Rattle.sg_words.specs.declared.race.Worker.{Worker}
 use Rattle.sg_words.specs.Counts.{bit_in}
-use Rattle.sg_words.specs.RaceMachine.{Setting, Race, Event, first, enrol, draw, see, miss, link, key, mark, raise, add, join, state_after, state_after_all, nobody, worker, number_at, MayPut, key_word, after_key_word, after_key, after_put}
+use Rattle.sg_words.specs.RaceMachine.{Setting, Race, Event, first, enrol, draw, see, miss, link, key, mark, raise, add, join, state_after, state_after_all, nobody, worker, ticket_number, MayPut, key_word, after_key_word, after_key, after_key_put}
 use Rattle.sg_words.specs.RaceInvariant.{MeetsRaceInvariant}
 use Rattle.sg_words.specs.RaceLaws.{StaysLinked, Grows, StartsKept, EventKeeps, RunKeeps}
 use Rattle.sg_words.proofs.RaceTotals.{at_where}
@@ -54,11 +54,11 @@ grows-same : (s : Race) (counts cells : List ℕ) (ws : List Worker) → Grows s
 grows-same s counts cells ws = record { slots = λ i h. refl; keys = λ i h. refl; masks = λ b h. refl; lengths = λ q. omega arith }
 
 -- a key word that was found, full or empty
-pub key_case : (P : ℕ → Worker → Type 0) (p k word : ℕ) (v : Worker) → (word ≢ 0 → P word (after_key p (word - 1) v)) → (word ≡ 0 → P (k + 1) (after_put p k v))
+pub key_case : (P : ℕ → Worker → Type 0) (p k word : ℕ) (v : Worker) → (word ≢ 0 → P word (after_key p (word - 1) v)) → (word ≡ 0 → P (k + 1) (after_key_put p k v))
     → P (key_word k word) (after_key_word p k word v)
 key_case P p k word v full empty = go (word == 0) refl
   where
-    go : (b : Bool) → (word == 0) ≡ b → P (cond b (k + 1) word) (cond b (after_put p k v) (after_key p (word - 1) v))
+    go : (b : Bool) → (word == 0) ≡ b → P (cond b (k + 1) word) (cond b (after_key_put p k v) (after_key p (word - 1) v))
     go true e = empty (grind (arith, nat_tests))
     go false e = full (λ z. grind (arith, nat_tests))
 
@@ -91,7 +91,7 @@ event_keeps g s (miss v i) sound k needs =
 event_keeps g s (link v i t) sound k needs =
     let at = found s v needs.0 in (
       kept-link g s v (worker s v) i t at (stands s.workers v (worker s v) k.team at needs.0) needs.1 needs.2 needs.3 needs.4 k,
-      record { slots = stays-set s.slots i (number_at g (g.node i) t + 1) needs.1 needs.2; keys = λ i h. refl; masks = λ b h. refl; lengths = λ q. omega arith },
+      record { slots = stays-set s.slots i (ticket_number g (g.node i) t + 1) needs.1 needs.2; keys = λ i h. refl; masks = λ b h. refl; lengths = λ q. omega arith },
     )
 event_keeps g s (key v p k') sound k needs =
     let at = found s v needs.0 in

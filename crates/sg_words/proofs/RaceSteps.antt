@@ -5,8 +5,8 @@ use mathlib.Core.Option.{some, some-ne-none}
 use lib.ListN.{get_elem?}
 use Rattle.sg_words.specs.declared.race.Worker.{Worker}
 use Rattle.sg_words.specs.Counts.{one, total, greatest, pairs, firsts}
-use Rattle.sg_words.specs.RaceMachine.{Setting, Race, nobody, newcomer, number_at, Known, MayPut, after_split, other_half, after_join, after_draw, after_see, after_miss, after_link, after_key, after_put, after_mark, after_raise, after_add, mark_word}
-use Rattle.sg_words.specs.RaceInvariant.{holds_ticket, held_past, has_made, has_linked, has_seen, has_key, Standing, Team, has_put, has_marked, reach_of, fold_all, links_made, MeetsRaceInvariant}
+use Rattle.sg_words.specs.RaceMachine.{Setting, Race, nobody, newcomer, ticket_number, KnowsContainer, MayPut, after_split, other_half, after_join, after_draw, after_see, after_miss, after_link, after_key, after_key_put, after_mark, after_raise, after_add, mark_word}
+use Rattle.sg_words.specs.RaceInvariant.{holds_ticket, held_past, has_made, has_linked, has_seen, has_key, Standing, Team, has_put, has_marked, raised_to, fold_all, links_made, MeetsRaceInvariant}
 use Rattle.sg_words.proofs.RaceTotals.{total-same, total-snoc, total-join, total-append, each-snoc, greatest-same, greatest-append, greatest-join, first_cases, firsts-snoc, firsts-without, pairs-snoc}
 use Rattle.sg_words.proofs.RaceParts.{tickets-as, links-as, seen-as, seen_keys-as, keys-as, bits-as, lengths-as, cells-as, tally-as, team-set, team-split, team-join, standing-newcomer}
 use Rattle.sg_words.proofs.RaceLinks.{stay-set, draw_case, tickets-below, tickets-past, holds-link, links-link, seen-more, seen-write, tally-link, full-here}
@@ -59,7 +59,7 @@ kept-see g s id v i at st full k =
       team = team-set ws id v w at refl refl (record { share = st.share; size = st.size; spare = st.spare; left = st.left; past = st.past }) k.team;
       keys = keys-as ws vs g s.keys (λ j. total-same (has_put j) ws id v w at refl) k.keys;
       bits = bits-as ws vs g s.masks (λ b. total-same (has_marked b) ws id v w at refl) k.bits;
-      lengths = lengths-as ws vs g s.lengths (λ q. greatest-same (reach_of q) ws id v w at refl) k.lengths;
+      lengths = lengths-as ws vs g s.lengths (λ q. greatest-same (raised_to q) ws id v w at refl) k.lengths;
       cells = cells-as ws vs g s.cells (λ c a. all-same g.into c a ws id v w at refl) k.cells;
       hanging = k.hanging;
       tally = tally-as ws vs g s.slots (λ l. total-same (links_made g.node l) ws id v w at refl) k.tally;
@@ -81,7 +81,7 @@ kept-miss g s id v i at st k =
       team = team-set ws id v w at refl refl (record { share = st.share; size = st.size; spare = st.spare; left = st.left; past = st.past }) k.team;
       keys = keys-as ws vs g s.keys (λ j. total-same (has_put j) ws id v w at refl) k.keys;
       bits = bits-as ws vs g s.masks (λ b. total-same (has_marked b) ws id v w at refl) k.bits;
-      lengths = lengths-as ws vs g s.lengths (λ q. greatest-same (reach_of q) ws id v w at refl) k.lengths;
+      lengths = lengths-as ws vs g s.lengths (λ q. greatest-same (raised_to q) ws id v w at refl) k.lengths;
       cells = cells-as ws vs g s.cells (λ c a. all-same g.into c a ws id v w at refl) k.cells;
       hanging = k.hanging;
       tally = tally-as ws vs g s.slots (λ l. total-same (links_made g.node l) ws id v w at refl) k.tally;
@@ -103,7 +103,7 @@ kept-spare g s id v l at st none below room k =
       team = team-set ws id v w at refl refl (standing-spare l (slice_index s.counts l) v none st) k.team;
       keys = keys-as ws vs g s.keys (λ j. total-same (has_put j) ws id v w at refl) k.keys;
       bits = bits-as ws vs g s.masks (λ b. total-same (has_marked b) ws id v w at refl) k.bits;
-      lengths = lengths-as ws vs g s.lengths (λ q. greatest-same (reach_of q) ws id v w at refl) k.lengths;
+      lengths = lengths-as ws vs g s.lengths (λ q. greatest-same (raised_to q) ws id v w at refl) k.lengths;
       cells = cells-as ws vs g s.cells (λ c a. all-same g.into c a ws id v w at refl) k.cells;
       hanging = k.hanging;
       tally = tally-as ws vs g s.slots (λ l. total-same (links_made g.node l) ws id v w at refl) k.tally;
@@ -125,7 +125,7 @@ kept-past g s id v l at st none below room k =
       team = team-set ws id v w at refl refl (standing-past l (slice_index s.counts l) v none st) k.team;
       keys = keys-as ws vs g s.keys (λ j. total-same (has_put j) ws id v w at refl) k.keys;
       bits = bits-as ws vs g s.masks (λ b. total-same (has_marked b) ws id v w at refl) k.bits;
-      lengths = lengths-as ws vs g s.lengths (λ q. greatest-same (reach_of q) ws id v w at refl) k.lengths;
+      lengths = lengths-as ws vs g s.lengths (λ q. greatest-same (raised_to q) ws id v w at refl) k.lengths;
       cells = cells-as ws vs g s.cells (λ c a. all-same g.into c a ws id v w at refl) k.cells;
       hanging = k.hanging;
       tally = tally-as ws vs g s.slots (λ l. total-same (links_made g.node l) ws id v w at refl) k.tally;
@@ -137,26 +137,26 @@ kept-draw g s id v l at st none past below k =
     draw_case (λ w. MeetsRaceInvariant g (record s { counts = set s.counts l (slice_index s.counts l + 1); workers = set s.workers id w })) l (length (g.stock l)) (slice_index s.counts l) v
     (λ room. kept-spare g s id v l at st none below room k) (λ room. kept-past g s id v l at st past below room k)
 
-pub kept-link : (g : Setting) (s : Race) (id : ℕ) (v : Worker) (i t : ℕ) → get_elem? s.workers id ≡ some v → Standing v → i < length s.slots → slice_index s.slots i ≡ 0 → 0 < pairs (g.node i) t v.spare → Known g v (g.over_slot i) → MeetsRaceInvariant g s
-    → MeetsRaceInvariant g (record s { slots = set s.slots i ((number_at g (g.node i) t) + 1); workers = set s.workers id (after_link (g.node i) i t (number_at g (g.node i) t) v) })
+pub kept-link : (g : Setting) (s : Race) (id : ℕ) (v : Worker) (i t : ℕ) → get_elem? s.workers id ≡ some v → Standing v → i < length s.slots → slice_index s.slots i ≡ 0 → 0 < pairs (g.node i) t v.spare → KnowsContainer g v (g.over_slot i) → MeetsRaceInvariant g s
+    → MeetsRaceInvariant g (record s { slots = set s.slots i ((ticket_number g (g.node i) t) + 1); workers = set s.workers id (after_link (g.node i) i t (ticket_number g (g.node i) t) v) })
 kept-link g s id v i t at st below empty has known k =
     let ws = s.workers in
-    let w : Worker = (after_link (g.node i) i t (number_at g (g.node i) t) v) in
+    let w : Worker = (after_link (g.node i) i t (ticket_number g (g.node i) t) v) in
     let vs = set ws id w in
     record {
-      slots_stay = stay-set g.slots s.slots i ((number_at g (g.node i) t) + 1) below empty k.slots_stay;
+      slots_stay = stay-set g.slots s.slots i ((ticket_number g (g.node i) t) + 1) below empty k.slots_stay;
       keys_stay = k.keys_stay;
-      tickets = tickets-as ws vs g.node g.stock s.counts (λ l u. total-same (holds_ticket g.node l u) ws id v w at (holds-link g.node i t (number_at g (g.node i) t) v st.spare has l u)) (λ l t. total-same (held_past l t) ws id v w at refl) k.tickets;
+      tickets = tickets-as ws vs g.node g.stock s.counts (λ l u. total-same (holds_ticket g.node l u) ws id v w at (holds-link g.node i t (ticket_number g (g.node i) t) v st.spare has l u)) (λ l t. total-same (held_past l t) ws id v w at refl) k.tickets;
       links = links-link g s.slots ws id i t v at below empty k.slots_stay k.links;
-      seen = seen-more has_seen (set s.slots i ((number_at g (g.node i) t) + 1)) ws id i (number_at g (g.node i) t) v w at (full-here s.slots i ((number_at g (g.node i) t) + 1) below) (λ j m. pairs-snoc j m v.seen (i, (number_at g (g.node i) t))) (seen-write has_seen s.slots ws i ((number_at g (g.node i) t) + 1) below empty k.seen);
+      seen = seen-more has_seen (set s.slots i ((ticket_number g (g.node i) t) + 1)) ws id i (ticket_number g (g.node i) t) v w at (full-here s.slots i ((ticket_number g (g.node i) t) + 1) below) (λ j m. pairs-snoc j m v.seen (i, (ticket_number g (g.node i) t))) (seen-write has_seen s.slots ws i ((ticket_number g (g.node i) t) + 1) below empty k.seen);
       seen_keys = seen_keys-as ws vs s.keys (λ j n. total-same (has_key j n) ws id v w at refl) k.seen_keys;
-      team = team-set ws id v w at refl refl (standing-link (g.node i) i t (number_at g (g.node i) t) v st) k.team;
+      team = team-set ws id v w at refl refl (standing-link (g.node i) i t (ticket_number g (g.node i) t) v st) k.team;
       keys = keys-as ws vs g s.keys (λ j. total-same (has_put j) ws id v w at refl) k.keys;
       bits = bits-as ws vs g s.masks (λ b. total-same (has_marked b) ws id v w at refl) k.bits;
-      lengths = lengths-as ws vs g s.lengths (λ q. greatest-same (reach_of q) ws id v w at refl) k.lengths;
+      lengths = lengths-as ws vs g s.lengths (λ q. greatest-same (raised_to q) ws id v w at refl) k.lengths;
       cells = cells-as ws vs g s.cells (λ c a. all-same g.into c a ws id v w at refl) k.cells;
-      hanging = hanging-link g s.slots s.masks s.lengths i ((number_at g (g.node i) t) + 1) below empty (known-reached g s.slots ws id v (g.over_slot i) at k.seen known) k.hanging;
-      tally = tally-link g s.slots ws id i t (number_at g (g.node i) t) v at below empty k.tally;
+      hanging = hanging-link g s.slots s.masks s.lengths i ((ticket_number g (g.node i) t) + 1) below empty (known-reached g s.slots ws id v (g.over_slot i) at k.seen known) k.hanging;
+      tally = tally-link g s.slots ws id i t (ticket_number g (g.node i) t) v at below empty k.tally;
     }
 
 pub kept-found : (g : Setting) (s : Race) (id : ℕ) (v : Worker) (p : ℕ) → get_elem? s.workers id ≡ some v → Standing v → slice_index s.keys p ≢ 0 → MeetsRaceInvariant g s
@@ -175,17 +175,17 @@ kept-found g s id v p at st full k =
       team = team-set ws id v w at refl refl (record { share = st.share; size = st.size; spare = st.spare; left = st.left; past = st.past }) k.team;
       keys = keys-as ws vs g s.keys (λ j. total-same (has_put j) ws id v w at refl) k.keys;
       bits = bits-as ws vs g s.masks (λ b. total-same (has_marked b) ws id v w at refl) k.bits;
-      lengths = lengths-as ws vs g s.lengths (λ q. greatest-same (reach_of q) ws id v w at refl) k.lengths;
+      lengths = lengths-as ws vs g s.lengths (λ q. greatest-same (raised_to q) ws id v w at refl) k.lengths;
       cells = cells-as ws vs g s.cells (λ c a. all-same g.into c a ws id v w at refl) k.cells;
       hanging = k.hanging;
       tally = tally-as ws vs g s.slots (λ l. total-same (links_made g.node l) ws id v w at refl) k.tally;
     }
 
 pub kept-put : (g : Setting) (s : Race) (id : ℕ) (v : Worker) (p key : ℕ) → get_elem? s.workers id ≡ some v → Standing v → slice_index s.keys p ≡ 0 → MayPut (length s.keys) p key v → p < length s.keys → MeetsRaceInvariant g s
-    → MeetsRaceInvariant g (record s { keys = set s.keys p (key + 1); workers = set s.workers id (after_put p key v) })
+    → MeetsRaceInvariant g (record s { keys = set s.keys p (key + 1); workers = set s.workers id (after_key_put p key v) })
 kept-put g s id v p key at st empty may below k =
     let ws = s.workers in
-    let w : Worker = (after_put p key v) in
+    let w : Worker = (after_key_put p key v) in
     let vs = set ws id w in
     record {
       slots_stay = k.slots_stay;
@@ -197,13 +197,13 @@ kept-put g s id v p key at st empty may below k =
       team = team-set ws id v w at refl refl (record { share = st.share; size = st.size; spare = st.spare; left = st.left; past = st.past }) k.team;
       keys = keys-put g s.keys ws id p key v at empty may k.seen_keys below k.keys;
       bits = bits-as ws vs g s.masks (λ b. total-same (has_marked b) ws id v w at refl) k.bits;
-      lengths = lengths-as ws vs g s.lengths (λ q. greatest-same (reach_of q) ws id v w at refl) k.lengths;
+      lengths = lengths-as ws vs g s.lengths (λ q. greatest-same (raised_to q) ws id v w at refl) k.lengths;
       cells = cells-as ws vs g s.cells (λ c a. all-same g.into c a ws id v w at refl) k.cells;
       hanging = k.hanging;
       tally = tally-as ws vs g s.slots (λ l. total-same (links_made g.node l) ws id v w at refl) k.tally;
     }
 
-pub kept-mark : (g : Setting) (s : Race) (id : ℕ) (v : Worker) (b : ℕ) → get_elem? s.workers id ≡ some v → Standing v → b / 64 < length s.masks → Known g v (g.over_bit b) → MeetsRaceInvariant g s
+pub kept-mark : (g : Setting) (s : Race) (id : ℕ) (v : Worker) (b : ℕ) → get_elem? s.workers id ≡ some v → Standing v → b / 64 < length s.masks → KnowsContainer g v (g.over_bit b) → MeetsRaceInvariant g s
     → MeetsRaceInvariant g (record s { masks = (set s.masks (b / 64) (mark_word b (slice_index s.masks (b / 64)))); workers = set s.workers id (after_mark b v) })
 kept-mark g s id v b at st below known k =
     let ws = s.workers in
@@ -219,13 +219,13 @@ kept-mark g s id v b at st below known k =
       team = team-set ws id v w at refl refl (record { share = st.share; size = st.size; spare = st.spare; left = st.left; past = st.past }) k.team;
       keys = keys-as ws vs g s.keys (λ j. total-same (has_put j) ws id v w at refl) k.keys;
       bits = bits-mark g s.masks ws id b v at below k.bits;
-      lengths = lengths-as ws vs g s.lengths (λ q. greatest-same (reach_of q) ws id v w at refl) k.lengths;
+      lengths = lengths-as ws vs g s.lengths (λ q. greatest-same (raised_to q) ws id v w at refl) k.lengths;
       cells = cells-as ws vs g s.cells (λ c a. all-same g.into c a ws id v w at refl) k.cells;
       hanging = hanging-mark g s.slots s.masks s.lengths b below (known-reached g s.slots ws id v (g.over_bit b) at k.seen known) k.hanging;
       tally = tally-as ws vs g s.slots (λ l. total-same (links_made g.node l) ws id v w at refl) k.tally;
     }
 
-pub kept-raise : (g : Setting) (s : Race) (id : ℕ) (v : Worker) (q i : ℕ) → get_elem? s.workers id ≡ some v → Standing v → q < length s.lengths → Known g v (g.over_length q) → MeetsRaceInvariant g s
+pub kept-raise : (g : Setting) (s : Race) (id : ℕ) (v : Worker) (q i : ℕ) → get_elem? s.workers id ≡ some v → Standing v → q < length s.lengths → KnowsContainer g v (g.over_length q) → MeetsRaceInvariant g s
     → MeetsRaceInvariant g (record s { lengths = set s.lengths q (max (slice_index s.lengths q) (i + 1)); workers = set s.workers id (after_raise q i v) })
 kept-raise g s id v q i at st below known k =
     let ws = s.workers in
@@ -263,7 +263,7 @@ kept-add g s id v c x at st below exchanged k =
       team = team-set ws id v w at refl refl (record { share = st.share; size = st.size; spare = st.spare; left = st.left; past = st.past }) k.team;
       keys = keys-as ws vs g s.keys (λ j. total-same (has_put j) ws id v w at refl) k.keys;
       bits = bits-as ws vs g s.masks (λ b. total-same (has_marked b) ws id v w at refl) k.bits;
-      lengths = lengths-as ws vs g s.lengths (λ q. greatest-same (reach_of q) ws id v w at refl) k.lengths;
+      lengths = lengths-as ws vs g s.lengths (λ q. greatest-same (raised_to q) ws id v w at refl) k.lengths;
       cells = cells-add g s.cells ws id c x v exchanged at below k.cells;
       hanging = k.hanging;
       tally = tally-as ws vs g s.slots (λ l. total-same (links_made g.node l) ws id v w at refl) k.tally;
@@ -280,7 +280,7 @@ pub record Alike (g : Setting) (ws vs : List Worker) : Type 0 where
   pub keys : (p k : ℕ) → total (has_key p k) vs ≡ total (has_key p k) ws
   pub put : (k : ℕ) → total (has_put k) vs ≡ total (has_put k) ws
   pub marked : (b : ℕ) → total (has_marked b) vs ≡ total (has_marked b) ws
-  pub reach : (q : ℕ) → greatest (reach_of q) vs ≡ greatest (reach_of q) ws
+  pub reach : (q : ℕ) → greatest (raised_to q) vs ≡ greatest (raised_to q) ws
   pub fold : (c a : ℕ) → fold_all g.into c a vs ≡ fold_all g.into c a ws
   pub tally : (l : ℕ) → total (links_made g.node l) vs ≡ total (links_made g.node l) ws
 
@@ -318,7 +318,7 @@ kept-first g s none k =
       put = λ k. total-first (has_put k) s.workers v none refl;
       marked = λ b. total-first (has_marked b) s.workers v none refl;
       tally = λ l. total-first (links_made g.node l) s.workers v none refl;
-      reach = λ q. ap (greatest (reach_of q)) (sym none);
+      reach = λ q. ap (greatest (raised_to q)) (sym none);
       fold = λ c a. ap (fold_all g.into c a) (sym none);
     }
     record {
@@ -347,7 +347,7 @@ kept-enrol g s id v at st share k =
       put = λ k. total-enrol (has_put k) s.workers id v left right at refl refl;
       marked = λ b. total-enrol (has_marked b) s.workers id v left right at refl refl;
       tally = λ l. total-enrol (links_made g.node l) s.workers id v left right at refl refl;
-      reach = λ q. let a = greatest-append (reach_of q) (set s.workers id left) (right ∷ []) in let t = greatest-same (reach_of q) s.workers id v left at refl in omega arith;
+      reach = λ q. let a = greatest-append (raised_to q) (set s.workers id left) (right ∷ []) in let t = greatest-same (raised_to q) s.workers id v left at refl in omega arith;
       fold = λ c a. all-snoc g.into c a (set s.workers id left) right refl ∙ all-same g.into c a s.workers id v left at refl;
     }
     (team-split s.workers id v at share st k.team)
@@ -375,7 +375,7 @@ kept-join g s i j v w n at at' st st' exchanged k =
       put = λ k'. total-join (has_put k') s.workers i j v w both nobody n at at' (let a = total-append (λ (x : ℕ). one (x == k')) v.put w.put in omega arith);
       marked = λ b. total-join (has_marked b) s.workers i j v w both nobody n at at' (let a = total-append (λ (x : ℕ). one (x == b)) v.marked w.marked in omega arith);
       tally = λ l. total-join (links_made g.node l) s.workers i j v w both nobody n at at' (let a = total-append (λ (x : ℕ × ℕ). one (g.node x.0 == l)) v.made w.made in omega arith);
-      reach = λ q. greatest-join (reach_of q) s.workers i j v w both nobody n at at' (greatest-append (λ (x : ℕ × ℕ). cond (x.0 == q) (x.1 + 1) 0) v.raised w.raised) refl;
+      reach = λ q. greatest-join (raised_to q) s.workers i j v w both nobody n at at' (greatest-append (λ (x : ℕ × ℕ). cond (x.0 == q) (x.1 + 1) 0) v.raised w.raised) refl;
       fold = λ c a. all-join g.into exchanged c s.workers i j v w both nobody a n at at' refl refl;
     }
     (team-join s.workers i j v w n at at' st st' k.team)

@@ -3,7 +3,7 @@
 use Rattle.std.specs.Prelude.{◌≡◌, ◌≢◌, ℕ, ◌+◌, ◌-◌, ◌<◌, ◌≤◌, min, max, true, not, ◌&&◌, ◌==◌, if◌then◌else◌, ◌⊎◌, List, [], ◌∷◌, length, slice_index}
 use Rattle.sg_words.specs.declared.race.Worker.{Worker}
 use Rattle.sg_words.specs.Counts.{one, once_below, total, greatest, Each, times_in, pairs, firsts, bit_in}
-use Rattle.sg_words.specs.RaceMachine.{Setting, Race, nobody, number_at, place_of}
+use Rattle.sg_words.specs.RaceMachine.{Setting, Race, nobody, ticket_number, place_in_order}
 
 -- a word that wasn't 0 at the start is as it was
 abbrev pub Stay : List ℕ → List ℕ → Type 0
@@ -33,7 +33,7 @@ has_linked i v = firsts i v.made
 
 -- a slot that was 0 at the start holds the number of the ticket with which it was made, and is 0 where nobody made it
 pub record LinksAreMade (g : Setting) (slots : List ℕ) (workers : List Worker) : Type 0 where
-  pub made : (i t : ℕ) → 0 < total (has_made i t) workers → (slice_index g.slots i ≡ 0) × (i < length slots) × (slice_index slots i ≡ number_at g (g.node i) t + 1)
+  pub made : (i t : ℕ) → 0 < total (has_made i t) workers → (slice_index g.slots i ≡ 0) × (i < length slots) × (slice_index slots i ≡ ticket_number g (g.node i) t + 1)
   pub bare : (i : ℕ) → slice_index g.slots i ≡ 0 → total (has_linked i) workers ≡ 0 → slice_index slots i ≡ 0
 
 abbrev pub has_seen : ℕ → ℕ → Worker → ℕ
@@ -57,8 +57,8 @@ pub record Standing (v : Worker) : Type 0 where
   pub left : (l : ℕ) → firsts l v.left < v.size
   pub past : (l : ℕ) → firsts l v.past ≤ v.size
 
-abbrev pub weight : Worker → ℕ
-weight v = v.share + v.back
+abbrev pub handed_share : Worker → ℕ
+handed_share v = v.share + v.back
 
 -- what all shares and what came back add up to: nothing before the first worker, then 16
 abbrev pub all_shares : List Worker → ℕ
@@ -69,12 +69,12 @@ all_shares (v ∷ vs) = 16
 pub record Team (workers : List Worker) : Type 0 where
   pub each : Each (λ v. (v ≡ nobody) ⊎ Standing v) workers
   pub sizes : total (λ v. v.size) workers ≡ length workers
-  pub shares : total weight workers ≡ all_shares workers
+  pub shares : total handed_share workers ≡ all_shares workers
 
 -- where key k stands at place number j of its order, each earlier place of the order holds another key
 abbrev pub Probed : List ℕ → Type 0
-Probed keys = (k j i : ℕ) → j < length keys → slice_index keys (place_of (length keys) k j) ≡ k + 1 → i < j
-    → (slice_index keys (place_of (length keys) k i) ≢ 0) × (slice_index keys (place_of (length keys) k i) ≢ k + 1)
+Probed keys = (k j i : ℕ) → j < length keys → slice_index keys (place_in_order (length keys) k j) ≡ k + 1 → i < j
+    → (slice_index keys (place_in_order (length keys) k i) ≢ 0) × (slice_index keys (place_in_order (length keys) k i) ≢ k + 1)
 
 abbrev pub has_put : ℕ → Worker → ℕ
 has_put k v = times_in k v.put
@@ -92,12 +92,12 @@ abbrev pub BitsAreMarked : Setting → List ℕ → List Worker → Type 0
 BitsAreMarked g masks workers = (length masks ≡ length g.masks) × ((b : ℕ) → bit_in masks b ≡ min 1 (bit_in g.masks b + total (has_marked b) workers))
 
 -- one more than the greatest index to which a length was raised
-abbrev pub reach_of : ℕ → Worker → ℕ
-reach_of q v = greatest (λ x. if x.0 == q then x.1 + 1 else 0) v.raised
+abbrev pub raised_to : ℕ → Worker → ℕ
+raised_to q v = greatest (λ x. if x.0 == q then x.1 + 1 else 0) v.raised
 
 -- each length is the greatest of its start and the raised indices plus one
 abbrev pub LengthsAreRaised : Setting → List ℕ → List Worker → Type 0
-LengthsAreRaised g lengths workers = (length lengths ≡ length g.lengths) × ((q : ℕ) → slice_index lengths q ≡ max (slice_index g.lengths q) (greatest (reach_of q) workers))
+LengthsAreRaised g lengths workers = (length lengths ≡ length g.lengths) × ((q : ℕ) → slice_index lengths q ≡ max (slice_index g.lengths q) (greatest (raised_to q) workers))
 
 -- a cell's word with one contribution, if it is to this cell; with all of a worker; and with those of all workers
 abbrev pub with_one : (ℕ → ℕ → ℕ) → ℕ → ℕ → ℕ × ℕ → ℕ
@@ -116,14 +116,14 @@ abbrev pub CellsAreFolded : Setting → List ℕ → List Worker → Type 0
 CellsAreFolded g cells workers = (length cells ≡ length g.cells) × ((c : ℕ) → c < length cells → slice_index cells c ≡ fold_all g.into c (slice_index g.cells c) workers)
 
 -- a container was live at the start, or a slot word links it
-abbrev pub Reached : Setting → List ℕ → ℕ × ℕ → Type 0
-Reached g slots c = (g.live c ≡ true) ⊎ ((i : ℕ) × (g.node i ≡ c.0) × (slice_index slots i ≡ c.1 + 1))
+abbrev pub IsReachedContainer : Setting → List ℕ → ℕ × ℕ → Type 0
+IsReachedContainer g slots c = (g.live c ≡ true) ⊎ ((i : ℕ) × (g.node i ≡ c.0) × (slice_index slots i ≡ c.1 + 1))
 
 -- each linked slot, set bit and length other than 0 stands in such a container
 pub record Hanging (g : Setting) (slots masks lengths : List ℕ) : Type 0 where
-  pub by_slot : (i : ℕ) → 0 < slice_index slots i → Reached g slots (g.over_slot i)
-  pub by_bit : (b : ℕ) → 0 < bit_in masks b → Reached g slots (g.over_bit b)
-  pub by_length : (q : ℕ) → 0 < slice_index lengths q → Reached g slots (g.over_length q)
+  pub by_slot : (i : ℕ) → 0 < slice_index slots i → IsReachedContainer g slots (g.over_slot i)
+  pub by_bit : (b : ℕ) → 0 < bit_in masks b → IsReachedContainer g slots (g.over_bit b)
+  pub by_length : (q : ℕ) → 0 < slice_index lengths q → IsReachedContainer g slots (g.over_length q)
 
 -- how many slots of node l are linked, of a list that begins with slot i
 abbrev pub links_from : (ℕ → ℕ) → ℕ → ℕ → List ℕ → ℕ

@@ -2,7 +2,7 @@
 use Rattle.std.specs.Prelude.{◌≡◌, ◌≢◌, ℕ, ◌+◌, ◌<◌, ◌≤◌, min, List, length, slice_index}
 use Rattle.sg_words.specs.declared.race.Worker.{Worker}
 use Rattle.sg_words.specs.Counts.{total, firsts, bit_in}
-use Rattle.sg_words.specs.RaceMachine.{Setting, Race, Event, Needs, IsRun, state_after, state_after_all, opening_race, number_at, place_of, worker}
+use Rattle.sg_words.specs.RaceMachine.{Setting, Race, Event, Needs, IsRun, state_after, state_after_all, opening_race, ticket_number, place_in_order, worker}
 use Rattle.sg_words.specs.RaceInvariant.{MeetsRaceInvariant, Sound, holds_ticket, links_from}
 
 -- words that only grow: one that isn't 0 stays
@@ -44,16 +44,16 @@ TicketStandsOnce g s l t = MeetsRaceInvariant g s → t < min (slice_index s.cou
 -- a key stands in one place of its order
 abbrev pub KeyStandsOnce : Setting → Race → ℕ → ℕ → ℕ → Type 0
 KeyStandsOnce g s k i j = MeetsRaceInvariant g s → i < length s.keys → j < length s.keys
-    → slice_index s.keys (place_of (length s.keys) k i) ≡ k + 1 → slice_index s.keys (place_of (length s.keys) k j) ≡ k + 1 → i ≡ j
+    → slice_index s.keys (place_in_order (length s.keys) k i) ≡ k + 1 → slice_index s.keys (place_in_order (length s.keys) k j) ≡ k + 1 → i ≡ j
 
 -- a stock has distinct numbers, and none of them is linked at the start
-pub record IsFresh (g : Setting) (l : ℕ) : Type 0 where
-  pub distinct : (t u : ℕ) → t < length (g.stock l) → u < length (g.stock l) → number_at g l t ≡ number_at g l u → t ≡ u
-  pub unlinked : (t i : ℕ) → t < length (g.stock l) → g.node i ≡ l → slice_index g.slots i ≢ number_at g l t + 1
+pub record IsFreshSetting (g : Setting) (l : ℕ) : Type 0 where
+  pub distinct : (t u : ℕ) → t < length (g.stock l) → u < length (g.stock l) → ticket_number g l t ≡ ticket_number g l u → t ≡ u
+  pub unlinked : (t i : ℕ) → t < length (g.stock l) → g.node i ≡ l → slice_index g.slots i ≢ ticket_number g l t + 1
 
 -- with such a stock a new link is the only link of its node that holds its number
 abbrev pub NewLinksDiffer : Setting → Race → ℕ → ℕ → Type 0
-NewLinksDiffer g s i j = MeetsRaceInvariant g s → IsFresh g (g.node i) → slice_index g.slots i ≡ 0 → 0 < slice_index s.slots i
+NewLinksDiffer g s i j = MeetsRaceInvariant g s → IsFreshSetting g (g.node i) → slice_index g.slots i ≡ 0 → 0 < slice_index s.slots i
     → g.node i ≡ g.node j → slice_index s.slots i ≡ slice_index s.slots j → i ≡ j
 
 -- Spares never fill a pool: where the stock has 17 more numbers than the free places of a pool of c, and a ticket past it was drawn, more

@@ -47,8 +47,8 @@ abbrev pub worker : Race → ℕ → Worker
 worker s id = slice_index_or s.workers id nobody
 
 -- the number that a ticket of a node stands for
-abbrev pub number_at : Setting → ℕ → ℕ → ℕ
-number_at g l t = slice_index (g.stock l) t
+abbrev pub ticket_number : Setting → ℕ → ℕ → ℕ
+ticket_number g l t = slice_index (g.stock l) t
 
 -- ---- a worker after an event of its own
 -- a split: the other half, rounded down, goes to a new worker
@@ -97,8 +97,8 @@ after_link l i t n v = record v { spare = without l v.spare; made = v.made ++ (i
 abbrev pub after_key : ℕ → ℕ → Worker → Worker
 after_key p k v = record v { keys = v.keys ++ (p, k) ∷ [] }
 
-abbrev pub after_put : ℕ → ℕ → Worker → Worker
-after_put p k v = record v { keys = v.keys ++ (p, k) ∷ []; put = v.put ++ k ∷ [] }
+abbrev pub after_key_put : ℕ → ℕ → Worker → Worker
+after_key_put p k v = record v { keys = v.keys ++ (p, k) ∷ []; put = v.put ++ k ∷ [] }
 
 abbrev pub after_mark : ℕ → Worker → Worker
 after_mark b v = record v { marked = v.marked ++ b ∷ [] }
@@ -111,19 +111,19 @@ after_add c x v = record v { given = v.given ++ (c, x) ∷ [] }
 
 -- ---- what an event needs
 -- place number j in the order of key k among n places
-abbrev pub place_of : ℕ → ℕ → ℕ → ℕ
-place_of n k j = (k + j) % n
+abbrev pub place_in_order : ℕ → ℕ → ℕ → ℕ
+place_in_order n k j = (k + j) % n
 
 -- a worker knows a container that was live at the start, or that it has seen in a slot
-abbrev pub Known : Setting → Worker → ℕ × ℕ → Type 0
-Known g v c = (g.live c ≡ true) ⊎ ((slot : ℕ) × (g.node slot ≡ c.0) × (0 < pairs slot c.1 v.seen))
+abbrev pub KnowsContainer : Setting → Worker → ℕ × ℕ → Type 0
+KnowsContainer g v c = (g.live c ≡ true) ⊎ ((slot : ℕ) × (g.node slot ≡ c.0) × (0 < pairs slot c.1 v.seen))
 
 -- a worker has found another key in each place before place number j of key k's order
 abbrev pub HasOthersBefore : ℕ → ℕ → ℕ → Worker → Type 0
-HasOthersBefore n k j v = (i : ℕ) → i < j → (other : ℕ) × (other ≢ k) × (0 < pairs (place_of n k i) other v.keys)
+HasOthersBefore n k j v = (i : ℕ) → i < j → (other : ℕ) × (other ≢ k) × (0 < pairs (place_in_order n k i) other v.keys)
 
 abbrev pub MayPut : ℕ → ℕ → ℕ → Worker → Type 0
-MayPut n p k v = (j : ℕ) × (j < n) × (p ≡ place_of n k j) × HasOthersBefore n k j v
+MayPut n p k v = (j : ℕ) × (j < n) × (p ≡ place_in_order n k j) × HasOthersBefore n k j v
 
 -- The first worker comes; worker v is split, draws a ticket of node l, sees or misses slot i, links slot i by its ticket t, finds or puts
 -- key k at place p, marks bit b, raises length q to index i, adds x to cell c, is joined by worker w
@@ -147,11 +147,11 @@ Needs g s (draw v l) = (0 < (worker s v).share) × (l < length s.counts) × (fir
 Needs g s (see v i) = (0 < (worker s v).share) × (slice_index s.slots i ≢ 0)
 Needs g s (miss v i) = (0 < (worker s v).share) × (i < length s.slots) × (slice_index s.slots i ≡ 0)
 Needs g s (link v i t) = (0 < (worker s v).share) × (i < length s.slots) × (slice_index s.slots i ≡ 0)
-    × (0 < pairs (g.node i) t (worker s v).spare) × Known g (worker s v) (g.over_slot i)
+    × (0 < pairs (g.node i) t (worker s v).spare) × KnowsContainer g (worker s v) (g.over_slot i)
 Needs g s (key v p k) = (0 < (worker s v).share)
     × ((slice_index s.keys p ≢ 0) ⊎ ((slice_index s.keys p ≡ 0) × MayPut (length s.keys) p k (worker s v)))
-Needs g s (mark v b) = (0 < (worker s v).share) × (b / 64 < length s.masks) × Known g (worker s v) (g.over_bit b)
-Needs g s (raise v q i) = (0 < (worker s v).share) × (q < length s.lengths) × Known g (worker s v) (g.over_length q)
+Needs g s (mark v b) = (0 < (worker s v).share) × (b / 64 < length s.masks) × KnowsContainer g (worker s v) (g.over_bit b)
+Needs g s (raise v q i) = (0 < (worker s v).share) × (q < length s.lengths) × KnowsContainer g (worker s v) (g.over_length q)
 Needs g s (add v c x) = (0 < (worker s v).share) × (c < length s.cells)
 Needs g s (join v w) = (0 < (worker s v).share) × (0 < (worker s w).share) × (w ≢ v)
 
@@ -164,7 +164,7 @@ abbrev pub key_word : ℕ → ℕ → ℕ
 key_word k word = if word == 0 then k + 1 else word
 
 abbrev pub after_key_word : ℕ → ℕ → ℕ → Worker → Worker
-after_key_word p k word v = if word == 0 then after_put p k v else after_key p (word - 1) v
+after_key_word p k word v = if word == 0 then after_key_put p k v else after_key p (word - 1) v
 
 abbrev pub mark_word : ℕ → ℕ → ℕ
 mark_word b word = bit_or word (2 ^ (b % 64))
@@ -179,8 +179,8 @@ state_after g (draw v l) s = record s {
 state_after g (see v i) s = with_worker v (after_see i (slice_index s.slots i - 1) (worker s v)) s
 state_after g (miss v i) s = with_worker v (after_miss i (worker s v)) s
 state_after g (link v i t) s = record s {
-  slots = slice_set s.slots i (number_at g (g.node i) t + 1);
-  workers = slice_set s.workers v (after_link (g.node i) i t (number_at g (g.node i) t) (worker s v));
+  slots = slice_set s.slots i (ticket_number g (g.node i) t + 1);
+  workers = slice_set s.workers v (after_link (g.node i) i t (ticket_number g (g.node i) t) (worker s v));
 }
 state_after g (key v p k) s = record s {
   keys = slice_set s.keys p (key_word k (slice_index s.keys p));

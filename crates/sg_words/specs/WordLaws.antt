@@ -71,13 +71,13 @@ abbrev pub FoldedIsWord : AccOp → Ty → ℕ → ℕ → Type 0
 FoldedIsWord op t a b = IsWord a → IsWord b → IsWord (folded op t a b)
 
 -- the operator that joins as an accumulation does
-abbrev pub operator_of : AccOp → BinOp
-operator_of acc.Add = bin.Add
-operator_of acc.Min = bin.Min
-operator_of acc.Max = bin.Max
+abbrev pub joining_operator : AccOp → BinOp
+joining_operator acc.Add = bin.Add
+joining_operator acc.Min = bin.Min
+joining_operator acc.Max = bin.Max
 
 abbrev pub FoldedIsApplied : AccOp → Ty → ℕ → ℕ → Type 0
-FoldedIsApplied op t a b = IsWord a → IsWord b → folded op t a b ≡ applied (operator_of op) t a b
+FoldedIsApplied op t a b = IsWord a → IsWord b → folded op t a b ≡ applied (joining_operator op) t a b
 
 -- contributions joined to an old word give the same in every order
 abbrev pub FoldsAlike : AccOp → Ty → ℕ → List ℕ → List ℕ → Type 0

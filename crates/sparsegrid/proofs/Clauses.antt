@@ -12,8 +12,8 @@ use Rattle.sparsegrid.specs.declared.output.PutFailed.{PutFailed}
 use Rattle.sparsegrid.specs.declared.session.Done.{Done}
 use Rattle.sparsegrid.specs.Words.{Asked, good_words, is_gen}
 use Rattle.sparsegrid.specs.Meaning.{Meaning, Readings, meaning, meaning_by, meaning_of_words, meaning_of_asked, readings_in}
-use Rattle.sparsegrid.specs.Outcome.{Outside, IsWhole, IsCutShort, IsEnding, HasSession, Wrote, AskedFront, WentAFront, AsksAs, ReadFaults, PutFaults, CountOf, ReadCount, StandsForLast, asked_more, counted_more}
-use Rattle.sparsegrid.specs.steps.Along.{SendCause, status_of, session_of, ReadMade, names_of, Followed, NoneFailed, LastFailed, ReadsEnd, Went, IsEnd}
+use Rattle.sparsegrid.specs.Outcome.{Outside, HasWholeText, IsCutShort, IsEnding, HasSession, Wrote, AskedFront, WentAFront, AsksAs, ReadFaults, PutFaults, CountOf, ReadCount, StandsForLast, asked_more, counted_more}
+use Rattle.sparsegrid.specs.steps.Along.{SendCause, status_of, session_of, ReadMade, names_of, FollowedMeaning, NoneFailed, LastFailed, ReadsEnd, Went, IsEnd}
 use Rattle.sparsegrid.proofs.Sources.{of_file}
 use Rattle.sparsegrid.proofs.Unread.{generated_asks, no_names}
 use Rattle.sparsegrid.proofs.Readings.{count_low, count_rose, agree_told, agree_stopped, readings_of, agree_own}
@@ -21,7 +21,7 @@ use Rattle.sparsegrid.proofs.Readings.{count_low, count_rose, agree_told, agree_
 module _ (words : List (List ℕ)) (before after : Outside) (result : Result Done (Stop PutFailed)) (went : Went (meaning_by words) 0 before after result) (end : IfOk result IsEnd) where
   -- ---- by how a run ended
 
-  wrote_as : (m : Meaning) (r : Result Done (Stop PutFailed)) → Followed m (names_of went.made) before after r → IsEnding (status_of r) → Wrote m before after (status_of r)
+  wrote_as : (m : Meaning) (r : Result Done (Stop PutFailed)) → FollowedMeaning m (names_of went.made) before after r → IsEnding (status_of r) → Wrote m before after (status_of r)
   wrote_as m (Ok done) f ending =
       record {
         text = f.along.bytes;
@@ -32,13 +32,13 @@ module _ (words : List (List ℕ)) (before after : Outside) (result : Result Don
   wrote_as m (Err (stop.Refused failed)) f ending = absurd (ending.0 refl)
   wrote_as m (Err stop.Memory) f ending = absurd (ending.1 refl)
 
-  front_as : (m : Meaning) (r : Result Done (Stop PutFailed)) → IfOk r IsEnd → Followed m (names_of went.made) before after r → IsCutShort (status_of r) → WentAFront m before after (status_of r)
+  front_as : (m : Meaning) (r : Result Done (Stop PutFailed)) → IfOk r IsEnd → FollowedMeaning m (names_of went.made) before after r → IsCutShort (status_of r) → WentAFront m before after (status_of r)
   front_as m (Ok done) e f (inl three) = absurd (e.0 three)
   front_as m (Ok done) e f (inr nine) = absurd (e.1 nine)
   front_as m (Err why) e f cut =
       record { text = f.along.bytes; names = record { names = names_of went.made; left = f.asked.0; whole = f.asked.1; asked = went.asked; reads = went.reads } }
 
-  names_as : (m : Meaning) (r : Result Done (Stop PutFailed)) → Followed m (names_of went.made) before after r → AskedFront m before after
+  names_as : (m : Meaning) (r : Result Done (Stop PutFailed)) → FollowedMeaning m (names_of went.made) before after r → AskedFront m before after
   names_as m (Ok done) f = record { names = names_of went.made; left = []; whole = f.asked ∙ sym (append-nil (names_of went.made)); asked = went.asked; reads = went.reads }
   names_as m (Err why) f = record { names = names_of went.made; left = f.asked.0; whole = f.asked.1; asked = went.asked; reads = went.reads }
 
@@ -47,21 +47,21 @@ module _ (words : List (List ℕ)) (before after : Outside) (result : Result Don
   no_two (Err (stop.Refused failed)) other = λ two. absurd (omega arith)
   no_two (Err stop.Memory) other = λ two. absurd (omega arith)
 
-  two_whole : (r : Result Done (Stop PutFailed)) → IfOk r (λ done. done.status ≡ 2) → IsWhole (status_of r) → ⊥
+  two_whole : (r : Result Done (Stop PutFailed)) → IfOk r (λ done. done.status ≡ 2) → HasWholeText (status_of r) → ⊥
   two_whole (Ok done) two is = is.0 two
   two_whole (Err (stop.Refused failed)) two is = is.1 refl
   two_whole (Err stop.Memory) two is = is.2 refl
 
-  ending_whole : (status : ℕ) → IsWhole status → IsEnding status
+  ending_whole : (status : ℕ) → HasWholeText status → IsEnding status
   ending_whole status is = (is.1, is.2)
 
   -- ---- the readings
 
-  followed_none : (held : Held) → before.held ≡ Some held → NoneFailed before after went.made → Followed (meaning words held None) (names_of went.made) before after result
+  followed_none : (held : Held) → before.held ≡ Some held → NoneFailed before after went.made → FollowedMeaning (meaning words held None) (names_of went.made) before after result
   followed_none held told none = went.followed (readings_in held None) (agree_told held 0 went.made (none.told held told))
 
   followed_stopped : (held : Held) → before.held ≡ Some held → (failed : LastFailed before after went.made) → after.reads < last_count
-      → Followed (meaning words held (Some (after.reads - before.reads))) (names_of went.made) before after result
+      → FollowedMeaning (meaning words held (Some (after.reads - before.reads))) (names_of went.made) before after result
   followed_stopped held told failed low =
       let count : counted_more before.reads (names_of went.made) ≡ before.reads + length (names_of went.made) = count_low before.reads (names_of went.made) (rw (sym went.reads) low) in
       let long : length (names_of went.made) ≡ length went.made = length-map went.made (λ (read : ReadMade). read.name) in
@@ -72,7 +72,7 @@ module _ (words : List (List ℕ)) (before after : Outside) (result : Result Don
 
   -- ---- the clauses
 
-  pub whole : IsWhole (status_of result) → (held : Held) → before.held ≡ Some held → Wrote (meaning words held None) before after (status_of result)
+  pub whole : HasWholeText (status_of result) → (held : Held) → before.held ≡ Some held → Wrote (meaning words held None) before after (status_of result)
   whole is held told = by_ends went.ends where
     by_ends : ReadsEnd before after went.made result → Wrote (meaning words held None) before after (status_of result)
     by_ends (inl well) = wrote_as (meaning words held None) result (followed_none held told well.0) (ending_whole (status_of result) is)
@@ -94,7 +94,7 @@ module _ (words : List (List ℕ)) (before after : Outside) (result : Result Don
     by_ends (inr failed) =
         inr (failed.0.fault, λ low. front_as (meaning words held (Some (after.reads - before.reads))) result end (followed_stopped held told failed.0 low) cut)
 
-  own : Followed (meaning_by words (readings_of 0 went.made)) (names_of went.made) before after result
+  own : FollowedMeaning (meaning_by words (readings_of 0 went.made)) (names_of went.made) before after result
   own = went.followed (readings_of 0 went.made) (agree_own 0 went.made)
 
   pub ended : IsEnding (status_of result) → (readings : Readings) × Wrote (meaning_by words readings) before after (status_of result)
@@ -105,14 +105,14 @@ module _ (words : List (List ℕ)) (before after : Outside) (result : Result Don
 
   pub reads : ReadCount (good_words words) before after (status_of result)
   reads = by_words (good_words words) result own where
-    by_words : (o : Option Asked) (r : Result Done (Stop PutFailed)) → Followed (meaning_of_words o (readings_of 0 went.made)) (names_of went.made) before after r → ReadCount o before after (status_of r)
+    by_words : (o : Option Asked) (r : Result Done (Stop PutFailed)) → FollowedMeaning (meaning_of_words o (readings_of 0 went.made)) (names_of went.made) before after r → ReadCount o before after (status_of r)
     by_words None (Ok done) f = went.reads ∙ ap (counted_more before.reads) (sym f.asked)
     by_words None (Err why) f = went.reads ∙ ap (counted_more before.reads) (front_none (names_of went.made) f.asked.0 (sym f.asked.1)) where
       front_none : (xs ys : List (List ℕ)) → xs ++ ys ≡ [] → xs ≡ []
       front_none [] ys h = refl
       front_none (x ∷ xs) ys h = absurd (cc)
     by_words (Some wanted) r f = by_mode (is_gen wanted.mode) refl where
-      by_file : (a : Result Done (Stop PutFailed)) → is_gen wanted.mode ≡ false → Followed (meaning_of_asked wanted (readings_of 0 went.made)) (names_of went.made) before after a
+      by_file : (a : Result Done (Stop PutFailed)) → is_gen wanted.mode ≡ false → FollowedMeaning (meaning_of_asked wanted (readings_of 0 went.made)) (names_of went.made) before after a
           → IsEnding (status_of a) → Rose before.reads after.reads
       by_file (Ok done) file g ending = rose (sym (ap (λ (m : Meaning). m.asked) (of_file wanted file (readings_of 0 went.made))) ∙ g.asked) where
         rose : {rest : List (List ℕ)} → wanted.file ∷ rest ≡ names_of went.made → Rose before.reads after.reads
@@ -164,7 +164,7 @@ module _ (words : List (List ℕ)) (before after : Outside) (result : Result Don
     well_last (Some kept) h = λ held told. h held told
 
     by_result : (r : Result Done (Stop PutFailed)) → IfOk r IsEnd → ReadsEnd before after went.made r
-        → ((held : Held) → before.held ≡ Some held → NoneFailed before after went.made → Followed (meaning words held None) (names_of went.made) before after r)
+        → ((held : Held) → before.held ≡ Some held → NoneFailed before after went.made → FollowedMeaning (meaning words held None) (names_of went.made) before after r)
         → IfSome (session_of r) (λ kept. (held : Held) → before.held ≡ Some held → StandsForLast (meaning words held None).last kept)
     by_result (Ok done) e (inl well) f = well_last done.session (λ held told. (f held told well.0).along.last)
     by_result (Ok done) e (inr failed) f = by_session done.session done.status e.2 failed.1 (λ kept. (held : Held) → before.held ≡ Some held → StandsForLast (meaning words held None).last kept)

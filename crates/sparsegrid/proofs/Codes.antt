@@ -13,7 +13,7 @@ use Rattle.sparsegrid.specs.declared.output.PutFailed.{PutFailed}
 use Rattle.sparsegrid.specs.declared.session.Done.{Done}
 use Rattle.sparsegrid.specs.Words.{Asked, good_words, is_gen}
 use Rattle.sparsegrid.specs.Meaning.{Meaning, meaning, meaning_by, asks_code, with_text, with_code}
-use Rattle.sparsegrid.specs.Outcome.{Outside, IsWhole, IsCutShort, IsEnding, HasSession, LeavesSession, code_in, Wrote, WroteMeaning, WroteStopped, WentAFront, WroteFront, EndsAs, AsksAs, ReadFaults, PutFaults, CountOf, ReadCount, StandsForLast, asked_more, counted_more}
+use Rattle.sparsegrid.specs.Outcome.{Outside, HasWholeText, IsCutShort, IsEnding, HasSession, LeavesSession, code_in, Wrote, WroteMeaning, WroteStopped, WentAFront, WroteFront, EndsAs, AsksAs, ReadFaults, PutFaults, CountOf, ReadCount, StandsForLast, asked_more, counted_more}
 use Rattle.sparsegrid.specs.steps.Along.{SendCause, status_of, session_of, Went, IsEnd, IsDue, code_left, PutsCode}
 use Rattle.sparsegrid.proofs.Writing.{followed_by-nil, followed_by-twice}
 use Rattle.sparsegrid.proofs.Clauses as clauses
@@ -149,7 +149,7 @@ module _ (words : List (List ℕ)) (before mid : Outside) (result : Result Done 
     by_test true = ap code_in none
     by_test false = refl
 
-  due_whole : IsDue lower done → IsWhole (status_of result)
+  due_whole : IsDue lower done → HasWholeText (status_of result)
   due_whole due =
       let zero : status_of result ≡ 0 = sym status ∙ due.all_done in
       ((λ two. absurd (omega (arith, zero, two))), (λ three. absurd (omega (arith, zero, three))), (λ nine. absurd (omega (arith, zero, nine))))
@@ -173,13 +173,13 @@ module _ (words : List (List ℕ)) (before mid : Outside) (result : Result Done 
 
   -- ---- the clauses
 
-  pub whole : IsWhole end.status → WroteMeaning words (code_in end.session) None before after end.status
+  pub whole : HasWholeText end.status → WroteMeaning words (code_in end.session) None before after end.status
   whole is held told = by_puts puts where
     by_puts : PutsCode lower done end mid.written written mid.failed_puts failed → Wrote (with_code words (code_in end.session) (meaning words held None)) before after end.status
     by_puts (inl so) = subst (λ (d : Done). Wrote (with_code words (code_in d.session) (meaning words held None)) before after d.status) (sym so.0)
-        (let ok : IsWhole done.status = subst (λ (d : Done). IsWhole d.status) so.0 is in
+        (let ok : HasWholeText done.status = subst (λ (d : Done). HasWholeText d.status) so.0 is in
         wrote_more lower words before mid written failed done (meaning words held None) (same_end (ok.1, ok.2)) so.1
-        (subst (λ (n : ℕ). Wrote (meaning words held None) before mid n) (sym status) (clauses.whole words before mid result went is_end (subst IsWhole status ok) held told)))
+        (subst (λ (n : ℕ). Wrote (meaning words held None) before mid n) (sym status) (clauses.whole words before mid result went is_end (subst HasWholeText status ok) held told)))
     by_puts (inr (inl lost)) = absurd (is.1 (ap (λ (d : Done). d.status) lost.1))
     by_puts (inr (inr out)) = absurd (is.2 (ap (λ (d : Done). d.status) out.1))
 
@@ -258,7 +258,7 @@ module _ (words : List (List ℕ)) (before mid : Outside) (result : Result Done 
     by_puts : PutsCode lower done end mid.written written mid.failed_puts failed → ReadFaults before after end.status
     by_puts (inl so) =
         let same : end.status ≡ status_of result = ap (λ (d : Done). d.status) so.0 ∙ status in
-        record { rose = λ two. first.rose (sym same ∙ two); stay = λ is. first.stay (subst IsWhole same is); never_fall = never }
+        record { rose = λ two. first.rose (sym same ∙ two); stay = λ is. first.stay (subst HasWholeText same is); never_fall = never }
     by_puts (inr (inl lost)) = let is_three : end.status ≡ 3 = ap (λ (d : Done). d.status) lost.1 in record { rose = λ two. absurd (omega (arith, is_three, two)); stay = λ is. absurd (is.1 is_three); never_fall = never }
     by_puts (inr (inr out)) = let is_nine : end.status ≡ 9 = ap (λ (d : Done). d.status) out.1 in record { rose = λ two. absurd (omega (arith, is_nine, two)); stay = λ is. absurd (is.2 is_nine); never_fall = never }
 

@@ -7,6 +7,7 @@ use Rattle.std.proofs.lemmas.Str.Pattern.{IsSplitOnceResult, split_once_first}
 use Rattle.std.specs.Prelude.{map, bytes_eq}
 use Rattle.std.proofs.lemmas.List.{length-map, get_or-map}
 use Rattle.sg_session.specs.declared.binds.Bind.{Bind}
+use Rattle.sg_session.specs.Bindings.{binding_read}
 use Rattle.sparsegrid.specs.Words as spec
 
 any_before_end : (p : ℕ → Bool) (xs : List ℕ) → position_or_len p xs < length xs → list_any p xs ≡ true
@@ -24,7 +25,7 @@ cut_at_equals word (Some cut) is =
 
 -- a name that a binding has is bound
 pub bound_there : (binds : List Bind) (name : List ℕ) (index : ℕ) (bind : Bind) → index < length binds → bind ≡ get_or binds index bind
-    → bytes_eq bind.name.text name ≡ true → true ≡ spec.is_bound (map spec.binding_read binds) name
+    → bytes_eq bind.name.text name ≡ true → true ≡ spec.has_binding (map binding_read binds) name
 bound_there binds name index bind within at same =
-    let here : get_or (map spec.binding_read binds) index (spec.binding_read bind) ≡ spec.binding_read bind = get_or-map spec.binding_read binds index bind (spec.binding_read bind) within ∙ ap spec.binding_read (sym at) in
-    sym (list_any_at (λ binding. bytes_eq binding.name name) (map spec.binding_read binds) index (spec.binding_read bind) (rw (length-map binds) within) (rw here same))
+    let here : get_or (map binding_read binds) index (binding_read bind) ≡ binding_read bind = get_or-map binding_read binds index bind (binding_read bind) within ∙ ap binding_read (sym at) in
+    sym (list_any_at (λ binding. bytes_eq binding.name name) (map binding_read binds) index (binding_read bind) (rw (length-map binds) within) (rw here same))

@@ -7,9 +7,9 @@ use Rattle.sg_outside.specs.Files.{Missing, asked_too}
 use Rattle.sg_outside.specs.Sink.{followed_by}
 use Rattle.sparsegrid.specs.declared.output.PutFailed.{PutFailed}
 use Rattle.sparsegrid.specs.declared.session.Done.{Done}
-use Rattle.sparsegrid.specs.Meaning.{Meaning, Readings, asking, before as before_text}
+use Rattle.sparsegrid.specs.Meaning.{Meaning, Readings, asking_for, before as before_text}
 use Rattle.sparsegrid.specs.Outcome.{Outside, asked_more, counted_more}
-use Rattle.sparsegrid.specs.steps.Along.{GrewByPart, WentAlong, ReadMade, names_of, Agree, AskedAll, Followed, NoneFailed, ReadsEnd, Went}
+use Rattle.sparsegrid.specs.steps.Along.{GrewByPart, WentAlong, ReadMade, names_of, Agree, AskedAll, FollowedMeaning, NoneFailed, ReadsEnd, Went}
 use Rattle.sparsegrid.proofs.Writing.{followed_by-nil, followed_by-twice}
 use Rattle.sparsegrid.proofs.Readings.{asked_twice, asked_none, counted_twice, names_twice, told_twice, agree_twice}
 
@@ -74,7 +74,7 @@ asked_behind (Err why) m names more front = (front.0, ap (λ (xs : List (List �
 
 -- what is written behind a text, as the rest of a meaning has it
 along_behind : (m : Meaning) (names : List (List ℕ)) (text : List ℕ) (old mid new : Option (List ℕ)) (result : Result Done (Stop PutFailed)) → mid ≡ followed_by old text
-    → WentAlong m mid new result → WentAlong (asking names (before_text text m)) old new result
+    → WentAlong m mid new result → WentAlong (asking_for names (before_text text m)) old new result
 along_behind m names text old mid new (Ok done) came along =
     record {
       bytes = along.bytes ∙ ap (λ told. followed_by told m.text) came ∙ followed_by-twice old text m.text;
@@ -97,7 +97,7 @@ along_behind m names text old mid new (Err why) came along =
 
 pub compose : (m rest : Readings → Meaning) (n k : ℕ) (made : List ReadMade) (text : List ℕ) (before mid after : Outside) (result : Result Done (Stop PutFailed))
     → k ≡ length made + n
-    → ((readings : Readings) → Agree readings n made → m readings ≡ asking (names_of made) (before_text text (rest readings)))
+    → ((readings : Readings) → Agree readings n made → m readings ≡ asking_for (names_of made) (before_text text (rest readings)))
     → mid.written ≡ followed_by before.written text → mid.asked ≡ asked_more before.asked (names_of made) → mid.reads ≡ counted_more before.reads (names_of made)
     → mid.held ≡ before.held → NoneFailed before mid made → Went rest k mid after result → Went m n before after result
 compose m rest n k made text before mid after result at is written asked reads held none went =
@@ -111,11 +111,11 @@ compose m rest n k made text before mid after result at is written asked reads h
       ends = ends went.ends;
     }
   where
-    follows : (readings : Readings) → Agree readings n made × Agree readings k went.made → Followed (m readings) (names_of (made ++ went.made)) before after result
+    follows : (readings : Readings) → Agree readings n made × Agree readings k went.made → FollowedMeaning (m readings) (names_of (made ++ went.made)) before after result
     follows readings agree =
         let then = went.followed readings agree.1 in
-        subst (λ (names : List (List ℕ)). Followed (m readings) names before after result) (sym (names_twice made went.made))
-        (subst (λ (whole : Meaning). Followed whole (names_of made ++ names_of went.made) before after result) (sym (is readings agree.0))
+        subst (λ (names : List (List ℕ)). FollowedMeaning (m readings) names before after result) (sym (names_twice made went.made))
+        (subst (λ (whole : Meaning). FollowedMeaning whole (names_of made ++ names_of went.made) before after result) (sym (is readings agree.0))
         (record {
           along = along_behind (rest readings) (names_of made) text before.written mid.written after.written result written then.along;
           asked = asked_behind result (rest readings) (names_of made) (names_of went.made) then.asked;
@@ -139,14 +139,14 @@ compose m rest n k made text before mid after result at is written asked reads h
 
 -- the first read failed, and its line was written
 pub went_failed : (m : Readings → Meaning) (line : Meaning) (n : ℕ) (name : List ℕ) (limit : ℕ) (before after : Outside) (result : Result Done (Stop PutFailed))
-    → ((readings : Readings) → readings (suc n) name limit ≡ Missing → m readings ≡ asking (name ∷ []) line) → line.asked ≡ []
+    → ((readings : Readings) → readings (suc n) name limit ≡ Missing → m readings ≡ asking_for (name ∷ []) line) → line.asked ≡ []
     → WentAlong line before.written after.written result
     → after.asked ≡ asked_too before.asked name → after.reads ≡ one_more before.reads → Rose before.failed_reads after.failed_reads → IfOk result (λ done. done.status ≡ 2)
     → Went m n before after result
 went_failed m line n name limit before after result is none along asked reads rose status =
     record {
       made = read ∷ [];
-      followed = λ readings agree. subst (λ (whole : Meaning). Followed whole (name ∷ []) before after result) (sym (is readings agree.0))
+      followed = λ readings agree. subst (λ (whole : Meaning). FollowedMeaning whole (name ∷ []) before after result) (sym (is readings agree.0))
           (record {
             along = along_behind line (name ∷ []) [] before.written before.written after.written result (sym (followed_by-nil before.written)) along;
             asked = asked_behind result line (name ∷ []) [] (none_asked result);

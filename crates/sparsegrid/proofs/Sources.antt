@@ -25,19 +25,20 @@ use Rattle.sg_session.specs.Texts.{check_text}
 use Rattle.sg_session.specs.declared.tasks.Task.{Task}
 use Rattle.sg_session.specs.declared.tasks.Stage.{Stage}
 use Rattle.sg_session.specs.Performed.{SessionParts}
-use Rattle.sg_session.specs.Compiled.{CheckedProgram, CompiledProgram, Compiles, unfolded}
+use Rattle.sg_session.specs.Compiled.{CheckedProgram, CompiledProgram, Compiles, unfolded_tasks}
 use Rattle.sg_session.specs.Compiling.{spelled_program, compiled_program}
 use Rattle.sparsegrid.specs.declared.output.PutFailed.{PutFailed}
 use Rattle.sparsegrid.specs.declared.session.Done.{Done}
 use Rattle.sparsegrid.specs.declared.words.Mode.{Mode}
 use Rattle.sparsegrid.specs.declared.words.Mode.TheVariants as mode
 use Rattle.sg_session.specs.declared.binds.Bind.{Bind}
-use Rattle.sparsegrid.specs.Words.{Asked, Binding, binding_read, good_words, is_gen}
-use Rattle.sparsegrid.specs.Generated.{generated}
+use Rattle.sg_session.specs.Bindings.{Binding, binding_read}
+use Rattle.sparsegrid.specs.Words.{Asked, good_words, is_gen}
+use Rattle.sparsegrid.specs.Generated.{generated_text}
 use Rattle.sparsegrid.specs.Lines.{read_last, file_bytes_last, no_file_last, refusal_last, field_text, words_last}
-use Rattle.sparsegrid.specs.Meaning.{Meaning, Readings, refused, all_done, asking, is_unbound, meaning_of_tasks, meaning_unless, meaning_of_run, meaning_in, items_or_none, meaning_of_compiled, meaning_of_source, meaning_of_file, meaning_of_generated, meaning_of_asked, meaning_of_words, meaning_by}
+use Rattle.sparsegrid.specs.Meaning.{Meaning, Readings, refused_before_tasks, all_done, asking_for, is_unbound, meaning_of_tasks, meaning_unless, meaning_of_run, meaning_in, items_or_none, meaning_of_compiled, meaning_of_source, meaning_of_file, meaning_of_generated, meaning_of_asked, meaning_of_words, meaning_by}
 use Rattle.sparsegrid.specs.Outcome.{Outside, HasSession, StandsForLast}
-use Rattle.sparsegrid.specs.steps.Along.{Sends, WentAlong, Went, AskedAll, Followed, ReadsEnd, ended_with, names_of, IsEnd, LeavesOnly, LeavesProgram}
+use Rattle.sparsegrid.specs.steps.Along.{Sends, WentAlong, Went, AskedAll, FollowedMeaning, ReadsEnd, ended_with, names_of, IsEnd, LeavesOnly, LeavesProgram}
 use Rattle.sg_outside.specs.Sink.{followed_by}
 use Rattle.sparsegrid.proofs.Writing.{followed_by-nil}
 use Rattle.sparsegrid.proofs.Going.{EndsInLine, went_nowhere, went_still, went_memory, went_failed, compose}
@@ -52,10 +53,10 @@ run_ends compiled bindings readings tasks = by_find (find (is_unbound compiled.n
   by_find (Some task) = λ other. refused_ends None (no_file_last (field_text compiled.names task))
 
 pub in_ends : (m : Mode) (compiled : CheckedProgram) (bindings : List Binding) (readings : Readings) → EndsInLine (meaning_in m compiled bindings readings)
-in_ends mode.Run compiled bindings readings = run_ends compiled bindings readings (unfolded compiled.commands)
+in_ends mode.Run compiled bindings readings = run_ends compiled bindings readings (unfolded_tasks compiled.commands)
 in_ends mode.Check compiled bindings readings = λ other. absurd (other refl)
 in_ends mode.Lower compiled bindings readings = λ other. absurd (other refl)
-in_ends mode.Gen compiled bindings readings = run_ends compiled [] readings (unfolded compiled.commands)
+in_ends mode.Gen compiled bindings readings = run_ends compiled [] readings (unfolded_tasks compiled.commands)
 
 pub compiled_ends : (asked : Asked) (readings : Readings) (bytes : List ℕ) (answer : Result CheckedProgram Refusal) → EndsInLine (meaning_of_compiled asked readings bytes answer)
 compiled_ends asked readings bytes (Err why) = λ other. refused_ends None (refusal_last (items_or_none (spelled_program bytes)) why)
@@ -69,7 +70,7 @@ source_ends asked readings (Bytes bytes) = compiled_ends asked readings bytes (c
 pub asked_ends : (asked : Asked) (readings : Readings) → EndsInLine (meaning_of_asked asked readings)
 asked_ends asked readings = by_mode (is_gen asked.mode) where
   by_mode : (b : Bool) → EndsInLine (if b then meaning_of_generated asked readings else meaning_of_file asked readings)
-  by_mode true = compiled_ends asked readings (generated asked.number) (compiled_program (generated asked.number))
+  by_mode true = compiled_ends asked readings (generated_text asked.number) (compiled_program (generated_text asked.number))
   by_mode false = source_ends asked readings (readings 1 asked.file most_file_bytes)
 
 pub words_end : (words : List (List ℕ)) (readings : Readings) → EndsInLine (meaning_by words readings)
@@ -91,19 +92,19 @@ pub read_gave : (asked : Asked) → is_gen asked.mode ≡ false → (name : List
     → Went (λ readings. meaning_of_source asked readings given) 1 mid after result → Went (meaning_of_asked asked) 0 before after result
 read_gave asked file name given before mid after result same told names reads faults held written went =
     compose (meaning_of_asked asked) (λ readings. meaning_of_source asked readings given) 0 1 (record { name = asked.file; limit = most_file_bytes; given = given } ∷ []) [] before mid after result (omega arith)
-    (λ readings agree. of_file asked file readings ∙ ap (λ (r : Reading). asking (asked.file ∷ []) (meaning_of_source asked readings r)) agree.0)
+    (λ readings agree. of_file asked file readings ∙ ap (λ (r : Reading). asking_for (asked.file ∷ []) (meaning_of_source asked readings r)) agree.0)
     (written ∙ sym (followed_by-nil before.written)) (names ∙ ap (asked_too before.asked) same) reads held
     (record { no_fault = faults; told = λ h e. (sym (ap (λ (n : List ℕ). reading h n most_file_bytes) (sym same) ∙ told h e), tt) }) went
 
 -- the read failed
 pub read_failed : (asked : Asked) → is_gen asked.mode ≡ false → (name : List ℕ) (before after : Outside) (result : Result Done (Stop PutFailed)) → name ≡ asked.file
     → after.asked ≡ asked_too before.asked name → after.reads ≡ one_more before.reads → Rose before.failed_reads after.failed_reads
-    → WentAlong (refused (read_last name)) before.written after.written result → IfOk result (λ done. done.status ≡ 2)
+    → WentAlong (refused_before_tasks (read_last name)) before.written after.written result → IfOk result (λ done. done.status ≡ 2)
     → Went (meaning_of_asked asked) 0 before after result
 read_failed asked file name before after result same names reads rose along status =
-    went_failed (meaning_of_asked asked) (refused (read_last asked.file)) 0 asked.file most_file_bytes before after result
-    (λ readings missing. of_file asked file readings ∙ ap (λ (r : Reading). asking (asked.file ∷ []) (meaning_of_source asked readings r)) missing) refl
-    (subst (λ (n : List ℕ). WentAlong (refused (read_last n)) before.written after.written result) same along) (names ∙ ap (asked_too before.asked) same) reads rose status
+    went_failed (meaning_of_asked asked) (refused_before_tasks (read_last asked.file)) 0 asked.file most_file_bytes before after result
+    (λ readings missing. of_file asked file readings ∙ ap (λ (r : Reading). asking_for (asked.file ∷ []) (meaning_of_source asked readings r)) missing) refl
+    (subst (λ (n : List ℕ). WentAlong (refused_before_tasks (read_last n)) before.written after.written result) same along) (names ∙ ap (asked_too before.asked) same) reads rose status
 
 -- there was no memory for what was read
 pub read_memory : (asked : Asked) → is_gen asked.mode ≡ false → (name : List ℕ) (before after : Outside) → name ≡ asked.file
@@ -142,7 +143,7 @@ pub went_same : (m other : Readings → Meaning) (n : ℕ) (before after : Outsi
 went_same m other n before after result same went =
     record {
       made = went.made;
-      followed = λ readings agree. subst (λ (whole : Meaning). Followed whole (names_of went.made) before after result) (sym (same readings)) (went.followed readings agree);
+      followed = λ readings agree. subst (λ (whole : Meaning). FollowedMeaning whole (names_of went.made) before after result) (sym (same readings)) (went.followed readings agree);
       asked = went.asked;
       reads = went.reads;
       ends = went.ends;
@@ -256,16 +257,16 @@ from_opened program compiled bindings tasks before after opened result compiles 
     (subst (λ (c : CompiledProgram). StandForState c.layouts opened.stores (opening compiled.layouts)) (sym same) stand))
 
 -- which task is the first without a file, in the words of the program that is compiled
-pub same_first : (program : CheckedProgram) (compiled : CompiledProgram) (bindings : List Binding) (tasks : List Task) (o : Option Task) → Compiles program compiled → tasks ≡ unfolded compiled.commands
-    → o ≡ find (is_unbound compiled.names bindings) tasks → o ≡ find (is_unbound program.names bindings) (unfolded program.commands)
+pub same_first : (program : CheckedProgram) (compiled : CompiledProgram) (bindings : List Binding) (tasks : List Task) (o : Option Task) → Compiles program compiled → tasks ≡ unfolded_tasks compiled.commands
+    → o ≡ find (is_unbound compiled.names bindings) tasks → o ≡ find (is_unbound program.names bindings) (unfolded_tasks program.commands)
 same_first program compiled bindings tasks o compiles are found =
     found ∙ (ap (λ (t : Tables). find (is_unbound t bindings) tasks) compiles.names
-    ∙ ap (λ (ts : List Task). find (is_unbound program.names bindings) ts) (are ∙ ap (λ (ss : List Stage). unfolded ss) compiles.commands))
+    ∙ ap (λ (ts : List Task). find (is_unbound program.names bindings) ts) (are ∙ ap (λ (ss : List Stage). unfolded_tasks ss) compiles.commands))
 
 -- and its last line
 pub line_named : (program : CheckedProgram) (compiled : CompiledProgram) (task : Task) (old new : Option (List ℕ)) (result : Result Done (Stop PutFailed)) → Compiles program compiled
-    → WentAlong (refused (no_file_last (field_text compiled.names task))) old new result → WentAlong (refused (no_file_last (field_text program.names task))) old new result
-line_named program compiled task old new result compiles along = subst (λ (t : Tables). WentAlong (refused (no_file_last (field_text t task))) old new result) compiles.names along
+    → WentAlong (refused_before_tasks (no_file_last (field_text compiled.names task))) old new result → WentAlong (refused_before_tasks (no_file_last (field_text program.names task))) old new result
+line_named program compiled task old new result compiles along = subst (λ (t : Tables). WentAlong (refused_before_tasks (no_file_last (field_text t task))) old new result) compiles.names along
 
 -- what is done with a compiled program is what its file means
 pub compiled_went : (asked : Asked) (bytes : List ℕ) (answer : Result CheckedProgram Refusal) (compiled : CompiledProgram) (before after : Outside) (result : Result Done (Stop PutFailed))
@@ -326,7 +327,7 @@ along_text text other state old new result same along = subst (λ (t : List ℕ)
 
 -- where no name is bound
 pub went_unbound : (program : CheckedProgram) (binds : List Bind) (before after : Outside) (result : Result Done (Stop PutFailed)) → binds ≡ []
-    → Went (λ readings. meaning_of_run program (map binding_read binds) readings (unfolded program.commands)) 1 before after result
-    → Went (λ readings. meaning_of_run program [] readings (unfolded program.commands)) 1 before after result
+    → Went (λ readings. meaning_of_run program (map binding_read binds) readings (unfolded_tasks program.commands)) 1 before after result
+    → Went (λ readings. meaning_of_run program [] readings (unfolded_tasks program.commands)) 1 before after result
 went_unbound program binds before after result none went =
-    subst (λ (bs : List Bind). Went (λ readings. meaning_of_run program (map binding_read bs) readings (unfolded program.commands)) 1 before after result) none went
+    subst (λ (bs : List Bind). Went (λ readings. meaning_of_run program (map binding_read bs) readings (unfolded_tasks program.commands)) 1 before after result) none went

@@ -5,7 +5,7 @@ use Rattle.std.specs.Str.{bytes_eq, chars}
 use Rattle.sg_words.specs.Options.{◌>>=◌}
 use Rattle.clap.specs.Lexer.{long_of, short_of}
 use Rattle.clap.specs.Walk.{Text}
-use Rattle.sparsegrid.specs.Words.{Parts, Place, front, workers_value, mode_value, behind, at_end, with_mode, with_workers}
+use Rattle.sparsegrid.specs.Words.{WordParts, WordPlace, front, workers_value, mode_value, behind_dashes, at_end, with_mode, with_workers}
 
 -- `--`, a long option with its value, a short option, or none of these
 pub data Form : Type 0 where
@@ -57,36 +57,36 @@ is_form word = by_equal (bytes_eq word (45 ∷ 45 ∷ [])) refl
     by_equal true is = is
     by_equal false is = by_long is (long_of word) refl
 
-abbrev pub with_word_kept : Place → Text → Parts → Place × Parts
+abbrev pub with_word_kept : WordPlace → Text → WordParts → WordPlace × WordParts
 with_word_kept next word parts = (next, record { workers = parts.workers; mode = parts.mode; positionals = parts.positionals ++ word ∷ [] })
 
-abbrev pub option_named : Place → (Text → Option (Place × Parts)) → Option Text → Parts → Option (Place × Parts)
+abbrev pub option_named : WordPlace → (Text → Option (WordPlace × WordParts)) → Option Text → WordParts → Option (WordPlace × WordParts)
 option_named awaiting given None parts = Some (awaiting, parts)
 option_named awaiting given (Some v) parts = given v
 
 -- an option by its name, with the value that the word carries
-abbrev pub named : Text → Option Text → Parts → Option (Place × Parts)
+abbrev pub named : Text → Option Text → WordParts → Option (WordPlace × WordParts)
 named n v parts =
     if bytes_eq (codes "workers") n then option_named workers_value (λ v. with_workers v parts) v parts
     else (if bytes_eq (codes "mode") n then option_named mode_value (λ v. with_mode v parts) v parts else None)
 
-abbrev pub split_front : Form → Text → Parts → Option (Place × Parts)
-split_front separator word parts = Some (behind, parts)
+abbrev pub split_front : Form → Text → WordParts → Option (WordPlace × WordParts)
+split_front separator word parts = Some (behind_dashes, parts)
 split_front (long n v) word parts = named n v parts
 split_front short word parts = None
 split_front plain word parts = Some (with_word_kept front word parts)
 
-abbrev pub split_value : Form → Option (Place × Parts) → Option (Place × Parts)
+abbrev pub split_value : Form → Option (WordPlace × WordParts) → Option (WordPlace × WordParts)
 split_value plain given = given
 split_value _ given = None
 
 -- a word where it stands
-abbrev pub split_word : Place → Form → Text → Parts → Option (Place × Parts)
+abbrev pub split_word : WordPlace → Form → Text → WordParts → Option (WordPlace × WordParts)
 split_word front form word parts = split_front form word parts
 split_word workers_value form word parts = split_value form (with_workers word parts)
 split_word mode_value form word parts = split_value form (with_mode word parts)
-split_word behind form word parts = Some (with_word_kept behind word parts)
+split_word behind_dashes form word parts = Some (with_word_kept behind_dashes word parts)
 
-unfoldable pub split_from : Place → Parts → List Text → Option Parts
+unfoldable pub split_from : WordPlace → WordParts → List Text → Option WordParts
 split_from at parts [] = at_end at parts
 split_from at parts (word ∷ words) = split_word at (form_of word) word parts >>= (λ next. split_from next.0 next.1 words)

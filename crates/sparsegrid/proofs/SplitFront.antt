@@ -7,7 +7,7 @@ use Rattle.std.proofs.lemmas.Option.{same_Some}
 use Rattle.std.proofs.lemmas.Slice.Eq.{bytes_eq-Decides}
 use Rattle.clap.specs.Lexer.{long_of, name_and_value, short_of}
 use Rattle.clap.specs.Walk.{Text}
-use Rattle.sparsegrid.specs.Words.{Parts, Place, front, workers_value, mode_value, at_front, begins_with_dash, is_plain, with_carried, with_mode, with_positional, with_workers}
+use Rattle.sparsegrid.specs.Words.{WordParts, WordPlace, front, workers_value, mode_value, at_front, begins_with_dash, can_be_positional, with_carried, with_mode, with_positional, with_workers}
 use Rattle.sparsegrid.proofs.SplitForms.{named}
 use Rattle.sparsegrid.proofs.SplitRows.{equal_texts}
 
@@ -84,7 +84,7 @@ before_single (x ∷ xs) single = go (is_equals x) refl
     go false e = rw (before_later x xs e) (second xs single)
 
 -- such a word is positional at the front, if anything
-pub front_single : (word : Text) (parts : Parts) → begins_double word ≡ false → at_front word parts ≡ with_positional front word parts
+pub front_single : (word : Text) (parts : WordParts) → begins_double word ≡ false → at_front word parts ≡ with_positional front word parts
 front_single word parts single =
     rw (no_match word [] single, no_match word (codes "workers") single, no_match word (codes "mode") single) (go (list_any is_equals word))
   where
@@ -123,7 +123,7 @@ short_begins (x ∷ xs) flags is = go (x == 45) refl
         let bad : short_of (x ∷ xs) ≡ None = rw e refl in
         absurd (cc)
 
-pub begins_not_plain : (word : Text) → begins_with_dash word ≡ true → is_plain word ≡ false
+pub begins_not_plain : (word : Text) → begins_with_dash word ≡ true → can_be_positional word ≡ false
 begins_not_plain [] begins = absurd (cc)
 begins_not_plain (x ∷ xs) begins = rw begins refl
 
@@ -176,10 +176,10 @@ has_no_equals rest name has none = go (bytes_eq rest name) refl
         let same : list_any is_equals rest ≡ list_any is_equals name = ap (list_any is_equals) (equal_texts rest name e) in
         sym has ∙ same ∙ none
 
-double_front : (y : ℕ) (ys : Text) (parts : Parts) → at_front (45 ∷ 45 ∷ y ∷ ys) parts ≡ named (name_and_value (y ∷ ys)).0 (name_and_value (y ∷ ys)).1 parts
+double_front : (y : ℕ) (ys : Text) (parts : WordParts) → at_front (45 ∷ 45 ∷ y ∷ ys) parts ≡ named (name_and_value (y ∷ ys)).0 (name_and_value (y ∷ ys)).1 parts
 double_front y ys parts = go (list_any is_equals (y ∷ ys)) refl
   where
-    flipped : (n : Text) (a b c : Option (Place × Parts)) → cond (bytes_eq n (codes "workers")) a (cond (bytes_eq n (codes "mode")) b c) ≡ cond (bytes_eq (codes "workers") n) a (cond (bytes_eq (codes "mode") n) b c)
+    flipped : (n : Text) (a b c : Option (WordPlace × WordParts)) → cond (bytes_eq n (codes "workers")) a (cond (bytes_eq n (codes "mode")) b c) ≡ cond (bytes_eq (codes "workers") n) a (cond (bytes_eq (codes "mode") n) b c)
     flipped n a b c = rw (same_either_way n (codes "workers"), same_either_way n (codes "mode")) refl
 
     go : (has : Bool) → list_any is_equals (y ∷ ys) ≡ has
@@ -196,6 +196,6 @@ double_front y ys parts = go (list_any is_equals (y ∷ ys)) refl
     go false e =
         flipped (y ∷ ys) (Some (workers_value, parts)) (Some (mode_value, parts)) None ∙ ap (λ (n : Text). named n None parts) (sym (before_none (y ∷ ys) e))
 
-pub long_front : (word n : Text) (v : Option Text) (parts : Parts) → IsLong word n v → at_front word parts ≡ named n v parts
+pub long_front : (word n : Text) (v : Option Text) (parts : WordParts) → IsLong word n v → at_front word parts ≡ named n v parts
 long_front word n v parts so =
     ap (λ (t : Text). at_front t parts) so.is ∙ double_front so.first so.rest parts ∙ ap (λ (cut : Text × Option Text). named cut.0 cut.1 parts) so.cut

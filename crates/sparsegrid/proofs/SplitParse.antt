@@ -15,13 +15,13 @@ use Rattle.clap.specs.declared.error.kind.ErrorKind.{ErrorKind}
 use Rattle.clap.specs.declared.error.kind.ErrorKind.TheVariants.{OutOfMemory}
 use Rattle.clap.specs.declared.parser.matches.ArgMatches.{ArgMatches}
 use Rattle.clap.specs.Faults.{check_fault, defaults_fault, entered_fault, fault_of, is_simple_and_free, level_fault, settle_fault, walk_fault}
-use Rattle.sparsegrid.specs.Words.{Parts, front, good_words}
-use Rattle.sparsegrid.specs.steps.Splitting.{asked_in, has_fault, parts_in, program, rows_split, unless}
+use Rattle.sparsegrid.specs.Words.{WordParts, front, good_words}
+use Rattle.sparsegrid.specs.steps.Splitting.{asked_in, has_fault, parts_of_rows, words_command, rows_split, unless}
 use Rattle.sparsegrid.proofs.SplitTurns.{at, fault_or_else, nothing_more, rules, shape}
 use Rattle.sparsegrid.proofs.SplitWalk.{Stands, fails, last_rows, same_split}
 use Rattle.sparsegrid.proofs.SplitWords.{same_from}
 
-abbrev nothing_found : Parts
+abbrev nothing_found : WordParts
 nothing_found = record { workers = None; mode = None; positionals = [] }
 
 abbrev start : Walk
@@ -49,17 +49,17 @@ none_refused : (stop : Option (Text × List Text)) → entered_fault built_so st
 none_refused None = refl
 none_refused (Some p) = refl
 
-fault_is : (words : List Text) → has_fault (fault_of program words) ≡ fails start words
+fault_is : (words : List Text) → has_fault (fault_of words_command words) ≡ fails start words
 fault_is words =
     let stop = (walk rules [] nothing_held words).stopped in
     let last = (walk rules [] nothing_held words).held in
-    let level : fault_of program words ≡ level_fault shape [] nothing_held words false [] =
+    let level : fault_of words_command words ≡ level_fault shape [] nothing_held words false [] =
     ap₂ (λ (o : Option (Text × List Row)) (below : Kinds). level_fault shape [] nothing_held words (is_some o) below) (none_entered stop) (none_refused stop) in
     let rest : or_else (settle_fault rules false last) (or_else (defaults_fault (settled rules last).rows rules) (check_fault shape (finished rules last) false)) ≡ settle_fault rules false last =
     ap (λ (k : Kinds). or_else (settle_fault rules false last) (or_else k [])) (no_defaults (settled rules last).rows) ∙ nothing_more (settle_fault rules false last) in
     ap has_fault (level ∙ ap (or_else (walk_fault shape [] start words)) rest) ∙ fault_or_else (walk_fault shape [] start words) (settle_fault rules false last)
 
-rows_are : (words : List Text) → matches_of program words ≡ last_rows start words
+rows_are : (words : List Text) → matches_of words_command words ≡ last_rows start words
 rows_are words = finished_is (walk rules [] nothing_held words).held
 
 stands : Stands front nothing_found start
@@ -74,14 +74,14 @@ stands = record {
 }
 
 -- what the rows of a parse ask for is what good words ask for
-pub same_asked : (words : List Text) → (rows_split words >>= (λ rows. asked_in (parts_in rows))) ≡ good_words words
+pub same_asked : (words : List Text) → (rows_split words >>= (λ rows. asked_in (parts_of_rows rows))) ≡ good_words words
 unfolding rows_split
 same_asked words =
-    let found : unless (has_fault (fault_of program words)) (matches_of program words) ≡ unless (fails start words) (last_rows start words) = ap₂ unless (fault_is words) (rows_are words) in
-    ap (λ (o : Option (List Row)). o >>= (λ rows. asked_in (parts_in rows))) found ∙ regroup (fails start words) (last_rows start words)
-    ∙ ap (λ (o : Option Parts). o >>= asked_in) (same_split words front nothing_found start stands) ∙ same_from words front nothing_found refl
+    let found : unless (has_fault (fault_of words_command words)) (matches_of words_command words) ≡ unless (fails start words) (last_rows start words) = ap₂ unless (fault_is words) (rows_are words) in
+    ap (λ (o : Option (List Row)). o >>= (λ rows. asked_in (parts_of_rows rows))) found ∙ regroup (fails start words) (last_rows start words)
+    ∙ ap (λ (o : Option WordParts). o >>= asked_in) (same_split words front nothing_found start stands) ∙ same_from words front nothing_found refl
   where
-    regroup : (b : Bool) (rows : List Row) → (unless b rows >>= (λ rows. asked_in (parts_in rows))) ≡ (unless b (parts_in rows) >>= asked_in)
+    regroup : (b : Bool) (rows : List Row) → (unless b rows >>= (λ rows. asked_in (parts_of_rows rows))) ≡ (unless b (parts_of_rows rows) >>= asked_in)
     regroup true rows = refl
     regroup false rows = refl
 
@@ -91,32 +91,32 @@ has_among : (k : ErrorKind) (kinds : Kinds) → IsAmong k kinds → has_fault ki
 has_among k [] among = absurd among
 has_among k (x ∷ xs) among = refl
 
-module _ (command : App) (is : command ≡ program) (words : List Text) where
+module _ (command : App) (is : command ≡ words_command) (words : List Text) where
   simple : is_simple_and_free command ≡ true
   simple = ap is_simple_and_free is
 
   pub rows_taken : (m : ArgMatches) → HasMatchesOf command words m → (is_simple_and_free command ≡ true → fault_of command words ≡ []) → rows_split words ≡ Some (rows_of (found_of m))
   unfolding rows_split
   rows_taken m matches faultless =
-      let none : has_fault (fault_of program words) ≡ false = ap has_fault (sym (ap (λ (a : App). fault_of a words) is) ∙ faultless simple) in
-      let rows : matches_of program words ≡ rows_of (found_of m) = sym (ap (λ (a : App). matches_of a words) is) ∙ sym (matches (ap is_simple is)).0 in
+      let none : has_fault (fault_of words_command words) ≡ false = ap has_fault (sym (ap (λ (a : App). fault_of a words) is) ∙ faultless simple) in
+      let rows : matches_of words_command words ≡ rows_of (found_of m) = sym (ap (λ (a : App). matches_of a words) is) ∙ sym (matches (ap is_simple is)).0 in
       ap₂ unless none rows
 
   pub rows_refused : (e : Error) → (is_simple_and_free command ≡ true → HasKind (fault_of command words) e) → (kind_of e ≡ OutOfMemory → ⊥) → rows_split words ≡ None
   unfolding rows_split
   rows_refused e has other = go (has simple)
     where
-      go : HasKind (fault_of command words) e → unless (has_fault (fault_of program words)) (matches_of program words) ≡ None
+      go : HasKind (fault_of command words) e → unless (has_fault (fault_of words_command words)) (matches_of words_command words) ≡ None
       go (inl memory) = absurd (other memory)
       go (inr among) =
-          ap (λ (b : Bool). unless b (matches_of program words)) (sym (ap (λ (a : App). has_fault (fault_of a words)) is) ∙ has_among (kind_of e) (fault_of command words) among)
+          ap (λ (b : Bool). unless b (matches_of words_command words)) (sym (ap (λ (a : App). has_fault (fault_of a words)) is) ∙ has_among (kind_of e) (fault_of command words) among)
 
 -- what the rows ask for, where there are some
-pub asked_of_rows : (words : List Text) (rows : List Row) → rows_split words ≡ Some rows → good_words words ≡ asked_in (parts_in rows)
-asked_of_rows words rows is = sym (same_asked words) ∙ ap (λ (o : Option (List Row)). o >>= (λ rows. asked_in (parts_in rows))) is
+pub asked_of_rows : (words : List Text) (rows : List Row) → rows_split words ≡ Some rows → good_words words ≡ asked_in (parts_of_rows rows)
+asked_of_rows words rows is = sym (same_asked words) ∙ ap (λ (o : Option (List Row)). o >>= (λ rows. asked_in (parts_of_rows rows))) is
 
 pub nothing_asked : (words : List Text) → rows_split words ≡ None → good_words words ≡ None
-nothing_asked words is = sym (same_asked words) ∙ ap (λ (o : Option (List Row)). o >>= (λ rows. asked_in (parts_in rows))) is
+nothing_asked words is = sym (same_asked words) ∙ ap (λ (o : Option (List Row)). o >>= (λ rows. asked_in (parts_of_rows rows))) is
 
 -- ---- what the getters read
 
@@ -130,7 +130,7 @@ texts_or (Some words) other none = refl
 pub parts_read : (f : Found) (workers mode : Option (Bor Text)) (raw : Option (Bor (List (Bor Text)))) (other words : Bor (List (Bor Text)))
     → option_map (λ s. s.now) workers ≡ first_value f (codes "workers") → option_map (λ s. s.now) mode ≡ first_value f (codes "mode")
     → option_map texts_at raw ≡ option_map raw_values (matched_of f (codes "positionals")) → words ≡ unwrap_or raw other → other.now ≡ []
-    → asked_in (record { workers = option_copied workers; mode = option_copied mode; positionals = texts_at words }) ≡ asked_in (parts_in (rows_of f))
+    → asked_in (record { workers = option_copied workers; mode = option_copied mode; positionals = texts_at words }) ≡ asked_in (parts_of_rows (rows_of f))
 parts_read f workers mode raw other words workers_is mode_is raw_is words_are none =
     let positionals_are = ap texts_at words_are ∙ texts_or raw other none ∙ ap (λ (o : Option (List Text)). unwrap_or o []) (raw_is ∙ raw_values-rows f (codes "positionals")) in
     ap asked_in (λ i. record {

@@ -8,8 +8,8 @@ use Rattle.std.proofs.lemmas.Slice.Eq.{bytes_eq-Decides}
 use Rattle.clap.specs.Walk.{Row, Text, all_of, at_row, first_of, has_row, more_values, with_values, without}
 use Rattle.clap.specs.declared.builder.value_parser.Reading.{Reading}
 use Rattle.clap.specs.declared.parser.matches.ValueSource.{ValueSource}
-use Rattle.sparsegrid.specs.Words.{Parts}
-use Rattle.sparsegrid.specs.steps.Splitting.{parts_in}
+use Rattle.sparsegrid.specs.Words.{WordParts}
+use Rattle.sparsegrid.specs.steps.Splitting.{parts_of_rows}
 
 pub equal_texts : (a b : Text) → bytes_eq a b ≡ true → a ≡ b
 equal_texts a b same = (bytes_eq-Decides a b).0 same
@@ -76,12 +76,12 @@ all_more id how s vs (r ∷ rs) same = go (bytes_eq r.id id) refl (all_more id h
     go false miss rest = rw miss rest
 
 -- the parts that rows show, with which options have a row
-pub record Shows (rows : List Row) (parts : Parts) : Type 0 where
-  pub parts_are : parts_in rows ≡ parts
+pub record Shows (rows : List Row) (parts : WordParts) : Type 0 where
+  pub parts_are : parts_of_rows rows ≡ parts
   pub has_workers : has_row (codes "workers") rows ≡ is_some parts.workers
   pub has_mode : has_row (codes "mode") rows ≡ is_some parts.mode
 
-pub shows_workers : (how : Reading) (s : ValueSource) (v : Text) (rows : List Row) (parts : Parts) → Shows rows parts → is_some parts.workers ≡ false
+pub shows_workers : (how : Reading) (s : ValueSource) (v : Text) (rows : List Row) (parts : WordParts) → Shows rows parts → is_some parts.workers ≡ false
     → Shows (with_values (codes "workers") how s (v ∷ []) (without (codes "workers") rows)) (record { workers = Some v; mode = parts.mode; positionals = parts.positionals })
 shows_workers how s v rows parts shows none =
     let absent : has_row (codes "workers") rows ≡ false = shows.has_workers ∙ none in
@@ -91,14 +91,14 @@ shows_workers how s v rows parts shows none =
     rw is (record {
       parts_are = λ i. record {
         workers = (ap (first_of (codes "workers")) (at_row_absent (codes "workers") (more_values s (v ∷ [])) _ rows absent) ∙ found) i;
-        mode = (ap (option_and_then (λ (r : Row). slice_get r.values 0)) (find_other (codes "workers") (codes "mode") refl how s (v ∷ []) rows) ∙ ap (λ (p : Parts). p.mode) shows.parts_are) i;
-        positionals = (ap (λ (o : Option Row). unwrap_or (option_map (λ (r : Row). r.values) o) []) (find_other (codes "workers") (codes "positionals") refl how s (v ∷ []) rows) ∙ ap (λ (p : Parts). p.positionals) shows.parts_are) i;
+        mode = (ap (option_and_then (λ (r : Row). slice_get r.values 0)) (find_other (codes "workers") (codes "mode") refl how s (v ∷ []) rows) ∙ ap (λ (p : WordParts). p.mode) shows.parts_are) i;
+        positionals = (ap (λ (o : Option Row). unwrap_or (option_map (λ (r : Row). r.values) o) []) (find_other (codes "workers") (codes "positionals") refl how s (v ∷ []) rows) ∙ ap (λ (p : WordParts). p.positionals) shows.parts_are) i;
       };
       has_workers = ap (has_row (codes "workers")) (at_row_absent (codes "workers") (more_values s (v ∷ [])) _ rows absent) ∙ has_behind (λ r. bytes_eq r.id (codes "workers")) rows _ refl;
       has_mode = has_other (codes "workers") (codes "mode") refl how s (v ∷ []) rows ∙ shows.has_mode;
     })
 
-pub shows_mode : (how : Reading) (s : ValueSource) (v : Text) (rows : List Row) (parts : Parts) → Shows rows parts → is_some parts.mode ≡ false
+pub shows_mode : (how : Reading) (s : ValueSource) (v : Text) (rows : List Row) (parts : WordParts) → Shows rows parts → is_some parts.mode ≡ false
     → Shows (with_values (codes "mode") how s (v ∷ []) (without (codes "mode") rows)) (record { workers = parts.workers; mode = Some v; positionals = parts.positionals })
 shows_mode how s v rows parts shows none =
     let absent : has_row (codes "mode") rows ≡ false = shows.has_mode ∙ none in
@@ -107,21 +107,21 @@ shows_mode how s v rows parts shows none =
     ap (option_and_then (λ (r : Row). slice_get r.values 0)) (find_behind (λ r. bytes_eq r.id (codes "mode")) rows _ absent refl) in
     rw is (record {
       parts_are = λ i. record {
-        workers = (ap (option_and_then (λ (r : Row). slice_get r.values 0)) (find_other (codes "mode") (codes "workers") refl how s (v ∷ []) rows) ∙ ap (λ (p : Parts). p.workers) shows.parts_are) i;
+        workers = (ap (option_and_then (λ (r : Row). slice_get r.values 0)) (find_other (codes "mode") (codes "workers") refl how s (v ∷ []) rows) ∙ ap (λ (p : WordParts). p.workers) shows.parts_are) i;
         mode = (ap (first_of (codes "mode")) (at_row_absent (codes "mode") (more_values s (v ∷ [])) _ rows absent) ∙ found) i;
-        positionals = (ap (λ (o : Option Row). unwrap_or (option_map (λ (r : Row). r.values) o) []) (find_other (codes "mode") (codes "positionals") refl how s (v ∷ []) rows) ∙ ap (λ (p : Parts). p.positionals) shows.parts_are) i;
+        positionals = (ap (λ (o : Option Row). unwrap_or (option_map (λ (r : Row). r.values) o) []) (find_other (codes "mode") (codes "positionals") refl how s (v ∷ []) rows) ∙ ap (λ (p : WordParts). p.positionals) shows.parts_are) i;
       };
       has_workers = has_other (codes "mode") (codes "workers") refl how s (v ∷ []) rows ∙ shows.has_workers;
       has_mode = ap (has_row (codes "mode")) (at_row_absent (codes "mode") (more_values s (v ∷ [])) _ rows absent) ∙ has_behind (λ r. bytes_eq r.id (codes "mode")) rows _ refl;
     })
 
-pub shows_positional : (how : Reading) (s : ValueSource) (v : Text) (rows : List Row) (parts : Parts) → Shows rows parts
+pub shows_positional : (how : Reading) (s : ValueSource) (v : Text) (rows : List Row) (parts : WordParts) → Shows rows parts
     → Shows (with_values (codes "positionals") how s (v ∷ []) rows) (record { workers = parts.workers; mode = parts.mode; positionals = parts.positionals ++ v ∷ [] })
 shows_positional how s v rows parts shows = record {
   parts_are = λ i. record {
-    workers = (ap (option_and_then (λ (r : Row). slice_get r.values 0)) (find_other (codes "positionals") (codes "workers") refl how s (v ∷ []) rows) ∙ ap (λ (p : Parts). p.workers) shows.parts_are) i;
-    mode = (ap (option_and_then (λ (r : Row). slice_get r.values 0)) (find_other (codes "positionals") (codes "mode") refl how s (v ∷ []) rows) ∙ ap (λ (p : Parts). p.mode) shows.parts_are) i;
-    positionals = (ap (λ (o : Option (List Text)). unwrap_or o []) (all_more (codes "positionals") how s (v ∷ []) rows refl) ∙ ap (λ (p : Parts). p.positionals ++ v ∷ []) shows.parts_are) i;
+    workers = (ap (option_and_then (λ (r : Row). slice_get r.values 0)) (find_other (codes "positionals") (codes "workers") refl how s (v ∷ []) rows) ∙ ap (λ (p : WordParts). p.workers) shows.parts_are) i;
+    mode = (ap (option_and_then (λ (r : Row). slice_get r.values 0)) (find_other (codes "positionals") (codes "mode") refl how s (v ∷ []) rows) ∙ ap (λ (p : WordParts). p.mode) shows.parts_are) i;
+    positionals = (ap (λ (o : Option (List Text)). unwrap_or o []) (all_more (codes "positionals") how s (v ∷ []) rows refl) ∙ ap (λ (p : WordParts). p.positionals ++ v ∷ []) shows.parts_are) i;
   };
   has_workers = has_other (codes "positionals") (codes "workers") refl how s (v ∷ []) rows ∙ shows.has_workers;
   has_mode = has_other (codes "positionals") (codes "mode") refl how s (v ∷ []) rows ∙ shows.has_mode;

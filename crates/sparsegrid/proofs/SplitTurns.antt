@@ -11,7 +11,7 @@ use Rattle.clap.specs.Kinds.{Kinds, or_else}
 use Rattle.clap.specs.Walk.{Held, Row, Rule, Text, Waiting, Walk, arg_by_id, arg_by_long, has_row, idle, option, positional, plain_word, reading_by, settled_rows, subcommand_met, walked, with_values, without, bundle_met, value}
 use Rattle.clap.specs.Simple.{Shape, built}
 use Rattle.clap.specs.Faults.{flags_fault, settle_fault, turn_fault}
-use Rattle.sparsegrid.specs.steps.Splitting.{has_fault, program}
+use Rattle.sparsegrid.specs.steps.Splitting.{has_fault, words_command}
 use Rattle.sparsegrid.proofs.SplitForms.{IsPlainWord}
 
 -- the arguments as they are built
@@ -63,7 +63,7 @@ shape = record {
   is_built = true;
 }
 
-pub built_is : built program ≡ record { top = shape; subs = [] }
+pub built_is : built words_command ≡ record { top = shape; subs = [] }
 built_is = refl
 
 -- ---- tests

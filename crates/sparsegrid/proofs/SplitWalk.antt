@@ -8,8 +8,8 @@ use Rattle.clap.specs.declared.parser.matches.ValueSource.TheVariants.{CommandLi
 use Rattle.clap.specs.Lexer.{long_of}
 use Rattle.clap.specs.Walk.{Row, Text, Waiting, Walk, arg_by_long, has_row, idle, option, positional, reading_by, settled_rows, walked, with_values, without}
 use Rattle.clap.specs.Faults.{settle_fault, turn_fault, walk_fault}
-use Rattle.sparsegrid.specs.Words.{Parts, Place, front, workers_value, mode_value, behind, at_end, with_mode, with_workers}
-use Rattle.sparsegrid.specs.steps.Splitting.{has_fault, parts_in, unless}
+use Rattle.sparsegrid.specs.Words.{WordParts, WordPlace, front, workers_value, mode_value, behind_dashes, at_end, with_mode, with_workers}
+use Rattle.sparsegrid.specs.steps.Splitting.{has_fault, parts_of_rows, unless}
 use Rattle.sparsegrid.proofs.SplitForms.{Form, IsForm, IsPlainWord, form_of, is_form, long, named, option_named, plain, separator, short, split_from, split_front, split_value, split_word, with_word_kept}
 use Rattle.sparsegrid.proofs.SplitRows.{Shows, shows_mode, shows_positional, shows_workers}
 use Rattle.sparsegrid.proofs.SplitTurns.{at, awaits_fails, awaits_next, behind_fails, behind_next, by_long, fault_if, fault_or_else, filled_option, given_fails, given_next, is_wrong, next, now_rows, plain_fails, plain_next, rests, rules, separator_fails, separator_next, shape, short_fails, turn_fails, unknown_fails, value_fails, value_next}
@@ -73,7 +73,7 @@ wrong_turn w so word = subst (λ (v : Walk). IsRefused v word) (sym so.is) (go s
 -- ---- a walk that stands where the words do
 
 -- no option waits, nothing is refused so far, and the rows show the parts
-pub record Resting (trailing : Bool) (parts : Parts) (w : Walk) : Type 0 where
+pub record Resting (trailing : Bool) (parts : WordParts) (w : Walk) : Type 0 where
   pub rows : List Row
   pub pending : Option (Text × List Text)
   pub waiting : Waiting
@@ -83,18 +83,18 @@ pub record Resting (trailing : Bool) (parts : Parts) (w : Walk) : Type 0 where
   pub shows : Shows (now_rows pending rows) parts
 
 -- an option waits for its value
-pub record Awaiting (id : Text) (parts : Parts) (w : Walk) : Type 0 where
+pub record Awaiting (id : Text) (parts : WordParts) (w : Walk) : Type 0 where
   pub rows : List Row
   pub is : w ≡ at rows (Some (id, [])) (option id) false
   pub shows : Shows rows parts
 
-abbrev pub Stands : Place → Parts → Walk → Type 0
+abbrev pub Stands : WordPlace → WordParts → Walk → Type 0
 Stands front parts w = Resting false parts w
 Stands workers_value parts w = Awaiting (codes "workers") parts w
 Stands mode_value parts w = Awaiting (codes "mode") parts w
-Stands behind parts w = Resting true parts w
+Stands behind_dashes parts w = Resting true parts w
 
-abbrev Turned : Walk → Text → Option (Place × Parts) → Type 0
+abbrev Turned : Walk → Text → Option (WordPlace × WordParts) → Type 0
 Turned w word None = IsRefused w word
 Turned w word (Some at) = (turn_fails w word ≡ false) × Stands at.0 at.1 (next w word)
 
@@ -106,7 +106,7 @@ pending_wrong_mode : (rows : List Row) (v : Text) → is_wrong rows (Some (codes
 pending_wrong_mode rows v = fault_if (has_row (codes "mode") rows)
 
 -- an option with its value, where the value counts by whether the option has come before
-module _ (rows : List Row) (pending : Option (Text × List Text)) (waiting : Waiting) (parts : Parts) (quiet : is_wrong rows pending ≡ false) (shows : Shows (now_rows pending rows) parts)
+module _ (rows : List Row) (pending : Option (Text × List Text)) (waiting : Waiting) (parts : WordParts) (quiet : is_wrong rows pending ≡ false) (shows : Shows (now_rows pending rows) parts)
     (word : Text) (apart : bytes_eq word (45 ∷ 45 ∷ []) ≡ false) where
   given_workers : (n v : Text) → arg_by_long rules n ≡ Some (filled_option (codes "workers")) → long_of word ≡ Some (n, Some v)
       → Turned (at rows pending waiting false) word (with_workers v parts)
@@ -188,7 +188,7 @@ module _ (rows : List Row) (pending : Option (Text × List Text)) (waiting : Wai
       go false true found = named_mode n v found is
       go false false found = inl (unknown_fails rows pending waiting word apart n v is found)
 
-front_turn : (parts : Parts) (w : Walk) → Resting false parts w → (word : Text) → Turned w word (split_front (form_of word) word parts)
+front_turn : (parts : WordParts) (w : Walk) → Resting false parts w → (word : Text) → Turned w word (split_front (form_of word) word parts)
 front_turn parts w so word = subst (λ (v : Walk). Turned v word (split_front (form_of word) word parts)) (sym so.is) (by_form (form_of word) (is_form word))
   where
     by_form : (form : Form) → IsForm word form → Turned (at so.rows so.pending so.waiting false) word (split_front form word parts)
@@ -219,8 +219,8 @@ front_turn parts w so word = subst (λ (v : Walk). Turned v word (split_front (f
       },
     )
 
-behind_turn : (parts : Parts) (w : Walk) → Resting true parts w → (word : Text) → Turned w word (Some (with_word_kept behind word parts))
-behind_turn parts w so word = subst (λ (v : Walk). Turned v word (Some (with_word_kept behind word parts))) (sym so.is) (
+behind_turn : (parts : WordParts) (w : Walk) → Resting true parts w → (word : Text) → Turned w word (Some (with_word_kept behind_dashes word parts))
+behind_turn parts w so word = subst (λ (v : Walk). Turned v word (Some (with_word_kept behind_dashes word parts))) (sym so.is) (
   behind_fails so.rows so.pending so.waiting word ∙ so.quiet,
   record {
     rows = now_rows so.pending so.rows;
@@ -246,7 +246,7 @@ module _ (id : Text) (rows : List Row) (unmet : is_wrong rows (Some (id, [])) �
     wrong = unmet;
   })
 
-workers_turn : (parts : Parts) (w : Walk) → Awaiting (codes "workers") parts w → (word : Text) → Turned w word (split_value (form_of word) (with_workers word parts))
+workers_turn : (parts : WordParts) (w : Walk) → Awaiting (codes "workers") parts w → (word : Text) → Turned w word (split_value (form_of word) (with_workers word parts))
 workers_turn parts w so word = subst (λ (v : Walk). Turned v word (split_value (form_of word) (with_workers word parts))) (sym so.is) (by_form (form_of word) (is_form word))
   where
     by_option : bytes_eq word (45 ∷ 45 ∷ []) ≡ false → long_of word ≡ None → IsPlainWord word → (o : Option Text) → parts.workers ≡ o
@@ -280,7 +280,7 @@ workers_turn parts w so word = subst (λ (v : Walk). Turned v word (split_value 
     by_form short is = inl (short_fails so.rows (Some (codes "workers", [])) (option (codes "workers")) word is.0 is.1 is.2 is.3 is.4 is.5)
     by_form plain is = by_option is.0 is.1 is.2 parts.workers refl
 
-mode_turn : (parts : Parts) (w : Walk) → Awaiting (codes "mode") parts w → (word : Text) → Turned w word (split_value (form_of word) (with_mode word parts))
+mode_turn : (parts : WordParts) (w : Walk) → Awaiting (codes "mode") parts w → (word : Text) → Turned w word (split_value (form_of word) (with_mode word parts))
 mode_turn parts w so word = subst (λ (v : Walk). Turned v word (split_value (form_of word) (with_mode word parts))) (sym so.is) (by_form (form_of word) (is_form word))
   where
     by_option : bytes_eq word (45 ∷ 45 ∷ []) ≡ false → long_of word ≡ None → IsPlainWord word → (o : Option Text) → parts.mode ≡ o
@@ -314,11 +314,11 @@ mode_turn parts w so word = subst (λ (v : Walk). Turned v word (split_value (fo
     by_form short is = inl (short_fails so.rows (Some (codes "mode", [])) (option (codes "mode")) word is.0 is.1 is.2 is.3 is.4 is.5)
     by_form plain is = by_option is.0 is.1 is.2 parts.mode refl
 
-turn : (place : Place) (parts : Parts) (w : Walk) → Stands place parts w → (word : Text) → Turned w word (split_word place (form_of word) word parts)
+turn : (place : WordPlace) (parts : WordParts) (w : Walk) → Stands place parts w → (word : Text) → Turned w word (split_word place (form_of word) word parts)
 turn front parts w so word = front_turn parts w so word
 turn workers_value parts w so word = workers_turn parts w so word
 turn mode_value parts w so word = mode_turn parts w so word
-turn behind parts w so word = behind_turn parts w so word
+turn behind_dashes parts w so word = behind_turn parts w so word
 
 -- ---- all words
 
@@ -353,30 +353,30 @@ all_refused (word ∷ words) w so = fails_more w word words ∙ go (wrong_turn w
     go (inl now) later = ap (λ (b : Bool). b || fails (next w word) words) now
     go (inr stays) later = ap (λ (b : Bool). turn_fails w word || b) (later stays) ∙ or_true (turn_fails w word)
 
-abbrev pub found_from : Walk → List Text → Option Parts
-found_from w words = unless (fails w words) (parts_in (last_rows w words))
+abbrev pub found_from : Walk → List Text → Option WordParts
+found_from w words = unless (fails w words) (parts_of_rows (last_rows w words))
 
 refused_none : (w : Walk) (words : List Text) → fails w words ≡ true → found_from w words ≡ None
-refused_none w words e = ap (λ (b : Bool). unless b (parts_in (last_rows w words))) e
+refused_none w words e = ap (λ (b : Bool). unless b (parts_of_rows (last_rows w words))) e
 
-same_end : (place : Place) (parts : Parts) (w : Walk) → Stands place parts w → found_from w [] ≡ at_end place parts
+same_end : (place : WordPlace) (parts : WordParts) (w : Walk) → Stands place parts w → found_from w [] ≡ at_end place parts
 unfolding walk_fault
 same_end front parts w so = ap (λ (v : Walk). found_from v []) so.is ∙ ap₂ unless so.quiet so.shows.parts_are
 same_end workers_value parts w so = ap (λ (v : Walk). found_from v []) so.is
 same_end mode_value parts w so = ap (λ (v : Walk). found_from v []) so.is
-same_end behind parts w so = ap (λ (v : Walk). found_from v []) so.is ∙ ap₂ unless so.quiet so.shows.parts_are
+same_end behind_dashes parts w so = ap (λ (v : Walk). found_from v []) so.is ∙ ap₂ unless so.quiet so.shows.parts_are
 
 -- the walk finds the parts of the words as they are split
-pub same_split : (words : List Text) (place : Place) (parts : Parts) (w : Walk) → Stands place parts w → found_from w words ≡ split_from place parts words
+pub same_split : (words : List Text) (place : WordPlace) (parts : WordParts) (w : Walk) → Stands place parts w → found_from w words ≡ split_from place parts words
 unfolding split_from
 same_split [] place parts w so = same_end place parts w so
 same_split (word ∷ words) place parts w so = go (split_word place (form_of word) word parts) (turn place parts w so word) (λ at later. same_split words at.0 at.1 (next w word) later)
   where
-    go : (o : Option (Place × Parts)) → Turned w word o → ((at : Place × Parts) → Stands at.0 at.1 (next w word) → found_from (next w word) words ≡ split_from at.0 at.1 words)
+    go : (o : Option (WordPlace × WordParts)) → Turned w word o → ((at : WordPlace × WordParts) → Stands at.0 at.1 (next w word) → found_from (next w word) words ≡ split_from at.0 at.1 words)
         → found_from w (word ∷ words) ≡ (o >>= (λ at. split_from at.0 at.1 words))
     go None (inl now) later = refused_none w (word ∷ words) (fails_more w word words ∙ ap (λ (b : Bool). b || fails (next w word) words) now)
     go None (inr stays) later =
         refused_none w (word ∷ words) (fails_more w word words ∙ ap (λ (b : Bool). turn_fails w word || b) (all_refused words (next w word) stays) ∙ or_true (turn_fails w word))
     go (Some at) turned later =
-        ap (λ (b : Bool). unless b (parts_in (last_rows w (word ∷ words)))) (fails_more w word words ∙ ap (λ (b : Bool). b || fails (next w word) words) turned.0)
+        ap (λ (b : Bool). unless b (parts_of_rows (last_rows w (word ∷ words)))) (fails_more w word words ∙ ap (λ (b : Bool). b || fails (next w word) words) turned.0)
         ∙ later at turned.1

@@ -6,7 +6,7 @@ use Rattle.std.specs.Str.{bytes_eq}
 use Rattle.std.proofs.lemmas.Bool.{and_parts, eqb-true}
 use Rattle.sg_words.specs.Options.{◌>>=◌, only_if}
 use Rattle.clap.specs.Walk.{Text}
-use Rattle.sparsegrid.specs.Words.{Asked, Parts, Place, front, workers_value, mode_value, behind, at_end, at_front, asked_of, begins_with_dash, is_plain, mode_of, parts_from, with_mode, with_positional, with_word, with_workers, workers_of}
+use Rattle.sparsegrid.specs.Words.{Asked, WordParts, WordPlace, front, workers_value, mode_value, behind_dashes, at_end, at_front, asked_of, begins_with_dash, can_be_positional, mode_of, parts_from, with_mode, with_positional, with_word, with_workers, workers_of}
 use Rattle.sparsegrid.specs.steps.Splitting.{asked_in}
 use Rattle.sparsegrid.proofs.SplitForms.{Form, IsForm, form_of, is_form, long, named, option_named, plain, separator, short, split_from, split_front, split_value, split_word, with_word_kept}
 use Rattle.sparsegrid.proofs.SplitRows.{equal_texts}
@@ -16,16 +16,16 @@ use Rattle.sparsegrid.proofs.SplitFront.{begins_not_plain, front_single, long_fr
 
 -- ---- parts that ask for nothing, whatever follows
 
-abbrev are_plain : Parts → Bool
-are_plain parts = list_all is_plain parts.positionals
+abbrev are_plain : WordParts → Bool
+are_plain parts = list_all can_be_positional parts.positionals
 
-abbrev is_dead : Parts → Bool
+abbrev is_dead : WordParts → Bool
 is_dead parts = not (are_plain parts) || (is_none (workers_of parts.workers) || is_none (mode_of parts.mode))
 
-abbrev asked_plainly : Parts → Option Asked
+abbrev asked_plainly : WordParts → Option Asked
 asked_plainly parts = workers_of parts.workers >>= (λ workers. mode_of parts.mode >>= (λ mode. asked_of workers mode parts.positionals))
 
-dead_asked : (parts : Parts) → is_dead parts ≡ true → asked_in parts ≡ None
+dead_asked : (parts : WordParts) → is_dead parts ≡ true → asked_in parts ≡ None
 dead_asked parts dead = go (are_plain parts) (workers_of parts.workers) (mode_of parts.mode) dead
   where
     go : (b : Bool) (w : Option ℕ) (m : Option _) → (not b || (is_none w || is_none m)) ≡ true
@@ -35,55 +35,55 @@ dead_asked parts dead = go (are_plain parts) (workers_of parts.workers) (mode_of
     go true (Some n) None dead = refl
     go true (Some n) (Some x) dead = absurd (cc)
 
-plain_asked : (parts : Parts) → are_plain parts ≡ true → asked_in parts ≡ asked_plainly parts
+plain_asked : (parts : WordParts) → are_plain parts ≡ true → asked_in parts ≡ asked_plainly parts
 plain_asked parts all = rw all refl
 
-all_behind : (words : List Text) (word : Text) → list_all is_plain words ≡ true → is_plain word ≡ true → list_all is_plain (words ++ word ∷ []) ≡ true
+all_behind : (words : List Text) (word : Text) → list_all can_be_positional words ≡ true → can_be_positional word ≡ true → list_all can_be_positional (words ++ word ∷ []) ≡ true
 all_behind [] word all one = rw one refl
 all_behind (x ∷ xs) word all one =
-    let parts = and_parts (is_plain x) (list_all is_plain xs) all in
+    let parts = and_parts (can_be_positional x) (list_all can_be_positional xs) all in
     rw parts.0 (all_behind xs word parts.1 one)
 
-none_behind : (words : List Text) (word : Text) → is_plain word ≡ false → list_all is_plain (words ++ word ∷ []) ≡ false
+none_behind : (words : List Text) (word : Text) → can_be_positional word ≡ false → list_all can_be_positional (words ++ word ∷ []) ≡ false
 none_behind [] word bad = rw bad refl
-none_behind (x ∷ xs) word bad = ap (λ (b : Bool). is_plain x && b) (none_behind xs word bad) ∙ and_no (is_plain x)
+none_behind (x ∷ xs) word bad = ap (λ (b : Bool). can_be_positional x && b) (none_behind xs word bad) ∙ and_no (can_be_positional x)
 
-stays_behind : (words : List Text) (word : Text) → not (list_all is_plain words) ≡ true → not (list_all is_plain (words ++ word ∷ [])) ≡ true
+stays_behind : (words : List Text) (word : Text) → not (list_all can_be_positional words) ≡ true → not (list_all can_be_positional (words ++ word ∷ [])) ≡ true
 stays_behind [] word bad = absurd (cc)
-stays_behind (x ∷ xs) word bad = go (is_plain x) bad (stays_behind xs word)
+stays_behind (x ∷ xs) word bad = go (can_be_positional x) bad (stays_behind xs word)
   where
-    go : (b : Bool) → not (b && list_all is_plain xs) ≡ true → (not (list_all is_plain xs) ≡ true → not (list_all is_plain (xs ++ word ∷ [])) ≡ true)
-        → not (b && list_all is_plain (xs ++ word ∷ [])) ≡ true
+    go : (b : Bool) → not (b && list_all can_be_positional xs) ≡ true → (not (list_all can_be_positional xs) ≡ true → not (list_all can_be_positional (xs ++ word ∷ [])) ≡ true)
+        → not (b && list_all can_be_positional (xs ++ word ∷ [])) ≡ true
     go true bad later = later bad
     go false bad later = refl
 
 -- ---- one word: both agree, or nothing is asked for
 
-abbrev AllPlain : Option (Place × Parts) → Type 0
+abbrev AllPlain : Option (WordPlace × WordParts) → Type 0
 AllPlain o = IfSome o (λ at. are_plain at.1 ≡ true)
 
-abbrev AllDead : Option (Place × Parts) → Type 0
+abbrev AllDead : Option (WordPlace × WordParts) → Type 0
 AllDead o = IfSome o (λ at. is_dead at.1 ≡ true)
 
-abbrev Agrees : Option (Place × Parts) → Option (Place × Parts) → Type 0
+abbrev Agrees : Option (WordPlace × WordParts) → Option (WordPlace × WordParts) → Type 0
 Agrees o s = ((o ≡ s) × AllPlain o) ⊎ ((s ≡ None) × AllDead o)
 
 -- an option keeps the positional words
-workers_plain : (v : Text) (parts : Parts) → are_plain parts ≡ true → AllPlain (with_workers v parts)
+workers_plain : (v : Text) (parts : WordParts) → are_plain parts ≡ true → AllPlain (with_workers v parts)
 workers_plain v parts all = go (is_none parts.workers)
   where
     go : (b : Bool) → AllPlain (cond b (Some (front, record { workers = Some v; mode = parts.mode; positionals = parts.positionals })) None)
     go true = all
     go false = tt
 
-mode_plain : (v : Text) (parts : Parts) → are_plain parts ≡ true → AllPlain (with_mode v parts)
+mode_plain : (v : Text) (parts : WordParts) → are_plain parts ≡ true → AllPlain (with_mode v parts)
 mode_plain v parts all = go (is_none parts.mode)
   where
     go : (b : Bool) → AllPlain (cond b (Some (front, record { workers = parts.workers; mode = Some v; positionals = parts.positionals })) None)
     go true = all
     go false = tt
 
-named_plain : (n : Text) (v : Option Text) (parts : Parts) → are_plain parts ≡ true → AllPlain (named n v parts)
+named_plain : (n : Text) (v : Option Text) (parts : WordParts) → are_plain parts ≡ true → AllPlain (named n v parts)
 named_plain n v parts all = go (bytes_eq (codes "workers") n) (bytes_eq (codes "mode") n) v
   where
     go : (b d : Bool) (v : Option Text)
@@ -94,13 +94,13 @@ named_plain n v parts all = go (bytes_eq (codes "workers") n) (bytes_eq (codes "
     go false true (Some x) = mode_plain x parts all
     go false false v = tt
 
-not_plain_dead : (parts : Parts) → are_plain parts ≡ false → is_dead parts ≡ true
+not_plain_dead : (parts : WordParts) → are_plain parts ≡ false → is_dead parts ≡ true
 not_plain_dead parts bad = rw bad refl
 
-positional_agrees : (place : Place) (word : Text) (parts : Parts) → are_plain parts ≡ true → Agrees (Some (with_word_kept place word parts)) (with_positional place word parts)
-positional_agrees place word parts all = go (is_plain word) refl
+positional_agrees : (place : WordPlace) (word : Text) (parts : WordParts) → are_plain parts ≡ true → Agrees (Some (with_word_kept place word parts)) (with_positional place word parts)
+positional_agrees place word parts all = go (can_be_positional word) refl
   where
-    go : (b : Bool) → is_plain word ≡ b → Agrees (Some (with_word_kept place word parts)) (cond b (Some (with_word_kept place word parts)) None)
+    go : (b : Bool) → can_be_positional word ≡ b → Agrees (Some (with_word_kept place word parts)) (cond b (Some (with_word_kept place word parts)) None)
     go true e = inl (refl, all_behind parts.positionals word all e)
     go false e = inr (refl, not_plain_dead (with_word_kept place word parts).1 (none_behind parts.positionals word e))
 
@@ -111,14 +111,14 @@ dashes word (long n v) is other = ap begins_with_dash (long_word word n v is.1).
 dashes word short is other = short_begins word is.2 is.4
 dashes word plain is other = absurd (other refl)
 
-front_agrees : (word : Text) (parts : Parts) (form : Form) → IsForm word form → are_plain parts ≡ true → Agrees (split_front form word parts) (at_front word parts)
+front_agrees : (word : Text) (parts : WordParts) (form : Form) → IsForm word form → are_plain parts ≡ true → Agrees (split_front form word parts) (at_front word parts)
 front_agrees word parts separator is all = inl (rw is refl, all)
 front_agrees word parts (long n v) is all = inl (sym (long_front word n v parts (long_word word n v is.1)), named_plain n v parts all)
 front_agrees word parts short is all =
     let begins = short_begins word is.2 is.4 in
     inr (front_single word parts (single_from word is.0 is.1) ∙ ap (λ (b : Bool). only_if b (Some (with_word_kept front word parts))) (begins_not_plain word begins), tt)
 front_agrees word parts plain is all =
-    subst (λ (s : Option (Place × Parts)). Agrees (Some (with_word_kept front word parts)) s) (sym (front_single word parts (single_from word is.0 is.1))) (positional_agrees front word parts all)
+    subst (λ (s : Option (WordPlace × WordParts)). Agrees (Some (with_word_kept front word parts)) s) (sym (front_single word parts (single_from word is.0 is.1))) (positional_agrees front word parts all)
 
 -- a value that begins with `-` is no number of workers and no mode
 no_workers : (word : Text) → begins_with_dash word ≡ true → workers_of (Some word) ≡ None
@@ -129,14 +129,14 @@ no_mode : (word : Text) → begins_with_dash word ≡ true → mode_of (Some wor
 no_mode [] begins = absurd (cc)
 no_mode (x ∷ xs) begins = ap (λ (y : ℕ). mode_of (Some (y ∷ xs))) (eqb-true x 45 begins)
 
-workers_dead : (word : Text) (parts : Parts) → begins_with_dash word ≡ true → AllDead (with_workers word parts)
+workers_dead : (word : Text) (parts : WordParts) → begins_with_dash word ≡ true → AllDead (with_workers word parts)
 workers_dead word parts begins = go (is_none parts.workers)
   where
     go : (b : Bool) → AllDead (cond b (Some (front, record { workers = Some word; mode = parts.mode; positionals = parts.positionals })) None)
     go true = ap (λ (o : Option ℕ). not (are_plain parts) || (is_none o || is_none (mode_of parts.mode))) (no_workers word begins) ∙ or_true (not (are_plain parts))
     go false = tt
 
-mode_dead : (word : Text) (parts : Parts) → begins_with_dash word ≡ true → AllDead (with_mode word parts)
+mode_dead : (word : Text) (parts : WordParts) → begins_with_dash word ≡ true → AllDead (with_mode word parts)
 mode_dead word parts begins = go (is_none parts.mode)
   where
     go : (b : Bool) → AllDead (cond b (Some (front, record { workers = parts.workers; mode = Some word; positionals = parts.positionals })) None)
@@ -146,7 +146,7 @@ mode_dead word parts begins = go (is_none parts.mode)
     go false = tt
 
 -- an option's value: `given` is what it comes to
-value_agrees : (word : Text) (given : Option (Place × Parts)) (form : Form) → IsForm word form → AllPlain given → (begins_with_dash word ≡ true → AllDead given)
+value_agrees : (word : Text) (given : Option (WordPlace × WordParts)) (form : Form) → IsForm word form → AllPlain given → (begins_with_dash word ≡ true → AllDead given)
     → Agrees (split_value form given) (only_if (not (begins_with_dash word)) given)
 value_agrees word given separator is all dead = inr (ap (λ (b : Bool). only_if (not b) given) (dashes word separator is (λ e. absurd (cc))), tt)
 value_agrees word given (long n v) is all dead = inr (ap (λ (b : Bool). only_if (not b) given) (dashes word (long n v) is (λ e. absurd (cc))), tt)
@@ -157,11 +157,11 @@ value_agrees word given plain is all dead = go (begins_with_dash word) dead
     go true dead = inr (refl, dead refl)
     go false dead = inl (refl, all)
 
-agrees : (place : Place) (word : Text) (parts : Parts) → are_plain parts ≡ true → Agrees (split_word place (form_of word) word parts) (with_word place word parts)
+agrees : (place : WordPlace) (word : Text) (parts : WordParts) → are_plain parts ≡ true → Agrees (split_word place (form_of word) word parts) (with_word place word parts)
 agrees front word parts all = front_agrees word parts (form_of word) (is_form word) all
 agrees workers_value word parts all = value_agrees word (with_workers word parts) (form_of word) (is_form word) (workers_plain word parts all) (workers_dead word parts)
 agrees mode_value word parts all = value_agrees word (with_mode word parts) (form_of word) (is_form word) (mode_plain word parts all) (mode_dead word parts)
-agrees behind word parts all = positional_agrees behind word parts all
+agrees behind_dashes word parts all = positional_agrees behind_dashes word parts all
 
 -- ---- where nothing is asked for, nothing is later
 
@@ -170,10 +170,10 @@ or_keeps true b d keeps e = ap (λ (x : Bool). x || d) (keeps refl)
 or_keeps false true d keeps e = refl
 or_keeps false false d keeps e = e
 
-dead_behind : (place : Place) (word : Text) (parts : Parts) → is_dead parts ≡ true → is_dead (with_word_kept place word parts).1 ≡ true
+dead_behind : (place : WordPlace) (word : Text) (parts : WordParts) → is_dead parts ≡ true → is_dead (with_word_kept place word parts).1 ≡ true
 dead_behind place word parts dead = or_keeps (not (are_plain parts)) _ _ (stays_behind parts.positionals word) dead
 
-workers_stay_dead : (v : Text) (parts : Parts) → is_dead parts ≡ true → AllDead (with_workers v parts)
+workers_stay_dead : (v : Text) (parts : WordParts) → is_dead parts ≡ true → AllDead (with_workers v parts)
 workers_stay_dead v parts dead = go parts.workers dead
   where
     test : (a b m : Bool) → (a || m) ≡ true → (a || (b || m)) ≡ true
@@ -186,7 +186,7 @@ workers_stay_dead v parts dead = go parts.workers dead
     go None e = test (not (are_plain parts)) (is_none (workers_of (Some v))) (is_none (mode_of parts.mode)) e
     go (Some x) e = tt
 
-mode_stays_dead : (v : Text) (parts : Parts) → is_dead parts ≡ true → AllDead (with_mode v parts)
+mode_stays_dead : (v : Text) (parts : WordParts) → is_dead parts ≡ true → AllDead (with_mode v parts)
 mode_stays_dead v parts dead = go parts.mode dead
   where
     test : (a w b : Bool) → (a || (w || false)) ≡ true → (a || (w || b)) ≡ true
@@ -199,7 +199,7 @@ mode_stays_dead v parts dead = go parts.mode dead
     go None e = test (not (are_plain parts)) (is_none (workers_of parts.workers)) (is_none (mode_of (Some v))) e
     go (Some x) e = tt
 
-named_stay_dead : (n : Text) (v : Option Text) (parts : Parts) → is_dead parts ≡ true → AllDead (named n v parts)
+named_stay_dead : (n : Text) (v : Option Text) (parts : WordParts) → is_dead parts ≡ true → AllDead (named n v parts)
 named_stay_dead n v parts dead = go (bytes_eq (codes "workers") n) (bytes_eq (codes "mode") n) v
   where
     go : (b d : Bool) (v : Option Text)
@@ -210,64 +210,64 @@ named_stay_dead n v parts dead = go (bytes_eq (codes "workers") n) (bytes_eq (co
     go false true (Some x) = mode_stays_dead x parts dead
     go false false v = tt
 
-front_stays_dead : (form : Form) (word : Text) (parts : Parts) → is_dead parts ≡ true → AllDead (split_front form word parts)
+front_stays_dead : (form : Form) (word : Text) (parts : WordParts) → is_dead parts ≡ true → AllDead (split_front form word parts)
 front_stays_dead separator word parts dead = dead
 front_stays_dead (long n v) word parts dead = named_stay_dead n v parts dead
 front_stays_dead short word parts dead = tt
 front_stays_dead plain word parts dead = dead_behind front word parts dead
 
-value_stays_dead : (form : Form) (given : Option (Place × Parts)) → AllDead given → AllDead (split_value form given)
+value_stays_dead : (form : Form) (given : Option (WordPlace × WordParts)) → AllDead given → AllDead (split_value form given)
 value_stays_dead separator given dead = tt
 value_stays_dead (long n v) given dead = tt
 value_stays_dead short given dead = tt
 value_stays_dead plain given dead = dead
 
-stays_dead : (place : Place) (form : Form) (word : Text) (parts : Parts) → is_dead parts ≡ true → AllDead (split_word place form word parts)
+stays_dead : (place : WordPlace) (form : Form) (word : Text) (parts : WordParts) → is_dead parts ≡ true → AllDead (split_word place form word parts)
 stays_dead front form word parts dead = front_stays_dead form word parts dead
 stays_dead workers_value form word parts dead = value_stays_dead form (with_workers word parts) (workers_stay_dead word parts dead)
 stays_dead mode_value form word parts dead = value_stays_dead form (with_mode word parts) (mode_stays_dead word parts dead)
-stays_dead behind form word parts dead = dead_behind behind word parts dead
+stays_dead behind_dashes form word parts dead = dead_behind behind_dashes word parts dead
 
 -- ---- all words
 
-end_dead : (place : Place) (parts : Parts) → is_dead parts ≡ true → (at_end place parts >>= asked_in) ≡ None
+end_dead : (place : WordPlace) (parts : WordParts) → is_dead parts ≡ true → (at_end place parts >>= asked_in) ≡ None
 end_dead front parts dead = dead_asked parts dead
 end_dead workers_value parts dead = refl
 end_dead mode_value parts dead = refl
-end_dead behind parts dead = dead_asked parts dead
+end_dead behind_dashes parts dead = dead_asked parts dead
 
-all_dead : (words : List Text) (place : Place) (parts : Parts) → is_dead parts ≡ true → (split_from place parts words >>= asked_in) ≡ None
+all_dead : (words : List Text) (place : WordPlace) (parts : WordParts) → is_dead parts ≡ true → (split_from place parts words >>= asked_in) ≡ None
 unfolding split_from
 all_dead [] place parts dead = end_dead place parts dead
 all_dead (word ∷ words) place parts dead = go (split_word place (form_of word) word parts) (stays_dead place (form_of word) word parts dead) (λ at later. all_dead words at.0 at.1 later)
   where
-    go : (o : Option (Place × Parts)) → AllDead o → ((at : Place × Parts) → is_dead at.1 ≡ true → (split_from at.0 at.1 words >>= asked_in) ≡ None)
+    go : (o : Option (WordPlace × WordParts)) → AllDead o → ((at : WordPlace × WordParts) → is_dead at.1 ≡ true → (split_from at.0 at.1 words >>= asked_in) ≡ None)
         → ((o >>= (λ at. split_from at.0 at.1 words)) >>= asked_in) ≡ None
     go None now later = refl
     go (Some at) now later = later at now
 
-end_asked : (place : Place) (parts : Parts) → are_plain parts ≡ true → (at_end place parts >>= asked_in) ≡ (at_end place parts >>= asked_plainly)
+end_asked : (place : WordPlace) (parts : WordParts) → are_plain parts ≡ true → (at_end place parts >>= asked_in) ≡ (at_end place parts >>= asked_plainly)
 end_asked front parts all = plain_asked parts all
 end_asked workers_value parts all = refl
 end_asked mode_value parts all = refl
-end_asked behind parts all = plain_asked parts all
+end_asked behind_dashes parts all = plain_asked parts all
 
 -- what split words ask for is what good words ask for
-pub same_from : (words : List Text) (place : Place) (parts : Parts) → are_plain parts ≡ true → (split_from place parts words >>= asked_in) ≡ (parts_from place parts words >>= asked_plainly)
+pub same_from : (words : List Text) (place : WordPlace) (parts : WordParts) → are_plain parts ≡ true → (split_from place parts words >>= asked_in) ≡ (parts_from place parts words >>= asked_plainly)
 unfolding split_from
 same_from [] place parts all = end_asked place parts all
 same_from (word ∷ words) place parts all = go (split_word place (form_of word) word parts) (with_word place word parts) (agrees place word parts all) (λ at later. same_from words at.0 at.1 later)
   where
-    refused : (o : Option (Place × Parts)) → AllDead o → ((o >>= (λ at. split_from at.0 at.1 words)) >>= asked_in) ≡ None
+    refused : (o : Option (WordPlace × WordParts)) → AllDead o → ((o >>= (λ at. split_from at.0 at.1 words)) >>= asked_in) ≡ None
     refused None dead = refl
     refused (Some at) dead = all_dead words at.0 at.1 dead
 
-    same : (o : Option (Place × Parts)) → AllPlain o → ((at : Place × Parts) → are_plain at.1 ≡ true → (split_from at.0 at.1 words >>= asked_in) ≡ (parts_from at.0 at.1 words >>= asked_plainly))
+    same : (o : Option (WordPlace × WordParts)) → AllPlain o → ((at : WordPlace × WordParts) → are_plain at.1 ≡ true → (split_from at.0 at.1 words >>= asked_in) ≡ (parts_from at.0 at.1 words >>= asked_plainly))
         → ((o >>= (λ at. split_from at.0 at.1 words)) >>= asked_in) ≡ ((o >>= (λ at. parts_from at.0 at.1 words)) >>= asked_plainly)
     same None all later = refl
     same (Some at) all later = later at all
 
-    go : (o s : Option (Place × Parts)) → Agrees o s → ((at : Place × Parts) → are_plain at.1 ≡ true → (split_from at.0 at.1 words >>= asked_in) ≡ (parts_from at.0 at.1 words >>= asked_plainly))
+    go : (o s : Option (WordPlace × WordParts)) → Agrees o s → ((at : WordPlace × WordParts) → are_plain at.1 ≡ true → (split_from at.0 at.1 words >>= asked_in) ≡ (parts_from at.0 at.1 words >>= asked_plainly))
         → ((o >>= (λ at. split_from at.0 at.1 words)) >>= asked_in) ≡ ((s >>= (λ at. parts_from at.0 at.1 words)) >>= asked_plainly)
-    go o s (inl both) later = same o both.1 later ∙ ap (λ (t : Option (Place × Parts)). (t >>= (λ at. parts_from at.0 at.1 words)) >>= asked_plainly) both.0
-    go o s (inr nothing) later = refused o nothing.1 ∙ ap (λ (t : Option (Place × Parts)). (t >>= (λ at. parts_from at.0 at.1 words)) >>= asked_plainly) (sym nothing.0)
+    go o s (inl both) later = same o both.1 later ∙ ap (λ (t : Option (WordPlace × WordParts)). (t >>= (λ at. parts_from at.0 at.1 words)) >>= asked_plainly) both.0
+    go o s (inr nothing) later = refused o nothing.1 ∙ ap (λ (t : Option (WordPlace × WordParts)). (t >>= (λ at. parts_from at.0 at.1 words)) >>= asked_plainly) (sym nothing.0)

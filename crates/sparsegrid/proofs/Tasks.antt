@@ -32,18 +32,17 @@ use Rattle.sg_session.specs.Compiled.{CheckedProgram, CompiledProgram, Compiles}
 use Rattle.sg_session.specs.Commands as commands
 use Rattle.sg_session.specs.Commands.{Left, compiled_meaning, task_meaning}
 use Rattle.sg_session.proofs.Uses.{task_kept}
-use Rattle.sg_session.specs.Performed.{HasFile, Leaves, Performs, StepCause, reading_of, asked_after, reads_after}
+use Rattle.sg_session.specs.Performed.{HasFile, LeavesMeaning, Performs, StepCause, reading_of, asked_after, reads_after}
+use Rattle.sg_session.specs.Bindings.{Binding, binding_read, file_of_task}
 use Rattle.sparsegrid.specs.declared.output.PutFailed.{PutFailed}
 use Rattle.sparsegrid.specs.declared.session.Done.{Done}
 use Rattle.sparsegrid.specs.declared.last_line.LastLine.{LastLine}
-use Rattle.sparsegrid.specs.Words.{Binding, binding_read}
 use Rattle.sparsegrid.specs.Lines.{run_last}
-use Rattle.sparsegrid.specs.Meaning.{Meaning, Readings, refused_with, all_done, asking, before as before_text, file_of_task, after_task, task_and_more, meaning_of_tasks}
+use Rattle.sparsegrid.specs.Meaning.{Meaning, Readings, refused_with, all_done, asking_for, before as before_text, after_task, task_and_more, meaning_of_tasks}
 use Rattle.sparsegrid.specs.Outcome.{Outside, asked_more, counted_more}
 use Rattle.sparsegrid.specs.steps.Along.{GrewByPart, Sends, WroteAll, line_text, ended_with, WentAlong, ReadMade, names_of, Agree, AreTold, AskedAll, load_reads, NoneFailed, Went, Came}
 use Rattle.sparsegrid.proofs.Writing.{followed_by-nil, followed_by-twice}
 use Rattle.sparsegrid.proofs.Readings.{asked_twice, asked_none, counted_twice, names_twice, told_twice, agree_twice}
-use Rattle.sparsegrid.proofs.Bound.{same_files}
 use Rattle.sparsegrid.proofs.Going.{EndsInLine, went_part, went_still, went_memory, went_failed, compose}
 
 -- ---- a refused meaning ends in its line
@@ -62,7 +61,7 @@ some_none : (o : Option (List ℕ)) → IsSome o → o ≡ None → ⊥
 some_none None has is = absurd (cc)
 some_none (Some name) has is = absurd (cc)
 
-asking_none : (m : Meaning) → m ≡ asking [] m
+asking_none : (m : Meaning) → m ≡ asking_for [] m
 asking_none m = refl
 
 module _ (compiled : CheckedProgram) (bindings : List Binding) where
@@ -95,9 +94,9 @@ module _ (compiled : CheckedProgram) (binds : List Bind) where
   tasks_none readings n state = refl
 
   -- a task without a file means the same whatever was read
-  given_same : (state : FlatState) (task : Task) (given : Reading) → HasFile compiled.names binds task → file_of_task compiled.names (map binding_read binds) task ≡ None
+  given_same : (state : FlatState) (task : Task) (given : Reading) → HasFile compiled.names (map binding_read binds) task → file_of_task compiled.names (map binding_read binds) task ≡ None
       → task_meaning compiled state task Missing ≡ task_meaning compiled state task given
-  given_same state (Load at) given has none = absurd (some_none (commands.file_of compiled.names binds (Load at)) has (same_files compiled.names binds (Load at) ∙ none))
+  given_same state (Load at) given has none = absurd (some_none (file_of_task compiled.names (map binding_read binds) (Load at)) has none)
   given_same state (Run kernel) given has none = refl
   given_same state (Dump at) given has none = refl
   given_same state (Image field lo hi) given has none = refl
@@ -106,10 +105,10 @@ module _ (compiled : CheckedProgram) (binds : List Bind) where
   given_same state (Clear layout) given has none = refl
 
   -- what a task and those behind it mean, where its read gave this
-  one_task : (readings : Readings) (n : ℕ) (state : FlatState) (task : Task) (tasks : List Task) (given : Reading) → HasFile compiled.names binds task
+  one_task : (readings : Readings) (n : ℕ) (state : FlatState) (task : Task) (tasks : List Task) (given : Reading) → HasFile compiled.names (map binding_read binds) task
       → Agree readings n (load_reads (file_of_task compiled.names (map binding_read binds) task) given)
       → meaning_of_tasks compiled (map binding_read binds) readings n state (task ∷ tasks)
-      ≡ asking (names_of (load_reads (file_of_task compiled.names (map binding_read binds) task) given))
+      ≡ asking_for (names_of (load_reads (file_of_task compiled.names (map binding_read binds) task) given))
       (after_task compiled state (file_of_task compiled.names (map binding_read binds) task) task
       (λ next. meaning_of_tasks compiled (map binding_read binds) readings (length (load_reads (file_of_task compiled.names (map binding_read binds) task) given) + n) next tasks)
       (task_meaning compiled state task given))
@@ -125,16 +124,16 @@ module _ (compiled : CheckedProgram) (binds : List Bind) where
 
     by_file : (file : Option (List ℕ)) → file_of_task compiled.names (map binding_read binds) task ≡ file → Agree readings n (load_reads file given)
         → task_and_more compiled readings n state task more file
-        ≡ asking (names_of (load_reads file given)) (after_task compiled state file task (more (length (load_reads file given) + n)) (task_meaning compiled state task given))
+        ≡ asking_for (names_of (load_reads file given)) (after_task compiled state file task (more (length (load_reads file given) + n)) (task_meaning compiled state task given))
     by_file None none agrees =
         ap (λ (a : Result Left RunRefusal). after_task compiled state None task (more n) a) (given_same state task given has none)
         ∙ ap (λ (k : ℕ). after_task compiled state None task (more k) (task_meaning compiled state task given)) none_more
         ∙ asking_none (after_task compiled state None task (more (length (load_reads None given) + n)) (task_meaning compiled state task given))
     by_file (Some name) some agrees =
-        ap (λ (r : Reading). asking (name ∷ []) (after_task compiled state (Some name) task (more (suc n)) (task_meaning compiled state task r))) agrees.0
-        ∙ ap (λ (k : ℕ). asking (name ∷ []) (after_task compiled state (Some name) task (more k) (task_meaning compiled state task given))) (one_more_read name)
+        ap (λ (r : Reading). asking_for (name ∷ []) (after_task compiled state (Some name) task (more (suc n)) (task_meaning compiled state task r))) agrees.0
+        ∙ ap (λ (k : ℕ). asking_for (name ∷ []) (after_task compiled state (Some name) task (more k) (task_meaning compiled state task given))) (one_more_read name)
 
-  regrouped : (names more : List (List ℕ)) (text text' : List ℕ) (m : Meaning) → asking names (before_text text (asking more (before_text text' m))) ≡ asking (names ++ more) (before_text (text ++ text') m)
+  regrouped : (names more : List (List ℕ)) (text text' : List ℕ) (m : Meaning) → asking_for names (before_text text (asking_for more (before_text text' m))) ≡ asking_for (names ++ more) (before_text (text ++ text') m)
   regrouped names more text text' m =
       ap (λ (t : List ℕ). let n : Meaning = record { text = t; status = m.status; last = m.last; asked = names ++ (more ++ m.asked) } in n) (sym (append_assoc text text' m.text))
       ∙ ap (λ (a : List (List ℕ)). let n : Meaning = record { text = (text ++ text') ++ m.text; status = m.status; last = m.last; asked = a } in n) (sym (append_assoc names more m.asked))
@@ -250,11 +249,11 @@ no_read_refusal (refusal.Run kernel fault) no_read = λ f e. absurd (cc)
 
 -- what the outside tells after a step, of which a task is known to have read this
 pub record Stepped (compiled : CheckedProgram) (binds : List Bind) (state : FlatState) (task : Task) (stores : List StoreWords) (result : Result Text (Stop RunRefusal)) (now next : Outside) : Type 0 where
-  pub has : HasFile compiled.names binds task
+  pub has : HasFile compiled.names (map binding_read binds) task
   pub chosen : (given : Reading) × Performs compiled.layouts stores result (task_meaning compiled state task given)
-      × ((h : Held) → now.held ≡ Some h → given ≡ reading_of h (commands.file_of compiled.names binds task) result)
-  pub asked : next.asked ≡ asked_after (commands.file_of compiled.names binds task) now.asked
-  pub reads : next.reads ≡ reads_after (commands.file_of compiled.names binds task) now.reads
+      × ((h : Held) → now.held ≡ Some h → given ≡ reading_of h (file_of_task compiled.names (map binding_read binds) task) result)
+  pub asked : next.asked ≡ asked_after (file_of_task compiled.names (map binding_read binds) task) now.asked
+  pub reads : next.reads ≡ reads_after (file_of_task compiled.names (map binding_read binds) task) now.reads
   pub cause : StepCause result now.failed_reads next.failed_reads
   pub held : next.held ≡ now.held
 
@@ -266,20 +265,19 @@ module _ (compiled : CheckedProgram) (binds : List Bind) where
   step_asked : (state : FlatState) (task : Task) (stores : List StoreWords) (result : Result Text (Stop RunRefusal)) (now next : Outside) (given : Reading)
       → Stepped compiled binds state task stores result now next → next.asked ≡ asked_more now.asked (names_of (load_reads (file task) given))
   step_asked state task stores result now next given did =
-      did.asked ∙ asked_by_load (commands.file_of compiled.names binds task) given now.asked ∙ ap (λ (f : Option (List ℕ)). asked_more now.asked (names_of (load_reads f given))) (same_files compiled.names binds task)
+      did.asked ∙ asked_by_load (file_of_task compiled.names (map binding_read binds) task) given now.asked
 
   step_reads : (state : FlatState) (task : Task) (stores : List StoreWords) (result : Result Text (Stop RunRefusal)) (now next : Outside) (given : Reading)
       → Stepped compiled binds state task stores result now next → next.reads ≡ counted_more now.reads (names_of (load_reads (file task) given))
   step_reads state task stores result now next given did =
-      did.reads ∙ reads_by_load (commands.file_of compiled.names binds task) given now.reads ∙ ap (λ (f : Option (List ℕ)). counted_more now.reads (names_of (load_reads f given))) (same_files compiled.names binds task)
+      did.reads ∙ reads_by_load (file_of_task compiled.names (map binding_read binds) task) given now.reads
 
   step_none : (state : FlatState) (task : Task) (stores : List StoreWords) (result : Result Text (Stop RunRefusal)) (now next : Outside)
       → IsNoRead result → (did : Stepped compiled binds state task stores result now next) → NoneFailed now next (load_reads (file task) did.chosen.0)
   step_none state task stores result now next no_read did =
       record {
         no_fault = cause_kept result now.failed_reads next.failed_reads no_read did.cause;
-        told = λ h e. reads_told h (file task) result did.chosen.0 no_read
-            (did.chosen.2 h e ∙ ap (λ (f : Option (List ℕ)). reading_of h f result) (same_files compiled.names binds task));
+        told = λ h e. reads_told h (file task) result did.chosen.0 no_read (did.chosen.2 h e);
       }
 
   -- tasks before any of them was performed
@@ -329,7 +327,7 @@ module _ (compiled : CheckedProgram) (binds : List Bind) where
       more : List ReadMade
       more = load_reads (file task) given
 
-      left : Leaves compiled.layouts stores' text.bytes (task_meaning compiled came.state task given)
+      left : LeavesMeaning compiled.layouts stores' text.bytes (task_meaning compiled came.state task given)
       left = did.chosen.1
 
       none : NoneFailed now next more
@@ -340,19 +338,19 @@ module _ (compiled : CheckedProgram) (binds : List Bind) where
 
       is : (readings : Readings) → Agree readings 1 (came.made ++ more)
           → meaning_of_tasks compiled (map binding_read binds) readings 1 start tasks
-          ≡ asking (names_of (came.made ++ more)) (before_text (came.text ++ left.left.text) (meaning_of_tasks compiled (map binding_read binds) readings (length (came.made ++ more) + 1) left.left.state rest'))
+          ≡ asking_for (names_of (came.made ++ more)) (before_text (came.text ++ left.left.text) (meaning_of_tasks compiled (map binding_read binds) readings (length (came.made ++ more) + 1) left.left.state rest'))
       is readings agree =
           let two = agree_twice readings 1 (length came.made + 1) came.made more refl agree in
           let step : meaning_of_tasks compiled (map binding_read binds) readings (length came.made + 1) came.state rest
-          ≡ asking (names_of more) (before_text left.left.text (meaning_of_tasks compiled (map binding_read binds) readings (length more + (length came.made + 1)) left.left.state rest')) =
+          ≡ asking_for (names_of more) (before_text left.left.text (meaning_of_tasks compiled (map binding_read binds) readings (length more + (length came.made + 1)) left.left.state rest')) =
           ap (meaning_of_tasks compiled (map binding_read binds) readings (length came.made + 1) came.state) split
           ∙ one_task compiled binds readings (length came.made + 1) came.state task rest' given did.has two.1
-          ∙ ap (λ (a : Result Left RunRefusal). asking (names_of more) (after_task compiled came.state (file task) task (λ following. meaning_of_tasks compiled (map binding_read binds) readings (length more + (length came.made + 1)) following rest') a)) left.is in
+          ∙ ap (λ (a : Result Left RunRefusal). asking_for (names_of more) (after_task compiled came.state (file task) task (λ following. meaning_of_tasks compiled (map binding_read binds) readings (length more + (length came.made + 1)) following rest') a)) left.is in
           came.is readings two.0
-          ∙ ap (λ (m : Meaning). asking (names_of came.made) (before_text came.text m)) step
+          ∙ ap (λ (m : Meaning). asking_for (names_of came.made) (before_text came.text m)) step
           ∙ regrouped compiled binds (names_of came.made) (names_of more) came.text left.left.text (meaning_of_tasks compiled (map binding_read binds) readings (length more + (length came.made + 1)) left.left.state rest')
-          ∙ ap (λ (names : List (List ℕ)). asking names (before_text (came.text ++ left.left.text) (meaning_of_tasks compiled (map binding_read binds) readings (length more + (length came.made + 1)) left.left.state rest'))) (sym (names_twice came.made more))
-          ∙ ap (λ (n : ℕ). asking (names_of (came.made ++ more)) (before_text (came.text ++ left.left.text) (meaning_of_tasks compiled (map binding_read binds) readings n left.left.state rest'))) count
+          ∙ ap (λ (names : List (List ℕ)). asking_for names (before_text (came.text ++ left.left.text) (meaning_of_tasks compiled (map binding_read binds) readings (length more + (length came.made + 1)) left.left.state rest'))) (sym (names_twice came.made more))
+          ∙ ap (λ (n : ℕ). asking_for (names_of (came.made ++ more)) (before_text (came.text ++ left.left.text) (meaning_of_tasks compiled (map binding_read binds) readings n left.left.state rest'))) count
 
   -- the rest of the tasks went, so all did
   pub came_went : (start : FlatState) (tasks rest : List Task) (stores : List StoreWords) (before now after : Outside) (result : Result Done (Stop PutFailed))
@@ -414,7 +412,7 @@ module _ (compiled : CheckedProgram) (binds : List Bind) where
       came_went start tasks rest stores before now after (Err why) came
       (went_behind (length came.made + 1) came.state task rest rest' stores' (Ok text) now mid after (Err why) split (λ f e. absurd (cc)) did same (went why sent))
     where
-      left : Leaves compiled.layouts stores' text.bytes (task_meaning compiled came.state task did.chosen.0)
+      left : LeavesMeaning compiled.layouts stores' text.bytes (task_meaning compiled came.state task did.chosen.0)
       left = did.chosen.1
 
       n : ℕ
@@ -511,8 +509,8 @@ module _ (compiled : CheckedProgram) (binds : List Bind) where
 
           by_file : (f : Option (List ℕ)) → file task ≡ f → Went (λ readings. meaning_of_tasks compiled (map binding_read binds) readings n came.state rest) n now after (ended_with session answer)
           by_file None none = absurd (no_load task did.has none means) where
-            no_load : (t : Task) → HasFile compiled.names binds t → file t ≡ None → task_meaning compiled came.state t did.chosen.0 ≡ Err (refusal.Read field) → ⊥
-            no_load (Load at) has nothing e = some_none (commands.file_of compiled.names binds (Load at)) has (same_files compiled.names binds (Load at) ∙ nothing)
+            no_load : (t : Task) → HasFile compiled.names (map binding_read binds) t → file t ≡ None → task_meaning compiled came.state t did.chosen.0 ≡ Err (refusal.Read field) → ⊥
+            no_load (Load at) has nothing e = some_none (file_of_task compiled.names (map binding_read binds) (Load at)) has nothing
             no_load (Run kernel) has nothing e = absurd_run (commands.after_kernel compiled.layouts came.state (slice_get compiled.kernels kernel)) e where
               absurd_run : (a : Result FlatState RunFault) → ◌≡◌ {A = Result Left RunRefusal} (fault_as (refusal.Run (Some kernel)) a >>= (λ next. Ok (commands.without_text next))) (Err (refusal.Read field)) → ⊥
               absurd_run (Ok next) h = absurd (cc)
@@ -533,14 +531,14 @@ module _ (compiled : CheckedProgram) (binds : List Bind) where
               (subst (λ (c : ℕ). Rose now.failed_reads c) (sym faults) (subst (λ (w : RunRefusal). StepCause (Err (stop.Refused w)) now.failed_reads mid.failed_reads) is_it did.cause))
               (two_status session answer (subst (λ (w : RunRefusal). IfOk answer (λ s. s ≡ (run_last compiled.names (file task) task w).status)) is_it status))
             where
-              is : (readings : Readings) → readings (suc n) name most_grid_bytes ≡ Missing → meaning_of_tasks compiled (map binding_read binds) readings n came.state rest ≡ asking (name ∷ []) (refused_with (Some came.state) line)
+              is : (readings : Readings) → readings (suc n) name most_grid_bytes ≡ Missing → meaning_of_tasks compiled (map binding_read binds) readings n came.state rest ≡ asking_for (name ∷ []) (refused_with (Some came.state) line)
               is readings failed =
                   ap (meaning_of_tasks compiled (map binding_read binds) readings n came.state) split
                   ∙ tasks_step compiled binds readings n came.state task rest'
                   ∙ ap (λ (f : Option (List ℕ)). task_and_more compiled readings n came.state task (λ following next. meaning_of_tasks compiled (map binding_read binds) readings following next rest') f) some
-                  ∙ ap (λ (r : Reading). asking (name ∷ []) (after_task compiled came.state (Some name) task (λ next. meaning_of_tasks compiled (map binding_read binds) readings (suc n) next rest') (task_meaning compiled came.state task r))) (failed ∙ sym missing)
-                  ∙ ap (λ (a : Result Left RunRefusal). asking (name ∷ []) (after_task compiled came.state (Some name) task (λ next. meaning_of_tasks compiled (map binding_read binds) readings (suc n) next rest') a)) means
-                  ∙ ap (λ (f : Option (List ℕ)). asking (name ∷ []) (refused_with (Some came.state) (run_last compiled.names f task (refusal.Read field)))) (sym some)
+                  ∙ ap (λ (r : Reading). asking_for (name ∷ []) (after_task compiled came.state (Some name) task (λ next. meaning_of_tasks compiled (map binding_read binds) readings (suc n) next rest') (task_meaning compiled came.state task r))) (failed ∙ sym missing)
+                  ∙ ap (λ (a : Result Left RunRefusal). asking_for (name ∷ []) (after_task compiled came.state (Some name) task (λ next. meaning_of_tasks compiled (map binding_read binds) readings (suc n) next rest') a)) means
+                  ∙ ap (λ (f : Option (List ℕ)). asking_for (name ∷ []) (refused_with (Some came.state) (run_last compiled.names f task (refusal.Read field)))) (sym some)
         by_why (refusal.GridBytes field) is_it sure = absurd (cc)
         by_why (refusal.GridRows field) is_it sure = absurd (cc)
         by_why (refusal.Grid field l) is_it sure = absurd (cc)
@@ -556,28 +554,28 @@ tail_of P xs rest x split all = (subst (AllByRecursion P) split all).1
 
 -- the first of tasks that have a file has one by the program's names
 pub has_head : (program : CheckedProgram) (compiled : CompiledProgram) (binds : List Bind) (xs rest : List Task) (x : Task) → Compiles program compiled → xs ≡ x ∷ rest
-    → AllByRecursion (HasFile compiled.names binds) xs → HasFile program.names binds x
-has_head program compiled binds xs rest x compiles split all = subst (λ (t : Tables). HasFile t binds x) compiles.names (head_of (HasFile compiled.names binds) xs rest x split all)
+    → AllByRecursion (HasFile compiled.names (map binding_read binds)) xs → HasFile program.names (map binding_read binds) x
+has_head program compiled binds xs rest x compiles split all = subst (λ (t : Tables). HasFile t (map binding_read binds) x) compiles.names (head_of (HasFile compiled.names (map binding_read binds)) xs rest x split all)
 
 -- what a step of a session that is compiled from this program did
 pub stepped : (program : CheckedProgram) (other : CompiledProgram) (binds : List Bind) (state : FlatState) (task : Task) (stores stores' : List StoreWords) (result : Result Text (Stop RunRefusal)) (now next : Outside)
-    → Compiles program other → StandForState program.layouts stores state → HasFile program.names binds task
+    → Compiles program other → StandForState program.layouts stores state → HasFile program.names (map binding_read binds) task
     → ((h : Held) → now.held ≡ Some h → (s : FlatState) → StandForState other.layouts stores s
-    → Performs other.layouts stores' result (compiled_meaning other s task (reading_of h (commands.file_of other.names binds task) result)))
+    → Performs other.layouts stores' result (compiled_meaning other s task (reading_of h (file_of_task other.names (map binding_read binds) task) result)))
     → ((s : FlatState) → StandForState other.layouts stores s → (given : Reading) × Performs other.layouts stores' result (compiled_meaning other s task given))
-    → next.asked ≡ asked_after (commands.file_of other.names binds task) now.asked → next.reads ≡ reads_after (commands.file_of other.names binds task) now.reads
+    → next.asked ≡ asked_after (file_of_task other.names (map binding_read binds) task) now.asked → next.reads ≡ reads_after (file_of_task other.names (map binding_read binds) task) now.reads
     → StepCause result now.failed_reads next.failed_reads → next.held ≡ now.held → Stepped program binds state task stores' result now next
 stepped program other binds state task stores stores' result now next compiles stand has told performed asked reads cause held =
     record {
       has = has;
-      chosen = given_chosen now.held (commands.file_of program.names binds task) result program.layouts stores' (task_meaning program state task)
-          (λ h e. subst (λ (t : Tables). Performs program.layouts stores' result (task_meaning program state task (reading_of h (commands.file_of t binds task) result))) compiles.names
-          (subst (λ (ls : List Shape). Performs ls stores' result (task_meaning program state task (reading_of h (commands.file_of other.names binds task) result))) compiles.layouts
-          (kept (reading_of h (commands.file_of other.names binds task) result) (told h e state stand_other))))
+      chosen = given_chosen now.held (file_of_task program.names (map binding_read binds) task) result program.layouts stores' (task_meaning program state task)
+          (λ h e. subst (λ (t : Tables). Performs program.layouts stores' result (task_meaning program state task (reading_of h (file_of_task t (map binding_read binds) task) result))) compiles.names
+          (subst (λ (ls : List Shape). Performs ls stores' result (task_meaning program state task (reading_of h (file_of_task other.names (map binding_read binds) task) result))) compiles.layouts
+          (kept (reading_of h (file_of_task other.names (map binding_read binds) task) result) (told h e state stand_other))))
           (let did = performed state stand_other in
           (did.0, subst (λ (ls : List Shape). Performs ls stores' result (task_meaning program state task did.0)) compiles.layouts (kept did.0 did.1)));
-      asked = asked ∙ ap (λ (t : Tables). asked_after (commands.file_of t binds task) now.asked) compiles.names;
-      reads = reads ∙ ap (λ (t : Tables). reads_after (commands.file_of t binds task) now.reads) compiles.names;
+      asked = asked ∙ ap (λ (t : Tables). asked_after (file_of_task t (map binding_read binds) task) now.asked) compiles.names;
+      reads = reads ∙ ap (λ (t : Tables). reads_after (file_of_task t (map binding_read binds) task) now.reads) compiles.names;
       cause = cause;
       held = held;
     }

@@ -13,17 +13,18 @@ use Rattle.sg_session.specs.declared.refusal.RunRefusal.{RunRefusal}
 use Rattle.sg_session.specs.declared.tasks.Task.{Task}
 use Rattle.sg_session.specs.declared.tasks.Task.TheVariants.{Load, Run, Dump, Image, Stats, Prune, Clear}
 use Rattle.sg_session.specs.Commands.{Left, task_meaning}
-use Rattle.sg_session.specs.Compiled.{CheckedProgram, unfolded}
+use Rattle.sg_session.specs.Compiled.{CheckedProgram, unfolded_tasks}
 use Rattle.sg_session.specs.Compiling.{compiled_program}
+use Rattle.sg_session.specs.Bindings.{Binding, file_bound, file_of_task}
 use Rattle.sparsegrid.specs.declared.output.PutFailed.{PutFailed}
 use Rattle.sparsegrid.specs.declared.session.Done.{Done}
 use Rattle.sparsegrid.specs.declared.words.Mode.{Mode}
 use Rattle.sparsegrid.specs.declared.words.Mode.TheVariants as mode
-use Rattle.sparsegrid.specs.Words.{Asked, Binding, is_gen}
-use Rattle.sparsegrid.specs.Generated.{generated}
-use Rattle.sparsegrid.specs.Meaning.{Meaning, Readings, asking, meaning_of_source, file_bound, file_of_task, is_unbound, after_task, task_and_more, meaning_of_tasks, meaning_unless, meaning_of_run, meaning_in, meaning_of_compiled, meaning_of_file, meaning_of_generated, meaning_of_asked}
+use Rattle.sparsegrid.specs.Words.{Asked, is_gen}
+use Rattle.sparsegrid.specs.Generated.{generated_text}
+use Rattle.sparsegrid.specs.Meaning.{Meaning, Readings, asking_for, meaning_of_source, is_unbound, after_task, task_and_more, meaning_of_tasks, meaning_unless, meaning_of_run, meaning_in, meaning_of_compiled, meaning_of_file, meaning_of_generated, meaning_of_asked}
 use Rattle.sparsegrid.specs.Outcome.{Outside, asked_more, counted_more}
-use Rattle.sparsegrid.specs.steps.Along.{ReadMade, names_of, Agree, Followed, ReadsEnd, Went}
+use Rattle.sparsegrid.specs.steps.Along.{ReadMade, names_of, Agree, FollowedMeaning, ReadsEnd, Went}
 use Rattle.sparsegrid.proofs.Readings.{readings_of, agree_own}
 use Rattle.sparsegrid.proofs.Sources.{went_same}
 
@@ -64,7 +65,7 @@ gen_asks : (m : Mode) (program : CheckedProgram) (bindings : List Binding) (read
 gen_asks mode.Run program bindings readings gen = absurd (cc)
 gen_asks mode.Check program bindings readings gen = absurd (cc)
 gen_asks mode.Lower program bindings readings gen = absurd (cc)
-gen_asks mode.Gen program bindings readings gen = run_asks program readings (unfolded program.commands)
+gen_asks mode.Gen program bindings readings gen = run_asks program readings (unfolded_tasks program.commands)
 
 pub compiled_asks : (asked : Asked) → is_gen asked.mode ≡ true → (readings : Readings) (bytes : List ℕ) (answer : Result CheckedProgram Refusal) → (meaning_of_compiled asked readings bytes answer).asked ≡ []
 compiled_asks asked gen readings bytes (Err why) = refl
@@ -76,14 +77,14 @@ of_generated asked gen readings = ap (λ (b : Bool). if b then meaning_of_genera
 
 pub generated_asks : (asked : Asked) → is_gen asked.mode ≡ true → (readings : Readings) → (meaning_of_asked asked readings).asked ≡ []
 generated_asks asked gen readings =
-    ap (λ (m : Meaning). m.asked) (of_generated asked gen readings) ∙ compiled_asks asked gen readings (generated asked.number) (compiled_program (generated asked.number))
+    ap (λ (m : Meaning). m.asked) (of_generated asked gen readings) ∙ compiled_asks asked gen readings (generated_text asked.number) (compiled_program (generated_text asked.number))
 
 front_none : (xs ys : List (List ℕ)) → xs ++ ys ≡ [] → xs ≡ []
 front_none [] ys h = refl
 front_none (x ∷ xs) ys h = absurd (cc)
 
 -- where a meaning asks for no file, none was read
-pub no_names : (m : Meaning) (names : List (List ℕ)) (before after : Outside) (result : Result Done (Stop PutFailed)) → m.asked ≡ [] → Followed m names before after result → names ≡ []
+pub no_names : (m : Meaning) (names : List (List ℕ)) (before after : Outside) (result : Result Done (Stop PutFailed)) → m.asked ≡ [] → FollowedMeaning m names before after result → names ≡ []
 no_names m names before after (Ok done) none followed = sym followed.asked ∙ none
 no_names m names before after (Err why) none followed = front_none names followed.asked.0 (sym followed.asked.1 ∙ none)
 
@@ -100,14 +101,14 @@ went_unread m n k before after result none went =
     let made : went.made ≡ [] = nothing_made went.made names in
     record {
       made = [];
-      followed = λ readings agree. subst (λ (ns : List (List ℕ)). Followed (m readings) ns before after result) names (went.followed readings (subst (λ (ms : List ReadMade). Agree readings n ms) (sym made) tt));
+      followed = λ readings agree. subst (λ (ns : List (List ℕ)). FollowedMeaning (m readings) ns before after result) names (went.followed readings (subst (λ (ms : List ReadMade). Agree readings n ms) (sym made) tt));
       asked = went.asked ∙ ap (asked_more before.asked) names;
       reads = went.reads ∙ ap (counted_more before.reads) names;
       ends = subst (λ (ms : List ReadMade). ReadsEnd before after ms result) made went.ends;
     }
 
 -- the generated program was run
-pub generated_went : (asked : Asked) (bytes : List ℕ) (before after : Outside) (result : Result Done (Stop PutFailed)) → is_gen asked.mode ≡ true → bytes ≡ generated asked.number
+pub generated_went : (asked : Asked) (bytes : List ℕ) (before after : Outside) (result : Result Done (Stop PutFailed)) → is_gen asked.mode ≡ true → bytes ≡ generated_text asked.number
     → Went (λ readings. meaning_of_compiled asked readings bytes (compiled_program bytes)) 1 before after result → Went (meaning_of_asked asked) 0 before after result
 generated_went asked bytes before after result gen same went =
     went_same (meaning_of_asked asked) (λ readings. meaning_of_compiled asked readings bytes (compiled_program bytes)) 0 before after result
@@ -115,11 +116,11 @@ generated_went asked bytes before after result gen same went =
     (went_unread (λ readings. meaning_of_compiled asked readings bytes (compiled_program bytes)) 1 0 before after result (λ readings. compiled_asks asked gen readings bytes (compiled_program bytes)) went)
 
 -- it means what a file with its text means, but that no file is asked for
-pub generated_is_text : (workers number : ℕ) (file : List ℕ) (readings : Readings) → readings 1 file most_file_bytes ≡ Bytes (generated number)
+pub generated_is_text : (workers number : ℕ) (file : List ℕ) (readings : Readings) → readings 1 file most_file_bytes ≡ Bytes (generated_text number)
     → meaning_of_asked (record { workers = workers; mode = mode.Run; file = file; bindings = []; number = 0 }) readings
-    ≡ asking (file ∷ []) (meaning_of_asked (record { workers = workers; mode = mode.Gen; file = []; bindings = []; number = number }) readings)
+    ≡ asking_for (file ∷ []) (meaning_of_asked (record { workers = workers; mode = mode.Gen; file = []; bindings = []; number = number }) readings)
 generated_is_text workers number file readings holds =
-    ap (λ (given : Reading). asking (file ∷ []) (meaning_of_source of_file readings given)) holds ∙ ap (λ (m : Meaning). asking (file ∷ []) m) (by_answer (compiled_program (generated number)))
+    ap (λ (given : Reading). asking_for (file ∷ []) (meaning_of_source of_file readings given)) holds ∙ ap (λ (m : Meaning). asking_for (file ∷ []) m) (by_answer (compiled_program (generated_text number)))
   where
     of_file : Asked
     of_file = record { workers = workers; mode = mode.Run; file = file; bindings = []; number = 0 }
@@ -127,6 +128,6 @@ generated_is_text workers number file readings holds =
     of_number : Asked
     of_number = record { workers = workers; mode = mode.Gen; file = []; bindings = []; number = number }
 
-    by_answer : (answer : Result CheckedProgram Refusal) → meaning_of_compiled of_file readings (generated number) answer ≡ meaning_of_compiled of_number readings (generated number) answer
+    by_answer : (answer : Result CheckedProgram Refusal) → meaning_of_compiled of_file readings (generated_text number) answer ≡ meaning_of_compiled of_number readings (generated_text number) answer
     by_answer (Err why) = refl
     by_answer (Ok program) = refl

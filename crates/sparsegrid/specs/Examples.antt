@@ -2,10 +2,10 @@
 use Rattle.std.specs.Prelude.{◌≡◌, refl, ℕ, [], ◌∷◌, Option, None, codes}
 use Rattle.sg_outside.specs.Files.{Held, TooMany, Missing}
 use Rattle.sparsegrid.specs.Lines.{words_last}
-use Rattle.sparsegrid.specs.Meaning.{refused, meaning, meaning_by}
+use Rattle.sparsegrid.specs.Meaning.{refused_before_tasks, meaning, meaning_by}
 
 -- without words nothing is read
-no_words : (held : Held) (stop : Option ℕ) → meaning [] held stop ≡ refused words_last
+no_words : (held : Held) (stop : Option ℕ) → meaning [] held stop ≡ refused_before_tasks words_last
 no_words held stop = refl
 
 -- where the first read fails, the run ends with it

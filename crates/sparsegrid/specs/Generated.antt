@@ -35,14 +35,14 @@ behind_number =
     ++ codes "run scatter; run smooth; run sum; stats G; dump total;\n"
 
 -- the text of the program, with the number in its first line
-abbrev pub generated : ℕ → List ℕ
-generated number = codes "const S = " ++ decimal number ++ behind_number
+abbrev pub generated_text : ℕ → List ℕ
+generated_text number = codes "const S = " ++ decimal number ++ behind_number
 
-for_seven : generated 7 ≡ codes "const S = 7" ++ behind_number
+for_seven : generated_text 7 ≡ codes "const S = 7" ++ behind_number
 unfolding digits
 for_seven = refl
 
-for_the_greatest : take 25 (generated 4294967295) ≡ codes "const S = 4294967295u;\nla"
+for_the_greatest : take 25 (generated_text 4294967295) ≡ codes "const S = 4294967295u;\nla"
 unfolding digits behind_number
 for_the_greatest = refl
 

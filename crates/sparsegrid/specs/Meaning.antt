@@ -1,29 +1,27 @@
 -- What a run means: the text that it writes, its status, the last state, and the files that it asks for.
-use Rattle.std.specs.Prelude.{ℕ, suc, Bool, true, false, ◌&&◌, List, [], ◌∷◌, ◌++◌, find, if◌then◌else◌, ◌==◌, Option, Some, None, is_none, option_map, option_and_then, Result, Ok, Err}
+use Rattle.std.specs.Prelude.{ℕ, suc, Bool, true, false, ◌&&◌, List, [], ◌∷◌, ◌++◌, find, if◌then◌else◌, ◌==◌, Option, Some, None, is_none, Result, Ok, Err}
 use Rattle.sg_outside.specs.Files.{Held, Reading, Bytes, TooMany, Missing, reading}
-use Rattle.sg_ast.specs.declared.token.Name.{Name}
-use Rattle.sg_ast.specs.Token.{same_name}
 use Rattle.sg_ast.specs.declared.program.Item.{Item}
 use Rattle.sg_ast.specs.declared.program.Program.{Program}
 use Rattle.sg_lexer.specs.Limits.{most_file_bytes}
 use Rattle.sg_grid.specs.Limits.{most_grid_bytes}
 use Rattle.sg_flat.specs.declared.state.FlatState.{FlatState}
 use Rattle.sg_flat.specs.State.{opening}
-use Rattle.sg_names.specs.declared.tables.FieldAt.{FieldAt}
-use Rattle.sg_names.specs.Tables.{Tables, field_name_of}
+use Rattle.sg_names.specs.Tables.{Tables}
 use Rattle.sg_session.specs.declared.refusal.Refusal.{Refusal}
 use Rattle.sg_session.specs.declared.refusal.RunRefusal.{RunRefusal}
 use Rattle.sg_session.specs.declared.tasks.Task.{Task}
 use Rattle.sg_session.specs.declared.tasks.Task.TheVariants.{Load, Run, Dump, Image, Stats, Prune, Clear}
-use Rattle.sg_session.specs.Compiled.{CheckedProgram, unfolded}
+use Rattle.sg_session.specs.Compiled.{CheckedProgram, unfolded_tasks}
 use Rattle.sg_session.specs.Compiling.{spelled_program, compiled_program}
 use Rattle.sg_session.specs.Commands.{Left, task_meaning}
 use Rattle.sg_session.specs.Texts.{check_text}
+use Rattle.sg_session.specs.Bindings.{file_of_field, file_of_task, Binding}
 use Rattle.sparsegrid.specs.declared.last_line.LastLine.{LastLine}
 use Rattle.sparsegrid.specs.declared.words.Mode.{Mode}
 use Rattle.sparsegrid.specs.declared.words.Mode.TheVariants as mode
-use Rattle.sparsegrid.specs.Words.{Asked, Binding, good_words, is_gen}
-use Rattle.sparsegrid.specs.Generated.{generated}
+use Rattle.sparsegrid.specs.Words.{Asked, good_words, is_gen}
+use Rattle.sparsegrid.specs.Generated.{generated_text}
 use Rattle.sparsegrid.specs.Lines.{words_last, no_file_last, read_last, file_bytes_last, refusal_last, run_last, field_text}
 
 -- what a run means: the text that it writes, its status, the last state, where it leaves one, and the names of the files that it asks for,
@@ -39,8 +37,8 @@ abbrev pub refused_with : Option FlatState → LastLine → Meaning
 refused_with state last = record { text = last.line ++ 10 ∷ []; status = last.status; last = state; asked = [] }
 
 -- a refusal before the first command leaves no state
-abbrev pub refused : LastLine → Meaning
-refused last = refused_with None last
+abbrev pub refused_before_tasks : LastLine → Meaning
+refused_before_tasks last = refused_with None last
 
 -- all is done: this text is written, and this is the state
 abbrev pub all_done : List ℕ → FlatState → Meaning
@@ -51,32 +49,14 @@ abbrev pub before : List ℕ → Meaning → Meaning
 before text m = record { text = text ++ m.text; status = m.status; last = m.last; asked = m.asked }
 
 -- files are asked for, and then what else the run means
-abbrev pub asking : List (List ℕ) → Meaning → Meaning
-asking names m = record { text = m.text; status = m.status; last = m.last; asked = names ++ m.asked }
+abbrev pub asking_for : List (List ℕ) → Meaning → Meaning
+asking_for names m = record { text = m.text; status = m.status; last = m.last; asked = names ++ m.asked }
 
 -- what the reads of a run give: that of a number, counted from 1, of the file of a name, under a limit on its bytes
 abbrev pub Readings : Type 0
 Readings = ℕ → List ℕ → ℕ → Reading
 
--- ---- the files of tasks
-
--- the file that a name is bound to
-abbrev pub file_bound : List Binding → Name → Option (List ℕ)
-file_bound bindings name = option_map (λ binding. binding.file) (find (λ binding. same_name name (record { text = binding.name })) bindings)
-
--- the file of a field
-abbrev pub file_of_field : Tables → List Binding → FieldAt → Option (List ℕ)
-file_of_field names bindings at = option_and_then (file_bound bindings) (field_name_of names at.number)
-
--- the file that a task reads: only a load reads one
-abbrev pub file_of_task : Tables → List Binding → Task → Option (List ℕ)
-file_of_task names bindings (Load field) = file_of_field names bindings field
-file_of_task names bindings (Run kernel) = None
-file_of_task names bindings (Dump field) = None
-file_of_task names bindings (Image field lo hi) = None
-file_of_task names bindings (Stats layout) = None
-file_of_task names bindings (Prune layout) = None
-file_of_task names bindings (Clear layout) = None
+-- ---- loads without a file
 
 -- a load whose field has no file
 abbrev pub is_unbound : Tables → List Binding → Task → Bool
@@ -100,7 +80,7 @@ after_task program state file task more (Err why) = refused_with (Some state) (r
 abbrev pub task_and_more : CheckedProgram → Readings → ℕ → FlatState → Task → (ℕ → FlatState → Meaning) → Option (List ℕ) → Meaning
 task_and_more program readings reads state task more None = after_task program state None task (more reads) (task_meaning program state task Missing)
 task_and_more program readings reads state task more (Some name) =
-    asking (name ∷ []) (after_task program state (Some name) task (more (suc reads)) (task_meaning program state task (readings (suc reads) name most_grid_bytes)))
+    asking_for (name ∷ []) (after_task program state (Some name) task (more (suc reads)) (task_meaning program state task (readings (suc reads) name most_grid_bytes)))
 
 -- tasks from a state on, up to the first that is refused; so many reads were before them
 unfoldable pub meaning_of_tasks : CheckedProgram → List Binding → Readings → ℕ → FlatState → List Task → Meaning
@@ -112,7 +92,7 @@ meaning_of_tasks program bindings readings reads state (task ∷ tasks) =
 
 -- no task runs where a load has no file: the first of these is named
 abbrev pub meaning_unless : Option Task → CheckedProgram → List Binding → Readings → List Task → Meaning
-meaning_unless (Some task) program bindings readings tasks = refused (no_file_last (field_text program.names task))
+meaning_unless (Some task) program bindings readings tasks = refused_before_tasks (no_file_last (field_text program.names task))
 meaning_unless None program bindings readings tasks = meaning_of_tasks program bindings readings 1 (opening program.layouts) tasks
 
 -- the tasks of a program from its opening state on; its file was read before
@@ -123,10 +103,10 @@ meaning_of_run program bindings readings tasks = meaning_unless (find (is_unboun
 -- part of the meaning, since the code's registers may be numbered in any way: it is that of the session which the run leaves. The tasks of a
 -- generated program have no files.
 abbrev pub meaning_in : Mode → CheckedProgram → List Binding → Readings → Meaning
-meaning_in mode.Run program bindings readings = meaning_of_run program bindings readings (unfolded program.commands)
+meaning_in mode.Run program bindings readings = meaning_of_run program bindings readings (unfolded_tasks program.commands)
 meaning_in mode.Check program bindings readings = all_done (check_text program.names program.neutral) (opening program.layouts)
 meaning_in mode.Lower program bindings readings = all_done [] (opening program.layouts)
-meaning_in mode.Gen program bindings readings = meaning_of_run program [] readings (unfolded program.commands)
+meaning_in mode.Gen program bindings readings = meaning_of_run program [] readings (unfolded_tasks program.commands)
 
 -- the items of a program, where there is one
 abbrev pub items_or_none : Result Program Refusal → List Item
@@ -135,22 +115,22 @@ items_or_none (Err refusal) = []
 
 -- a checked program, or the refusal of these bytes
 abbrev pub meaning_of_compiled : Asked → Readings → List ℕ → Result CheckedProgram Refusal → Meaning
-meaning_of_compiled asked readings bytes (Err refusal) = refused (refusal_last (items_or_none (spelled_program bytes)) refusal)
+meaning_of_compiled asked readings bytes (Err refusal) = refused_before_tasks (refusal_last (items_or_none (spelled_program bytes)) refusal)
 meaning_of_compiled asked readings bytes (Ok program) = meaning_in asked.mode program asked.bindings readings
 
 -- what the read of the file gave
 abbrev pub meaning_of_source : Asked → Readings → Reading → Meaning
-meaning_of_source asked readings Missing = refused (read_last asked.file)
-meaning_of_source asked readings TooMany = refused file_bytes_last
+meaning_of_source asked readings Missing = refused_before_tasks (read_last asked.file)
+meaning_of_source asked readings TooMany = refused_before_tasks file_bytes_last
 meaning_of_source asked readings (Bytes bytes) = meaning_of_compiled asked readings bytes (compiled_program bytes)
 
 -- the file that good words name is the first that is asked for
 abbrev pub meaning_of_file : Asked → Readings → Meaning
-meaning_of_file asked readings = asking (asked.file ∷ []) (meaning_of_source asked readings (readings 1 asked.file most_file_bytes))
+meaning_of_file asked readings = asking_for (asked.file ∷ []) (meaning_of_source asked readings (readings 1 asked.file most_file_bytes))
 
 -- the generated program is asked of no file
 abbrev pub meaning_of_generated : Asked → Readings → Meaning
-meaning_of_generated asked readings = meaning_of_compiled asked readings (generated asked.number) (compiled_program (generated asked.number))
+meaning_of_generated asked readings = meaning_of_compiled asked readings (generated_text asked.number) (compiled_program (generated_text asked.number))
 
 -- what good words ask for
 abbrev pub meaning_of_asked : Asked → Readings → Meaning
@@ -158,7 +138,7 @@ meaning_of_asked asked readings = if is_gen asked.mode then meaning_of_generated
 
 -- good words, or bad ones
 abbrev pub meaning_of_words : Option Asked → Readings → Meaning
-meaning_of_words None readings = refused words_last
+meaning_of_words None readings = refused_before_tasks words_last
 meaning_of_words (Some asked) readings = meaning_of_asked asked readings
 
 -- the meaning of a run with these words, whose reads give these readings
@@ -167,13 +147,14 @@ meaning_by words readings = meaning_of_words (good_words words) readings
 
 -- ---- the text of access code
 
--- whether good words ask for access code
+-- the mode is to write access code
 abbrev pub is_lower : Mode → Bool
 is_lower mode.Run = false
 is_lower mode.Check = false
 is_lower mode.Lower = true
 is_lower mode.Gen = false
 
+-- good words ask for access code; bad ones ask for nothing
 abbrev pub asks_code : Option Asked → Bool
 asks_code None = false
 asks_code (Some asked) = is_lower asked.mode

@@ -15,7 +15,7 @@ use Rattle.sg_session.specs.Compiled.{Compiles}
 use Rattle.sg_session.specs.Compiling.{compiled_program}
 use Rattle.sg_session.specs.Texts.{lower_text}
 use Rattle.sparsegrid.specs.Words.{Asked, good_words, is_gen}
-use Rattle.sparsegrid.specs.Generated.{generated}
+use Rattle.sparsegrid.specs.Generated.{generated_text}
 use Rattle.sparsegrid.specs.Meaning.{Meaning, Readings, meaning, meaning_by, asks_code, with_code}
 
 -- what files and a sink tell at one moment
@@ -31,8 +31,8 @@ pub record Outside : Type 0 where
   pub failed_puts : ℕ
 
 -- what these files and this sink tell
-abbrev pub outside : {F S : Type 0} → files_of.Ghosts F → sink_of.Ghosts S → F → S → Outside
-outside of_files of_sink files out = record {
+abbrev pub outside_of : {F S : Type 0} → files_of.Ghosts F → sink_of.Ghosts S → F → S → Outside
+outside_of of_files of_sink files out = record {
   held = of_files.holds files;
   asked = of_files.asked files;
   reads = of_files.reads files;
@@ -56,8 +56,8 @@ counted_to_the_last = refl
 -- ---- the statuses
 
 -- a status with which the whole text of the meaning without a failed read was written
-abbrev pub IsWhole : ℕ → Type 0
-IsWhole status = (status ≢ 2) × (status ≢ 3) × (status ≢ 9)
+abbrev pub HasWholeText : ℕ → Type 0
+HasWholeText status = (status ≢ 2) × (status ≢ 3) × (status ≢ 9)
 
 -- a status with which a run was cut short: a put failed, or memory ran out
 abbrev pub IsCutShort : ℕ → Type 0
@@ -146,7 +146,7 @@ AsksAs words before after = (readings : Readings) × AskedFront (meaning_by word
 -- with status 2 a read failed, and with a whole text none did
 pub record ReadFaults (before after : Outside) (answer : ℕ) : Type 0 where
   pub rose : answer ≡ 2 → Rose before.failed_reads after.failed_reads
-  pub stay : IsWhole answer → after.failed_reads ≡ before.failed_reads
+  pub stay : HasWholeText answer → after.failed_reads ≡ before.failed_reads
   pub never_fall : before.failed_reads ≤ after.failed_reads
 
 -- with status 3 a put failed, and with every other none did
@@ -171,7 +171,7 @@ ReadCount (Some asked) before after status = CountOf (is_gen asked.mode) before 
 
 -- the bytes of the program that good words ask for: the generated text, or those that the file holds
 abbrev pub source_of : Asked → Held → Reading
-source_of asked held = if is_gen asked.mode then Bytes (generated asked.number) else reading held asked.file most_file_bytes
+source_of asked held = if is_gen asked.mode then Bytes (generated_text asked.number) else reading held asked.file most_file_bytes
 
 -- A session is of the program of what good words ask for: it is what the program of the named file is compiled to, or the generated one. So its
 -- kernels are well typed and apt for its layouts, and have the effects of that program's kernels, one for one and in order.

@@ -1,23 +1,23 @@
 -- What the words of the command line ask for.
-use Rattle.std.specs.Prelude.{ℕ, ◌+◌, ◌-◌, ◌*◌, ◌^◌, nat_lt, Bool, true, false, not, ◌&&◌, ◌||◌, ◌==◌, if◌then◌else◌, List, [], ◌∷◌, ◌++◌, length, slice_index, fold, map, Option, Some, None, is_none, codes, bytes_eq, string_bytes}
-use Rattle.std.specs.List.{list_all, list_any, before_first, after_first}
-use Rattle.std.specs.Char.{is_ascii_digit}
+use Rattle.std.specs.Prelude.{ℕ, ◌^◌, nat_lt, Bool, true, false, not, ◌&&◌, ◌==◌, if◌then◌else◌, List, [], ◌∷◌, ◌++◌, map, Option, Some, None, is_none, codes, bytes_eq, string_bytes}
+use Rattle.std.specs.List.{list_any, before_first, after_first}
 use Rattle.sg_words.specs.Options.{◌>>=◌, only_if}
 use Rattle.sg_ast.specs.Token.{is_name}
+use Rattle.sg_lexer.specs.Lexing.{is_decimal, decimal_value}
 use Rattle.sparsegrid.specs.declared.words.Mode.{Mode}
 use Rattle.sparsegrid.specs.declared.words.Mode.TheVariants as mode
-use Rattle.sg_session.specs.declared.binds.Bind.{Bind}
+use Rattle.sg_session.specs.Bindings.{Binding, binding_read}
 use Rattle.sparsegrid.specs.declared.words.Words.{Words}
 
 -- where a word stands: at the front, as the value of an option, or behind `--`
-pub data Place : Type 0 where
-  front : Place
-  workers_value : Place
-  mode_value : Place
-  behind : Place
+pub data WordPlace : Type 0 where
+  front : WordPlace
+  workers_value : WordPlace
+  mode_value : WordPlace
+  behind_dashes : WordPlace
 
 -- the values of the options, where they are given, and the positional words in their order
-pub record Parts : Type 0 where
+pub record WordParts : Type 0 where
   pub workers : Option (List ℕ)
   pub mode : Option (List ℕ)
   pub positionals : List (List ℕ)
@@ -32,28 +32,30 @@ begins_with_dash [] = false
 begins_with_dash (byte ∷ bytes) = byte == 45
 
 -- a word may be positional where it isn't empty and doesn't begin with `-`
-abbrev pub is_plain : List ℕ → Bool
-is_plain [] = false
-is_plain (byte ∷ bytes) = not (byte == 45)
+abbrev pub can_be_positional : List ℕ → Bool
+can_be_positional [] = false
+can_be_positional (byte ∷ bytes) = not (byte == 45)
 
 -- The words are read from the left, and each tells where the next one stands: at the front, as the value of an option, or behind `--`.
 -- None: the word is bad there.
 
-abbrev pub with_positional : Place → List ℕ → Parts → Option (Place × Parts)
+-- a word that may be positional is one more of them
+abbrev pub with_positional : WordPlace → List ℕ → WordParts → Option (WordPlace × WordParts)
 with_positional next word parts =
-    only_if (is_plain word) (Some (next, record { workers = parts.workers; mode = parts.mode; positionals = parts.positionals ++ word ∷ [] }))
+    only_if (can_be_positional word) (Some (next, record { workers = parts.workers; mode = parts.mode; positionals = parts.positionals ++ word ∷ [] }))
 
--- an option comes at most once
-abbrev pub with_workers : List ℕ → Parts → Option (Place × Parts)
+-- the number of workers is given; an option comes at most once
+abbrev pub with_workers : List ℕ → WordParts → Option (WordPlace × WordParts)
 with_workers value parts =
     only_if (is_none parts.workers) (Some (front, record { workers = Some value; mode = parts.mode; positionals = parts.positionals }))
 
-abbrev pub with_mode : List ℕ → Parts → Option (Place × Parts)
+-- the mode is given
+abbrev pub with_mode : List ℕ → WordParts → Option (WordPlace × WordParts)
 with_mode value parts =
     only_if (is_none parts.mode) (Some (front, record { workers = parts.workers; mode = Some value; positionals = parts.positionals }))
 
 -- a word that has an option before its first `=` carries the option's value; any other stands by itself
-abbrev pub with_carried : List ℕ → Parts → Option (List ℕ × List ℕ) → Option (Place × Parts)
+abbrev pub with_carried : List ℕ → WordParts → Option (List ℕ × List ℕ) → Option (WordPlace × WordParts)
 with_carried word parts None = with_positional front word parts
 with_carried word parts (Some cut) =
     if bytes_eq cut.0 (codes "--workers") then with_workers cut.1 parts
@@ -61,33 +63,35 @@ with_carried word parts (Some cut) =
     else with_positional front word parts)
 
 -- a word at the front
-abbrev pub at_front : List ℕ → Parts → Option (Place × Parts)
+abbrev pub at_front : List ℕ → WordParts → Option (WordPlace × WordParts)
 at_front word parts =
-    if bytes_eq word (codes "--") then Some (behind, parts)
+    if bytes_eq word (codes "--") then Some (behind_dashes, parts)
     else (if bytes_eq word (codes "--workers") then Some (workers_value, parts)
     else (if bytes_eq word (codes "--mode") then Some (mode_value, parts)
     else with_carried word parts (at_equals word)))
 
 -- a word where it stands. As the value of the option before it, it doesn't begin with `-`; behind the first `--` all are positional
-abbrev pub with_word : Place → List ℕ → Parts → Option (Place × Parts)
+abbrev pub with_word : WordPlace → List ℕ → WordParts → Option (WordPlace × WordParts)
 with_word front word parts = at_front word parts
 with_word workers_value word parts = only_if (not (begins_with_dash word)) (with_workers word parts)
 with_word mode_value word parts = only_if (not (begins_with_dash word)) (with_mode word parts)
-with_word behind word parts = with_positional behind word parts
+with_word behind_dashes word parts = with_positional behind_dashes word parts
 
 -- where the words end, no value is wanting
-abbrev pub at_end : Place → Parts → Option Parts
+abbrev pub at_end : WordPlace → WordParts → Option WordParts
 at_end front parts = Some parts
 at_end workers_value parts = None
 at_end mode_value parts = None
-at_end behind parts = Some parts
+at_end behind_dashes parts = Some parts
 
-abbrev pub parts_from : Place → Parts → List (List ℕ) → Option Parts
+-- what further words add to the parts that are found, from where the next one stands
+abbrev pub parts_from : WordPlace → WordParts → List (List ℕ) → Option WordParts
 parts_from at parts [] = at_end at parts
 parts_from at parts (word ∷ words) = with_word at word parts >>= (λ next. parts_from next.0 next.1 words)
 
-abbrev pub parts_of : List (List ℕ) → Option Parts
-parts_of words = parts_from front (record { workers = None; mode = None; positionals = [] }) words
+-- the parts of all words; nothing is found yet where they begin
+abbrev pub parts_of_words : List (List ℕ) → Option WordParts
+parts_of_words words = parts_from front (record { workers = None; mode = None; positionals = [] }) words
 
 -- the numbers of workers as they are written: from 1 to 16, without a sign and without a leading zero
 abbrev pub worker_numbers : List (List ℕ × ℕ)
@@ -117,38 +121,28 @@ is_gen mode.Check = false
 is_gen mode.Lower = false
 is_gen mode.Gen = true
 
--- a binding: a name of the file language, and the file that is bound to it, which isn't empty
-pub record Binding : Type 0 where
-  pub name : List ℕ
-  pub file : List ℕ
-
+-- the file that is bound to a name isn't empty
 abbrev pub is_file : List ℕ → Bool
 is_file [] = false
 is_file (byte ∷ bytes) = true
 
+-- the binding that a word is: a name, `=`, a file
 abbrev pub binding_of : List ℕ → Option Binding
 binding_of word = at_equals word >>= (λ cut. only_if (is_name (record { text = cut.0 }) && is_file cut.1) (Some (record { name = cut.0; file = cut.1 })))
 
-abbrev pub is_bound : List Binding → List ℕ → Bool
-is_bound bindings name = list_any (λ binding. bytes_eq binding.name name) bindings
+-- a name is bound
+abbrev pub has_binding : List Binding → List ℕ → Bool
+has_binding bindings name = list_any (λ binding. bytes_eq binding.name name) bindings
 
 -- the bindings of further words, behind those that are there; no name comes twice
 abbrev pub bindings_after : List Binding → List (List ℕ) → Option (List Binding)
 bindings_after before [] = Some before
 bindings_after before (word ∷ words) =
-    binding_of word >>= (λ binding. only_if (not (is_bound before binding.name)) (bindings_after (before ++ binding ∷ []) words))
+    binding_of word >>= (λ binding. only_if (not (has_binding before binding.name)) (bindings_after (before ++ binding ∷ []) words))
 
--- a word is a decimal number: `0`, or digits without a leading zero
-abbrev pub is_numeral : List ℕ → Bool
-is_numeral digits = nat_lt 0 (length digits) && list_all is_ascii_digit digits && (length digits == 1 || not (slice_index digits 0 == 48))
-
--- the number that digits spell
-abbrev pub value_of : List ℕ → ℕ
-value_of digits = fold (λ v d. 10 * v + (d - 48)) 0 digits
-
--- the number of the generated program, from 0 to 4294967295
-abbrev pub number_of : List ℕ → Option ℕ
-number_of text = only_if (is_numeral text && nat_lt (value_of text) (2 ^ 32)) (Some (value_of text))
+-- the number of the generated program, from 0 to 4294967295, as a decimal without a leading zero
+abbrev pub gen_number : List ℕ → Option ℕ
+gen_number text = only_if (is_decimal text && nat_lt (decimal_value text) (2 ^ 32)) (Some (decimal_value text))
 
 -- what good words ask for: in mode gen the generated program of a number, without a file and without bindings; in the others the program of a
 -- file, and the number is 0
@@ -166,7 +160,7 @@ file_asked workers mode file words =
 
 -- the only positional word is the number
 abbrev pub number_asked : ℕ → Mode → List ℕ → List (List ℕ) → Option Asked
-number_asked workers mode text [] = number_of text >>= (λ number. Some (record { workers = workers; mode = mode; file = []; bindings = []; number = number }))
+number_asked workers mode text [] = gen_number text >>= (λ number. Some (record { workers = workers; mode = mode; file = []; bindings = []; number = number }))
 number_asked workers mode text (word ∷ words) = None
 
 -- what positional words ask for; the first must be there
@@ -176,11 +170,8 @@ asked_of workers mode (first ∷ words) = if is_gen mode then number_asked worke
 
 -- what the words ask for, where they are good
 abbrev pub good_words : List (List ℕ) → Option Asked
-good_words words = parts_of words >>= (λ parts. workers_of parts.workers >>= (λ workers. mode_of parts.mode >>= (λ mode. asked_of workers mode parts.positionals)))
+good_words words = parts_of_words words >>= (λ parts. workers_of parts.workers >>= (λ workers. mode_of parts.mode >>= (λ mode. asked_of workers mode parts.positionals)))
 
 -- what is asked for by words that were read
-abbrev pub binding_read : Bind → Binding
-binding_read bind = record { name = bind.name.text; file = string_bytes bind.file }
-
 abbrev pub asked_by : Words → Asked
 asked_by words = record { workers = words.workers; mode = words.mode; file = string_bytes words.file; bindings = map binding_read words.binds.list; number = words.number }

@@ -6,10 +6,10 @@ ghost use Rattle.sg_flat.specs.declared.state.FlatState.{FlatState};
 ghost use Rattle.sg_exec.specs.Standing.{StandForState};
 ghost use Rattle.sg_session.specs.Compiled.{CheckedProgram, Compiles, IsTask};
 ghost use Rattle.sg_session.specs.Performed.{HasFile};
-ghost use Rattle.sparsegrid.specs.Words.{binding_read};
+ghost use Rattle.sg_session.specs.Bindings.{binding_read, file_of_task};
 ghost use Rattle.sparsegrid.specs.Lines.{run_last};
-ghost use Rattle.sparsegrid.specs.Meaning.{file_of_task, meaning_of_tasks};
-ghost use Rattle.sparsegrid.specs.Outcome.{outside};
+ghost use Rattle.sparsegrid.specs.Meaning.{meaning_of_tasks};
+ghost use Rattle.sparsegrid.specs.Outcome.{outside_of};
 ghost use Rattle.sparsegrid.specs.steps.Along.{SendCause, WroteAll, Went, line_text, ended_with};
 
 use crate::output::{PutFailed, send, send_last};
@@ -37,11 +37,11 @@ pub fn drive<R: Threads + Sync, F: Files, S: Sink, G: Gate + Sync>(
     requires some { 1 ≤ workers }
     requires few { workers ≤ 16 }
     requires there { AllByRecursion (IsTask session.old.compiled) tasks.now }
-    requires bound { AllByRecursion (HasFile session.old.compiled.names binds.now.list) tasks.now }
+    requires bound { AllByRecursion (HasFile session.old.compiled.names (map binding_read binds.now.list)) tasks.now }
     ensures went { (program : CheckedProgram) → Compiles program session.old.compiled →
         (state : FlatState) → StandForState session.old.compiled.layouts session.old.stores state →
         Went (λ readings. meaning_of_tasks program (map binding_read binds.now.list) readings 1 state tasks.now) 1
-        (outside F.Files S.Sink files.old out.old) (outside F.Files S.Sink files.new out.new) (ended_with session.new result) }
+        (outside_of F.Files S.Sink files.old out.old) (outside_of F.Files S.Sink files.new out.new) (ended_with session.new result) }
     ensures compiled { session.new.compiled ≡ session.old.compiled }
     ensures holds { F.holds files.new ≡ F.holds files.old }
     ensures never_falls { F.faults files.old ≤ F.faults files.new }

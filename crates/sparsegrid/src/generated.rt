@@ -59,8 +59,8 @@ run scatter; run smooth; run sum; stats G; dump total;
 
 /// The text of the generated program of a number.
 #[tactic(auto, using(crate::proofs::Generating::short))]
-pub(crate) fn generated(alloc: Global, number: u32) -> Result<String, Memory>
-    ensures text { IfOk result (λ text. string_bytes text ≡ spec.generated number) }
+pub(crate) fn generated_text(alloc: Global, number: u32) -> Result<String, Memory>
+    ensures text { IfOk result (λ text. string_bytes text ≡ spec.generated_text number) }
     ensures few { IfOk result (λ text. length (string_bytes text) ≤ most_file_bytes) }
 {
     let text = format!(in alloc; "const S = {}{}", number, behind_number())?;

@@ -3,6 +3,7 @@
 ghost use Rattle.std.specs.Prelude.{◌≡◌, ◌^◌, min};
 ghost use Rattle.std.specs.Char.{is_ascii_digit};
 ghost use Rattle.std.specs.List.{list_all};
+ghost use Rattle.sg_lexer.specs.Lexing as lexing;
 ghost use Rattle.sparsegrid.specs.Words as spec;
 
 /// As large as a number counts; no number of a generated program reaches it.
@@ -19,9 +20,9 @@ fn are_digits(bytes: &[u8]) -> bool
     true
 }
 
-/// Whether bytes are a numeral: `0`, or digits without a leading zero.
-fn is_numeral(bytes: &[u8]) -> bool
-    ensures { result ≡ spec.is_numeral bytes.now }
+/// Whether bytes are a decimal number: `0`, or digits without a leading zero.
+fn is_decimal(bytes: &[u8]) -> bool
+    ensures { result ≡ lexing.is_decimal bytes.now }
 {
     if bytes.is_empty() || (bytes.len() != 1 && bytes[0] == b'0') {
         return false;
@@ -30,8 +31,8 @@ fn is_numeral(bytes: &[u8]) -> bool
 }
 
 /// The number that digits spell, or `PAST_NUMBERS` where it is larger.
-fn value_of(digits: &[u8]) -> u64
-    ensures { result ≡ min (spec.value_of digits.now) (2 ^ 32) }
+fn decimal_value(digits: &[u8]) -> u64
+    ensures { result ≡ min (lexing.decimal_value digits.now) (2 ^ 32) }
 {
     let mut value = 0u64;
     for digit in digits {
@@ -41,13 +42,13 @@ fn value_of(digits: &[u8]) -> u64
 }
 
 /// The number that is written in decimal, without a sign and without a leading zero, where it is below 2^32.
-pub(crate) fn number_of(text: &[u8]) -> Option<u32>
-    ensures { result ≡ spec.number_of text.now }
+pub(crate) fn gen_number(text: &[u8]) -> Option<u32>
+    ensures { result ≡ spec.gen_number text.now }
 {
-    if !is_numeral(text) {
+    if !is_decimal(text) {
         return None;
     }
-    let value = value_of(text);
+    let value = decimal_value(text);
     if value < PAST_NUMBERS {
         Some(value as u32)
     } else {

@@ -3,11 +3,11 @@
 ghost use Rattle.std.specs.Prelude.{◌≡◌, ◌≤◌, ◌↔◌, map, None, IsSome, IfOk, IfSome, find};
 ghost use Rattle.std.specs.List.{AllByRecursion};
 ghost use Rattle.sg_session.specs.Texts as texts_of;
-ghost use Rattle.sg_session.specs.Compiled.{CheckedProgram, Compiles, IsTask, unfolded};
+ghost use Rattle.sg_session.specs.Compiled.{CheckedProgram, Compiles, IsTask, unfolded_tasks};
+ghost use Rattle.sg_session.specs.Bindings.{binding_read};
 ghost use Rattle.sg_flat.specs.State.{opening};
-ghost use Rattle.sparsegrid.specs.Words.{binding_read};
 ghost use Rattle.sparsegrid.specs.Meaning.{meaning_of_run, meaning_of_tasks, is_unbound, all_done};
-ghost use Rattle.sparsegrid.specs.Outcome.{outside, HasSession};
+ghost use Rattle.sparsegrid.specs.Outcome.{outside_of, HasSession};
 ghost use Rattle.sparsegrid.specs.steps.Along.{WentAlong, Went, SendCause, IsEnd, LeavesProgram};
 
 use crate::drive::drive;
@@ -78,8 +78,8 @@ pub(crate) fn perform<R: Threads + Sync, F: Files, S: Sink, G: Gate + Sync>(
     requires some { 1 ≤ workers }
     requires few { workers ≤ 16 }
     ensures went { (program : CheckedProgram) → Compiles program compiled →
-        Went (λ readings. meaning_of_run program (map binding_read binds.now.list) readings (unfolded program.commands)) 1
-        (outside F.Files S.Sink files.old out.old) (outside F.Files S.Sink files.new out.new) result }
+        Went (λ readings. meaning_of_run program (map binding_read binds.now.list) readings (unfolded_tasks program.commands)) 1
+        (outside_of F.Files S.Sink files.old out.old) (outside_of F.Files S.Sink files.new out.new) result }
     ensures holds { F.holds files.new ≡ F.holds files.old }
     ensures never_falls { F.faults files.old ≤ F.faults files.new }
     ensures cause { SendCause result (S.faults out.old) (S.faults out.new) }
@@ -123,7 +123,7 @@ fn perform_tasks<R: Threads + Sync, F: Files, S: Sink, G: Gate + Sync>(
     requires bound { find (is_unbound compiled.names (map binding_read binds.now.list)) tasks.now ≡ None }
     ensures went { (program : CheckedProgram) → Compiles program compiled →
         Went (λ readings. meaning_of_tasks program (map binding_read binds.now.list) readings 1 (opening program.layouts) tasks.now) 1
-        (outside F.Files S.Sink files.old out.old) (outside F.Files S.Sink files.new out.new) result }
+        (outside_of F.Files S.Sink files.old out.old) (outside_of F.Files S.Sink files.new out.new) result }
     ensures holds { F.holds files.new ≡ F.holds files.old }
     ensures never_falls { F.faults files.old ≤ F.faults files.new }
     ensures cause { SendCause result (S.faults out.old) (S.faults out.new) }

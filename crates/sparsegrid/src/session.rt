@@ -4,15 +4,16 @@ ghost use Rattle.sg_outside.specs.Files.{Held};
 ghost use Rattle.sg_lexer.specs.Limits.{most_file_bytes};
 ghost use Rattle.sg_session.specs.Compiling.{compiled_program};
 ghost use Rattle.sg_session.specs.Compiled.{CheckedProgram, Compiles};
+ghost use Rattle.sg_session.specs.Bindings.{binding_read};
 ghost use Rattle.sparsegrid.specs.Texts.{texts};
 ghost use Rattle.sparsegrid.specs.Words as spec_words;
-ghost use Rattle.sparsegrid.specs.Words.{asked_by, binding_read, good_words};
+ghost use Rattle.sparsegrid.specs.Words.{asked_by, good_words};
 ghost use Rattle.sparsegrid.specs.Meaning as spec;
 ghost use Rattle.sparsegrid.specs.Meaning.{asks_code, meaning, meaning_by, meaning_of_asked, meaning_of_compiled, meaning_in};
-ghost use Rattle.sparsegrid.specs.Outcome.{outside, IsWhole, IsCutShort, IsEnding, LeavesSession, code_in, WroteMeaning, WroteStopped, WroteFront, EndsAs, AsksAs, ReadFaults, PutFaults, ReadCount, StandsForLast, IsOfAsked, IsOfFile};
+ghost use Rattle.sparsegrid.specs.Outcome.{outside_of, HasWholeText, IsCutShort, IsEnding, LeavesSession, code_in, WroteMeaning, WroteStopped, WroteFront, EndsAs, AsksAs, ReadFaults, PutFaults, ReadCount, StandsForLast, IsOfAsked, IsOfFile};
 ghost use Rattle.sparsegrid.specs.steps.Along.{Went, SendCause, IsEnd, LeavesOnly, LeavesProgram, status_of, session_of, PutsCode};
 
-use crate::generated::{generated, is_gen};
+use crate::generated::{generated_text, is_gen};
 use crate::output::{PutFailed, send};
 use crate::perform::{check, leave_open, perform};
 use crate::refuse::{refuse_long, refuse_read, refuse_source, refuse_words};
@@ -48,38 +49,38 @@ pub fn run<R: Threads + Sync, F: Files, S: Sink, G: Gate + Sync>(
 ) -> Done
     // With any status but 2, 3 and 9 exactly the text of the meaning was written, the status is its status, and exactly the files that it
     // asks for were read.
-    ensures whole { IsWhole result.status → WroteMeaning (texts words.now) (code_in result.session) None
-        (outside F.Files S.Sink files.old out.old) (outside F.Files S.Sink files.new out.new) result.status }
+    ensures whole { HasWholeText result.status → WroteMeaning (texts words.now) (code_in result.session) None
+        (outside_of F.Files S.Sink files.old out.old) (outside_of F.Files S.Sink files.new out.new) result.status }
     // With status 2 the read that failed was the last one, and the meaning is that of the run in which it fails.
     ensures stopped { result.status ≡ 2 → WroteStopped (texts words.now) (code_in result.session)
-        (outside F.Files S.Sink files.old out.old) (outside F.Files S.Sink files.new out.new) result.status }
+        (outside_of F.Files S.Sink files.old out.old) (outside_of F.Files S.Sink files.new out.new) result.status }
     // With status 3 or 9 a front of the text was written, and with 3 not the whole of it, nor with 9 the whole of a last line; and a front
     // of the files was read.
     ensures front { IsCutShort result.status → WroteFront (texts words.now) (code_in result.session)
-        (outside F.Files S.Sink files.old out.old) (outside F.Files S.Sink files.new out.new) result.status }
+        (outside_of F.Files S.Sink files.old out.old) (outside_of F.Files S.Sink files.new out.new) result.status }
     // Whatever the files and the sink tell, a run that came to its end ended as it means where its reads give some readings.
     ensures ended { IsEnding result.status → EndsAs (texts words.now) (code_in result.session)
-        (outside F.Files S.Sink files.old out.old) (outside F.Files S.Sink files.new out.new) result.status }
+        (outside_of F.Files S.Sink files.old out.old) (outside_of F.Files S.Sink files.new out.new) result.status }
 
     // No fault is made up, and none is passed over or forgotten.
     ensures read_faults { ReadFaults
-        (outside F.Files S.Sink files.old out.old) (outside F.Files S.Sink files.new out.new) result.status }
+        (outside_of F.Files S.Sink files.old out.old) (outside_of F.Files S.Sink files.new out.new) result.status }
     ensures put_faults { PutFaults
-        (outside F.Files S.Sink files.old out.old) (outside F.Files S.Sink files.new out.new) result.status }
+        (outside_of F.Files S.Sink files.old out.old) (outside_of F.Files S.Sink files.new out.new) result.status }
 
     // The files that the run means to ask for are read, each in one read, up to where it ends or is cut short, and none with bad words; the
     // files stay as they are.
     ensures asked { AsksAs (texts words.now)
-        (outside F.Files S.Sink files.old out.old) (outside F.Files S.Sink files.new out.new) }
+        (outside_of F.Files S.Sink files.old out.old) (outside_of F.Files S.Sink files.new out.new) }
     ensures reads { ReadCount (good_words (texts words.now))
-        (outside F.Files S.Sink files.old out.old) (outside F.Files S.Sink files.new out.new) result.status }
+        (outside_of F.Files S.Sink files.old out.old) (outside_of F.Files S.Sink files.new out.new) result.status }
     ensures holds { F.holds files.new ≡ F.holds files.old }
 
     // With status 0 and 7 there is a session, and with 3 where the put of its code failed; its stores stand for the last state.
     ensures session { LeavesSession (texts words.now) result.status result.session }
     ensures last { IfSome result.session (λ session. (held : Held) → F.holds files.old ≡ Some held →
         StandsForLast (meaning (texts words.now) held None).last session) }
-    // It is a session of what the bytes of the named file compile to.
+    // It is a session of what the bytes of the named file, or the generated text, compile to.
     ensures program { IfSome result.session (λ session. (held : Held) → F.holds files.old ≡ Some held →
         IsOfFile (texts words.now) held session) }
 {
@@ -154,7 +155,7 @@ fn answer<R: Threads + Sync, F: Files, S: Sink, G: Gate + Sync>(
 ) -> Result<Done, Stop<PutFailed>>
     requires { lower.old ≡ false }
     ensures went { Went (meaning_by (texts words.now)) 0
-        (outside F.Files S.Sink files.old out.old) (outside F.Files S.Sink files.new out.new) result }
+        (outside_of F.Files S.Sink files.old out.old) (outside_of F.Files S.Sink files.new out.new) result }
     ensures holds { F.holds files.new ≡ F.holds files.old }
     ensures never_falls { F.faults files.old ≤ F.faults files.new }
     ensures cause { SendCause result (S.faults out.old) (S.faults out.new) }
@@ -196,7 +197,7 @@ fn run_asked<R: Threads + Sync, F: Files, S: Sink, G: Gate + Sync>(
     requires some { 1 ≤ asked.now.workers }
     requires few { asked.now.workers ≤ 16 }
     ensures went { Went (meaning_of_asked (asked_by asked.now)) 0
-        (outside F.Files S.Sink files.old out.old) (outside F.Files S.Sink files.new out.new) result }
+        (outside_of F.Files S.Sink files.old out.old) (outside_of F.Files S.Sink files.new out.new) result }
     ensures holds { F.holds files.new ≡ F.holds files.old }
     ensures never_falls { F.faults files.old ≤ F.faults files.new }
     ensures cause { SendCause result (S.faults out.old) (S.faults out.new) }
@@ -224,7 +225,7 @@ fn run_generated<R: Threads + Sync, F: Files, S: Sink, G: Gate + Sync>(
     requires few { asked.now.workers ≤ 16 }
     requires number { spec_words.is_gen asked.now.mode ≡ true }
     ensures went { Went (meaning_of_asked (asked_by asked.now)) 0
-        (outside F.Files S.Sink files.old out.old) (outside F.Files S.Sink files.new out.new) result }
+        (outside_of F.Files S.Sink files.old out.old) (outside_of F.Files S.Sink files.new out.new) result }
     ensures holds { F.holds files.new ≡ F.holds files.old }
     ensures never_falls { F.faults files.old ≤ F.faults files.new }
     ensures cause { SendCause result (S.faults out.old) (S.faults out.new) }
@@ -232,7 +233,7 @@ fn run_generated<R: Threads + Sync, F: Files, S: Sink, G: Gate + Sync>(
     ensures program { LeavesOnly (λ session. (held : Held) → F.holds files.old ≡ Some held →
         IsOfAsked (asked_by asked.now) held session) result }
 {
-    match generated(alloc, asked.number) {
+    match generated_text(alloc, asked.number) {
         Ok(text) => run_source(rt, alloc, asked, text.as_bytes(), files, out, gate),
         Err(Memory) => Err(Stop::Memory),
     }
@@ -251,7 +252,7 @@ fn run_file<R: Threads + Sync, F: Files, S: Sink, G: Gate + Sync>(
     requires few { asked.now.workers ≤ 16 }
     requires file { spec_words.is_gen asked.now.mode ≡ false }
     ensures went { Went (meaning_of_asked (asked_by asked.now)) 0
-        (outside F.Files S.Sink files.old out.old) (outside F.Files S.Sink files.new out.new) result }
+        (outside_of F.Files S.Sink files.old out.old) (outside_of F.Files S.Sink files.new out.new) result }
     ensures holds { F.holds files.new ≡ F.holds files.old }
     ensures never_falls { F.faults files.old ≤ F.faults files.new }
     ensures cause { SendCause result (S.faults out.old) (S.faults out.new) }
@@ -283,7 +284,7 @@ fn run_source<R: Threads + Sync, F: Files, S: Sink, G: Gate + Sync>(
     requires some { 1 ≤ asked.now.workers }
     requires few { asked.now.workers ≤ 16 }
     ensures went { Went (λ readings. meaning_of_compiled (asked_by asked.now) readings bytes.now (compiled_program bytes.now)) 1
-        (outside F.Files S.Sink files.old out.old) (outside F.Files S.Sink files.new out.new) result }
+        (outside_of F.Files S.Sink files.old out.old) (outside_of F.Files S.Sink files.new out.new) result }
     ensures holds { F.holds files.new ≡ F.holds files.old }
     ensures never_falls { F.faults files.old ≤ F.faults files.new }
     ensures cause { SendCause result (S.faults out.old) (S.faults out.new) }
@@ -311,7 +312,7 @@ fn run_compiled<R: Threads + Sync, F: Files, S: Sink, G: Gate + Sync>(
     requires few { asked.now.workers ≤ 16 }
     ensures went { (program : CheckedProgram) → Compiles program compiled →
         Went (meaning_in asked.now.mode program (map binding_read asked.now.binds.list)) 1
-        (outside F.Files S.Sink files.old out.old) (outside F.Files S.Sink files.new out.new) result }
+        (outside_of F.Files S.Sink files.old out.old) (outside_of F.Files S.Sink files.new out.new) result }
     ensures holds { F.holds files.new ≡ F.holds files.old }
     ensures never_falls { F.faults files.old ≤ F.faults files.new }
     ensures cause { SendCause result (S.faults out.old) (S.faults out.new) }

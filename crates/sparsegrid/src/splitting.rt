@@ -5,7 +5,7 @@ ghost use Rattle.clap.specs.Matches.{found_of};
 ghost use Rattle.clap.specs.Simple.{app_of};
 ghost use Rattle.clap.specs.Walk.{rows_of};
 ghost use Rattle.sparsegrid.specs.steps.Splitting as steps;
-ghost use Rattle.sparsegrid.specs.steps.WordTurns.{Reads};
+ghost use Rattle.sparsegrid.specs.steps.WordTurns.{AnswersOption};
 
 use crate::words::BadWords;
 use clap::error::ErrorKind;
@@ -15,7 +15,7 @@ use std::alloc::Global;
 
 /// The command: two options, and the positional words. All values are texts.
 fn command<'a>(alloc: Global) -> Result<Command<'a>, Memory>
-    ensures { IfOk result (λ command. app_of command ≡ steps.program) }
+    ensures { IfOk result (λ command. app_of command ≡ steps.words_command) }
 {
     let workers = Arg::new(alloc, "workers")
         .long("workers")
@@ -36,7 +36,7 @@ pub(crate) fn split<'a>(
     alloc: Global,
     words: &'a [String],
 ) -> Result<ArgMatches<'a>, Stop<BadWords>>
-    ensures { Reads (λ matches. rows_of (found_of matches)) result (steps.rows_split (map string_bytes words.now)) }
+    ensures { AnswersOption (λ matches. rows_of (found_of matches)) result (steps.rows_split (map string_bytes words.now)) }
 {
     let command = command(alloc)?;
     match command.try_get_matches_from(words) {

@@ -4,29 +4,16 @@ ghost use Rattle.std.specs.Prelude.{◌≡◌, map, find, is_none};
 ghost use Rattle.std.specs.Option.{option_copied};
 ghost use Rattle.std.specs.List.{AllByRecursion};
 ghost use Rattle.sg_session.specs.Compiled.{IsTask, IsCompiled};
-ghost use Rattle.sparsegrid.specs.Words.{binding_read};
+ghost use Rattle.sg_session.specs.Bindings.{binding_read, file_of_task};
 ghost use Rattle.sparsegrid.specs.Meaning as spec;
 
-use sg_ast::Name;
 use sg_names::FieldAt;
-use sg_session::{Binds, Compiled, Task};
-
-/// The file that a name is bound to.
-fn file_bound<'a>(binds: &'a Binds, name: &Name) -> Option<&'a str>
-    ensures { option_copied result ≡ spec.file_bound (map binding_read binds.now.list) name.now }
-{
-    for bind in binds.list.as_slice() {
-        if name.is(&bind.name) {
-            return Some(bind.file.as_str());
-        }
-    }
-    None
-}
+use sg_session::{Binds, Compiled, Task, file_bound};
 
 /// The file that a task reads: only a load reads one.
 pub fn file_of_task<'a>(compiled: &Compiled, binds: &'a Binds, task: Task) -> Option<&'a str>
     requires { IsTask compiled.now task }
-    ensures { option_copied result ≡ spec.file_of_task compiled.now.names (map binding_read binds.now.list) task }
+    ensures { option_copied result ≡ file_of_task compiled.now.names (map binding_read binds.now.list) task }
 {
     match task {
         Task::Load(field) => file_bound(binds, compiled.names.field_name(field.number)),

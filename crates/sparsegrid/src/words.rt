@@ -3,14 +3,15 @@
 ghost use Rattle.std.specs.List.{list_all};
 ghost use Rattle.std.specs.Prelude.{◌≡◌, ◌∷◌, ◌≤◌, [], IfOk, IfSome, map, option_map, string_bytes};
 ghost use Rattle.std.specs.Option.{option_copied};
+ghost use Rattle.sg_session.specs.Bindings.{binding_read};
 ghost use Rattle.sparsegrid.specs.Words as spec;
-ghost use Rattle.sparsegrid.specs.steps.WordTurns.{Reads};
+ghost use Rattle.sparsegrid.specs.steps.WordTurns.{AnswersOption};
 ghost use Rattle.clap.specs.Matches.{found_of};
 ghost use Rattle.clap.specs.Walk.{rows_of};
-ghost use Rattle.sparsegrid.specs.steps.Splitting.{asked_in, parts_in};
+ghost use Rattle.sparsegrid.specs.steps.Splitting.{asked_in, parts_of_rows};
 
 use crate::generated::is_gen;
-use crate::number::number_of;
+use crate::number::gen_number;
 use crate::splitting::split;
 use clap::ArgMatches;
 use sg_ast::Name;
@@ -50,8 +51,8 @@ fn at_equals(word: &str) -> Option<(&str, &str)>
     word.split_once('=')
 }
 
-fn is_plain(word: &str) -> bool
-    ensures { result ≡ spec.is_plain word.now }
+fn can_be_positional(word: &str) -> bool
+    ensures { result ≡ spec.can_be_positional word.now }
 {
     match word.as_bytes() {
         [] => false,
@@ -59,11 +60,11 @@ fn is_plain(word: &str) -> bool
     }
 }
 
-fn are_plain(words: &[&str]) -> bool
-    ensures { result ≡ list_all spec.is_plain (map (λ word. word.now) words.now) }
+fn can_all_be_positional(words: &[&str]) -> bool
+    ensures { result ≡ list_all spec.can_be_positional (map (λ word. word.now) words.now) }
 {
     for word in words {
-        if !is_plain(word) {
+        if !can_be_positional(word) {
             return false;
         }
     }
@@ -137,7 +138,7 @@ fn mode_of(value: Option<&str>) -> Option<Mode>
 }
 
 fn bind_of(alloc: Global, word: &str) -> Result<Bind, Stop<BadWords>>
-    ensures { Reads spec.binding_read result (spec.binding_of word.now) }
+    ensures { AnswersOption binding_read result (spec.binding_of word.now) }
 {
     match at_equals(word) {
         None => Err(Stop::Refused(BadWords)),
@@ -155,8 +156,8 @@ fn bind_of(alloc: Global, word: &str) -> Result<Bind, Stop<BadWords>>
     }
 }
 
-fn is_bound(binds: &[Bind], name: &Name) -> bool
-    ensures { result ≡ spec.is_bound (map spec.binding_read binds.now) name.now.text }
+fn has_binding(binds: &[Bind], name: &Name) -> bool
+    ensures { result ≡ spec.has_binding (map binding_read binds.now) name.now.text }
 {
     for bind in binds {
         if bind.name.is(name) {
@@ -167,12 +168,12 @@ fn is_bound(binds: &[Bind], name: &Name) -> bool
 }
 
 fn binds_of(alloc: Global, words: &[&str]) -> Result<Items<Bind>, Stop<BadWords>>
-    ensures { Reads (λ binds. map spec.binding_read binds) result (spec.bindings_after [] (map (λ word. word.now) words.now)) }
+    ensures { AnswersOption (λ binds. map binding_read binds) result (spec.bindings_after [] (map (λ word. word.now) words.now)) }
 {
     let mut binds = Items::new(alloc);
     for word in words {
         let bind = bind_of(alloc, word)?;
-        if is_bound(binds.as_slice(), &bind.name) {
+        if has_binding(binds.as_slice(), &bind.name) {
             return Err(Stop::Refused(BadWords));
         }
         binds.push(bind)?;
@@ -187,7 +188,7 @@ fn file_asked(
     file: &str,
     words: &[&str],
 ) -> Result<Words, Stop<BadWords>>
-    ensures asked { Reads spec.asked_by result (spec.file_asked workers mode file.now (map (λ word. word.now) words.now)) }
+    ensures asked { AnswersOption spec.asked_by result (spec.file_asked workers mode file.now (map (λ word. word.now) words.now)) }
     ensures workers { IfOk result (λ asked. asked.workers ≡ workers) }
 {
     let binds = Binds {
@@ -209,11 +210,11 @@ fn number_asked(
     text: &str,
     words: &[&str],
 ) -> Result<Words, Stop<BadWords>>
-    ensures asked { Reads spec.asked_by result (spec.number_asked workers mode text.now (map (λ word. word.now) words.now)) }
+    ensures asked { AnswersOption spec.asked_by result (spec.number_asked workers mode text.now (map (λ word. word.now) words.now)) }
     ensures workers { IfOk result (λ asked. asked.workers ≡ workers) }
 {
     match words {
-        [] => match number_of(text.as_bytes()) {
+        [] => match gen_number(text.as_bytes()) {
             Some(number) => Ok(Words {
                 workers,
                 mode,
@@ -235,7 +236,7 @@ fn asked_of(
     mode: Mode,
     positionals: &[&str],
 ) -> Result<Words, Stop<BadWords>>
-    ensures asked { Reads spec.asked_by result (spec.asked_of workers mode (map (λ word. word.now) positionals.now)) }
+    ensures asked { AnswersOption spec.asked_by result (spec.asked_of workers mode (map (λ word. word.now) positionals.now)) }
     ensures workers { IfOk result (λ asked. asked.workers ≡ workers) }
 {
     match positionals {
@@ -257,12 +258,12 @@ fn parts_asked(
     mode: Option<&str>,
     positionals: &[&str],
 ) -> Result<Words, Stop<BadWords>>
-    ensures asked { Reads spec.asked_by result
+    ensures asked { AnswersOption spec.asked_by result
         (asked_in (record { workers = option_copied workers.entry; mode = option_copied mode.entry; positionals = map (λ word. word.now) positionals.now })) }
     ensures some { IfOk result (λ asked. 1 ≤ asked.workers) }
     ensures few { IfOk result (λ asked. asked.workers ≤ 16) }
 {
-    if !are_plain(positionals) {
+    if !can_all_be_positional(positionals) {
         return Err(Stop::Refused(BadWords));
     }
     let Some(workers) = workers_of(workers) else {
@@ -276,7 +277,7 @@ fn parts_asked(
 
 /// What the matches of the command line ask for.
 fn matches_asked(alloc: Global, matches: &ArgMatches) -> Result<Words, Stop<BadWords>>
-    ensures asked { Reads spec.asked_by result (asked_in (parts_in (rows_of (found_of matches.now)))) }
+    ensures asked { AnswersOption spec.asked_by result (asked_in (parts_of_rows (rows_of (found_of matches.now)))) }
     ensures some { IfOk result (λ asked. 1 ≤ asked.workers) }
     ensures few { IfOk result (λ asked. asked.workers ≤ 16) }
 {
@@ -290,7 +291,7 @@ fn matches_asked(alloc: Global, matches: &ArgMatches) -> Result<Words, Stop<BadW
 
 /// What the words behind the program's name ask for; refused exactly where they aren't good. There are 1 to 16 workers.
 pub fn read_words(alloc: Global, words: &[String]) -> Result<Words, Stop<BadWords>>
-    ensures asked { Reads spec.asked_by result (spec.good_words (map string_bytes words.now)) }
+    ensures asked { AnswersOption spec.asked_by result (spec.good_words (map string_bytes words.now)) }
     ensures some { IfOk result (λ asked. 1 ≤ asked.workers) }
     ensures few { IfOk result (λ asked. asked.workers ≤ 16) }
 {

@@ -22,7 +22,7 @@ IsFirstFull store index wanted fault =
     unless_full (first_full store.shape (old ++ wanted)) ≡ Err fault
 
 -- a fact of the refusal, and nothing where memory ran out
-abbrev pub IfRefused : {A : Type 0} → Result A (Stop ActFault) → (ActFault → Type 0) → Type 0
-IfRefused (Ok x) Says = Unit {0}
-IfRefused (Err stop.Memory) Says = Unit {0}
-IfRefused (Err (stop.Refused fault)) Says = Says fault
+abbrev pub IfActRefused : {A : Type 0} → Result A (Stop ActFault) → (ActFault → Type 0) → Type 0
+IfActRefused (Ok x) Says = Unit {0}
+IfActRefused (Err stop.Memory) Says = Unit {0}
+IfActRefused (Err (stop.Refused fault)) Says = Says fault

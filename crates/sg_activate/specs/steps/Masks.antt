@@ -16,5 +16,5 @@ abbrev pub HasMarkedFor : StoreWords → ℕ → List Coord → Worker → Type 
 HasMarkedFor store node wanted v = (slot : ℕ) → 0 < times_in slot v.marked → IsPlaceOf store node wanted slot
 
 -- each bit that it marked is in a live container
-abbrev pub AreInLive : StoreWords → ℕ → Worker → Type 0
-AreInLive store node v = (slot : ℕ) → 0 < times_in slot v.marked → IsInLive store node slot
+abbrev pub MarksAreInLive : StoreWords → ℕ → Worker → Type 0
+MarksAreInLive store node v = (slot : ℕ) → 0 < times_in slot v.marked → IsInLive store node slot

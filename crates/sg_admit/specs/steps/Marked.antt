@@ -29,6 +29,6 @@ abbrev pub word_if_constant : TypedExpr → Option ℕ
 word_if_constant expr = if is_constant expr then Some (constant_word expr) else None
 
 -- what is kept of a statement, as a list
-abbrev pub list_of : Option TypedStmt → List TypedStmt
-list_of None = []
-list_of (Some stmt) = stmt ∷ []
+abbrev pub kept_list : Option TypedStmt → List TypedStmt
+kept_list None = []
+kept_list (Some stmt) = stmt ∷ []

@@ -7,13 +7,13 @@ use Rattle.sg_admit.specs.declared.spreads.Link.{Link}
 abbrev pub has_spread : (ℕ → Bool) → List Link → List ℕ → Bool
 has_spread places links start = list_all (λ link. not (places link.from) || places link.to) links && list_all places start
 
-abbrev pub is_marked : List Bool → ℕ → Bool
-is_marked marks place = get_or marks place false
+abbrev pub bears_mark : List Bool → ℕ → Bool
+bears_mark marks place = get_or marks place false
 
 -- the least such set
 pub record IsLeastSpread (links : List Link) (start : List ℕ) (marks : List Bool) : Type 0 where
-  pub spread : has_spread (is_marked marks) links start ≡ true
-  pub least : (places : ℕ → Bool) → has_spread places links start ≡ true → (place : ℕ) → is_marked marks place ≡ true → places place ≡ true
+  pub spread : has_spread (bears_mark marks) links start ≡ true
+  pub least : (places : ℕ → Bool) → has_spread places links start ≡ true → (place : ℕ) → bears_mark marks place ≡ true → places place ≡ true
 
 -- where the links from a place lead
 abbrev pub targets_of : List Link → ℕ → List ℕ
@@ -22,8 +22,8 @@ targets_of links place = map (λ link. link.to) (filter (λ link. link.from == p
 -- the place has its mark, and where links lead from it is to be marked, unless it had one already
 abbrev pub IsVisited : List (List ℕ) → ℕ → List Bool → List ℕ → List Bool → List ℕ → Type 0
 IsVisited targets place marks work marks_after work_after =
-    ((other : ℕ) → is_marked marks_after other ≡ (if other == place then true else is_marked marks other))
-    × (work_after ≡ work ++ (if is_marked marks place then [] else get_or targets place []))
+    ((other : ℕ) → bears_mark marks_after other ≡ (if other == place then true else bears_mark marks other))
+    × (work_after ≡ work ++ (if bears_mark marks place then [] else get_or targets place []))
 
 -- how many links lead from places without a mark, where the first of the list is the place with the given number
 abbrev pub links_waiting : (ℕ → Bool) → ℕ → List (List ℕ) → ℕ

@@ -32,9 +32,9 @@ current (copy ∷ copies) [] = []
 current (copy ∷ copies) (store ∷ stores) = unwrap_or copy store ∷ current copies stores
 
 -- the stores with a copy in the place of one of them, where there is one
-abbrev pub placed : List StoreWords → ℕ → Option StoreWords → List StoreWords
-placed stores number None = stores
-placed stores number (Some store) = slice_set stores number store
+abbrev pub with_copied_store : List StoreWords → ℕ → Option StoreWords → List StoreWords
+with_copied_store stores number None = stores
+with_copied_store stores number (Some store) = slice_set stores number store
 
 -- the copies with another one, where there is one
 abbrev pub with_copy : List (Option StoreWords) → ℕ → Option StoreWords → List (Option StoreWords)

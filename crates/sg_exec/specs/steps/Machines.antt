@@ -52,9 +52,9 @@ pub record LeadsTo (stores : List StoreWords) (held : Held) (place : Option Plac
   pub leads : LeadsAlong store held.spot path
 
 -- what a place register holds, for a place
-abbrev pub Holds : List StoreWords → Option Held → Option Place → Type 0
-Holds stores None place = IsDead stores place
-Holds stores (Some held) place = LeadsTo stores held place
+abbrev pub HoldsPlace : List StoreWords → Option Held → Option Place → Type 0
+HoldsPlace stores None place = IsDead stores place
+HoldsPlace stores (Some held) place = LeadsTo stores held place
 
 -- the spot is one of its layout's store
 pub record IsHeld (stores : List StoreWords) (held : Held) : Type 0 where
@@ -124,7 +124,7 @@ pub record IsPlaceRow (row : PlaceRow) (found : List OwnCell) : Type 0 where
 -- the row is that of these places, over these stores
 pub record ArePlaces (stores : List StoreWords) (row : PlaceRow) (places : ℕ → Option Place) : Type 0 where
   pub same_stores : row.stores ≡ stores
-  pub hold : (p : ℕ) → Holds stores (get_or row.list p None) (places p)
+  pub hold : (p : ℕ) → HoldsPlace stores (get_or row.list p None) (places p)
 
 -- ---- wants
 

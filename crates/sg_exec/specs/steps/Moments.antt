@@ -6,7 +6,7 @@ use Rattle.sg_flat.specs.declared.effects.Turn.{Turn}
 use Rattle.sg_flat.specs.declared.state.FlatState.{FlatState}
 use Rattle.sg_store.specs.StoreWords.{StoreWords}
 use Rattle.sg_ir.specs.declared.code.Inst.{Inst}
-use Rattle.sg_ir.specs.Runs.{Seen, Moved, set_var, runs, iteration, iteration_start}
+use Rattle.sg_ir.specs.Runs.{Seen, Moved, set_var_word, runs, iteration, iteration_start}
 use Rattle.sg_ir.specs.Named.{AreNamed}
 use Rattle.sg_exec.specs.declared.moment.Moment.{Moment}
 use Rattle.sg_exec.specs.Standing.{shapes_of}
@@ -49,7 +49,7 @@ slice_turn stores state block at =
 
 -- the turns of an inner loop, one after the other: its variable gets the turn's number, and the body runs
 abbrev pub run_turns : Seen → ℕ → List Inst → Moved → List ℤ → Moved
-run_turns seen var body now turns = fold (λ reached turn. runs seen body (set_var var (word_of turn) reached)) now turns
+run_turns seen var body now turns = fold (λ reached turn. runs seen body (set_var_word var (word_of turn) reached)) now turns
 
 -- ---- several moments side by side
 

@@ -3,7 +3,7 @@ use Rattle.std.specs.Prelude.{◌≡◌, ℕ, ◌<◌, Bool, ◌&&◌, ◌==◌,
 use Rattle.sg_words.specs.declared.operators.AccOp.{AccOp}
 use Rattle.sg_coord.specs.declared.coord.Coord.{Coord}
 use Rattle.sg_words.specs.RaceMachine.{newcomer}
-use Rattle.sg_words.specs.RaceInvariant.{weight}
+use Rattle.sg_words.specs.RaceInvariant.{handed_share}
 use Rattle.sg_accum.specs.declared.seat.AccSeat.{AccSeat}
 use Rattle.sg_accum.specs.Folding.{worker_of, old_values, operator_of, type_of, AreFolded}
 use Rattle.sg_flat.specs.declared.effects.Way.{Way}
@@ -88,7 +88,7 @@ with_row store field words = record store { fields = slice_set store.fields fiel
 
 -- all shares came back to each seat
 abbrev pub AreWhole : List AccSeat → Type 0
-AreWhole seats = (k : ℕ) (seat : AccSeat) → slice_get seats k ≡ Some seat → weight (worker_of seat) ≡ 16
+AreWhole seats = (k : ℕ) (seat : AccSeat) → slice_get seats k ≡ Some seat → handed_share (worker_of seat) ≡ 16
 
 -- what each seat has given went into cells of its layout's store
 abbrev pub GaveReached : List StoreWords → List Accumulated → List AccSeat → Type 0
@@ -117,8 +117,8 @@ pub record IsSumOf (stores : List StoreWords) (layout field : ℕ) (words : List
   pub folds : AreFolded (operator_of it.pass) (type_of it.pass) (old_values it.pass) given words
 
 -- a field's values are as before in the copy of its layout's store
-abbrev pub IsFresh : List StoreWords → List (Option StoreWords) → ℕ → ℕ → Type 0
-IsFresh stores copies layout field =
+abbrev pub IsAsBefore : List StoreWords → List (Option StoreWords) → ℕ → ℕ → Type 0
+IsAsBefore stores copies layout field =
     (store copy : StoreWords) → slice_get stores layout ≡ Some store → slice_get (current copies stores) layout ≡ Some copy →
     (cell : ℕ) → word_in copy field cell ≡ word_in store field cell
 

@@ -4,7 +4,7 @@ use Rattle.std.specs.List.{flat_map}
 use Rattle.sg_coord.specs.declared.coord.Coord.{Coord}
 use Rattle.sg_words.specs.declared.memory.Memory.{Memory}
 use Rattle.sg_words.specs.RaceMachine.{after_split, other_half, after_join}
-use Rattle.sg_words.specs.RaceInvariant.{weight}
+use Rattle.sg_words.specs.RaceInvariant.{handed_share}
 use Rattle.sg_accum.specs.declared.seat.AccSeat.{AccSeat}
 use Rattle.sg_accum.specs.Folding.{old_values, operator_of, type_of, worker_of, IsSeatOf}
 use Rattle.sg_flat.specs.declared.state.FlatState.{FlatState}
@@ -89,7 +89,7 @@ HaveShares shares seats = (k : ℕ) (seat : AccSeat) → slice_get seats k ≡ S
 -- a seat has given a field's contributions among writes, and has as many shares
 pub record HasGiven (it : Accumulated) (writes : List CellWrite) (old now : AccSeat) : Type 0 where
   pub given : (worker_of now).given ≡ (worker_of old).given ++ contributions it.layout it.field writes
-  pub weight_is : weight (worker_of now) ≡ weight (worker_of old)
+  pub weight_is : handed_share (worker_of now) ≡ handed_share (worker_of old)
 
 -- each seat has
 abbrev pub HaveGiven : List Accumulated → List CellWrite → List AccSeat → List AccSeat → Type 0

@@ -31,9 +31,9 @@ use Rattle.sg_exec.specs.steps.Moments.{AreNamedAt, AreOver, slice_turn}
 use Rattle.sg_exec.specs.steps.Wants.{AreWants, AllReached}
 
 -- how many turns there are
-abbrev pub count_of : Turns → ℕ
-count_of (Slice points block) = length points.now
-count_of (Rows rows) = length rows.now
+abbrev pub turn_count : Turns → ℕ
+turn_count (Slice points block) = length points.now
+turn_count (Rows rows) = length rows.now
 
 -- the turns, where a slice sees this state
 abbrev pub turns_in : List StoreWords → FlatState → Turns → List Turn
@@ -81,15 +81,15 @@ writes_of_one None = []
 writes_of_one (Some turn) = turn.writes
 
 -- the writes of the turn with this number
-abbrev pub writes_at : List Turn → ℕ → List Write
-writes_at turns number = writes_of_one (slice_get turns number)
+abbrev pub writes_of_turn : List Turn → ℕ → List Write
+writes_of_turn turns number = writes_of_one (slice_get turns number)
 
 -- the lists are what the turns want, one by one, where the stores see some state
 pub record Means (stores : List StoreWords) (turns : Turns) (bounds : Bounds) (layout : ℕ) (list : ℕ → List Coord) : Type 0 where
   pub state : FlatState
   pub sees : Sees stores state
   pub named : AreNamedIn stores state turns
-  pub lists : (number : ℕ) → number < count_of turns → list number ≡ wanted_of bounds layout (writes_at (turns_in stores state turns) number)
+  pub lists : (number : ℕ) → number < turn_count turns → list number ≡ wanted_of bounds layout (writes_of_turn (turns_in stores state turns) number)
 
 -- one row, on which turns may be run
 abbrev pub MayRun : List StoreWords → List Moment → Type 0

@@ -37,21 +37,21 @@ corner block at =
     record { n = at.n; a = pos (count_of at.a / block.a * block.a); b = pos (count_of at.b / block.b * block.b); c = pos (count_of at.c / block.c * block.c) }
 
 -- the number of that block: the row of its first point
-abbrev pub block_of : Bounds → Bounds → Coord → ℕ
-block_of all block at = row_of all (corner block at)
+abbrev pub block_number : Bounds → Bounds → Coord → ℕ
+block_number all block at = row_of all (corner block at)
 
 -- where a coordinate stands in its block, as a coordinate counted from the block's first point
 abbrev pub within : Bounds → Coord → Coord
 within block at = record { n = at.n; a = pos (count_of at.a % block.a); b = pos (count_of at.b % block.b); c = pos (count_of at.c % block.c) }
 
 -- the number of a point in its block, in row order
-abbrev pub place_of : Bounds → Coord → ℕ
-place_of block at = row_of block (within block at)
+abbrev pub row_in_block : Bounds → Coord → ℕ
+row_in_block block at = row_of block (within block at)
 
 -- how many points of its block, in row order, a coordinate makes live: all of them, or those up to itself
-abbrev pub reach_of : Bool → Bounds → Coord → ℕ
-reach_of true block at = volume block
-reach_of false block at = suc (place_of block at)
+abbrev pub live_points : Bool → Bounds → Coord → ℕ
+live_points true block at = volume block
+live_points false block at = suc (row_in_block block at)
 
 -- the greater of a length that may be there and another
 abbrev pub longer : Option ℕ → ℕ → Option ℕ
@@ -60,11 +60,11 @@ longer length reach = Some (max (unwrap_or length 0) reach)
 -- how many points of the block with a number a list of coordinates makes live; none where no coordinate is in the block
 abbrev pub length_at : Bounds → Bounds → Bool → List Coord → ℕ → Option ℕ
 length_at all block whole coords number =
-    fold longer None (map (reach_of whole block) (filter (λ at. block_of all block at == number) coords))
+    fold longer None (map (live_points whole block) (filter (λ at. block_number all block at == number) coords))
 
 -- the coordinate's place in its block is below the length that a list of coordinates gives the block
 abbrev pub is_reached : Bounds → Bounds → Bool → List Coord → Coord → Bool
-is_reached all block whole coords at = nat_lt (place_of block at) (unwrap_or (length_at all block whole coords (block_of all block at)) 0)
+is_reached all block whole coords at = nat_lt (row_in_block block at) (unwrap_or (length_at all block whole coords (block_number all block at)) 0)
 
 -- the same of the coordinate with a row number, where there is one
 abbrev pub is_row_reached : Bounds → Bounds → Bool → List Coord → ℕ → Bool
@@ -80,13 +80,13 @@ each_of blocks = bounds_of blocks.block
 
 -- the number of the block of a coordinate, its place in it, and how far it reaches there
 abbrev pub number_in : Blocks → Coord → ℕ
-number_in blocks at = block_of (all_of blocks) (each_of blocks) at
+number_in blocks at = block_number (all_of blocks) (each_of blocks) at
 
-abbrev pub place_in : Blocks → Coord → ℕ
-place_in blocks at = place_of (each_of blocks) at
+abbrev pub row_in_blocks : Blocks → Coord → ℕ
+row_in_blocks blocks at = row_in_block (each_of blocks) at
 
 abbrev pub reach_in : Blocks → Coord → ℕ
-reach_in blocks at = reach_of blocks.whole (each_of blocks) at
+reach_in blocks at = live_points blocks.whole (each_of blocks) at
 
 -- the coordinate with a row number
 abbrev pub point_in : Blocks → ℕ → Coord
@@ -104,4 +104,4 @@ reaches_row blocks coords row = is_row_reached (all_of blocks) (each_of blocks) 
 abbrev pub is_between : Blocks → Coord → ℕ → ℕ → ℕ → Bool
 is_between blocks at from to row =
     nat_lt row (volume (all_of blocks)) && ((number_in blocks at == number_in blocks (point_in blocks row))
-    && (nat_le from (place_in blocks (point_in blocks row)) && nat_lt (place_in blocks (point_in blocks row)) to))
+    && (nat_le from (row_in_blocks blocks (point_in blocks row)) && nat_lt (row_in_blocks blocks (point_in blocks row)) to))

@@ -2,7 +2,7 @@
 use Rattle.std.specs.Prelude.{◌≢◌, Option, Some, None, ◌⊎◌, [], ◌∷◌, ◌++◌, ◌≡◌, ℕ, ◌+◌, ◌-◌, ◌<◌, ◌==◌, if◌then◌else◌}
 use Rattle.sg_words.specs.declared.race.Worker.{Worker}
 use Rattle.sg_words.specs.Counts.{pairs}
-use Rattle.sg_words.specs.RaceMachine.{after_key, place_of, HasOthersBefore}
+use Rattle.sg_words.specs.RaceMachine.{after_key, place_in_order, HasOthersBefore}
 
 -- a load of the key word at place p: the key that stands there was found, if any
 abbrev pub after_look_key : ℕ → ℕ → Worker → Worker
@@ -43,9 +43,9 @@ SearchFound n key v w (Some p) = (p < n) × (0 < pairs p key w.keys) × ((q : �
 SearchFound n key v w None = HasOthersBefore n key n w × ((q : ℕ) → 0 < pairs q key v.keys → ⊥)
 
 -- so many places of a key's order among n were looked at, and another key was found in each; the key itself was found in none of them before
-pub record Passed (n key turn : ℕ) (v w : Worker) : Type 0 where
+pub record HasLookedPast (n key turn : ℕ) (v w : Worker) : Type 0 where
   pub searched : Searched v w
   pub put : w.put ≡ v.put
   pub others : HasOthersBefore n key turn w
   pub inside : 0 < turn → (q : ℕ) → 0 < pairs q key v.keys → q < n
-  pub absent : (q : ℕ) → 0 < pairs q key v.keys → (j : ℕ) → j < turn → q ≢ place_of n key j
+  pub absent : (q : ℕ) → 0 < pairs q key v.keys → (j : ℕ) → j < turn → q ≢ place_in_order n key j

@@ -15,7 +15,7 @@ pub record Keeps (r_end p_end : ℕ) (before after : Moved) : Type 0 where
   pub wants : after.wants ≡ before.wants
 
 -- names are only added
-pub record Grows (old new : Names) : Type 0 where
+pub record NamesGrow (old new : Names) : Type 0 where
   pub regs : length old.regs ≤ length new.regs
   pub places : old.places ≤ new.places
 
@@ -33,7 +33,7 @@ pub record AddsPlace (to : ℕ) (old new : Names) : Type 0 where
 
 -- the block after keeps what the block before made
 pub record Extends (shapes : List Shape) (old new : Names) (before after : List Inst) : Type 0 where
-  pub grows : Grows old new
+  pub grows : NamesGrow old new
   pub keeps : (seen : Seen) → seen.shapes ≡ shapes → (start : Moved) → Keeps (length old.regs) old.places (runs seen before start) (runs seen after start)
 
 -- the block after accesses nothing that the block before doesn't
@@ -55,7 +55,7 @@ pub record Reaches (shapes : List Shape) (place : Seen → Moved → Option Plac
   pub value : (seen : Seen) → seen.shapes ≡ shapes → (start : Moved) → (runs seen after start).places to ≡ place seen (runs seen before start)
 
 -- the same of a place, where the index registers hold words
-pub record LeadsTo (shapes : List Shape) (index : List ℕ) (place : Seen → Moved → Option Place) (to : ℕ) (old new : Names) (before after : List Inst) : Type 0 where
+pub record LeadsToPlace (shapes : List Shape) (index : List ℕ) (place : Seen → Moved → Option Place) (to : ℕ) (old new : Names) (before after : List Inst) : Type 0 where
   pub extends : Extends shapes old new before after
   pub quiet : IsQuiet shapes before after
   pub named : to < new.places

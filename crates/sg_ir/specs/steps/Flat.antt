@@ -4,24 +4,24 @@ use Rattle.sg_words.specs.Words.{word_of}
 use Rattle.sg_flat.specs.declared.effects.Way.TheVariants.{Own, Acc}
 use Rattle.sg_flat.specs.Domain.{numbers}
 use Rattle.sg_ir.specs.declared.op.Op.TheVariants as op
-use Rattle.sg_ir.specs.Runs.{Seen, Moved, set_reg, set_place, set_var, add_write, add_want, add_access, at_of, named_by}
+use Rattle.sg_ir.specs.Runs.{Seen, Moved, set_reg, set_place, set_var_word, add_code_write, add_want, add_access, at_of, named_by}
 use Rattle.sg_ir.specs.Blocks.{Block, End, Word, Spot, Cell, Do, Branch, Loop, Act, SetVar, WriteOwn, Contribute, Wish}
-use Rattle.sg_ir.specs.steps.Scoped.{Room, Moment, op_word, step_place}
+use Rattle.sg_ir.specs.steps.Scoped.{Room, RunMoment, op_word, step_place}
 
 -- what a run has made, as registers and places in scope, and as a moment
 abbrev pub room_of : Moved → Room
 room_of now = record { regs = now.regs; places = now.places }
 
-abbrev pub moment_of : Moved → Moment
+abbrev pub moment_of : Moved → RunMoment
 moment_of now = record { vars = now.vars; writes = now.writes; wants = now.wants }
 
 -- behind an act
 abbrev pub moved_by : Seen → Act → Moved → Moved
-moved_by seen (SetVar var from) now = set_var var (now.regs from) now
+moved_by seen (SetVar var from) now = set_var_word var (now.regs from) now
 moved_by seen (WriteOwn layout field from stmt) now =
-    add_write (record { layout = layout; field = field; stmt = stmt; at = Some seen.at; way = Own; value = now.regs from }) now
+    add_code_write (record { layout = layout; field = field; stmt = stmt; at = Some seen.at; way = Own; value = now.regs from }) now
 moved_by seen (Contribute how layout field place from index stmt) now =
-    add_write (record { layout = layout; field = field; stmt = stmt; at = at_of seen.shapes (now.places place); way = Acc how; value = now.regs from })
+    add_code_write (record { layout = layout; field = field; stmt = stmt; at = at_of seen.shapes (now.places place); way = Acc how; value = now.regs from })
     (add_access (record { layout = layout; place = now.places place; at = named_by index now }) now)
 moved_by seen (Wish layout index stmt) now = add_want (record { layout = layout; stmt = stmt; at = named_by index now }) now
 
@@ -39,4 +39,4 @@ goes seen (Spot to how rest) now = goes seen rest (set_place to (step_place seen
 goes seen (Cell to place layout field index rest) now = goes seen rest (moved_by_read seen to place layout field index now)
 goes seen (Do what rest) now = goes seen rest (moved_by seen what now)
 goes seen (Branch cond block otherwise rest) now = goes seen rest (if now.regs cond == 0 then goes seen otherwise now else goes seen block now)
-goes seen (Loop var lo hi body rest) now = goes seen rest (fold (λ reached turn. goes seen body (set_var var (word_of turn) reached)) now (numbers lo hi))
+goes seen (Loop var lo hi body rest) now = goes seen rest (fold (λ reached turn. goes seen body (set_var_word var (word_of turn) reached)) now (numbers lo hi))

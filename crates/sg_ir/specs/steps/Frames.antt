@@ -32,20 +32,20 @@ is_good typing before inst = (judges (frame_in typing) inst (scope_in typing bef
 abbrev pub are_good : Typing → Before → List Inst → Bool
 are_good typing before block = (judged (frame_in typing) block (scope_in typing before)).0
 
-abbrev pub way_of : StepKind → Way_down
-way_of step.Child = ByChild
-way_of step.Key = ByKey
-way_of step.Bit = ByBit
-way_of step.Length = ByLength
+abbrev pub way_of_step : StepKind → Way_down
+way_of_step step.Child = ByChild
+way_of_step step.Key = ByKey
+way_of_step step.Bit = ByBit
+way_of_step step.Length = ByLength
 
 -- an instruction without blocks
-abbrev pub plain_step : {A : Type 0} → Inst-F A → Bool
-plain_step (i.If cond block otherwise) = false
-plain_step (i.For var lo hi body) = false
-plain_step _ = true
+abbrev pub without_blocks_step : {A : Type 0} → Inst-F A → Bool
+without_blocks_step (i.If cond block otherwise) = false
+without_blocks_step (i.For var lo hi body) = false
+without_blocks_step _ = true
 
-abbrev pub is_plain : Inst → Bool
-is_plain = fold-Inst Bool plain_step
+abbrev pub is_without_blocks : Inst → Bool
+is_without_blocks = fold-Inst Bool without_blocks_step
 
 -- whether an axis of a layout has this extent
 abbrev pub has_extent : List Shape → ℕ → ℕ → ℕ → Bool

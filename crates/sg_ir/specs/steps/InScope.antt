@@ -6,7 +6,7 @@ use Rattle.sg_ir.specs.declared.op.Step.{Step}
 use Rattle.sg_ir.specs.declared.op.Step.TheVariants as step
 use Rattle.sg_ir.specs.Runs.{Moved, put}
 use Rattle.sg_ir.specs.Blocks.{Block, End, Word, Spot, Cell, Do, Branch, Loop, Act, SetVar, WriteOwn, Contribute, Wish}
-use Rattle.sg_ir.specs.steps.Scoped.{Room, Moment}
+use Rattle.sg_ir.specs.steps.Scoped.{Room, RunMoment}
 
 -- which registers and places are set in scope
 pub record InScope : Type 0 where
@@ -76,7 +76,7 @@ IsScoped scope (Branch cond block otherwise rest) = (scope.regs cond ≡ true) �
 IsScoped scope (Loop var lo hi body rest) = IsScoped scope body × IsScoped scope rest
 
 -- a run over one file of registers has made the same, so far as it is in scope
-pub record Agrees (scope : InScope) (room : Room) (moment : Moment) (moved : Moved) : Type 0 where
+pub record AgreesInScope (scope : InScope) (room : Room) (moment : RunMoment) (moved : Moved) : Type 0 where
   pub regs : (r : ℕ) → scope.regs r ≡ true → moved.regs r ≡ room.regs r
   pub places : (p : ℕ) → scope.places p ≡ true → moved.places p ≡ room.places p
   pub vars : (var : ℕ) → moved.vars var ≡ moment.vars var

@@ -12,7 +12,7 @@ use Rattle.sg_ir.specs.Runs.{Seen, Place, CodeWrite, CodeWant, put, check, down,
 use Rattle.sg_ir.specs.Blocks.{Block, End, Word, Spot, Cell, Do, Branch, Loop, Act, SetVar, WriteOwn, Contribute, Wish}
 
 -- what a run hands on: the words of variables, and what was written and wanted so far
-pub record Moment : Type 0 where
+pub record RunMoment : Type 0 where
   pub vars : ℕ → ℕ
   pub writes : List CodeWrite
   pub wants : List CodeWant
@@ -29,7 +29,7 @@ abbrev pub room_place : ℕ → Option Place → Room → Room
 room_place to place room = record { regs = room.regs; places = put to place room.places }
 
 -- the word that an operation gives
-abbrev pub op_word : Seen → Room → Moment → Op → ℕ
+abbrev pub op_word : Seen → Room → RunMoment → Op → ℕ
 op_word seen room now (op.Const word truth) = word
 op_word seen room now (op.Var var) = now.vars var
 op_word seen room now (op.Bin how given a b) = applied how given (room.regs a) (room.regs b)
@@ -47,35 +47,35 @@ step_place seen room (step.Check place axis extent index) = check extent (room.r
 step_place seen room (step.Down descent place node offset) = down seen.shapes node (room.regs offset) (room.places place)
 
 -- the moment behind an act
-abbrev pub acted : Seen → Room → Act → Moment → Moment
-acted seen room (SetVar var from) now = record { vars = put var (room.regs from) now.vars; writes = now.writes; wants = now.wants }
-acted seen room (WriteOwn layout field from stmt) now = record {
+abbrev pub moment_after_act : Seen → Room → Act → RunMoment → RunMoment
+moment_after_act seen room (SetVar var from) now = record { vars = put var (room.regs from) now.vars; writes = now.writes; wants = now.wants }
+moment_after_act seen room (WriteOwn layout field from stmt) now = record {
   vars = now.vars;
   writes = now.writes ++ record { layout = layout; field = field; stmt = stmt; at = Some seen.at; way = Own; value = room.regs from } ∷ [];
   wants = now.wants;
 }
-acted seen room (Contribute how layout field place from index stmt) now = record {
+moment_after_act seen room (Contribute how layout field place from index stmt) now = record {
   vars = now.vars;
   writes = now.writes ++ record { layout = layout; field = field; stmt = stmt; at = at_of seen.shapes (room.places place); way = Acc how; value = room.regs from } ∷ [];
   wants = now.wants;
 }
-acted seen room (Wish layout index stmt) now = record {
+moment_after_act seen room (Wish layout index stmt) now = record {
   vars = now.vars;
   writes = now.writes;
   wants = now.wants ++ record { layout = layout; stmt = stmt; at = coord_of (map room.regs index) } ∷ [];
 }
 
 -- the moment where a loop's variable has the word of a turn
-abbrev pub at_turn : ℕ → ℤ → Moment → Moment
+abbrev pub at_turn : ℕ → ℤ → RunMoment → RunMoment
 at_turn var turn now = record { vars = put var (word_of turn) now.vars; writes = now.writes; wants = now.wants }
 
 -- a run of a block
-abbrev pub run : Seen → Block → Room → Moment → Moment
+abbrev pub run : Seen → Block → Room → RunMoment → RunMoment
 run seen End room now = now
 run seen (Word to how rest) room now = run seen rest (room_reg to (op_word seen room now how) room) now
 run seen (Spot to how rest) room now = run seen rest (room_place to (step_place seen room how) room) now
 run seen (Cell to place layout field index rest) room now = run seen rest (room_reg to (op_word seen room now (op.Read place layout field)) room) now
-run seen (Do what rest) room now = run seen rest room (acted seen room what now)
+run seen (Do what rest) room now = run seen rest room (moment_after_act seen room what now)
 run seen (Branch cond block otherwise rest) room now = run seen rest room (if room.regs cond == 0 then run seen otherwise room now else run seen block room now)
 run seen (Loop var lo hi body rest) room now = run seen rest room (fold (λ reached turn. run seen body room (at_turn var turn reached)) now (numbers lo hi))
 

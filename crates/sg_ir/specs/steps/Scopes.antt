@@ -13,8 +13,8 @@ use Rattle.sg_ir.specs.declared.before.Passed.{Passed}
 use Rattle.sg_ir.specs.declared.before.Origin.{Origin}
 use Rattle.sg_ir.specs.declared.before.Origin.TheVariants as o
 use Rattle.sg_ir.specs.Runs.{put}
-use Rattle.sg_ir.specs.WellTyped.{holds_of, Known, Scope}
-use Rattle.sg_ir.specs.steps.Targets.{is_setting, setting_of, left, leaves}
+use Rattle.sg_ir.specs.WellTyped.{holds_of, KnownPlace, Scope}
+use Rattle.sg_ir.specs.steps.Targets.{is_setting, set_name_of, left, leaves}
 
 -- the last instruction behind which this is set
 pub record IsLast (what : Target) (done : List Inst) (at : ℕ) : Type 0 where
@@ -26,7 +26,7 @@ pub record IsLast (what : Target) (done : List Inst) (at : ℕ) : Type 0 where
 abbrev pub set_step : Target → Before-F Bool → Bool
 set_step what b.Start = false
 set_step what (b.Block done outer) = list_any (leaves what) done.now || outer.now
-set_step what (b.Loop var outer) = is_setting what (setting_of (t.Var var)) || outer.now
+set_step what (b.Loop var outer) = is_setting what (set_name_of (t.Var var)) || outer.now
 
 abbrev pub set_before : Target → Before → Bool
 set_before what = fold-Before Bool (set_step what)
@@ -59,45 +59,45 @@ abbrev pub origin : Inst → Option Origin
 origin = fold-Inst (Option Origin) origin_step
 
 -- what is known of the places
-abbrev pub Places : Type 0
-Places = ℕ → Option Passed
+abbrev pub KnownPlaces : Type 0
+KnownPlaces = ℕ → Option Passed
 
 abbrev pub passed_on : ℕ → Option Passed → Option Passed
 passed_on passed None = None
 passed_on passed (Some known) = Some (record { layout = known.layout; passed = passed })
 
 -- what is known of a place that comes from there
-abbrev pub known_from : Places → Option Origin → Option Passed
+abbrev pub known_from : KnownPlaces → Option Origin → Option Passed
 known_from places None = None
 known_from places (Some (o.Root layout)) = Some (record { layout = layout; passed = 0 })
 known_from places (Some (o.Place from passed)) = passed_on passed (places from)
 
 -- a place that is set, where something is known of it
-abbrev pub settled : ℕ → Option Passed → Places → Places
+abbrev pub settled : ℕ → Option Passed → KnownPlaces → KnownPlaces
 settled to None places = places
 settled to (Some known) places = put to (Some known) places
 
-abbrev pub placed : Option Target → Option Passed → Places → Places
-placed None known places = places
-placed (Some (t.Reg r)) known places = places
-placed (Some (t.Place p)) known places = settled p known places
-placed (Some (t.Var v)) known places = places
+abbrev pub places_then : Option Target → Option Passed → KnownPlaces → KnownPlaces
+places_then None known places = places
+places_then (Some (t.Reg r)) known places = places
+places_then (Some (t.Place p)) known places = settled p known places
+places_then (Some (t.Var v)) known places = places
 
 -- what is known of the places behind an instruction, and behind these
-abbrev pub place_step : Places → Inst → Places
-place_step places inst = placed (left inst) (known_from places (origin inst)) places
+abbrev pub place_step : KnownPlaces → Inst → KnownPlaces
+place_step places inst = places_then (left inst) (known_from places (origin inst)) places
 
-abbrev pub places_after : Places → List Inst → Places
+abbrev pub places_after : KnownPlaces → List Inst → KnownPlaces
 places_after places done = fold place_step places done
 
 -- what is known of the places before a point of code
-abbrev pub before_step : Before-F Places → Places
+abbrev pub before_step : Before-F KnownPlaces → KnownPlaces
 before_step b.Start = λ p. None
 before_step (b.Block done outer) = places_after outer.now done.now
 before_step (b.Loop var outer) = outer.now
 
-abbrev pub places_before : Before → Places
-places_before = fold-Before Places before_step
+abbrev pub places_before : Before → KnownPlaces
+places_before = fold-Before KnownPlaces before_step
 
 -- how much there is to look through
 abbrev pub weight_step : Before-F ℕ → ℕ
@@ -105,16 +105,16 @@ weight_step b.Start = 0
 weight_step (b.Block done outer) = length done.now + outer.now + 2
 weight_step (b.Loop var outer) = outer.now + 2
 
-abbrev pub weight : Before → ℕ
-weight = fold-Before ℕ weight_step
+abbrev pub size_of_before : Before → ℕ
+size_of_before = fold-Before ℕ weight_step
 
 -- a scope with these registers, places and variables
-abbrev pub known_of : Option Passed → Option Known
-known_of None = None
-known_of (Some known) = Some (record { layout = known.layout; passed = known.passed })
+abbrev pub known_by_check : Option Passed → Option KnownPlace
+known_by_check None = None
+known_by_check (Some known) = Some (record { layout = known.layout; passed = known.passed })
 
-abbrev pub scope_with : (ℕ → Bool) → Places → (ℕ → Bool) → Scope
-scope_with regs places vars = record { regs = regs; places = λ p. known_of (places p); vars = vars }
+abbrev pub scope_with : (ℕ → Bool) → KnownPlaces → (ℕ → Bool) → Scope
+scope_with regs places vars = record { regs = regs; places = λ p. known_by_check (places p); vars = vars }
 
 -- the scope at a point of code, where these variables may be used from the start
 abbrev pub scope_at : (ℕ → Bool) → Before → Scope

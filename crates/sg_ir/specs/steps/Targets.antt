@@ -7,10 +7,10 @@ use Rattle.sg_ir.specs.declared.code.Inst.TheOpen.{Inst-F}
 use Rattle.sg_ir.specs.declared.settings.Target.{Target}
 use Rattle.sg_ir.specs.declared.settings.Target.TheVariants as t
 use Rattle.sg_ir.specs.declared.settings.Next.{Next}
-use Rattle.sg_ir.specs.WellTyped.{Setting, SetsReg, SetsPlace, SetsVar, sets_step}
+use Rattle.sg_ir.specs.WellTyped.{SetName, SetsReg, SetsPlace, SetsVar, sets_step}
 
 -- whether a setting is of this register, place or variable
-abbrev pub is_setting : Target → Setting → Bool
+abbrev pub is_setting : Target → SetName → Bool
 is_setting (t.Reg r) (SetsReg n) = n == r
 is_setting (t.Reg r) (SetsPlace n) = false
 is_setting (t.Reg r) (SetsVar n) = false
@@ -49,22 +49,22 @@ abbrev pub left : Inst → Option Target
 left = fold-Inst (Option Target) left_step
 
 -- as settings
-abbrev pub setting_of : Target → Setting
-setting_of (t.Reg r) = SetsReg r
-setting_of (t.Place p) = SetsPlace p
-setting_of (t.Var v) = SetsVar v
+abbrev pub set_name_of : Target → SetName
+set_name_of (t.Reg r) = SetsReg r
+set_name_of (t.Place p) = SetsPlace p
+set_name_of (t.Var v) = SetsVar v
 
-abbrev pub settings_of : Option Target → List Setting
+abbrev pub settings_of : Option Target → List SetName
 settings_of None = []
-settings_of (Some target) = setting_of target ∷ []
+settings_of (Some target) = set_name_of target ∷ []
 
 -- what an instruction and those in it set
-abbrev pub inst_settings : Inst → List Setting
-inst_settings = fold-Inst (List Setting) sets_step
+abbrev pub inst_settings : Inst → List SetName
+inst_settings = fold-Inst (List SetName) sets_step
 
 -- how often something is set: once, not at all, or 2 for more
-abbrev pub times_in : Target → List Setting → ℕ
-times_in target set = min 2 (count_by (is_setting target) set)
+abbrev pub set_times : Target → List SetName → ℕ
+set_times target set = min 2 (count_by (is_setting target) set)
 
 -- the number behind this one, where it isn't below the next
 abbrev pub past : ℕ → ℕ → Option ℕ
@@ -78,23 +78,23 @@ abbrev pub with_next_place : Next → Option ℕ → Option Next
 with_next_place from None = None
 with_next_place from (Some place) = Some (record { reg = from.reg; place = place })
 
-abbrev pub passes : Setting → Next → Option Next
+abbrev pub passes : SetName → Next → Option Next
 passes (SetsReg r) from = with_next_reg from (past r from.reg)
 passes (SetsPlace p) from = with_next_place from (past p from.place)
 passes (SetsVar v) from = Some from
 
 -- the numbers behind settings that go up
-abbrev pub ascends : Next → List Setting → Option Next
+abbrev pub ascends : Next → List SetName → Option Next
 ascends from [] = Some from
 ascends from (one ∷ more) = option_and_then (λ next. ascends next more) (passes one from)
 
 -- no setting of a register or a place is there twice
-abbrev pub once_in : List Setting → Setting → Bool
-once_in all (SetsReg r) = nat_lt (times_in (t.Reg r) all) 2
-once_in all (SetsPlace p) = nat_lt (times_in (t.Place p) all) 2
+abbrev pub once_in : List SetName → SetName → Bool
+once_in all (SetsReg r) = nat_lt (set_times (t.Reg r) all) 2
+once_in all (SetsPlace p) = nat_lt (set_times (t.Place p) all) 2
 once_in all (SetsVar v) = true
 
-abbrev pub inst_once : List Setting → Inst → Bool
+abbrev pub inst_once : List SetName → Inst → Bool
 inst_once all inst = list_all (once_in all) (inst_settings inst)
 
 -- whether this is set behind an instruction

@@ -44,7 +44,7 @@ pub record Adds (shapes : List Shape) (needs gains : Frame → Scope → Type 0)
       ((judged at after scope).0 ≡ true) × gains at (judged at after scope).1
 
 -- the block after sets no variable and uses no field that the block before doesn't
-pub record IsPlain (before after : List Inst) : Type 0 where
+pub record KeepsVarsAndUses (before after : List Inst) : Type 0 where
   pub vars : set_vars after ≡ set_vars before
   pub uses : uses_in after ≡ uses_in before
 
@@ -59,7 +59,7 @@ HasPassed place layout passed at scope = scope.places place ≡ Some (record { l
 -- the block after adds so much, and is plain
 pub record AddsSteps (shapes : List Shape) (needs gains : Frame → Scope → Type 0) (old new : Names) (before after : List Inst) : Type 0 where
   pub adds : Adds shapes needs gains old new before after
-  pub plain : IsPlain before after
+  pub plain : KeepsVarsAndUses before after
 
 -- a new register that may be read, and holds no truth value, where these may
 abbrev pub AddsWord : List Shape → List ℕ → ℕ → Names → Names → List Inst → List Inst → Type 0

@@ -4,12 +4,12 @@ use Rattle.sg_links.specs.declared.head.Head.{Head}
 use Rattle.sg_links.specs.Lists.{AreDisjoint}
 
 -- so many numbers along the row
-abbrev pub walk : List ℕ → ℕ → ℕ → List ℕ
-walk next x zero = []
-walk next x (suc k) = x ∷ walk next (slice_index next x) k
+abbrev pub numbers_along : List ℕ → ℕ → ℕ → List ℕ
+numbers_along next x zero = []
+numbers_along next x (suc k) = x ∷ numbers_along next (slice_index next x) k
 
 abbrev pub lists_of : List ℕ → List Head → List (List ℕ)
-lists_of next heads = map (λ head. walk next head.first head.len) heads
+lists_of next heads = map (λ head. numbers_along next head.first head.len) heads
 
 -- along the row the numbers of the list come one after the other, and then the end
 abbrev pub IsPath : List ℕ → ℕ → List ℕ → ℕ → Type 0

@@ -53,7 +53,7 @@ abbrev pub seen_of : World → Coord → Seen
 seen_of world at = record { shapes = world.shapes; state = world.state; at = at }
 
 -- how far a run of code has come is how far its iteration has
-pub record Agrees (basis : Basis) (at : Coord) (now : Moment) (moved : Moved) : Type 0 where
+pub record AgreesWithIteration (basis : Basis) (at : Coord) (now : Moment) (moved : Moved) : Type 0 where
   pub vars : (var : ℕ) → moved.vars var ≡ now.words var
   pub writes : moved.writes ≡ told_writes basis now.writes
   pub wants : moved.wants ≡ told_wants basis now.writes
@@ -65,13 +65,13 @@ pub record Agrees (basis : Basis) (at : Coord) (now : Moment) (moved : Moved) : 
 
 -- a run agrees, and a register holds a word
 pub record Shows (basis : Basis) (at : Coord) (now : Moment) (moved : Moved) (to word : ℕ) : Type 0 where
-  pub agrees : Agrees basis at now moved
+  pub agrees : AgreesWithIteration basis at now moved
   pub holds : moved.regs to ≡ word
   pub small : IsWord word
 
 -- a run agrees, and registers hold words
 pub record ShowsAll (basis : Basis) (at : Coord) (now : Moment) (moved : Moved) (regs words : List ℕ) : Type 0 where
-  pub agrees : Agrees basis at now moved
+  pub agrees : AgreesWithIteration basis at now moved
   pub hold : map moved.regs regs ≡ words
   pub small : All IsWord words
 
@@ -80,7 +80,7 @@ pub record Values (basis : Basis) (expr : TypedExpr) (to : ℕ) (old new : Names
   pub extends : Extends basis.shapes old new before after
   pub named : to < length new.regs
   pub value : (world : World) → IsWorld basis.shapes world → (at : Coord) → IsPoint basis.vars at → (now : Moment) (start : Moved)
-      → Agrees basis at now (runs (seen_of world at) before start)
+      → AgreesWithIteration basis at now (runs (seen_of world at) before start)
       → Shows basis at now (runs (seen_of world at) after start) to (expr_word world now expr)
 
 -- a register for each expression
@@ -88,15 +88,15 @@ pub record AllValues (basis : Basis) (exprs : List TypedExpr) (regs : List ℕ) 
   pub extends : Extends basis.shapes old new before after
   pub named : All (λ r. r < length new.regs) regs
   pub values : (world : World) → IsWorld basis.shapes world → (at : Coord) → IsPoint basis.vars at → (now : Moment) (start : Moved)
-      → Agrees basis at now (runs (seen_of world at) before start)
+      → AgreesWithIteration basis at now (runs (seen_of world at) before start)
       → ShowsAll basis at now (runs (seen_of world at) after start) regs (map (expr_word world now) exprs)
 
 -- the block after does what an action does
 abbrev pub Steps : Basis → (World → Moment → Moment) → List Inst → List Inst → Type 0
 Steps basis action before after = (world : World) → IsWorld basis.shapes world → (at : Coord) → IsPoint basis.vars at → (now : Moment) (start : Moved)
-    → Agrees basis at now (runs (seen_of world at) before start) → Agrees basis at (action world now) (runs (seen_of world at) after start)
+    → AgreesWithIteration basis at now (runs (seen_of world at) before start) → AgreesWithIteration basis at (action world now) (runs (seen_of world at) after start)
 
 -- from the start of an iteration the code agrees with what the statements do
 abbrev pub Tells : Basis → List TypedStmt → List Inst → Type 0
 Tells basis stmts block = (world : World) → IsWorld basis.shapes world → (at : Coord) → IsPoint basis.vars at
-    → Agrees basis at (run_all (map (action_of world) stmts) (first_moment at)) (iteration (seen_of world at) block)
+    → AgreesWithIteration basis at (run_all (map (action_of world) stmts) (first_moment at)) (iteration (seen_of world at) block)

@@ -46,8 +46,8 @@ abbrev pub fitted : Basis → TypedExpr → Fitted
 fitted basis = fold-TypedExpr Fitted Fitted (fit_step basis) (λ expr. expr.form)
 
 -- an expression can be lowered
-abbrev pub fits : Basis → TypedExpr → Bool
-fits basis expr = (fitted basis expr).1
+abbrev pub can_be_lowered : Basis → TypedExpr → Bool
+can_be_lowered basis expr = (fitted basis expr).1
 
 -- its indices are exactly the loop's variables
 abbrev pub is_own_index : Basis → List TypedExpr → Bool
@@ -56,23 +56,23 @@ is_own_index basis index = are_names basis.vars 0 (map (λ expr. (fitted basis e
 -- a write can be lowered: in a slice by its indices alone
 abbrev pub write_fits : Basis → ℕ → ℕ → List TypedExpr → Way → TypedExpr → Bool
 write_fits basis layout place index way value =
-    (equals_some (axes_in basis.shapes layout) (length index) && list_all (fits basis) index)
-    && (basis.slicing || (fits basis value && (not (is_own way) || is_own_index basis index))) && (not (is_own way) || is_owned basis.owned layout place)
+    (equals_some (axes_in basis.shapes layout) (length index) && list_all (can_be_lowered basis) index)
+    && (basis.slicing || (can_be_lowered basis value && (not (is_own way) || is_own_index basis index))) && (not (is_own way) || is_owned basis.owned layout place)
 
-abbrev pub stmt_step : Basis → TypedKind-F Bool Bool → Bool
-stmt_step basis (k.Let var value) = nat_le basis.vars var && fits basis value
-stmt_step basis (k.Assign var value) = nat_le basis.vars var && fits basis value
-stmt_step basis (k.Write layout place index way value) = write_fits basis layout place index way value
-stmt_step basis (k.If condition block otherwise has_else) = fits basis condition && (list_all (λ it. it) block && list_all (λ it. it) otherwise)
-stmt_step basis (k.For var range body) = nat_le basis.vars var && (is_constant_range range && list_all (λ it. it) body)
+abbrev pub lowered_layer : Basis → TypedKind-F Bool Bool → Bool
+lowered_layer basis (k.Let var value) = nat_le basis.vars var && can_be_lowered basis value
+lowered_layer basis (k.Assign var value) = nat_le basis.vars var && can_be_lowered basis value
+lowered_layer basis (k.Write layout place index way value) = write_fits basis layout place index way value
+lowered_layer basis (k.If condition block otherwise has_else) = can_be_lowered basis condition && (list_all (λ it. it) block && list_all (λ it. it) otherwise)
+lowered_layer basis (k.For var range body) = nat_le basis.vars var && (is_constant_range range && list_all (λ it. it) body)
 
 -- a statement can be lowered
 abbrev pub stmt_fits : Basis → TypedStmt → Bool
-stmt_fits basis = fold-TypedStmt Bool Bool (stmt_step basis) (λ stmt. stmt.kind)
+stmt_fits basis = fold-TypedStmt Bool Bool (lowered_layer basis) (λ stmt. stmt.kind)
 
 -- a read, and a write
-abbrev pub read_expr : Ty → ℕ → ℕ → List TypedExpr → TypedExpr
-read_expr ty layout place index = record { ty = ty; form = form.Read layout place index }
+abbrev pub typed_read : Ty → ℕ → ℕ → List TypedExpr → TypedExpr
+typed_read ty layout place index = record { ty = ty; form = form.Read layout place index }
 
 abbrev pub write_stmt : ℕ → ℕ → ℕ → List TypedExpr → Way → TypedExpr → TypedStmt
 write_stmt number layout place index way value = record { number = number; kind = kind.Write layout place index way value }

@@ -6,7 +6,7 @@ use Rattle.sg_layout.specs.declared.shape.Shape.{Shape}
 use Rattle.sg_types.specs.declared.typed.TypedExpr.{TypedExpr}
 use Rattle.sg_types.specs.TypeTable.{is_signed}
 use Rattle.sg_types.specs.declared.typed.TypedStmt.{TypedStmt}
-use Rattle.sg_types.specs.WellTyped.{Visible, Setting, setting, is_visible, is_well_typed, all_fit, fitting}
+use Rattle.sg_types.specs.WellTyped.{Visible, Surroundings, setting, is_visible, is_well_typed_expr, all_fit, fitting}
 use Rattle.sg_admit.specs.Lines.{Deed, Sets, Writes, Tests, Turns, Opens, Around, Line, stmt_lines, block_lines}
 use Rattle.sg_ir.specs.declared.code.Inst.{Inst}
 use Rattle.sg_ir.specs.declared.names.Names.{Names}
@@ -18,25 +18,25 @@ abbrev pub IsCell : ℕ → ℕ → Frame → Scope → Type 0
 IsCell place layout at scope = holds_of (is_cell at layout) (scope.places place) ≡ true
 
 -- the variables of the code have the types of the setting, and those in scope there may be read
-abbrev pub Ready : Setting → Frame → Scope → Type 0
+abbrev pub Ready : Surroundings → Frame → Scope → Type 0
 Ready setting at scope = (at.vars ≡ setting.types) × ((var : ℕ) → is_visible setting.scope var ≡ true → scope.vars var ≡ true)
 
 -- a register that may be read, and holds a truth value exactly where the type is that of one
-abbrev pub HasWord : ℕ → Ty → Frame → Scope → Type 0
-HasWord to given at scope = reads at scope (is_truth given) to ≡ true
+abbrev pub HoldsWordOf : ℕ → Ty → Frame → Scope → Type 0
+HoldsWordOf to given at scope = reads at scope (is_truth given) to ≡ true
 
 -- the code of an expression is well typed wherever the expression is
 abbrev pub AddsExpr : List Shape → TypedExpr → ℕ → Names → Names → List Inst → List Inst → Type 0
-AddsExpr shapes expr to old new before after = (setting : Setting) → setting.shapes ≡ shapes → is_well_typed setting expr ≡ true
-    → Adds shapes (Ready setting) (HasWord to expr.ty) old new before after
+AddsExpr shapes expr to old new before after = (setting : Surroundings) → setting.shapes ≡ shapes → is_well_typed_expr setting expr ≡ true
+    → Adds shapes (Ready setting) (HoldsWordOf to expr.ty) old new before after
 
 -- an expression that may be an index
-abbrev pub is_part : Setting → TypedExpr → Bool
-is_part setting expr = is_signed expr.ty && is_well_typed setting expr
+abbrev pub is_part : Surroundings → TypedExpr → Bool
+is_part setting expr = is_signed expr.ty && is_well_typed_expr setting expr
 
 -- the same of index expressions
 abbrev pub AddsIndex : List Shape → List TypedExpr → List ℕ → Names → Names → List Inst → List Inst → Type 0
-AddsIndex shapes exprs regs old new before after = (setting : Setting) → setting.shapes ≡ shapes → list_all (is_part setting) exprs ≡ true
+AddsIndex shapes exprs regs old new before after = (setting : Surroundings) → setting.shapes ≡ shapes → list_all (is_part setting) exprs ≡ true
     → Adds shapes (Ready setting) (CanRead regs) old new before after
 
 -- what has a name is set behind it as before it, and what may be read may be read on

@@ -22,8 +22,8 @@ use Rattle.sg_parser.specs.steps.Front.{Reader, after_sign, next_op, comma_list}
 use Rattle.sg_words.specs.Options.{only_if, ◌>>=◌}
 
 -- whether an operator joins what was read so far to what follows, where its level is at least the given one
-abbrev pub goes_on : ℕ → Expr → BinOp → Bool
-goes_on least left op = nat_le least (op_level op) && nat_le (left_needs op) (level left)
+abbrev pub operator_goes_on : ℕ → Expr → BinOp → Bool
+operator_goes_on least left op = nat_le least (op_level op) && nat_le (left_needs op) (level left)
 
 -- one layer of an expression, where a reader of its parts is given, by their least level
 module _ (expr : ℕ → Reader Expr) where
@@ -97,7 +97,7 @@ module _ (expr : ℕ → Reader Expr) where
   abbrev pub climb_on : ℕ → ℕ → (Expr → Reader Expr) → Expr → List Token → Option (BinOp × List Token) → Option (Expr × List Token)
   climb_on limit least more left tokens None = Some (left, tokens)
   climb_on limit least more left tokens (Some next) =
-      if goes_on least left next.0
+      if operator_goes_on least left next.0
       then only_if (nat_lt (depth left) limit) (expr (right_needs next.0) next.1 >>= λ right. more (e.Bin next.0 left right.0) right.1)
       else Some (left, tokens)
 

@@ -96,10 +96,10 @@ has_chunk kind.Dynamic = true
 has_chunk _ = false
 
 -- which kinds have a cap
-abbrev pub has_cap : NodeKind → Bool
-has_cap kind.Dense = false
-has_cap kind.Bitmasked = false
-has_cap _ = true
+abbrev pub declares_cap : NodeKind → Bool
+declares_cap kind.Dense = false
+declares_cap kind.Bitmasked = false
+declares_cap _ = true
 
 -- the word `chunk` or `cap` and its size, where the kind has one
 abbrev pub next_bound : Word → Bool → Reader (Option SizeDecl)
@@ -122,7 +122,7 @@ node_head tokens = do
 unfoldable pub read_bounds : NodeKind → List Token → Option (Option SizeDecl × Option SizeDecl × List Token)
 read_bounds kind tokens = do
   chunk ← next_bound w.Chunk (has_chunk kind) tokens
-  cap ← next_bound w.Cap (has_cap kind) chunk.1
+  cap ← next_bound w.Cap (declares_cap kind) chunk.1
   rest ← after_sign s.Semicolon cap.1
   Some (chunk.0, cap.0, rest)
 
@@ -221,13 +221,13 @@ read_kernel tokens = do
   only_if (nat_le (length head.1) most_listed_axes) (Some (item.Kernel (record { name = head.0; vars = head.1; domain = loop.0; body = loop.1 }), loop.2))
 
 -- whether a number of a bound has a `u` exactly where it is past the limit without one
-abbrev pub is_marked : Bool → ℕ → Bool
-is_marked true value = nat_lt (max_number false) value
-is_marked false value = not (nat_lt (max_number false) value)
+abbrev pub has_right_suffix : Bool → ℕ → Bool
+has_right_suffix true value = nat_lt (max_number false) value
+has_right_suffix false value = not (nat_lt (max_number false) value)
 
 -- the number of a bound
 abbrev pub next_magnitude : Reader ℕ
-next_magnitude (t.Number value unsigned ∷ rest) = only_if (is_marked unsigned value && is_number value true) (Some (value, rest))
+next_magnitude (t.Number value unsigned ∷ rest) = only_if (has_right_suffix unsigned value && is_number value true) (Some (value, rest))
 next_magnitude _ = None
 
 -- a bound, where what follows a `-` is given; no `-` stands before 0

@@ -2,6 +2,6 @@
 use Rattle.std.specs.Prelude.{List, ◌++◌, Result, Ok, Err}
 
 -- a list behind another, where it is answered
-abbrev pub behind : {A E : Type 0} → List A → Result (List A) E → Result (List A) E
-behind front (Ok more) = Ok (front ++ more)
-behind front (Err fault) = Err fault
+abbrev pub behind_front : {A E : Type 0} → List A → Result (List A) E → Result (List A) E
+behind_front front (Ok more) = Ok (front ++ more)
+behind_front front (Err fault) = Err fault

@@ -11,7 +11,7 @@ use Rattle.sg_names.specs.Laws.{layout_decls}
 use Rattle.sg_names.specs.Shapes.{shape_of}
 use Rattle.sg_session.specs.declared.refusal.Refusal.{Refusal}
 use Rattle.sg_session.specs.Compiling.{checked_layouts}
-use Rattle.sg_session.specs.steps.Following.{behind}
+use Rattle.sg_session.specs.steps.Following.{behind_front}
 
 -- the layouts that items declare have the counts of declared layouts
 abbrev pub are_declared : Tables → List Item → Bool
@@ -19,7 +19,7 @@ are_declared names items = list_all (λ decl. is_declared (shape_of names decl))
 
 -- the answer for layouts that are there already and those that items declare
 abbrev pub with_items : Tables → List Shape → List Item → Result (List Shape) Refusal
-with_items names list items = behind list (checked_layouts (length list) (map (shape_of names) (layout_decls items)))
+with_items names list items = behind_front list (checked_layouts (length list) (map (shape_of names) (layout_decls items)))
 
 -- the answer for an item and any that follow is that for what is there afterwards and those that follow, or the refusal
 abbrev pub TakesLayout : Tables → Item → List Shape → List Shape → Result Unit (Stop Refusal) → Type 0

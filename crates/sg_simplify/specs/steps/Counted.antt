@@ -9,22 +9,22 @@ use Rattle.sg_ir.specs.declared.code.Inst.TheOpen as i
 use Rattle.sg_ir.specs.declared.code.Inst.TheOpen.{Inst-F}
 use Rattle.sg_ir.specs.Blocks.{Block, End, Word, Spot, Cell, Do, Branch, Loop, Link}
 use Rattle.sg_ir.specs.declared.span.Span.{Span}
-use Rattle.sg_ir.specs.Span.{whole, held, sets}
+use Rattle.sg_ir.specs.Span.{whole_i32, held, sets}
 use Rattle.sg_ir.specs.SpanLaws.{IsSpanned}
-use Rattle.sg_ir.specs.WellTyped.{Known, Scope, Frame, Judge}
+use Rattle.sg_ir.specs.WellTyped.{KnownPlace, Scope, Frame, Judge}
 use Rattle.sg_ir.specs.steps.InScope.{InScope, IsScoped}
-use Rattle.sg_simplify.specs.steps.Serves.{Each, Leads}
-use Rattle.sg_simplify.specs.steps.Ruled.{IsSettled, IsFitted}
+use Rattle.sg_simplify.specs.steps.Serves.{EachByRecursion, Leads}
+use Rattle.sg_simplify.specs.steps.Ruled.{HasSettledOps, HasAccessLayouts}
 
-abbrev pub flag : Bool → ℕ
-flag test = if test then 1 else 0
+abbrev pub one_where : Bool → ℕ
+one_where test = if test then 1 else 0
 
 -- how many instructions of a block set a register, and a place
 abbrev pub regs_set : ℕ → Block → ℕ
 regs_set r End = 0
-regs_set r (Word to how rest) = flag (to == r) + regs_set r rest
+regs_set r (Word to how rest) = one_where (to == r) + regs_set r rest
 regs_set r (Spot to how rest) = regs_set r rest
-regs_set r (Cell to place layout field index rest) = flag (to == r) + regs_set r rest
+regs_set r (Cell to place layout field index rest) = one_where (to == r) + regs_set r rest
 regs_set r (Do what rest) = regs_set r rest
 regs_set r (Branch cond block otherwise rest) = regs_set r block + (regs_set r otherwise + regs_set r rest)
 regs_set r (Loop var lo hi body rest) = regs_set r body + regs_set r rest
@@ -32,7 +32,7 @@ regs_set r (Loop var lo hi body rest) = regs_set r body + regs_set r rest
 abbrev pub places_set : ℕ → Block → ℕ
 places_set p End = 0
 places_set p (Word to how rest) = places_set p rest
-places_set p (Spot to how rest) = flag (to == p) + places_set p rest
+places_set p (Spot to how rest) = one_where (to == p) + places_set p rest
 places_set p (Cell to place layout field index rest) = places_set p rest
 places_set p (Do what rest) = places_set p rest
 places_set p (Branch cond block otherwise rest) = places_set p block + (places_set p otherwise + places_set p rest)
@@ -56,27 +56,27 @@ pub record IsWhole (at : Frame) (single : ℕ → Bool) (others : ℕ → Span) 
   pub places : (p : ℕ) → totals.places p ≤ 1
   pub setters : (v : ℕ) → at.setters v ≡ totals.vars v
   pub singles : (v : ℕ) → single v ≡ true → totals.vars v ≤ 1
-  pub wide : (v : ℕ) → 1 ≤ totals.vars v → others v ≡ whole
+  pub wide : (v : ℕ) → 1 ≤ totals.vars v → others v ≡ whole_i32
 
 -- a scope of judgements beside one of chains, where so much is set outside
 pub record Meets (totals : Counts) (scope : Scope) (inner : InScope) (outside : Counts) (round : List (ℕ × Span)) : Type 0 where
   pub regs : (r : ℕ) → scope.regs r ≡ true → inner.regs r ≡ true
-  pub places : (p : ℕ) (known : Known) → scope.places p ≡ Some known → inner.places p ≡ true
+  pub places : (p : ℕ) (known : KnownPlace) → scope.places p ≡ Some known → inner.places p ≡ true
   pub in_regs : (r : ℕ) → inner.regs r ≡ true → 1 ≤ outside.regs r
   pub in_places : (p : ℕ) → inner.places p ≡ true → 1 ≤ outside.places p
   pub vars : (v : ℕ) → scope.vars v ≡ true → (totals.vars v ≡ 0) ⊎ (1 ≤ outside.vars v)
   pub loops : (v : ℕ) → ((span : Span) → held span round v ≡ span) ⊎ ((1 ≤ outside.vars v) × (totals.vars v ≡ 1))
 
 -- layouts down which words lead to their places
-abbrev pub AreLaid : List Shape → Type 0
-AreLaid shapes = (layout : ℕ) (shape : Shape) → slice_get shapes layout ≡ Some shape → (1 ≤ shape.axes) × ((words : List ℕ) → length words ≡ shape.axes → Each IsWord words → Leads shapes layout shape words)
+abbrev pub CanBeWalked : List Shape → Type 0
+CanBeWalked shapes = (layout : ℕ) (shape : Shape) → slice_get shapes layout ≡ Some shape → (1 ≤ shape.axes) × ((words : List ℕ) → length words ≡ shape.axes → EachByRecursion IsWord words → Leads shapes layout shape words)
 
 -- what the pass asks of a block
 pub record Rules (shapes : List Shape) (single : ℕ → Bool) (others : ℕ → Span) (inner : InScope) (loops : List (ℕ × Span)) (block : Block) : Type 0 where
   pub scoped : IsScoped inner block
-  pub settled : IsSettled single block
+  pub settled : HasSettledOps single block
   pub spanned : IsSpanned (record { regs = []; loops = loops; others = others }) block
-  pub fitted : IsFitted shapes block
+  pub fitted : HasAccessLayouts shapes block
 
 -- One layer: whether constants are words.
 abbrev pub words_step : Inst-F Bool → Bool

@@ -10,12 +10,12 @@ use Rattle.sg_ir.specs.declared.op.Step.TheVariants as step
 use Rattle.sg_ir.specs.declared.op.Descent.{Descent}
 use Rattle.sg_ir.specs.declared.op.Descent.TheVariants as by
 use Rattle.sg_ir.specs.Blocks.{Block, End, Word, Spot, Cell, Do, Branch, Loop, Act, SetVar, WriteOwn, Contribute, Wish}
-use Rattle.sg_ir.specs.WellTyped.{Known, Scope, Frame, with_reg, with_place, with_var, is_truth, is_of, reads, indexes, is_i32, takes_truth, gives_truth, is_lnot, Way_down, ByChild, ByKey, ByBit, ByLength, holds_of, checkable, descends, is_cell}
+use Rattle.sg_ir.specs.WellTyped.{KnownPlace, Scope, Frame, with_reg, with_place, with_var, is_truth, is_truth_as, reads, indexes, is_i32, takes_truth, gives_truth, is_lnot, Way_down, ByChild, ByKey, ByBit, ByLength, holds_of, checkable, descends, is_cell}
 
 -- a type that may be there is that of a truth value, or isn't, as may be known
-abbrev pub gives : Option Bool → Option Ty → Bool
-gives None type = false
-gives (Some truth) type = is_of truth type
+abbrev pub gives_type : Option Bool → Option Ty → Bool
+gives_type None type = false
+gives_type (Some truth) type = is_truth_as truth type
 
 -- whether a field holds truth values, and whether an operation gives one; not known of a variable and a field that aren't there
 abbrev pub field_truth : List Shape → ℕ → ℕ → Option Bool
@@ -66,23 +66,23 @@ step_reads at scope (step.Check place axis extent index) = nat_lt 0 extent && (h
 step_reads at scope (step.Down descent place node offset) = holds_of (descends at (way_by descent) node) (scope.places place) && reads at scope false offset
 
 -- what is known of the place that a step sets
-abbrev pub step_known : Scope → Step → Option Known
+abbrev pub step_known : Scope → Step → Option KnownPlace
 step_known scope (step.Root layout) = Some (record { layout = layout; passed = 0 })
-step_known scope (step.Check place axis extent index) = option_map (λ (known : Known). record { layout = known.layout; passed = 0 }) (scope.places place)
-step_known scope (step.Down descent place node offset) = option_map (λ (known : Known). record { layout = known.layout; passed = node }) (scope.places place)
+step_known scope (step.Check place axis extent index) = option_map (λ (known : KnownPlace). record { layout = known.layout; passed = 0 }) (scope.places place)
+step_known scope (step.Down descent place node offset) = option_map (λ (known : KnownPlace). record { layout = known.layout; passed = node }) (scope.places place)
 
 -- the scope behind a place that may be known
-abbrev pub and_known : ℕ → Option Known → Scope → Scope
+abbrev pub and_known : ℕ → Option KnownPlace → Scope → Scope
 and_known to None scope = scope
 and_known to (Some known) scope = with_place to known scope
 
 -- an act, and the scope behind it
 abbrev pub act_fits : Frame → Scope → Act → Bool
-act_fits at scope (SetVar var from) = scope.regs from && gives (option_map is_truth (slice_get at.vars var)) (slice_get at.regs from)
-act_fits at scope (WriteOwn layout field from stmt) = scope.regs from && gives (field_truth at.shapes layout field) (slice_get at.regs from)
+act_fits at scope (SetVar var from) = scope.regs from && gives_type (option_map is_truth (slice_get at.vars var)) (slice_get at.regs from)
+act_fits at scope (WriteOwn layout field from stmt) = scope.regs from && gives_type (field_truth at.shapes layout field) (slice_get at.regs from)
 act_fits at scope (Contribute how layout field place from index stmt) =
     holds_of (is_cell at layout) (scope.places place)
-    && (scope.regs from && (gives (field_truth at.shapes layout field) (slice_get at.regs from) && index_fits at scope layout index))
+    && (scope.regs from && (gives_type (field_truth at.shapes layout field) (slice_get at.regs from) && index_fits at scope layout index))
 act_fits at scope (Wish layout index stmt) = index_fits at scope layout index
 
 abbrev pub behind_act : Act → Scope → Scope
@@ -92,26 +92,26 @@ behind_act (Contribute how layout field place from index stmt) scope = scope
 behind_act (Wish layout index stmt) scope = scope
 
 -- a read of a cell is no plain operation: it has its index registers beside it
-abbrev pub is_plain : Op → Bool
-is_plain (op.Const word truth) = true
-is_plain (op.Var var) = true
-is_plain (op.Bin how kind a b) = true
-is_plain (op.Un how kind a) = true
-is_plain (op.Mulq a b s) = true
-is_plain (op.Extract div size from) = true
-is_plain (op.Offset high size low) = true
-is_plain (op.Read place layout field) = false
-is_plain (op.OwnRead layout field) = true
+abbrev pub is_no_read : Op → Bool
+is_no_read (op.Const word truth) = true
+is_no_read (op.Var var) = true
+is_no_read (op.Bin how kind a b) = true
+is_no_read (op.Un how kind a) = true
+is_no_read (op.Mulq a b s) = true
+is_no_read (op.Extract div size from) = true
+is_no_read (op.Offset high size low) = true
+is_no_read (op.Read place layout field) = false
+is_no_read (op.OwnRead layout field) = true
 
 -- a block in a scope
-abbrev pub fits : Frame → Scope → Block → Bool
-fits at scope End = true
-fits at scope (Word to how rest) = (is_plain how && (operands_fit at scope how && gives (truth_of at.shapes at.vars how) (slice_get at.regs to))) && fits at (with_reg to scope) rest
-fits at scope (Spot to how rest) = (nat_lt to at.places && step_reads at scope how) && fits at (and_known to (step_known scope how) scope) rest
-fits at scope (Cell to place layout field index rest) =
-    (operands_fit at scope (op.Read place layout field) && (gives (field_truth at.shapes layout field) (slice_get at.regs to) && index_fits at scope layout index))
-    && fits at (with_reg to scope) rest
-fits at scope (Do what rest) = act_fits at scope what && fits at (behind_act what scope) rest
-fits at scope (Branch cond block otherwise rest) = (reads at scope true cond && (fits at scope block && fits at scope otherwise)) && fits at scope rest
-fits at scope (Loop var lo hi body rest) =
-    (holds_of is_i32 (slice_get at.vars var) && ((at.setters var == 1) && fits at (with_var var scope) body)) && fits at scope rest
+abbrev pub fits_scope : Frame → Scope → Block → Bool
+fits_scope at scope End = true
+fits_scope at scope (Word to how rest) = (is_no_read how && (operands_fit at scope how && gives_type (truth_of at.shapes at.vars how) (slice_get at.regs to))) && fits_scope at (with_reg to scope) rest
+fits_scope at scope (Spot to how rest) = (nat_lt to at.places && step_reads at scope how) && fits_scope at (and_known to (step_known scope how) scope) rest
+fits_scope at scope (Cell to place layout field index rest) =
+    (operands_fit at scope (op.Read place layout field) && (gives_type (field_truth at.shapes layout field) (slice_get at.regs to) && index_fits at scope layout index))
+    && fits_scope at (with_reg to scope) rest
+fits_scope at scope (Do what rest) = act_fits at scope what && fits_scope at (behind_act what scope) rest
+fits_scope at scope (Branch cond block otherwise rest) = (reads at scope true cond && (fits_scope at scope block && fits_scope at scope otherwise)) && fits_scope at scope rest
+fits_scope at scope (Loop var lo hi body rest) =
+    (holds_of is_i32 (slice_get at.vars var) && ((at.setters var == 1) && fits_scope at (with_var var scope) body)) && fits_scope at scope rest

@@ -24,7 +24,7 @@ use Rattle.sg_simplify.specs.declared.given.Given as code
 use Rattle.sg_simplify.specs.declared.made.Made.{Made}
 use Rattle.sg_simplify.specs.declared.made.Looped.{Looped}
 use Rattle.sg_ir.specs.declared.span.Span.{Span}
-use Rattle.sg_simplify.specs.Pass.{Given, Pass, Next, Making, given_of, span_of, with_reg, with_name, span_in, check_at, first_pass, first_next, simplified}
+use Rattle.sg_simplify.specs.Pass.{Given, Pass, Next, Making, given_of, span_of, next_with_reg, with_name, span_in, check_at, first_pass, first_next, simplified}
 
 -- what is given in code
 abbrev pub given_in : code.Given → Given
@@ -110,7 +110,7 @@ abbrev pub TruthIs : List Ty → ℕ → Op → Type 0
 TruthIs types to how = HasTruth (get_or types to ty.U32) how
 
 -- a new register
-pub record AddsReg (given : Given) (type : Ty) (how : Op) (to : ℕ) (old new : Made) : Type 0 where
+pub record AddsMadeReg (given : Given) (type : Ty) (how : Op) (to : ℕ) (old new : Made) : Type 0 where
   pub number : to ≡ length (next_of old).spans
   pub known : pass_of new ≡ pass_of old
-  pub next : next_of new ≡ with_reg type (span_of given (pass_of old) (next_of old) how) (next_of old)
+  pub next : next_of new ≡ next_with_reg type (span_of given (pass_of old) (next_of old) how) (next_of old)

@@ -9,66 +9,66 @@ use Rattle.sg_ir.specs.Span.{Spans, sets}
 use Rattle.sg_ir.specs.SpanLaws.{Lies, IsSpanned}
 use Rattle.sg_ir.specs.steps.Scoped.{Room}
 use Rattle.sg_ir.specs.steps.InScope.{InScope, IsScoped}
-use Rattle.sg_simplify.specs.Pass.{Next, name_of, span_in}
-use Rattle.sg_simplify.specs.steps.Serves.{Each, Leads}
+use Rattle.sg_simplify.specs.Pass.{Next, made_name, span_in}
+use Rattle.sg_simplify.specs.steps.Serves.{EachByRecursion, Leads}
 
 -- behind a use of a variable that at most one instruction sets, none of the block sets it
 abbrev pub OpSettles : (ℕ → Bool) → Block → Op → Type 0
 OpSettles single rest (op.Var var) = single var ≡ true → sets var rest ≡ 0
 OpSettles single rest how = Unit {0}
 
-abbrev pub IsSettled : (ℕ → Bool) → Block → Type 0
-IsSettled single End = Unit {0}
-IsSettled single (Word to how rest) = OpSettles single rest how × IsSettled single rest
-IsSettled single (Spot to how rest) = IsSettled single rest
-IsSettled single (Cell to place layout field index rest) = IsSettled single rest
-IsSettled single (Do what rest) = IsSettled single rest
-IsSettled single (Branch cond block otherwise rest) = IsSettled single block × IsSettled single otherwise × IsSettled single rest
-IsSettled single (Loop var lo hi body rest) = IsSettled single body × IsSettled single rest
+abbrev pub HasSettledOps : (ℕ → Bool) → Block → Type 0
+HasSettledOps single End = Unit {0}
+HasSettledOps single (Word to how rest) = OpSettles single rest how × HasSettledOps single rest
+HasSettledOps single (Spot to how rest) = HasSettledOps single rest
+HasSettledOps single (Cell to place layout field index rest) = HasSettledOps single rest
+HasSettledOps single (Do what rest) = HasSettledOps single rest
+HasSettledOps single (Branch cond block otherwise rest) = HasSettledOps single block × HasSettledOps single otherwise × HasSettledOps single rest
+HasSettledOps single (Loop var lo hi body rest) = HasSettledOps single body × HasSettledOps single rest
 
 -- a layout with so many axes, down which words lead to the place of their coordinate
 pub record HasLayout (shapes : List Shape) (layout axes : ℕ) : Type 0 where
   pub shape : Shape
   pub there : slice_get shapes layout ≡ Some shape
-  pub leads : (words : List ℕ) → length words ≡ axes → Each IsWord words → Leads shapes layout shape words
+  pub leads : (words : List ℕ) → length words ≡ axes → EachByRecursion IsWord words → Leads shapes layout shape words
 
 abbrev pub IndexFits : List Shape → ℕ → List ℕ → Type 0
 IndexFits shapes layout [] = ⊥
 IndexFits shapes layout (r ∷ index) = HasLayout shapes layout (length (r ∷ index))
 
 -- a read of a cell is no plain operation
-abbrev pub IsPlain : Op → Type 0
-IsPlain (op.Read place layout field) = ⊥
-IsPlain how = Unit {0}
+abbrev pub IsNotRead : Op → Type 0
+IsNotRead (op.Read place layout field) = ⊥
+IsNotRead how = Unit {0}
 
 -- accesses have their layouts
-abbrev pub IsFitted : List Shape → Block → Type 0
-IsFitted shapes End = Unit {0}
-IsFitted shapes (Word to how rest) = IsPlain how × IsFitted shapes rest
-IsFitted shapes (Spot to how rest) = IsFitted shapes rest
-IsFitted shapes (Cell to place layout field index rest) = IndexFits shapes layout index × IsFitted shapes rest
-IsFitted shapes (Do what rest) = ActFits what × IsFitted shapes rest
+abbrev pub HasAccessLayouts : List Shape → Block → Type 0
+HasAccessLayouts shapes End = Unit {0}
+HasAccessLayouts shapes (Word to how rest) = IsNotRead how × HasAccessLayouts shapes rest
+HasAccessLayouts shapes (Spot to how rest) = HasAccessLayouts shapes rest
+HasAccessLayouts shapes (Cell to place layout field index rest) = IndexFits shapes layout index × HasAccessLayouts shapes rest
+HasAccessLayouts shapes (Do what rest) = ActFits what × HasAccessLayouts shapes rest
   where
     ActFits : Act → Type 0
     ActFits (SetVar var from) = Unit {0}
     ActFits (WriteOwn layout field from stmt) = Unit {0}
     ActFits (Contribute how layout field place from index stmt) = IndexFits shapes layout index
     ActFits (Wish layout index stmt) = Unit {0}
-IsFitted shapes (Branch cond block otherwise rest) = IsFitted shapes block × IsFitted shapes otherwise × IsFitted shapes rest
-IsFitted shapes (Loop var lo hi body rest) = IsFitted shapes body × IsFitted shapes rest
+HasAccessLayouts shapes (Branch cond block otherwise rest) = HasAccessLayouts shapes block × HasAccessLayouts shapes otherwise × HasAccessLayouts shapes rest
+HasAccessLayouts shapes (Loop var lo hi body rest) = HasAccessLayouts shapes body × HasAccessLayouts shapes rest
 
 -- all of it
 pub record IsRuled (shapes : List Shape) (single : ℕ → Bool) (vars : Spans) (scope : InScope) (block : Block) : Type 0 where
   pub scoped : IsScoped scope block
-  pub settled : IsSettled single block
+  pub settled : HasSettledOps single block
   pub spanned : IsSpanned vars block
-  pub fitted : IsFitted shapes block
+  pub fitted : HasAccessLayouts shapes block
 
 -- a given register in scope has a new one with the same word
 pub record IsRenamed (next : Next) (from to : Room) (r : ℕ) : Type 0 where
-  pub named : name_of next r < length next.spans
-  pub word : to.regs (name_of next r) ≡ from.regs r
-  pub lies : Lies (span_in next (name_of next r)) (to.regs (name_of next r))
+  pub named : made_name next r < length next.spans
+  pub word : to.regs (made_name next r) ≡ from.regs r
+  pub lies : Lies (span_in next (made_name next r)) (to.regs (made_name next r))
 
 abbrev pub AllRenamed : InScope → Next → Room → Room → Type 0
 AllRenamed scope next from to = (r : ℕ) → scope.regs r ≡ true → IsRenamed next from to r
@@ -78,4 +78,4 @@ pub record Grown (scope : InScope) (next further : Next) : Type 0 where
   pub regs : length next.spans ≤ length further.spans
   pub places : next.places ≤ further.places
   pub spans : (r : ℕ) → r < length next.spans → span_in further r ≡ span_in next r
-  pub names : (r : ℕ) → scope.regs r ≡ true → name_of further r ≡ name_of next r
+  pub names : (r : ℕ) → scope.regs r ≡ true → made_name further r ≡ made_name next r

@@ -15,31 +15,31 @@ use Rattle.sg_ir.specs.Runs.{Seen, Place, coord_of}
 use Rattle.sg_ir.specs.Places.{place_at}
 use Rattle.sg_ir.specs.Blocks.{Block, End, Word, Spot, Cell, Do, Branch, Loop, Act, SetVar, WriteOwn, Contribute, Wish}
 use Rattle.sg_ir.specs.declared.span.Span.{Span}
-use Rattle.sg_ir.specs.Span.{whole, Spans, bin_span, range_span, op_span, sets}
+use Rattle.sg_ir.specs.Span.{whole_i32, Spans, bin_span, range_span, op_span, sets}
 use Rattle.sg_ir.specs.Shared.{same_op, same_step}
-use Rattle.sg_ir.specs.SpanLaws.{Lies, HasWord, WhereTest, EachTurn, IsSpanned, RoomFits, Fits}
-use Rattle.sg_ir.specs.steps.Scoped.{Moment, Room, room_reg, room_place, op_word, step_place, acted, at_turn, run}
+use Rattle.sg_ir.specs.SpanLaws.{Lies, HasConstantWord, WhereTest, EachTurn, IsSpanned, RoomFits, FitsSpans}
+use Rattle.sg_ir.specs.steps.Scoped.{RunMoment, Room, room_reg, room_place, op_word, step_place, moment_after_act, at_turn, run}
 use Rattle.sg_ir.specs.Places.{extents_in}
 use Rattle.sg_ir.specs.steps.Walks.{checks, led}
 use Rattle.sg_simplify.specs.Pass.{Given, Pass, Next, Making, span_in, vars_of}
 
 -- each item of a list
-abbrev pub Each : {A : Type 0} → (A → Type 0) → List A → Type 0
-Each P [] = Unit {0}
-Each P (x ∷ xs) = P x × Each P xs
+abbrev pub EachByRecursion : {A : Type 0} → (A → Type 0) → List A → Type 0
+EachByRecursion P [] = Unit {0}
+EachByRecursion P (x ∷ xs) = P x × EachByRecursion P xs
 
 -- the place is that of the coordinate that the index registers name
 abbrev pub IsAt : List Shape → Room → ℕ → ℕ → List ℕ → Type 0
 IsAt shapes room place layout index = room.places place ≡ place_at shapes layout (coord_of (map room.regs index))
 
 -- along a run of a block each access is at its place
-abbrev pub NamesAll : Seen → Block → Room → Moment → Type 0
+abbrev pub NamesAll : Seen → Block → Room → RunMoment → Type 0
 NamesAll seen End room now = Unit {0}
 NamesAll seen (Word to how rest) room now = NamesAll seen rest (room_reg to (op_word seen room now how) room) now
 NamesAll seen (Spot to how rest) room now = NamesAll seen rest (room_place to (step_place seen room how) room) now
 NamesAll seen (Cell to place layout field index rest) room now =
     IsAt seen.shapes room place layout index × NamesAll seen rest (room_reg to (op_word seen room now (op.Read place layout field)) room) now
-NamesAll seen (Do what rest) room now = ActIsAt what × NamesAll seen rest room (acted seen room what now)
+NamesAll seen (Do what rest) room now = ActIsAt what × NamesAll seen rest room (moment_after_act seen room what now)
   where
     ActIsAt : Act → Type 0
     ActIsAt (SetVar var from) = Unit {0}
@@ -77,7 +77,7 @@ OpStays rest (op.OwnRead layout field) = ⊥
 OpStays rest how = Unit {0}
 
 -- an entry of the table of operations, and of that of steps
-pub record OpHolds (seen : Seen) (rest : Block) (next : Next) (room : Room) (now : Moment) (entry : Op × ℕ) : Type 0 where
+pub record OpHolds (seen : Seen) (rest : Block) (next : Next) (room : Room) (now : RunMoment) (entry : Op × ℕ) : Type 0 where
   pub named : entry.1 < length next.spans
   pub below : OpBelow (length next.spans) next.places entry.0
   pub stays : OpStays rest entry.0
@@ -90,11 +90,11 @@ pub record StepHolds (seen : Seen) (next : Next) (room : Room) (entry : Step × 
   pub place : room.places entry.1 ≡ step_place seen room entry.0
 
 -- what is known holds in a room at a moment, from which the rest of a block runs
-pub record Holds (seen : Seen) (given : Given) (rest : Block) (pass : Pass) (next : Next) (room : Room) (now : Moment) : Type 0 where
-  pub ops : Each (OpHolds seen rest next room now) pass.ops
-  pub steps : Each (StepHolds seen next room) pass.steps
-  pub words : (r : ℕ) → Lies whole (room.regs r)
-  pub fits : Fits (vars_of given pass) now
+pub record HoldsInRoom (seen : Seen) (given : Given) (rest : Block) (pass : Pass) (next : Next) (room : Room) (now : RunMoment) : Type 0 where
+  pub ops : EachByRecursion (OpHolds seen rest next room now) pass.ops
+  pub steps : EachByRecursion (StepHolds seen next room) pass.steps
+  pub words : (r : ℕ) → Lies whole_i32 (room.regs r)
+  pub fits : FitsSpans (vars_of given pass) now
 
 -- more was put out, and what was set stays set
 pub record Later (next : Next) (room : Room) (further : Next) (beyond : Room) : Type 0 where
@@ -110,19 +110,19 @@ pub record Alike (pass : Pass) (next : Next) (known : Pass) (further : Next) : T
   pub names : further.names ≡ next.names
 
 -- what is put out runs to a result, and names its accesses
-pub record Good (seen : Seen) (made : Block × Next) (room : Room) (now result : Moment) : Type 0 where
+pub record Good (seen : Seen) (made : Block × Next) (room : Room) (now result : RunMoment) : Type 0 where
   pub runs : run seen made.0 room now ≡ result
   pub names : NamesAll seen made.0 room now
 
 -- what follows is good, given a register with this word, or this place
-abbrev pub Serves : Seen → Given → Block → Pass → Next → Room → Moment → Moment → ℕ → (ℕ → Making) → Type 0
+abbrev pub Serves : Seen → Given → Block → Pass → Next → Room → RunMoment → RunMoment → ℕ → (ℕ → Making) → Type 0
 Serves seen given rest pass next room now result word go =
-    (t : ℕ) (known : Pass) (further : Next) (beyond : Room) → Later next room further beyond → Alike pass next known further → Holds seen given rest known further beyond now →
+    (t : ℕ) (known : Pass) (further : Next) (beyond : Room) → Later next room further beyond → Alike pass next known further → HoldsInRoom seen given rest known further beyond now →
     t < length further.spans → beyond.regs t ≡ word → Lies (span_in further t) word → Good seen (go t known further) beyond now result
 
-abbrev pub ServesPlace : Seen → Given → Block → Pass → Next → Room → Moment → Moment → Option Place → (ℕ → Making) → Type 0
+abbrev pub ServesPlace : Seen → Given → Block → Pass → Next → Room → RunMoment → RunMoment → Option Place → (ℕ → Making) → Type 0
 ServesPlace seen given rest pass next room now result place go =
-    (t : ℕ) (known : Pass) (further : Next) (beyond : Room) → Later next room further beyond → Alike pass next known further → Holds seen given rest known further beyond now →
+    (t : ℕ) (known : Pass) (further : Next) (beyond : Room) → Later next room further beyond → Alike pass next known further → HoldsInRoom seen given rest known further beyond now →
     t < further.places → beyond.places t ≡ place → Good seen (go t known further) beyond now result
 
 -- an access by a read of a cell is at its place
@@ -134,12 +134,12 @@ OpIsAt shapes room how index = Unit {0}
 pub record Laws (seen : Seen) : Type 0 where
   pub same_ops : (a b : Op) → same_op a b ≡ true → a ≡ b
   pub same_steps : (a b : Step) → same_step a b ≡ true → a ≡ b
-  pub all_words : (word : ℕ) → IsWord word → Lies whole word
+  pub all_words : (word : ℕ) → IsWord word → Lies whole_i32 word
   pub ranges : (lo hi turn : ℤ) → lo ≤ℤ turn → turn <ℤ hi → Lies (range_span lo hi) (word_of turn)
-  pub runs_fit : (block : Block) (spans : Spans) (room : Room) (now : Moment) → IsSpanned spans block → RoomFits spans room → Fits spans now → Fits spans (run seen block room now)
-  pub wide : (span : Span) (word : ℕ) → Lies span word → Lies whole word
+  pub runs_fit : (block : Block) (spans : Spans) (room : Room) (now : RunMoment) → IsSpanned spans block → RoomFits spans room → FitsSpans spans now → FitsSpans spans (run seen block room now)
+  pub wide : (span : Span) (word : ℕ) → Lies span word → Lies whole_i32 word
   pub bins : (how : BinOp) (kind : Ty) (x y : Span) (a b : ℕ) → Lies x a → Lies y b → Lies (bin_span how kind x y) (applied how kind a b)
-  pub words : (spans : Spans) (room : Room) (now : Moment) → RoomFits spans room → Fits spans now → (how : Op) → HasWord how → Lies (op_span spans how) (op_word seen room now how)
+  pub words : (spans : Spans) (room : Room) (now : RunMoment) → RoomFits spans room → FitsSpans spans now → (how : Op) → HasConstantWord how → Lies (op_span spans how) (op_word seen room now how)
 
 -- operands lie in their spans
 abbrev pub OpLies : Next → Room → Op → Type 0

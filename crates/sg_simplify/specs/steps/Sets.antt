@@ -3,8 +3,8 @@ use Rattle.std.specs.Prelude.{◌≡◌, ℕ, ◌≤◌, true, false, List, leng
 use Rattle.sg_ir.specs.declared.op.Op.{Op}
 use Rattle.sg_ir.specs.declared.op.Op.TheVariants as op
 use Rattle.sg_ir.specs.steps.InScope.{InScope, AreSet, IsScoped}
-use Rattle.sg_simplify.specs.Pass.{Pass, Next, Making, name_of}
-use Rattle.sg_simplify.specs.steps.Serves.{Each}
+use Rattle.sg_simplify.specs.Pass.{Pass, Next, Making, made_name}
+use Rattle.sg_simplify.specs.steps.Serves.{EachByRecursion}
 
 -- what is in one scope is in the other
 pub record Wider (scope wide : InScope) : Type 0 where
@@ -13,8 +13,8 @@ pub record Wider (scope wide : InScope) : Type 0 where
 
 -- what is known is in scope, and numbers that weren't given aren't
 pub record Sets (scope : InScope) (pass : Pass) (next : Next) : Type 0 where
-  pub ops : Each (λ entry. scope.regs entry.1 ≡ true) pass.ops
-  pub steps : Each (λ entry. scope.places entry.1 ≡ true) pass.steps
+  pub ops : EachByRecursion (λ entry. scope.regs entry.1 ≡ true) pass.ops
+  pub steps : EachByRecursion (λ entry. scope.places entry.1 ≡ true) pass.steps
   pub free_regs : (r : ℕ) → length next.spans ≤ r → scope.regs r ≡ false
   pub free_places : (p : ℕ) → next.places ≤ p → scope.places p ≡ false
 
@@ -32,4 +32,4 @@ IndexIsSet scope how index = Unit {0}
 
 -- the new names of given registers in scope are in scope
 abbrev pub AllNamed : InScope → InScope → Next → Type 0
-AllNamed given scope next = (r : ℕ) → given.regs r ≡ true → scope.regs (name_of next r) ≡ true
+AllNamed given scope next = (r : ℕ) → given.regs r ≡ true → scope.regs (made_name next r) ≡ true

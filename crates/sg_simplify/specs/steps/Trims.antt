@@ -4,10 +4,10 @@ use Rattle.sg_ir.specs.declared.op.Op.{Op}
 use Rattle.sg_ir.specs.declared.op.Op.TheVariants as op
 use Rattle.sg_ir.specs.declared.op.Step.{Step}
 use Rattle.sg_ir.specs.Span.{Spans, reg_span, var_span}
-use Rattle.sg_ir.specs.Trimmed.{is_within, Passed, Ways, way_to, way_behind, and_check, are_checks, is_trim, accesses_are_trim}
+use Rattle.sg_ir.specs.Trimmed.{is_within, AxisCheck, Ways, way_to, way_behind, and_check, are_checks, is_trim, accesses_are_trim}
 use Rattle.sg_ir.specs.steps.InScope.{InScope, step_places, AreSet}
 use Rattle.sg_simplify.specs.Pass.{Given, Pass, Next, Making, span_in, vars_of}
-use Rattle.sg_simplify.specs.steps.Serves.{Each}
+use Rattle.sg_simplify.specs.steps.Serves.{EachByRecursion}
 use Rattle.sg_simplify.specs.steps.Sets.{Wider, Sets}
 
 -- the way to a known place is that behind its step
@@ -20,7 +20,7 @@ pub record Trims (given : Given) (scope : InScope) (known : Pass) (next : Next) 
   pub sets : Sets scope known next
   pub regs : (r : ℕ) → scope.regs r ≡ true → reg_span spans r ≡ span_in next r
   pub vars : (v : ℕ) → var_span spans v ≡ var_span (vars_of given known) v
-  pub steps : Each (StepTrims scope ways) known.steps
+  pub steps : EachByRecursion (StepTrims scope ways) known.steps
 
 -- more was put out
 pub record Onward (scope : InScope) (next : Next) (ways : Ways) (wide : InScope) (further : Next) (beyond : Ways) : Type 0 where
@@ -40,13 +40,13 @@ abbrev pub GoesTrim : Given → InScope → Next → Ways → (ℕ → Making) �
 GoesTrim given scope next ways go = (t : ℕ) (known : Pass) (further : Next) (wide : InScope) (spans : Spans) (beyond : Ways) → Onward scope next ways wide further beyond → Trims given wide known further spans beyond → wide.regs t ≡ true
     → accesses_are_trim given.shapes spans beyond (go t known further).0 ≡ true
 
-abbrev pub GoesTrimAt : Given → InScope → Next → Ways → (List Passed → Type 0) → (ℕ → Making) → Type 0
+abbrev pub GoesTrimAt : Given → InScope → Next → Ways → (List AxisCheck → Type 0) → (ℕ → Making) → Type 0
 GoesTrimAt given scope next ways is_way go = (t : ℕ) (known : Pass) (further : Next) (wide : InScope) (spans : Spans) (beyond : Ways) → Onward scope next ways wide further beyond → Trims given wide known further spans beyond → wide.places t ≡ true
     → is_way (way_to beyond t) → accesses_are_trim given.shapes spans beyond (go t known further).0 ≡ true
 
 -- a way that goes on by these checks and no others
-pub record GoesOnBy (way : List Passed) (checks : List (ℕ × ℕ)) (whole : List Passed) : Type 0 where
-  pub more : List Passed
+pub record GoesOnBy (way : List AxisCheck) (checks : List (ℕ × ℕ)) (whole : List AxisCheck) : Type 0 where
+  pub more : List AxisCheck
   pub is : whole ≡ way ++ more
   pub pass : are_checks checks more ≡ true
 

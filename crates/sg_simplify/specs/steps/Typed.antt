@@ -7,10 +7,10 @@ use Rattle.sg_layout.specs.Axes.{extent_in, extent_over}
 use Rattle.sg_ir.specs.declared.op.Op.{Op}
 use Rattle.sg_ir.specs.declared.op.Step.{Step}
 use Rattle.sg_ir.specs.Blocks.{Block}
-use Rattle.sg_ir.specs.WellTyped.{Known, Scope, Frame, is_of, reads, checkable}
-use Rattle.sg_simplify.specs.Pass.{Pass, Next, Making, name_of}
-use Rattle.sg_simplify.specs.steps.Serves.{Each}
-use Rattle.sg_simplify.specs.steps.Judged.{gives, truth_of, step_known, fits}
+use Rattle.sg_ir.specs.WellTyped.{KnownPlace, Scope, Frame, is_truth_as, reads, checkable}
+use Rattle.sg_simplify.specs.Pass.{Pass, Next, Making, made_name}
+use Rattle.sg_simplify.specs.steps.Serves.{EachByRecursion}
+use Rattle.sg_simplify.specs.steps.Judged.{gives_type, truth_of, step_known, fits_scope}
 
 -- the types of variables and how often each is set: the same in the given code and in what is put out
 pub record Fixed : Type 0 where
@@ -30,24 +30,24 @@ pub record Starts (next final : Next) : Type 0 where
 -- a wider scope
 pub record Widens (scope wide : Scope) : Type 0 where
   pub regs : (r : ℕ) → scope.regs r ≡ true → wide.regs r ≡ true
-  pub places : (p : ℕ) (known : Known) → scope.places p ≡ Some known → wide.places p ≡ Some known
+  pub places : (p : ℕ) (known : KnownPlace) → scope.places p ≡ Some known → wide.places p ≡ Some known
   pub vars : (v : ℕ) → scope.vars v ≡ true → wide.vars v ≡ true
 
 -- a known operation has a register of a type that fits, and a known step a place that is known
 pub record OpTyped (fixed : Fixed) (scope : Scope) (next : Next) (entry : Op × ℕ) : Type 0 where
   pub set : scope.regs entry.1 ≡ true
-  pub type : gives (truth_of fixed.shapes fixed.vars entry.0) (slice_get next.types entry.1) ≡ true
+  pub type : gives_type (truth_of fixed.shapes fixed.vars entry.0) (slice_get next.types entry.1) ≡ true
 
 pub record StepTyped (scope : Scope) (entry : Step × ℕ) : Type 0 where
-  pub known : Known
+  pub known : KnownPlace
   pub comes : step_known scope entry.0 ≡ Some known
   pub here : scope.places entry.1 ≡ Some known
 
 -- what is known fits, and numbers that weren't given aren't set
 pub record Types (fixed : Fixed) (scope : Scope) (pass : Pass) (next : Next) : Type 0 where
   pub even : length next.types ≡ length next.spans
-  pub ops : Each (OpTyped fixed scope next) pass.ops
-  pub steps : Each (StepTyped scope) pass.steps
+  pub ops : EachByRecursion (OpTyped fixed scope next) pass.ops
+  pub steps : EachByRecursion (StepTyped scope) pass.steps
   pub free_regs : (r : ℕ) → length next.spans ≤ r → scope.regs r ≡ false
   pub free_places : (p : ℕ) → next.places ≤ p → scope.places p ≡ None
 
@@ -56,20 +56,20 @@ pub record Typed (fixed : Fixed) (scope : Scope) (next : Next) (made : Block × 
   pub grows : (final : Next) → Starts made.1 final → Starts next final
   pub even : length made.1.types ≡ length made.1.spans
   pub longer : length next.spans ≤ length made.1.spans
-  pub good : (final : Next) → Starts made.1 final → fits (frame_by fixed final) scope made.0 ≡ true
+  pub good : (final : Next) → Starts made.1 final → fits_scope (frame_by fixed final) scope made.0 ≡ true
 
 -- what follows is good, given a register, or a place
 abbrev pub GoesTyped : Fixed → Scope → Next → Option Bool → (ℕ → Making) → Type 0
 GoesTyped fixed scope next truth go = (t : ℕ) (known : Pass) (further : Next) (wide : Scope) → Widens scope wide → further.names ≡ next.names → Starts next further → Types fixed wide known further →
-    wide.regs t ≡ true → gives truth (slice_get further.types t) ≡ true → Typed fixed wide further (go t known further)
+    wide.regs t ≡ true → gives_type truth (slice_get further.types t) ≡ true → Typed fixed wide further (go t known further)
 
-abbrev pub GoesDown : Fixed → Scope → Next → Known → (ℕ → Making) → Type 0
+abbrev pub GoesDown : Fixed → Scope → Next → KnownPlace → (ℕ → Making) → Type 0
 GoesDown fixed scope next place go = (t : ℕ) (known : Pass) (further : Next) (wide : Scope) → Widens scope wide → further.names ≡ next.names → Starts next further → Types fixed wide known further →
     wide.places t ≡ Some place → Typed fixed wide further (go t known further)
 
 -- all of these registers may be read as words
 abbrev pub AllRead : Fixed → Scope → Next → List ℕ → Type 0
-AllRead fixed scope next index = Each (λ r. reads (frame_by fixed next) scope false r ≡ true) index
+AllRead fixed scope next index = EachByRecursion (λ r. reads (frame_by fixed next) scope false r ≡ true) index
 
 -- a place of a layout that has passed no node may be checked on these axes, from one on, so far as there are index registers
 abbrev pub ChecksFit : Frame → ℕ → ℕ → List ℕ → List ℕ → Type 0
@@ -85,8 +85,8 @@ NodesFit (node ∷ later) = ((axis : ℕ) → (nat_lt 0 (extent_over later axis)
 
 -- the new name of a given register in scope has a type that fits as well
 pub record IsNamedTyped (types : List Ty) (scope : Scope) (next : Next) (r : ℕ) : Type 0 where
-  pub set : scope.regs (name_of next r) ≡ true
-  pub same : (truth : Bool) → is_of truth (slice_get types r) ≡ true → is_of truth (slice_get next.types (name_of next r)) ≡ true
+  pub set : scope.regs (made_name next r) ≡ true
+  pub same : (truth : Bool) → is_truth_as truth (slice_get types r) ≡ true → is_truth_as truth (slice_get next.types (made_name next r)) ≡ true
 
 abbrev pub NamesTyped : List Ty → Scope → Scope → Next → Type 0
 NamesTyped types given scope next = (r : ℕ) → given.regs r ≡ true → IsNamedTyped types scope next r

@@ -6,25 +6,25 @@ use Rattle.sg_ir.specs.declared.op.Op.TheVariants as op
 use Rattle.sg_ir.specs.declared.op.Step.{Step}
 use Rattle.sg_ir.specs.Blocks.{Block}
 use Rattle.sg_ir.specs.Shared.{same_op, same_step}
-use Rattle.sg_ir.specs.Trimmed.{Passed, Ways, way_to, checks_of, passed_in}
+use Rattle.sg_ir.specs.Trimmed.{AxisCheck, Ways, way_to, checks_of, passed_in}
 use Rattle.sg_ir.specs.steps.InScope.{op_places, step_places}
 use Rattle.sg_simplify.specs.Pass.{Pass, Next}
-use Rattle.sg_simplify.specs.steps.Serves.{Each}
+use Rattle.sg_simplify.specs.steps.Serves.{EachByRecursion}
 
 -- a check's place is among those that were passed
-abbrev pub IsPassed : List Passed → ℕ → Type 0
-IsPassed passed p = list_any (λ (it : Passed). it.place == p) passed ≡ true
+abbrev pub IsPassed : List AxisCheck → ℕ → Type 0
+IsPassed passed p = list_any (λ (it : AxisCheck). it.place == p) passed ≡ true
 
 -- in what is put out these checks, and its own, are passed
 pub record Used (ways : Ways) (pending : List ℕ) (block : Block) : Type 0 where
-  pub here : Each (IsPassed (passed_in ways block)) pending
-  pub own : Each (IsPassed (passed_in ways block)) (checks_of block)
+  pub here : EachByRecursion (IsPassed (passed_in ways block)) pending
+  pub own : EachByRecursion (IsPassed (passed_in ways block)) (checks_of block)
 
 -- places that known operations and steps read were given before
 pub record AreOld (known : Pass) (next : Next) : Type 0 where
-  pub ops : Each (λ entry. Each (λ p. p < next.places) (op_places entry.0)) known.ops
-  pub steps : Each (λ entry. Each (λ p. p < next.places) (step_places entry.0)) known.steps
-  pub given : Each (λ entry. entry.1 < next.places) known.steps
+  pub ops : EachByRecursion (λ entry. EachByRecursion (λ p. p < next.places) (op_places entry.0)) known.ops
+  pub steps : EachByRecursion (λ entry. EachByRecursion (λ p. p < next.places) (step_places entry.0)) known.steps
+  pub given : EachByRecursion (λ entry. entry.1 < next.places) known.steps
 
 -- no known operation and no known step reads a place
 pub record IsUnread (known : Pass) (p : ℕ) : Type 0 where
@@ -34,4 +34,4 @@ pub record IsUnread (known : Pass) (p : ℕ) : Type 0 where
 -- a place has passed the checks that are pending; where there are some, nothing known reads it
 abbrev pub IsPending : Pass → Ways → List ℕ → ℕ → Type 0
 IsPending known ways [] p = Unit {0}
-IsPending known ways (check ∷ pending) p = Each (IsPassed (way_to ways p)) (check ∷ pending) × IsUnread known p
+IsPending known ways (check ∷ pending) p = EachByRecursion (IsPassed (way_to ways p)) (check ∷ pending) × IsUnread known p

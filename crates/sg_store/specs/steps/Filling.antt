@@ -16,7 +16,7 @@ pub record IsFill (before after taken slots : List ℕ) : Type 0 where
   pub of_slots : (slot : ℕ) → slice_index before slot ≡ 0 → slice_index after slot ≢ 0 → Contains slots slot
 
 -- the stock's numbers are each there once, and no link has one of them
-pub record IsFresh (links stock : List ℕ) : Type 0 where
+pub record IsUnlinkedStock (links stock : List ℕ) : Type 0 where
   pub once : AllPairs (λ x y. x ≢ y) stock
   pub unlinked : (number : ℕ) → Contains stock number → Contains links (suc number) → ⊥
 

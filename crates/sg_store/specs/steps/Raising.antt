@@ -8,7 +8,7 @@ use Rattle.sg_pool.specs.Numbers.{place_count}
 use Rattle.sg_dynamic.specs.declared.chunks.ChunkFull.{ChunkFull}
 use Rattle.sg_dynamic.specs.Chunks.{fit, IsExact, HaveRoom}
 use Rattle.sg_store.specs.declared.node.NodeWords.{NodeWords}
-pub use Rattle.sg_store.specs.Changes.{IsFitted}
+pub use Rattle.sg_store.specs.Changes.{IsRefitted}
 use Rattle.sg_store.specs.Slots.{below_length}
 
 -- with parents of so many slots, a slot that is kept keeps this one too: it is that one, or stands before it under the same
@@ -24,7 +24,7 @@ pub record IsRaised (before after : List ℕ) (size slot : ℕ) : Type 0 where
   pub short : (parent : ℕ) → slice_index before parent ≤ size → slice_index after parent ≤ size
 
 -- and after many have
-pub record AreRaised (before after : List ℕ) (size : ℕ) (slots : List ℕ) : Type 0 where
+pub record RiseByMany (before after : List ℕ) (size : ℕ) (slots : List ℕ) : Type 0 where
   pub as_many : length after ≡ length before
   pub below : (other : ℕ) → below_length after size other ≡ (below_length before size other || list_any (λ slot. keeps_too size slot other) slots)
   pub rise : (parent : ℕ) → slice_index before parent ≤ slice_index after parent

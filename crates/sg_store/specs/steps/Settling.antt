@@ -54,7 +54,7 @@ pub record ChangesAt (Change : NodeWords → NodeWords → Type 0) (old now : Li
 
 -- a node whose words have become others and which is well-formed again: what was active and linked stays, and a slot
 -- that leads on now and didn't before leads to a place that wasn't live
-pub record Grows (after : NodeWords) (node : NodeShape) (kept : NodeWords) (slots : ℕ) (live : ℕ → Bool) : Type 0 where
+pub record NodeGrows (after : NodeWords) (node : NodeShape) (kept : NodeWords) (slots : ℕ) (live : ℕ → Bool) : Type 0 where
   pub is_node : IsNode node.kind node after slots live
   pub set_stays : (slot : ℕ) → IsTrue (is_set node.kind node kept slot) → IsTrue (is_set node.kind node after slot)
   pub leads_stays : (slot place : ℕ) → place_below node.kind node kept slot ≡ Some place → place_below node.kind node after slot ≡ Some place

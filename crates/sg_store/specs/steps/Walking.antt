@@ -8,7 +8,7 @@ use Rattle.sg_hash.specs.Tables.{IsTable, AreBeside}
 use Rattle.sg_links.specs.Lists.{Lists}
 use Rattle.sg_store.specs.declared.node.NodeWords.{NodeWords}
 use Rattle.sg_store.specs.Slots.{slot_under, place_below, active_below}
-use Rattle.sg_store.specs.Walks.{Step}
+use Rattle.sg_store.specs.Walks.{NodeStep}
 
 -- offsets at the first of the nodes, each below its node's size
 abbrev pub AreOffsets : List NodeShape → List ℕ → Type 0
@@ -22,9 +22,9 @@ pub record IsPlaceAt (x : ℕ) (node : NodeShape) (kept : NodeWords) (slots : �
   pub few : slots ≤ 2 ^ 47
 
 -- the step of a walk: through links and set bits, or through links alone
-abbrev pub step_of : Bool → Step
-step_of true = active_below
-step_of false = place_below
+abbrev pub step_of_walk : Bool → NodeStep
+step_of_walk true = active_below
+step_of_walk false = place_below
 
 -- a step, and none where bits count and the slot is not set
 abbrev pub unless_unset : Bool → Bool → Option ℕ → Option ℕ

@@ -10,12 +10,12 @@ use Rattle.sg_words.specs.Results.{◌>>=◌}
 use Rattle.sg_types.specs.Programs.{typed_items}
 
 -- kernels that are typed already, before others
-abbrev pub after : List TypedKernel → Result (List TypedKernel) TypeFault → Result (List TypedKernel) TypeFault
-after done rest = rest >>= (λ more. Ok (done ++ more))
+abbrev pub behind_typed : List TypedKernel → Result (List TypedKernel) TypeFault → Result (List TypedKernel) TypeFault
+behind_typed done rest = rest >>= (λ more. Ok (done ++ more))
 
 -- all kernels, where some are typed, and items are left behind a number of constants
 abbrev pub typed_after : Tables → List TypedKernel → ℕ → List Item → Result (List TypedKernel) TypeFault
-typed_after tables done constants items = after done (typed_items tables (length done) constants items)
+typed_after tables done constants items = behind_typed done (typed_items tables (length done) constants items)
 
 -- whatever follows the item, its kernel is typed after it, or its fault is that of all
 abbrev pub Takes : {A : Type 0} → Tables → Item → List TypedKernel → ℕ → List TypedKernel → ℕ → Result A (Stop TypeFault) → Type 0

@@ -6,8 +6,8 @@ use Rattle.sg_types.specs.Scopes.{Known}
 use Rattle.sg_types.specs.Statements.{Reached}
 
 -- what the code knows, as the definitions have it
-abbrev pub known_of : code_known.Known → Known
-known_of known = record { kernel = known.kernel; tables = known.names.now; constants = known.constants }
+abbrev pub known_view : code_known.Known → Known
+known_view known = record { kernel = known.kernel; tables = known.names.now; constants = known.constants }
 
 -- how far the code has come, as the definitions have it
 abbrev pub reached_of : code_reached.Reached → Reached

@@ -11,14 +11,14 @@ use Rattle.sg_grid.specs.Limits.{most_grid_bytes}
 use Rattle.sg_session.specs.Performed.{SessionParts}
 use Rattle.sg_session.specs.declared.tasks.Task.{Task}
 use Rattle.sg_session.specs.Compiled.{CheckedProgram, CompiledProgram}
+use Rattle.sg_session.specs.Bindings.{Binding}
 use Rattle.sg_flat.specs.declared.state.FlatState.{FlatState}
 use Rattle.sg_store.specs.StoreWords.{StoreWords}
 use Rattle.sg_exec.specs.Standing.{StandForState}
 use Rattle.sparsegrid.specs.declared.output.PutFailed.{PutFailed}
 use Rattle.sparsegrid.specs.declared.session.Done.{Done}
 use Rattle.sparsegrid.specs.declared.last_line.LastLine.{LastLine}
-use Rattle.sparsegrid.specs.Words.{Binding}
-use Rattle.sparsegrid.specs.Meaning.{Meaning, Readings, asking, before as before_text, meaning_of_tasks}
+use Rattle.sparsegrid.specs.Meaning.{Meaning, Readings, asking_for, before as before_text, meaning_of_tasks}
 use Rattle.sparsegrid.specs.Outcome.{Outside, TextFront, HasSession, StandsForLast, asked_more, counted_more, code_in}
 
 -- ---- the sink
@@ -116,7 +116,7 @@ AskedAll (Ok done) asked names = asked ≡ names
 AskedAll (Err why) asked names = (left : List (List ℕ)) × (asked ≡ names ++ left)
 
 -- a part of a run went along with a meaning that asks for these names
-pub record Followed (m : Meaning) (names : List (List ℕ)) (before after : Outside) (result : Result Done (Stop PutFailed)) : Type 0 where
+pub record FollowedMeaning (m : Meaning) (names : List (List ℕ)) (before after : Outside) (result : Result Done (Stop PutFailed)) : Type 0 where
   pub along : WentAlong m before.written after.written result
   pub asked : AskedAll result m.asked names
 
@@ -147,7 +147,7 @@ ReadsEnd before after made result =
 -- a part of a run, after so many reads, did what a meaning says that takes the readings: `made` are its reads
 pub record Went (m : Readings → Meaning) (earlier : ℕ) (before after : Outside) (result : Result Done (Stop PutFailed)) : Type 0 where
   pub made : List ReadMade
-  pub followed : (readings : Readings) → Agree readings earlier made → Followed (m readings) (names_of made) before after result
+  pub followed : (readings : Readings) → Agree readings earlier made → FollowedMeaning (m readings) (names_of made) before after result
   pub asked : after.asked ≡ asked_more before.asked (names_of made)
   pub reads : after.reads ≡ counted_more before.reads (names_of made)
   pub ends : ReadsEnd before after made result
@@ -167,7 +167,7 @@ pub record Came (program : CheckedProgram) (bindings : List Binding) (start : Fl
   pub held : now.held ≡ before.held
   pub none : NoneFailed before now made
   pub is : (readings : Readings) → Agree readings 1 made
-      → meaning_of_tasks program bindings readings 1 start tasks ≡ asking (names_of made) (before_text text (meaning_of_tasks program bindings readings (length made + 1) state rest))
+      → meaning_of_tasks program bindings readings 1 start tasks ≡ asking_for (names_of made) (before_text text (meaning_of_tasks program bindings readings (length made + 1) state rest))
 
 -- how a run that came to its end ended: not by a failed put or want of memory, and with a session exactly where its status leaves one
 abbrev pub IsEnd : Done → Type 0

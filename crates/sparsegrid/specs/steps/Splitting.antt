@@ -7,7 +7,7 @@ use Rattle.clap.specs.Faults.{fault_of}
 use Rattle.clap.specs.Kinds.{Kinds}
 use Rattle.clap.specs.Simple.{App, matches_of, new_app, new_rule, on_top, with_rule}
 use Rattle.clap.specs.Walk.{Row, Rule, Text, all_of, first_of}
-use Rattle.sparsegrid.specs.Words.{Asked, Parts, asked_of, is_plain, mode_of, workers_of}
+use Rattle.sparsegrid.specs.Words.{Asked, WordParts, asked_of, can_be_positional, mode_of, workers_of}
 
 -- an option that takes a text
 abbrev pub option_of : Text → Rule
@@ -17,8 +17,8 @@ option_of name = record (new_rule name) { long = Some name; action = Some Set }
 abbrev pub positionals_given : Rule
 positionals_given = record (new_rule (codes "positionals")) { action = Some Append }
 
-abbrev pub program : App
-program =
+abbrev pub words_command : App
+words_command =
     with_rule (with_rule (with_rule (on_top (λ s. record s { no_binary_name = true; disable_help_flag = true }) (new_app (codes "sparsegrid")))
     (option_of (codes "workers"))) (option_of (codes "mode"))) positionals_given
 
@@ -31,17 +31,17 @@ unless refused value = if refused then None else Some value
 
 -- the rows that a parse of the words finds, where it takes them
 unfoldable pub rows_split : List Text → Option (List Row)
-rows_split words = unless (has_fault (fault_of program words)) (matches_of program words)
+rows_split words = unless (has_fault (fault_of words_command words)) (matches_of words_command words)
 
 -- the parts that are found in rows
-abbrev pub parts_in : List Row → Parts
-parts_in rows = record {
+abbrev pub parts_of_rows : List Row → WordParts
+parts_of_rows rows = record {
   workers = first_of (codes "workers") rows;
   mode = first_of (codes "mode") rows;
   positionals = unwrap_or (all_of (codes "positionals") rows) [];
 }
 
 -- what parts ask for, where no positional word is empty or begins with `-`
-abbrev pub asked_in : Parts → Option Asked
+abbrev pub asked_in : WordParts → Option Asked
 asked_in parts =
-    only_if (list_all is_plain parts.positionals) (workers_of parts.workers >>= (λ workers. mode_of parts.mode >>= (λ mode. asked_of workers mode parts.positionals)))
+    only_if (list_all can_be_positional parts.positionals) (workers_of parts.workers >>= (λ workers. mode_of parts.mode >>= (λ mode. asked_of workers mode parts.positionals)))

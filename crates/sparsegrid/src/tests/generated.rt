@@ -1,7 +1,7 @@
 //! The generated program.
 
 use super::setting::Setting;
-use crate::generated::generated;
+use crate::generated::generated_text;
 use std::alloc::Global;
 use std::process::Abort;
 use std::test::Fail;
@@ -37,13 +37,13 @@ fn seven_on_sixteen_workers(rt: HostRuntime) -> Result<(), Fail> {
 
 #[test]
 fn seven_as_the_text_of_a_file(rt: HostRuntime) -> Result<(), Fail> {
-    let source = generated(rt.alloc(), 7)?;
+    let source = generated_text(rt.alloc(), 7)?;
     Setting::of(source.as_str()).ends(&rt, rt.alloc(), 0, OUTPUT)
 }
 
 /// The program of a number, up to the end of its third line.
 fn first_lines(alloc: Global, number: u32) -> Result<String, Fail> {
-    let text = generated(alloc, number)?;
+    let text = generated_text(alloc, number)?;
     match text.as_str().split_once(" cap 256;") {
         Some((front, _rest)) => Ok(String::from_str(alloc, front)?),
         None => Err(Fail::from("no caps")),

@@ -31,7 +31,7 @@ pub struct Seen {
 }
 
 /// Runs with these words over files in memory. No other test function owns a session, since each that does is dear to prove.
-pub fn run_over<R: Threads + Sync, S: Sink, G: Gate + Sync>(
+pub(crate) fn run_over<R: Threads + Sync, S: Sink, G: Gate + Sync>(
     rt: &R,
     alloc: Global,
     words: &[String],
@@ -97,7 +97,7 @@ pub struct Left {
 }
 
 impl<'a> Setting<'a> {
-    pub fn of(source: &'a str) -> Setting<'a> {
+    pub(crate) fn of(source: &'a str) -> Setting<'a> {
         Setting {
             words: &["p.sg"],
             source,
@@ -109,7 +109,7 @@ impl<'a> Setting<'a> {
     }
 
     /// Runs over a sink, with workers that pass a gate.
-    pub fn gated<R: Threads + Sync, S: Sink, G: Gate + Sync>(
+    pub(crate) fn gated<R: Threads + Sync, S: Sink, G: Gate + Sync>(
         &self,
         rt: &R,
         alloc: Global,
@@ -122,7 +122,7 @@ impl<'a> Setting<'a> {
     }
 
     /// Runs over a sink: the status, and whether there is a session.
-    pub fn run_into<R: Threads + Sync, S: Sink>(
+    pub(crate) fn run_into<R: Threads + Sync, S: Sink>(
         &self,
         rt: &R,
         alloc: Global,
@@ -143,7 +143,7 @@ impl<'a> Setting<'a> {
         Ok(MemFiles::new(list, failing))
     }
 
-    pub fn run<R: Threads + Sync>(&self, rt: &R, alloc: Global) -> Result<Left, AllocError> {
+    pub(crate) fn run<R: Threads + Sync>(&self, rt: &R, alloc: Global) -> Result<Left, AllocError> {
         let mut out = MemSink::new(alloc, Vec::from_slice(alloc, self.failing_puts)?, self.take);
         let (status, session) = self.run_into(rt, alloc, &mut out)?;
         Ok(Left {
@@ -154,7 +154,7 @@ impl<'a> Setting<'a> {
     }
 
     /// The run has this status and text, and a session exactly with status 0 and 7.
-    pub fn ends<R: Threads + Sync + Abort>(
+    pub(crate) fn ends<R: Threads + Sync + Abort>(
         &self,
         rt: &R,
         alloc: Global,
@@ -170,7 +170,7 @@ impl<'a> Setting<'a> {
     }
 
     /// The run has this status and text on one worker, on two and on sixteen.
-    pub fn ends_on_workers<R: Threads + Sync + Abort>(
+    pub(crate) fn ends_on_workers<R: Threads + Sync + Abort>(
         &self,
         rt: &R,
         alloc: Global,
@@ -195,7 +195,7 @@ impl<'a> Setting<'a> {
 }
 
 /// A file.
-pub fn named(alloc: Global, name: &str, text: &str) -> Result<NamedBytes, AllocError> {
+pub(crate) fn named(alloc: Global, name: &str, text: &str) -> Result<NamedBytes, AllocError> {
     Ok(NamedBytes {
         name: String::from_str(alloc, name)?,
         bytes: Vec::from_slice(alloc, text.as_bytes())?,
@@ -203,7 +203,7 @@ pub fn named(alloc: Global, name: &str, text: &str) -> Result<NamedBytes, AllocE
 }
 
 /// Words of their own.
-pub fn owned(alloc: Global, words: &[&str]) -> Result<Vec<String>, AllocError> {
+pub(crate) fn owned(alloc: Global, words: &[&str]) -> Result<Vec<String>, AllocError> {
     let mut list = Vec::new(alloc);
     for word in words {
         list.push(String::from_str(alloc, word)?)?;
@@ -212,7 +212,7 @@ pub fn owned(alloc: Global, words: &[&str]) -> Result<Vec<String>, AllocError> {
 }
 
 /// The run of a source has this status and text.
-pub fn ends<R: Threads + Sync + Abort>(
+pub(crate) fn ends<R: Threads + Sync + Abort>(
     rt: &R,
     alloc: Global,
     source: &str,
@@ -223,7 +223,7 @@ pub fn ends<R: Threads + Sync + Abort>(
 }
 
 /// Each source with the status and the text of its run.
-pub fn compare<R: Threads + Sync + Abort>(
+pub(crate) fn compare<R: Threads + Sync + Abort>(
     rt: &R,
     alloc: Global,
     rows: &[(&str, u8, &str)],
@@ -235,7 +235,7 @@ pub fn compare<R: Threads + Sync + Abort>(
 }
 
 /// A text that is this piece so many times.
-pub fn repeated(alloc: Global, piece: &str, count: u32) -> Result<String, AllocError> {
+pub(crate) fn repeated(alloc: Global, piece: &str, count: u32) -> Result<String, AllocError> {
     let mut text = String::new(alloc);
     for _ in 0..count {
         text.push_str(piece)?;
@@ -244,7 +244,7 @@ pub fn repeated(alloc: Global, piece: &str, count: u32) -> Result<String, AllocE
 }
 
 /// The program that a text spells, as it is printed, or why it spells none.
-pub fn program_of(alloc: Global, text: &str) -> Result<String, Fail> {
+pub(crate) fn program_of(alloc: Global, text: &str) -> Result<String, Fail> {
     if 65_536 < text.len() {
         return Ok(format!(in alloc; "too long")?);
     }
@@ -255,7 +255,7 @@ pub fn program_of(alloc: Global, text: &str) -> Result<String, Fail> {
 }
 
 /// `Ok`, or why a text spells no program.
-pub fn outcome(alloc: Global, text: &str) -> Result<String, Fail> {
+pub(crate) fn outcome(alloc: Global, text: &str) -> Result<String, Fail> {
     if 65_536 < text.len() {
         return Ok(format!(in alloc; "too long")?);
     }
@@ -292,7 +292,7 @@ static SHORTER: [(&str, &str); 22] = [
 ];
 
 /// A printed tree, shortened.
-pub fn shortened(alloc: Global, tree: String) -> Result<String, Fail> {
+pub(crate) fn shortened(alloc: Global, tree: String) -> Result<String, Fail> {
     let mut shown = tree;
     for (long, short) in &SHORTER {
         shown = shown.replace(alloc, *long, *short)?;

@@ -4,7 +4,7 @@ use Rattle.sg_layout.specs.declared.shape.Kind.TheVariants.{Dense, Hash, Dynamic
 use Rattle.sg_layout.specs.declared.shape.Shape.{Shape}
 use Rattle.sg_layout.specs.Live.{kind_at}
 use Rattle.sg_activate.specs.Activating.{wanted_below}
-use Rattle.sg_activate.specs.steps.Levels.{IfRefused, IsFirstFull}
+use Rattle.sg_activate.specs.steps.Levels.{IfActRefused, IsFirstFull}
 use Rattle.sg_activate.proofs.Active.{opens_index, dense_index, kind_read, first_full_one, refused_as}
 use Rattle.sg_activate.proofs.activation.open_node.Goals as goal
 
@@ -18,7 +18,7 @@ returns-in-Err-clause-full g c =
     let one = c.opening_by_nodes.ensures.hash_first c.args.store.now c.layout.ensures.well_formed (c.args.index + 1) (omega arith) (kind_read c.args.store.now.shape.nodes c.as_slice.result.now c.args.index _ Hash (c.as_slice.ensures ∙ ap (λ (s : Shape). s.nodes) (c.shape.ensures.value ∙ c.layout-2.ensures.layout)) c.requires.there c.in-Hash.is) in
     let full = first_full_one c.open_keys.result c.args.store.now c.args.index (g.W.Wanted.Means c.args.work.now.want.now) (g.W.Wanted.count c.args.work.now.want.now) one c.open_keys.ensures.full in
     refused_as (Unit {0}) Bool c.in-Err.stop (λ fault. (list : ℕ → List Coord) → g.W.Wanted.Means c.args.work.now.want.now list → IsFirstFull c.args.store.now c.args.index (wanted_below list (g.W.Wanted.count c.args.work.now.want.now)) fault)
-    (subst (λ r. IfRefused r (λ fault. (list : ℕ → List Coord) → g.W.Wanted.Means c.args.work.now.want.now list → IsFirstFull c.args.store.now c.args.index (wanted_below list (g.W.Wanted.count c.args.work.now.want.now)) fault)) c.in-Err.is full)
+    (subst (λ r. IfActRefused r (λ fault. (list : ℕ → List Coord) → g.W.Wanted.Means c.args.work.now.want.now list → IsFirstFull c.args.store.now c.args.index (wanted_below list (g.W.Wanted.count c.args.work.now.want.now)) fault)) c.in-Err.is full)
 
 pub open_lengths-requires-clause-dynamic : goal.open_lengths-requires-clause-dynamic
 open_lengths-requires-clause-dynamic g c κs within = kind_read c.args.store.now.shape.nodes c.as_slice.result.now c.args.index _ Dynamic (c.as_slice.ensures ∙ ap (λ (s : Shape). s.nodes) (c.shape.ensures.value ∙ c.layout-2.ensures.layout)) c.requires.there c.in-Dynamic.is

@@ -4,7 +4,7 @@ use Rattle.std.specs.List.{Contains}
 use Rattle.sg_coord.specs.declared.coord.Coord.{Coord}
 use Rattle.sg_layout.specs.declared.shape.Kind.TheVariants.{Dense, Hash}
 use Rattle.sg_layout.specs.Axes.{count_of}
-use Rattle.sg_layout.specs.NeedLaws.{IsNode}
+use Rattle.sg_layout.specs.NeedLaws.{IsNumberedNode}
 use Rattle.sg_hash.specs.Seats.{old_keys, old_links, stock_of, worker_of, is_full}
 use Rattle.sg_store.specs.Opening.{pool_of, IsPlaceOf, CanSettleHash, WantedHaveKeys, NewKeysAreWanted}
 use Rattle.sg_activate.specs.Activating.{wanted_below}
@@ -51,7 +51,7 @@ returns-then-linked-clause-full g c = λ list means.
     c.in_ok-keys.ensures.words c.in_ok-links.ensures.words c.in_ok-stock.ensures.stock (stock_numbers c.as_slice.result.now c.in_ok-stock.stock c.as_slice.ensures c.are_numbers.ensures) c.in_ok-pass.ensures.given c.in_ok-linked.ensures.settled c.in_ok-linked.ensures.keys c.in_ok-linked.ensures.dry
     c.in_ok-linked.ensures.taken c.race_all-seat.ensures.own.1 c.in_ok-keys.ensures.beside c.in_ok-links.ensures.filled in
     let node = node_there c.args.store.now.shape.nodes 1 Hash c.requires.hash (λ (e : Hash ≡ Dense). (cc)) in
-    let there : IsNode c.args.store.now.shape 1 node.0 = record { first = omega arith; there = node.1 } in
+    let there : IsNumberedNode c.args.store.now.shape 1 node.0 = record { first = omega arith; there = node.1 } in
     let rest = c.in_ok-stock.ensures.rest node.0 there in
     let more = subst (λ (k : List ℕ). count_of node.0.cap < length k) c.in_ok-keys.ensures.words (c.in_ok-keys.ensures.more node.0 there) in
     let past : (linked.dry ≡ true) ⊎ (length c.in_ok-stock.stock < length linked.taken + 17) = elim c.then-linked.branch [

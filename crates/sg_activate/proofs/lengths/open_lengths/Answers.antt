@@ -3,7 +3,7 @@ use Rattle.std.specs.Prelude.{OnOk, Err}
 use Rattle.std.specs.List.{Contains}
 use Rattle.sg_coord.specs.declared.coord.Coord.{Coord}
 use Rattle.sg_layout.specs.declared.shape.Kind.TheVariants.{Dense, Dynamic}
-use Rattle.sg_layout.specs.NeedLaws.{IsNode}
+use Rattle.sg_layout.specs.NeedLaws.{IsNumberedNode}
 use Rattle.sg_layout.specs.Axes.{count_of}
 use Rattle.sg_dynamic.specs.Chunks.{fit}
 use Rattle.sg_dynamic.specs.Raising.{old_lengths, worker_of}
@@ -47,11 +47,11 @@ returns-clause-full g c = λ list means.
     let words = subst (λ (n : ℕ). c.in_ok-lengths.lengths ≡ lengths_of c.args.store.now n) c.requires.last c.in_ok-lengths.ensures.words in
     let are = raised_here_are (lengths_of c.args.store.now c.args.node) (old_lengths c.in_ok-pass.pass) c.in_ok-lengths.lengths c.in_ok-raised.raised v.raised c.in_ok-pass.ensures.given words c.in_ok-raised.ensures in
     let node = node_there c.args.store.now.shape.nodes c.args.node Dynamic c.requires.dynamic (λ (e : Dynamic ≡ Dense). (cc)) in
-    let there : IsNode c.args.store.now.shape c.args.node node.0 = record { first = c.requires.first; there = node.1 } in
+    let there : IsNumberedNode c.args.store.now.shape c.args.node node.0 = record { first = c.requires.first; there = node.1 } in
     let met : (at : Coord) → Contains wanted at → HasRaised c.args.store.now c.args.node at v =
     subst (λ r. OnOk r ((list : ℕ → List Coord) → g.W.Wanted.Means c.args.work.now.want.now list → (at : Coord) → Contains (wanted_below list (g.W.Wanted.count c.args.work.now.want.now)) at → HasRaised c.args.store.now c.args.node at v)) c.in_ok-done.was c.race_all-seat.ensures.met list means in
     let past : fit (count_of node.0.chunk) c.in_ok-raised.raised (count_of node.0.cap) ≡ Err c.in-Err._full =
     ap (λ (l : List ℕ). fit (count_of node.0.chunk) l (count_of node.0.cap)) (sym c.as_slice.ensures)
-    ∙ sym (c.settle_lengths.ensures.answer node.0 (subst (λ (n : ℕ). IsNode c.args.store.now.shape n node.0) (sym c.requires.last) there)) ∙ c.in-Err.is in
+    ∙ sym (c.settle_lengths.ensures.answer node.0 (subst (λ (n : ℕ). IsNumberedNode c.args.store.now.shape n node.0) (sym c.requires.last) there)) ∙ c.in-Err.is in
     lengths_are_full c.args.store.now c.args.node v c.in_ok-raised.raised are (c.opening_by_nodes.ensures.lengths c.args.store.now) c.layout.ensures.well_formed node.0 there node.2 c.cap_of-cap.result (c.cap_of-cap.ensures node.0 there)
     c.race_all-seat.ensures.own.1 wanted met (c.race_all-seat.ensures.made list means (none_raised (IsIndexOf c.args.store.now c.args.node wanted) (worker_of c.in_ok-pass.seat) _ 16 c.in_ok-pass.ensures.worker)) c.in-Err._full past

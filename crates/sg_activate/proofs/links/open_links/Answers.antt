@@ -4,7 +4,7 @@ use Rattle.std.specs.List.{Contains}
 use Rattle.sg_coord.specs.declared.coord.Coord.{Coord}
 use Rattle.sg_layout.specs.declared.shape.Kind.TheVariants.{Dense, Pointer}
 use Rattle.sg_layout.specs.Axes.{count_of}
-use Rattle.sg_layout.specs.NeedLaws.{IsNode}
+use Rattle.sg_layout.specs.NeedLaws.{IsNumberedNode}
 use Rattle.sg_pool.specs.Numbers.{live_count}
 use Rattle.sg_pointer.specs.Seats.{old_links, stock_of, worker_of}
 use Rattle.sg_store.specs.Opening.{pool_of, IsPlaceOf, CanSettleSlots, WantedHaveLinks, NewLinksAreWanted}
@@ -43,7 +43,7 @@ returns-then-linked-clause-full g c = λ list means.
     c.in_ok-linked.linked.links c.in_ok-linked.linked.taken c.in_ok-linked.linked.dry c.in_ok-links.ensures.words c.in_ok-stock.ensures.stock c.in_ok-pass.ensures.given c.in_ok-linked.ensures.settled
     c.in_ok-linked.ensures.taken c.race_all-seat.ensures.own.1 c.in_ok-links.ensures.filled in
     let node = node_there c.args.store.now.shape.nodes c.args.node Pointer c.requires.pointer (λ (e : Pointer ≡ Dense). (cc)) in
-    let is_node : IsNode c.args.store.now.shape c.args.node node.0 = record { first = c.requires.first; there = node.1 } in
+    let is_node : IsNumberedNode c.args.store.now.shape c.args.node node.0 = record { first = c.requires.first; there = node.1 } in
     let rest = c.in_ok-stock.ensures.rest node.0 is_node in
     let past : count_of node.0.cap < live_count (pool_of c.args.store.now c.args.node) + length c.in_ok-linked.linked.taken = elim c.then-linked.branch [
       | then-linked-via-then-linked w ↦ dry_is_past c.args.store.now c.args.node c.in_ok-stock.stock (worker_of c.race_all-seat.result.seat) c.in_ok-linked.linked.links c.in_ok-linked.linked.taken c.in_ok-linked.linked.dry outcome (count_of node.0.cap) rest w.if-linked.true

@@ -6,7 +6,7 @@ use Rattle.sg_types.specs.declared.typed.TypedStmt.{TypedStmt}
 use Rattle.sg_admit.specs.Limits.{most_box_points}
 use Rattle.sg_admit.specs.Slices.{block_slice}
 use Rattle.sg_admit.specs.Bounds.{box_size}
-use Rattle.sg_admit.specs.steps.Spread.{is_marked}
+use Rattle.sg_admit.specs.steps.Spread.{bears_mark}
 use Rattle.sg_admit.specs.steps.Marked.{unclean_of}
 use Rattle.sg_admit.proofs.Admitting.{refused_rule, refused_box, accepted}
 use Rattle.sg_admit.proofs.admission.examined.Goals as goal
@@ -28,6 +28,6 @@ returns c =
     known.loops c.in_ok-known.ensures.1
     c.in_ok-clean.clean
     (c.in_ok-clean.ensures
-    ∙ ap (λ (types : List Ty). map (λ (var : ℕ). not (is_marked marks.dirty var) || list_any (λ (it : ℕ). it == var) known.loops) (range_with_len 0 (length types))) c.as_slice-2.ensures)
+    ∙ ap (λ (types : List Ty). map (λ (var : ℕ). not (bears_mark marks.dirty var) || list_any (λ (it : ℕ). it == var) known.loops) (range_with_len 0 (length types))) c.as_slice-2.ensures)
     c.in_ok-slice.slice (c.in_ok-slice.ensures ∙ ap (λ (body : List TypedStmt). block_slice marks.walked (unclean_of marks) body) c.as_slice.ensures)
     c.constant_domain-domain.result c.constant_domain-domain.ensures

@@ -1,6 +1,6 @@
 use Rattle.std.proofs.Common.{ℕ, Bool, List, [], ◌∷◌, length, get_or, ◌∙◌, ap, sym, subst, arith}
 use Rattle.std.proofs.lemmas.List.{length-append}
-use Rattle.sg_admit.specs.steps.Spread.{is_marked, links_waiting}
+use Rattle.sg_admit.specs.steps.Spread.{bears_mark, links_waiting}
 use Rattle.sg_admit.proofs.Spreading.{IsSpreading, spreading_begun, spreading_visited, spreading_done, fewer_waiting}
 use Rattle.sg_admit.proofs.spreads.spread.Goals as goal
 
@@ -23,8 +23,8 @@ loop-place-smaller c =
     let targets = c.as_slice.result.now in
     let fewer = fewer_waiting targets c.in-Some.place c.loop-place.marks c.pop.new.self c.visit.new.marks c.visit.new.work c.in_ok-visit.ensures in
     let popped = ap length c.in-Some.ensures ∙ length-append c.pop.new.self (c.in-Some.place ∷ []) in
-    let after = ap (links_waiting (is_marked c.visit.new.marks) 0) c.as_slice.ensures.value in
-    let before = ap (links_waiting (is_marked c.loop-place.marks) 0) c.as_slice.ensures.value in
+    let after = ap (links_waiting (bears_mark c.visit.new.marks) 0) c.as_slice.ensures.value in
+    let before = ap (links_waiting (bears_mark c.loop-place.marks) 0) c.as_slice.ensures.value in
     omega (arith, fewer, popped, after, before)
 
 pub returns : goal.returns

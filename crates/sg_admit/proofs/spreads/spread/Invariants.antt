@@ -1,5 +1,5 @@
 use Rattle.std.proofs.Common.{◌+◌, length}
-use Rattle.sg_admit.specs.steps.Spread.{is_marked, links_waiting}
+use Rattle.sg_admit.specs.steps.Spread.{bears_mark, links_waiting}
 use Rattle.sg_admit.proofs.Spreading.{IsSpreading}
 use Rattle.sg_admit.proofs.spreads.spread.Given as goal
 
@@ -7,4 +7,4 @@ abbrev pub invariant-loop-place : goal.invariant-loop-place
 invariant-loop-place l = IsSpreading l.links l.start l.marks l.work
 
 abbrev pub decreases-loop-place : goal.decreases-loop-place
-decreases-loop-place l = links_waiting (is_marked l.marks) 0 l.targets.items + length l.work
+decreases-loop-place l = links_waiting (bears_mark l.marks) 0 l.targets.items + length l.work

@@ -3,7 +3,7 @@ use Rattle.std.proofs.lemmas.Int.{to_z-of_z}
 use mir.Val.{SFits}
 use Rattle.sg_ir.specs.declared.code.Inst.{Inst}
 use Rattle.sg_ir.specs.declared.code.Inst.TheVariants as v
-use Rattle.sg_ir.specs.Runs.{does, runs, set_var, set_place, down}
+use Rattle.sg_ir.specs.Runs.{does, runs, set_var_word, set_place, down}
 use Rattle.sg_ir.proofs.Uses.{does-Child, does-HashChild, does-MaskBit, does-DynCell}
 use Rattle.sg_flat.specs.Domain.{numbers}
 use Rattle.sg_exec.specs.declared.moment.Moment.{Moment}
@@ -142,11 +142,11 @@ pub run_turns-loop-k-preserved : goal.run_turns-loop-k-preserved
 run_turns-loop-k-preserved t c =
     let lo = to_z w32 (of_z w32 c.args.lo) in
     let hi = to_z w32 (of_z w32 c.args.hi) in
-    all_next (λ seen mid. runs seen c.args.body.now (set_var c.args.var c.turn_word.result mid)) (λ seen mid. run_turns seen c.args.var c.args.body.now mid (drop c.loop-k.k (numbers lo hi)))
+    all_next (λ seen mid. runs seen c.args.body.now (set_var_word c.args.var c.turn_word.result mid)) (λ seen mid. run_turns seen c.args.var c.args.body.now mid (drop c.loop-k.k (numbers lo hi)))
     (λ seen mid. run_turns seen c.args.var c.args.body.now mid (drop (c.loop-k.k + 1) (numbers lo hi))) (λ seen now. run_turns seen c.args.var c.args.body.now now (numbers lo hi))
     (λ seen mid. turns_next seen c.args.var c.args.body.now lo hi c.loop-k.k (omega arith) mid
-    ∙ ap (λ (turn : ℕ). run_turns seen c.args.var c.args.body.now (runs seen c.args.body.now (set_var c.args.var turn mid)) (drop (c.loop-k.k + 1) (numbers lo hi))) (sym c.turn_word.ensures)) _ _ _ c.loop-k.invariant
-    (all_then (λ seen. set_var c.args.var c.turn_word.result) (λ seen. runs seen c.args.body.now) _ _ _ c.set_vars.ensures c.run_all.ensures)
+    ∙ ap (λ (turn : ℕ). run_turns seen c.args.var c.args.body.now (runs seen c.args.body.now (set_var_word c.args.var turn mid)) (drop (c.loop-k.k + 1) (numbers lo hi))) (sym c.turn_word.ensures)) _ _ _ c.loop-k.invariant
+    (all_then (λ seen. set_var_word c.args.var c.turn_word.result) (λ seen. runs seen c.args.body.now) _ _ _ c.set_vars.ensures c.run_all.ensures)
 
 pub run_turns-returns : goal.run_turns-returns
 run_turns-returns t c =

@@ -10,7 +10,7 @@ climb-loop-turn-preserved t c =
     let made = c.in_ok-tree.ensures in
     let below = c.in_ok-right.ensures.within in
     let deep = c.in_ok-right.ensures.depth in
-    let on : read.goes_on c.args.least c.loop-turn.tree c.in-Some.op ≡ true = cc in
+    let on : read.operator_goes_on c.args.least c.loop-turn.tree c.in-Some.op ≡ true = cc in
     let turn = climb_turn (read.expr_at c.args.inner) (c.args.inner + 1) c.args.least (c.args.inner + 1 - c.loop-turn._turn) (c.args.inner + 1 - (c.loop-turn._turn + 1))
     c.loop-turn.tree c.in_ok-right.right.tree c.in-Some.op (kinds c.loop-turn.rest.now) (kinds c.in-Some.behind.now) (kinds c.in_ok-right.right.rest.now)
     (omega arith) (sym c.in-Some.ensures) on (omega arith) (rw c.op_level.ensures.value at c.in_ok-right.ensures.value) in

@@ -4,6 +4,6 @@ use Rattle.sg_session.proofs.check.push_lines.Given as goal
 
 abbrev pub invariant-loop-number : goal.invariant-loop-number
 invariant-loop-number l = record {
-  lines : l.bytes.items ++ spec.kernel_lines (drop l.number l.names.kernels) (drop l.number l.neutral) ≡ l.initial.bytes.items ++ spec.kernel_lines l.names.kernels l.neutral;
+  lines : l.bytes.items ++ spec.check_lines (drop l.number l.names.kernels) (drop l.number l.neutral) ≡ l.initial.bytes.items ++ spec.check_lines l.names.kernels l.neutral;
   many : length l.neutral ≡ length l.names.kernels;
 }

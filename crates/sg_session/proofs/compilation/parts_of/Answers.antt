@@ -1,8 +1,4 @@
-use Rattle.std.proofs.Common.{refl, ◌∙◌, subst}
-use Rattle.std.specs.List.{AllByRecursion}
-use Rattle.sg_session.specs.steps.Kernels.{IsLowerable}
-use Rattle.sg_session.specs.steps.Parts.{with_tables}
-use Rattle.sg_session.proofs.Kept.{layouts_fit, parts_compile}
+use Rattle.sg_session.proofs.Kept.{layouts_fit}
 use Rattle.sg_session.proofs.compilation.parts_of.Goals as goal
 
 pub kernels_of-requires-clause-fit : goal.kernels_of-requires-clause-fit

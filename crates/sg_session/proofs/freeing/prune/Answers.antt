@@ -3,7 +3,7 @@ use Rattle.std.specs.Prelude.{slice_get}
 use Rattle.sg_store.specs.StoreWords.{StoreWords}
 use Rattle.sg_store.specs.Pruning.{pruned}
 use Rattle.sg_session.specs.Commands.{layout_made}
-use Rattle.sg_session.specs.Performed.{Leaves, HasState}
+use Rattle.sg_session.specs.Performed.{LeavesMeaning, HasState}
 use Rattle.sg_session.proofs.Lists.{at_place}
 use Rattle.sg_session.proofs.Viewing.{has_own_store}
 use Rattle.sg_session.proofs.Changing.{HasChanged, copy_changed, change_left, change_stands}
@@ -21,7 +21,7 @@ pub returns-clause-performed : goal.returns-clause-performed
 returns-clause-performed c = λ state stand.
     let layouts = c.args.compiled.now.layouts in
     let stores = c.args.stores.now.list in
-    subst (λ (ss : List StoreWords). Leaves layouts ss c.no_text.result.bytes (layout_made pruned layouts state c.args.layout)) (sym c.set.ensures)
+    subst (λ (ss : List StoreWords). LeavesMeaning layouts ss c.no_text.result.bytes (layout_made pruned layouts state c.args.layout)) (sym c.set.ensures)
     (change_left pruned layouts stores state c.args.layout c.index-as_slice-layout.result c.prune.new.self c.no_text.result.bytes c.no_text.ensures stand (there c) (changed c))
 
 pub returns-clause-stand : goal.returns-clause-stand

@@ -2,7 +2,7 @@ use Rattle.std.proofs.Common.{List, length, ap, ◌∙◌, sym, subst, arith}
 use Rattle.std.specs.List.{AllByRecursion}
 use Rattle.sg_types.specs.declared.typed.TypedKernel.{TypedKernel}
 use Rattle.sg_session.specs.Compiling.{admitted_kernels}
-use Rattle.sg_session.specs.steps.Following.{behind}
+use Rattle.sg_session.specs.steps.Following.{behind_front}
 use Rattle.sg_session.specs.steps.Kernels.{IsReady}
 use Rattle.sg_session.proofs.Lists.{taken_first}
 use Rattle.sg_session.proofs.Behind.{admitted_step, admitted_refused}
@@ -17,7 +17,7 @@ pub returns-in-Err-Refused : goal.returns-in-Err-Refused
 returns-in-Err-Refused c =
     let split = taken_first c.loop-number.left c.remove-kernel.new.self c.remove-kernel.result c.remove-kernel.ensures.item c.remove-kernel.ensures.rest in
     rw c.in-Err-Refused.field-0-is
-    (sym c.loop-number.invariant.rest ∙ ap (λ (ks : List TypedKernel). behind c.loop-number.admitted (admitted_kernels c.loop-number.number ks)) split
+    (sym c.loop-number.invariant.rest ∙ ap (λ (ks : List TypedKernel). behind_front c.loop-number.admitted (admitted_kernels c.loop-number.number ks)) split
     ∙ admitted_refused c.loop-number.admitted c.loop-number.number c.remove-kernel.result c.remove-kernel.new.self c.in-Err-Refused.fault (rw c.in-Err-Refused.field-0-is at c.in-Err-Refused.ensures))
 
 pub loop-number-preserved : goal.loop-number-preserved

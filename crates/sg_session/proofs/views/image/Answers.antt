@@ -1,4 +1,4 @@
-use Rattle.std.proofs.Common.{◌≡◌, ℤ, w64, to_z, of_z, Result, IfOk, arith, subst}
+use Rattle.std.proofs.Common.{◌≡◌, ℤ, w64, to_z, of_z, IfOk, arith, subst}
 use Rattle.std.specs.Prelude.{slice_get}
 use Rattle.std.proofs.lemmas.Int.{to_z-of_z}
 use Rattle.sg_flat.specs.declared.state.FlatState.{FlatState}

@@ -1,4 +1,4 @@
-use Rattle.std.proofs.Common.{◌≡◌, sym, ap, ◌∙◌}
+use Rattle.std.proofs.Common.{sym, ap, ◌∙◌}
 use Rattle.sg_names.specs.Tables.{layout_name_of}
 use Rattle.sg_session.specs.Compiled.{CompiledProgram}
 use Rattle.sg_session.proofs.Lists.{at_place}

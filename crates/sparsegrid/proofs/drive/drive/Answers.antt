@@ -1,12 +1,13 @@
-use Rattle.std.proofs.Common.{◌+◌, drop, ap, ◌∙◌, refl, subst, sym, arith, List, ℕ, Err, Ok}
+use Rattle.std.proofs.Common.{◌+◌, drop, ap, ◌∙◌, refl, subst, sym, arith, map, List, ℕ, Err, Ok}
 use Rattle.std.proofs.lemmas.List.{drop_all}
 use Rattle.sg_words.specs.declared.memory.Stop.TheVariants as stop
 use Rattle.sg_outside.specs.Sink.{followed_by}
 use Rattle.sg_layout.specs.declared.shape.Shape.{Shape}
 use Rattle.sg_exec.specs.Standing.{StandForState}
 use Rattle.sg_session.specs.Compiled.{CompiledProgram, Compiles, IsTask}
+use Rattle.sg_session.specs.Bindings.{binding_read}
 use Rattle.sg_session.specs.Performed.{SessionParts, HasFile}
-use Rattle.sparsegrid.specs.Outcome.{outside}
+use Rattle.sparsegrid.specs.Outcome.{outside_of}
 use Rattle.sparsegrid.specs.steps.Along.{Sends}
 use Rattle.sparsegrid.proofs.Bound.{split_at}
 use Rattle.sparsegrid.proofs.Tasks.{came_start, came_next, went_all, cut_in_send, cut_in_step, ended_in_task, stepped, has_head, tail_of, line_of, line_status_of}
@@ -40,7 +41,7 @@ loop-task-preserved g c =
           (c.in-Ok-send.ensures.bytes ∙ ap (followed_by (g.S.Sink.has c.loop-task.out)) c.as_slice.ensures);
       compiled = c.step.ensures.compiled ∙ c.loop-task.invariant.compiled;
       there = tail_of (IsTask compiled) (drop i tasks) (drop (i + 1) tasks) _ split c.loop-task.invariant.there;
-      bound = tail_of (HasFile compiled.names binds) (drop i tasks) (drop (i + 1) tasks) _ split c.loop-task.invariant.bound;
+      bound = tail_of (HasFile compiled.names (map binding_read binds)) (drop i tasks) (drop (i + 1) tasks) _ split c.loop-task.invariant.bound;
       holds = c.step.ensures.holds ∙ c.loop-task.invariant.holds;
       never_falls = omega (arith, c.step.ensures.never_falls, c.loop-task.invariant.never_falls);
       faults = c.in-Ok-send.ensures.cause ∙ c.loop-task.invariant.faults;
@@ -56,7 +57,7 @@ returns-in-Err-clause-went g c = λ program compiles start stand.
     let came = c.loop-task.invariant.came program compiles start stand in
     let here = subst (Compiles program) (sym c.loop-task.invariant.compiled) compiles in
     cut_in_send program binds start tasks (drop i tasks) (drop (i + 1) tasks) _ c.loop-task.session.stores c.step.new.self.stores c.in-Ok.text _ _
-    (outside g.F.Files g.S.Sink c.step.new.files c.loop-task.out) _ c.in-Err.why split came
+    (outside_of g.F.Files g.S.Sink c.step.new.files c.loop-task.out) _ c.in-Err.why split came
     (stepped program c.loop-task.session.compiled binds came.state _ c.loop-task.session.stores c.step.new.self.stores (Ok c.in-Ok.text) _ _ here came.stand
     (has_head program compiled binds (drop i tasks) (drop (i + 1) tasks) _ compiles split c.loop-task.invariant.bound)
     c.in-Ok.ensures.told c.in-Ok.ensures.performed c.in-Ok.ensures.asked c.in-Ok.ensures.reads c.in-Ok.ensures.cause c.in-Ok.ensures.holds)
@@ -79,7 +80,7 @@ returns-in-Err-Refused-clause-went g c = λ program compiles start stand.
     let wrote = rw c.in-Err-Refused.field-0-is at c.refuse_task.ensures.wrote in
     let status = rw c.in-Err-Refused.field-0-is at c.refuse_task.ensures.status in
     ended_in_task program binds start tasks (drop i tasks) (drop (i + 1) tasks) _ c.loop-task.session.stores c.step.new.self _ _
-    (outside g.F.Files g.S.Sink c.step.new.files c.loop-task.out) _ c.in-Err-Refused.refusal c.refuse_task.result split (subst (Compiles program) (sym same) compiles) came
+    (outside_of g.F.Files g.S.Sink c.step.new.files c.loop-task.out) _ c.in-Err-Refused.refusal c.refuse_task.result split (subst (Compiles program) (sym same) compiles) came
     (stepped program c.loop-task.session.compiled binds came.state _ c.loop-task.session.stores c.step.new.self.stores (Err (stop.Refused c.in-Err-Refused.refusal)) _ _ here came.stand
     (has_head program compiled binds (drop i tasks) (drop (i + 1) tasks) _ compiles split c.loop-task.invariant.bound)
     told performed c.in-Err-Refused.ensures.asked c.in-Err-Refused.ensures.reads cause c.in-Err-Refused.ensures.holds)

@@ -2,11 +2,11 @@ use Rattle.std.proofs.Common.{refl, ap, sym, ◌≡◌, ◌∙◌, List, map, So
 use Rattle.std.specs.Prelude.{find}
 use Rattle.sg_session.specs.declared.tasks.Stage.{Stage}
 use Rattle.sg_session.specs.declared.tasks.Task.{Task}
-use Rattle.sg_session.specs.Compiled.{IsTask, unfolded}
+use Rattle.sg_session.specs.Compiled.{IsTask, unfolded_tasks}
+use Rattle.sg_session.specs.Bindings.{binding_read}
 use Rattle.sg_flat.specs.State.{opening}
-use Rattle.sparsegrid.specs.Words.{binding_read}
 use Rattle.sparsegrid.specs.Lines.{no_file_last, field_text}
-use Rattle.sparsegrid.specs.Meaning.{refused, meaning_of_run, meaning_of_tasks, is_unbound}
+use Rattle.sparsegrid.specs.Meaning.{refused_before_tasks, meaning_of_run, meaning_of_tasks, is_unbound}
 use Rattle.sparsegrid.proofs.Bound.{holds_of_found}
 use Rattle.sparsegrid.proofs.Going.{went_memory}
 use Rattle.sparsegrid.proofs.Sources.{went_same, went_line, run_ends, run_unbound, not_two, same_first, line_named}
@@ -20,8 +20,8 @@ refuse_unbound-requires g c =
 pub returns-in-Some-clause-went : goal.returns-in-Some-clause-went
 returns-in-Some-clause-went g c = λ program compiles.
     let bindings = map binding_read c.args.binds.now.list in
-    let tasks = unfolded program.commands in
-    let last = refused (no_file_last (field_text program.names c.in-Some.task)) in
+    let tasks = unfolded_tasks program.commands in
+    let last = refused_before_tasks (no_file_last (field_text program.names c.in-Some.task)) in
     let found = same_first program c.args.compiled bindings c.as_slice.result.now (Some c.in-Some.task) compiles (c.as_slice.ensures ∙ c.in-Ok.ensures.tasks) c.in-Some.ensures in
     went_same (λ readings. meaning_of_run program bindings readings tasks) (λ readings. last) 1 _ _ c.refuse_unbound.result (λ readings. run_unbound program bindings readings tasks (Some c.in-Some.task) found)
     (went_line last 1 _ _ c.refuse_unbound.result refl (line_named program c.args.compiled c.in-Some.task _ _ c.refuse_unbound.result compiles c.refuse_unbound.ensures.along)
@@ -30,9 +30,9 @@ returns-in-Some-clause-went g c = λ program compiles.
 pub returns-in-None-clause-went : goal.returns-in-None-clause-went
 returns-in-None-clause-went g c = λ program compiles.
     let bindings = map binding_read c.args.binds.now.list in
-    let tasks = unfolded program.commands in
+    let tasks = unfolded_tasks program.commands in
     let found = same_first program c.args.compiled bindings c.as_slice.result.now None compiles (c.as_slice.ensures ∙ c.in-Ok.ensures.tasks) c.in-None.ensures in
-    let same : unfolded program.commands ≡ c.as_slice-in-None.result.now = sym (c.as_slice-in-None.ensures ∙ (c.in-Ok.ensures.tasks ∙ ap (λ (ss : List Stage). unfolded ss) compiles.commands)) in
+    let same : unfolded_tasks program.commands ≡ c.as_slice-in-None.result.now = sym (c.as_slice-in-None.ensures ∙ (c.in-Ok.ensures.tasks ∙ ap (λ (ss : List Stage). unfolded_tasks ss) compiles.commands)) in
     went_same (λ readings. meaning_of_run program bindings readings tasks) (λ readings. meaning_of_tasks program bindings readings 1 (opening program.layouts) c.as_slice-in-None.result.now) 1 _ _ c.perform_tasks.result
     (λ readings. run_unbound program bindings readings tasks None found ∙ ap (λ (ts : List Task). meaning_of_tasks program bindings readings 1 (opening program.layouts) ts) same)
     (c.perform_tasks.ensures.went program compiles)
@@ -40,5 +40,5 @@ returns-in-None-clause-went g c = λ program compiles.
 pub returns-in-Err-clause-went : goal.returns-in-Err-clause-went
 returns-in-Err-clause-went g c = λ program compiles.
     let bindings = map binding_read c.args.binds.now.list in
-    let tasks = unfolded program.commands in
+    let tasks = unfolded_tasks program.commands in
     went_memory (λ readings. meaning_of_run program bindings readings tasks) 1 _ _ (λ readings. run_ends program bindings readings tasks) refl refl refl refl

@@ -1,6 +1,6 @@
 use Rattle.std.proofs.Common.{refl, map, Err}
 use Rattle.sg_flat.specs.State.{opening}
-use Rattle.sparsegrid.specs.Words.{binding_read}
+use Rattle.sg_session.specs.Bindings.{binding_read}
 use Rattle.sparsegrid.specs.Meaning.{meaning_of_tasks}
 use Rattle.sparsegrid.proofs.Bound.{all_bound}
 use Rattle.sparsegrid.proofs.Going.{went_memory}
@@ -9,7 +9,7 @@ use Rattle.sparsegrid.proofs.Sources.{from_opened, went_kept}
 use Rattle.sparsegrid.proofs.perform.perform_tasks.Goals as goal
 
 pub drive-requires-clause-bound : goal.drive-requires-clause-bound
-drive-requires-clause-bound g c = λ lifetimes outlive. rw c.in-Ok.ensures.compiled (all_bound c.args.compiled.names c.args.binds.now.list c.args.tasks.now c.requires.bound)
+drive-requires-clause-bound g c = λ lifetimes outlive. rw c.in-Ok.ensures.compiled (all_bound c.args.compiled.names (map binding_read c.args.binds.now.list) c.args.tasks.now c.requires.bound)
 
 pub returns-in-Ok-drive-clause-went : goal.returns-in-Ok-drive-clause-went
 returns-in-Ok-drive-clause-went g c = λ program compiles.

@@ -3,7 +3,7 @@ use Rattle.std.proofs.Common.{arith}
 use Rattle.sparsegrid.specs.Texts.{texts}
 use Rattle.sparsegrid.specs.Words.{Asked, good_words}
 use Rattle.sparsegrid.specs.Lines.{words_last}
-use Rattle.sparsegrid.specs.Meaning.{meaning_by, meaning_of_words, refused}
+use Rattle.sparsegrid.specs.Meaning.{meaning_by, meaning_of_words, refused_before_tasks}
 use Rattle.sparsegrid.proofs.Going.{went_memory}
 use Rattle.sparsegrid.proofs.Sources.{went_same, went_line, words_end, not_two}
 use Rattle.sparsegrid.proofs.session.answer.Goals as goal
@@ -11,9 +11,9 @@ use Rattle.sparsegrid.proofs.session.answer.Goals as goal
 pub returns-in-Err-Refused-clause-went : goal.returns-in-Err-Refused-clause-went
 returns-in-Err-Refused-clause-went g c =
     let bad : good_words (texts c.args.words.now) ≡ None = rw c.in-Err-Refused.field-0-is at c.in-Err-Refused.ensures.asked in
-    went_same (meaning_by (texts c.args.words.now)) (λ readings. refused words_last) 0 _ _ c.refuse_words.result
+    went_same (meaning_by (texts c.args.words.now)) (λ readings. refused_before_tasks words_last) 0 _ _ c.refuse_words.result
     (λ readings. ap (λ (o : Option Asked). meaning_of_words o readings) bad)
-    (went_line (refused words_last) 0 _ _ c.refuse_words.result refl c.refuse_words.ensures.along refl refl refl (not_two c.refuse_words.result 1 (λ e. absurd (omega arith)) c.refuse_words.ensures.status))
+    (went_line (refused_before_tasks words_last) 0 _ _ c.refuse_words.result refl c.refuse_words.ensures.along refl refl refl (not_two c.refuse_words.result 1 (λ e. absurd (omega arith)) c.refuse_words.ensures.status))
 
 pub returns-in-Err-Memory-clause-went : goal.returns-in-Err-Memory-clause-went
 returns-in-Err-Memory-clause-went g c = went_memory (meaning_by (texts c.args.words.now)) 0 _ _ (words_end (texts c.args.words.now)) refl refl refl refl

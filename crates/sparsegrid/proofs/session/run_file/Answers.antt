@@ -2,8 +2,8 @@ use Rattle.std.proofs.Common.{refl, ap, ◌∙◌, sym, arith}
 use Rattle.sg_outside.specs.Files.{Bytes, TooMany}
 use Rattle.sparsegrid.specs.Words.{asked_by}
 use Rattle.sparsegrid.specs.Lines.{file_bytes_last}
-use Rattle.sparsegrid.specs.Meaning.{refused}
-use Rattle.sparsegrid.specs.Outcome.{outside}
+use Rattle.sparsegrid.specs.Meaning.{refused_before_tasks}
+use Rattle.sparsegrid.specs.Outcome.{outside_of}
 use Rattle.sparsegrid.proofs.Sources.{read_gave, read_failed, read_memory, went_line, not_two}
 use Rattle.sparsegrid.proofs.session.run_file.Goals as goal
 
@@ -15,9 +15,9 @@ returns-in-All-clause-went g c =
 
 pub returns-in-TooLong-clause-went : goal.returns-in-TooLong-clause-went
 returns-in-TooLong-clause-went g c =
-    read_gave (asked_by c.args.asked.now) c.requires.file c.as_str-name.result.now TooMany _ (outside g.F.Files g.S.Sink c.read.new.self c.args.out.now) _ c.refuse_long.result c.as_str-name.ensures.value (λ held told. c.in-TooLong.ensures.bytes held told)
+    read_gave (asked_by c.args.asked.now) c.requires.file c.as_str-name.result.now TooMany _ (outside_of g.F.Files g.S.Sink c.read.new.self c.args.out.now) _ c.refuse_long.result c.as_str-name.ensures.value (λ held told. c.in-TooLong.ensures.bytes held told)
     c.in-TooLong.ensures.asked c.in-TooLong.ensures.reads c.in-TooLong.ensures.cause c.in-TooLong.ensures.holds refl
-    (went_line (refused file_bytes_last) 1 _ _ c.refuse_long.result refl c.refuse_long.ensures.along refl refl refl (not_two c.refuse_long.result 8 (λ e. absurd (omega arith)) c.refuse_long.ensures.status))
+    (went_line (refused_before_tasks file_bytes_last) 1 _ _ c.refuse_long.result refl c.refuse_long.ensures.along refl refl refl (not_two c.refuse_long.result 8 (λ e. absurd (omega arith)) c.refuse_long.ensures.status))
 
 pub returns-in-Failed-clause-went : goal.returns-in-Failed-clause-went
 returns-in-Failed-clause-went g c =

@@ -5,7 +5,7 @@ use Rattle.sg_session.specs.Compiled.{CheckedProgram}
 use Rattle.sg_session.specs.Compiling.{spelled_program, compiled_program}
 use Rattle.sparsegrid.specs.Words.{asked_by}
 use Rattle.sparsegrid.specs.Lines.{refusal_last}
-use Rattle.sparsegrid.specs.Meaning.{refused, meaning_of_compiled, items_or_none}
+use Rattle.sparsegrid.specs.Meaning.{refused_before_tasks, meaning_of_compiled, items_or_none}
 use Rattle.sparsegrid.proofs.Going.{went_memory}
 use Rattle.sparsegrid.proofs.Sources.{compiled_went, compiled_left, went_same, went_line, compiled_ends, file_status_not_two, refused_end}
 use Rattle.sparsegrid.proofs.session.run_source.Goals as goal
@@ -21,9 +21,9 @@ pub returns-in-Err-Refused-clause-went : goal.returns-in-Err-Refused-clause-went
 returns-in-Err-Refused-clause-went g c =
     let why : compiled_program c.args.bytes.now ≡ Err c.in-Err-Refused.refusal = rw c.in-Err-Refused.field-0-is at c.in-Err-Refused.ensures.answer in
     went_same (λ readings. meaning_of_compiled (asked_by c.args.asked.now) readings c.args.bytes.now (compiled_program c.args.bytes.now))
-    (λ readings. refused (refusal_last (items_or_none (spelled_program c.args.bytes.now)) c.in-Err-Refused.refusal)) 1 _ _ c.refuse_source.result
+    (λ readings. refused_before_tasks (refusal_last (items_or_none (spelled_program c.args.bytes.now)) c.in-Err-Refused.refusal)) 1 _ _ c.refuse_source.result
     (λ readings. ap (λ (a : Result CheckedProgram Refusal). meaning_of_compiled (asked_by c.args.asked.now) readings c.args.bytes.now a) why)
-    (went_line (refused (refusal_last (items_or_none (spelled_program c.args.bytes.now)) c.in-Err-Refused.refusal)) 1 _ _ c.refuse_source.result refl c.refuse_source.ensures.along refl refl refl
+    (went_line (refused_before_tasks (refusal_last (items_or_none (spelled_program c.args.bytes.now)) c.in-Err-Refused.refusal)) 1 _ _ c.refuse_source.result refl c.refuse_source.ensures.along refl refl refl
     (file_status_not_two c.refuse_source.result (items_or_none (spelled_program c.args.bytes.now)) c.in-Err-Refused.refusal c.refuse_source.ensures.status))
 
 pub returns-in-Err-Refused-clause-end : goal.returns-in-Err-Refused-clause-end

@@ -1,5 +1,5 @@
 use Rattle.std.proofs.Common.{map, sym, ◌∙◌}
-use Rattle.sparsegrid.specs.Words.{binding_read}
+use Rattle.sg_session.specs.Bindings.{binding_read}
 use Rattle.sparsegrid.specs.Meaning as spec
 use Rattle.sparsegrid.proofs.Bound.{unbound_here, bound_here}
 use Rattle.sparsegrid.proofs.unbound.first_unbound.Goals as goal

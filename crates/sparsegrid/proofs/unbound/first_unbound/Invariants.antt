@@ -1,6 +1,6 @@
 use Rattle.std.proofs.Common.{◌≡◌, map, drop}
 use Rattle.std.specs.Prelude.{find}
-use Rattle.sparsegrid.specs.Words.{binding_read}
+use Rattle.sg_session.specs.Bindings.{binding_read}
 use Rattle.sparsegrid.specs.Meaning as spec
 use Rattle.sparsegrid.proofs.unbound.first_unbound.Given as goal
 

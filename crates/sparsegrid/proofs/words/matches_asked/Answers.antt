@@ -1,7 +1,7 @@
 use Rattle.std.proofs.Common.{refl, subst}
 use Rattle.clap.specs.Matches.{found_of}
 use Rattle.sparsegrid.specs.Words as spec
-use Rattle.sparsegrid.specs.steps.WordTurns.{Reads}
+use Rattle.sparsegrid.specs.steps.WordTurns.{AnswersOption}
 use Rattle.sparsegrid.proofs.SplitParse.{parts_read}
 use Rattle.sparsegrid.proofs.words.matches_asked.Goals as goal
 
@@ -10,7 +10,7 @@ slice_bounds-unwrap_or-end c = refl
 
 pub returns-clause-asked : goal.returns-clause-asked
 returns-clause-asked c =
-    subst (Reads spec.asked_by c.parts_asked.result)
+    subst (AnswersOption spec.asked_by c.parts_asked.result)
     (parts_read (found_of c.args.matches.now) c.get_str.result c.get_str-2.result c.get_raw.result _ c.unwrap_or.result c.get_str.ensures c.get_str-2.ensures c.get_raw.ensures c.unwrap_or.ensures refl)
     c.parts_asked.ensures.asked
 

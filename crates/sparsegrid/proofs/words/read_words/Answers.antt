@@ -8,18 +8,18 @@ use Rattle.sparsegrid.specs.Words as spec
 use Rattle.sparsegrid.specs.declared.words.BadWords.{BadWords}
 use Rattle.sparsegrid.specs.declared.words.Words.{Words}
 use Rattle.sparsegrid.specs.steps.Splitting.{rows_split}
-use Rattle.sparsegrid.specs.steps.WordTurns.{Reads}
+use Rattle.sparsegrid.specs.steps.WordTurns.{AnswersOption}
 use Rattle.sparsegrid.proofs.SplitParse.{asked_of_rows, nothing_asked}
 use Rattle.sparsegrid.proofs.words.read_words.Goals as goal
 
 -- words that aren't taken ask for nothing
-refused : (words : List (List ℕ)) (why : Stop BadWords) → Reads {A = ArgMatches} (λ matches. rows_of (found_of matches)) (Err why) (rows_split words) → Reads {A = Words} spec.asked_by (Err why) (spec.good_words words)
+refused : (words : List (List ℕ)) (why : Stop BadWords) → AnswersOption {A = ArgMatches} (λ matches. rows_of (found_of matches)) (Err why) (rows_split words) → AnswersOption {A = Words} spec.asked_by (Err why) (spec.good_words words)
 refused words stop.Memory is = tt
 refused words (stop.Refused fault) is = nothing_asked words is
 
 pub returns-in-Ok-clause-asked : goal.returns-in-Ok-clause-asked
 returns-in-Ok-clause-asked c =
-    subst (Reads spec.asked_by c.matches_asked.result) (sym (asked_of_rows (map string_bytes c.args.words.now) (rows_of (found_of c.in-Ok.matches)) c.in-Ok.ensures)) c.matches_asked.ensures.asked
+    subst (AnswersOption spec.asked_by c.matches_asked.result) (sym (asked_of_rows (map string_bytes c.args.words.now) (rows_of (found_of c.in-Ok.matches)) c.in-Ok.ensures)) c.matches_asked.ensures.asked
 
 pub returns-in-Ok-clause-some : goal.returns-in-Ok-clause-some
 returns-in-Ok-clause-some c = c.matches_asked.ensures.some

@@ -1,14 +1,14 @@
 use Rattle.std.proofs.Common.{sym, subst}
 use Rattle.sg_mask.specs.Marking.{worker_of}
 use Rattle.sg_store.specs.Opening.{IsPlaceOf, IsInLive}
-use Rattle.sg_activate.specs.steps.Masks.{HasMarked, HasMarkedFor, AreInLive}
+use Rattle.sg_activate.specs.steps.Masks.{HasMarked, HasMarkedFor, MarksAreInLive}
 use Rattle.sg_activate.proofs.MaskLevel.{marked_left, marked_right, marks_joined}
 use Rattle.sg_activate.proofs.masks.MaskRacePass.join.Goals as goal
 
 pub returns-clause-own : goal.returns-clause-own
 returns-clause-own c = (
   c.join.ensures.own,
-  subst (AreInLive c.args.self.now.store.now c.args.self.now.node) (sym c.join.ensures.worker)
+  subst (MarksAreInLive c.args.self.now.store.now c.args.self.now.node) (sym c.join.ensures.worker)
       (marks_joined (IsInLive c.args.self.now.store.now c.args.self.now.node) (worker_of c.args.seat.now) (worker_of c.args.other) c.requires.own.1 c.requires.other.1),
 )
 

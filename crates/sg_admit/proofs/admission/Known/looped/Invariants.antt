@@ -1,7 +1,7 @@
 use Rattle.std.proofs.Common.{◌≡◌, ℕ, ◌==◌, take}
 use Rattle.std.specs.List.{list_any}
-use Rattle.sg_admit.specs.steps.Spread.{is_marked}
+use Rattle.sg_admit.specs.steps.Spread.{bears_mark}
 use Rattle.sg_admit.proofs.admission.Known.looped.Given as goal
 
 abbrev pub invariant-loop-var : goal.invariant-loop-var
-invariant-loop-var l = (var : ℕ) → is_marked l.looped var ≡ list_any (λ it. it == var) (take l.var-index l.self.loops)
+invariant-loop-var l = (var : ℕ) → bears_mark l.looped var ≡ list_any (λ it. it == var) (take l.var-index l.self.loops)

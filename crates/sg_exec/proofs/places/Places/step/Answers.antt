@@ -3,12 +3,12 @@ use Rattle.std.specs.Prelude.{get_or, List, None}
 use Rattle.sg_store.specs.StoreWords.{StoreWords}
 use Rattle.sg_ir.specs.Runs.{down}
 use Rattle.sg_exec.specs.Standing.{shapes_of}
-use Rattle.sg_exec.specs.steps.Machines.{Holds, ArePlaces}
+use Rattle.sg_exec.specs.steps.Machines.{HoldsPlace, ArePlaces}
 use Rattle.sg_exec.proofs.Going.{on_ok}
 use Rattle.sg_exec.proofs.places.Places.step.Goals as goal
 
 pub returns-clause-ok : goal.returns-clause-ok
 returns-clause-ok c = on_ok _ _ c.put.result (λ step. λ stores places are.
-    let here : ArePlaces c.args.self.now.stores c.args.self.now places = record { same_stores = refl; hold = subst (λ (ss : List StoreWords). (p : ℕ) → Holds ss (get_or c.args.self.now.list p None) (places p)) (sym are.same_stores) are.hold } in
-    let holds : Holds c.args.self.now.stores c.below-held.result (down (shapes_of c.args.self.now.stores) c.args.node c.args.offset (places c.args.place)) = c.below-held.ensures.holds places here in
-    step stores places (down (shapes_of stores) c.args.node c.args.offset (places c.args.place)) are (subst (λ (ss : List StoreWords). Holds ss c.below-held.result (down (shapes_of ss) c.args.node c.args.offset (places c.args.place))) are.same_stores holds)) c.put.ensures.ok
+    let here : ArePlaces c.args.self.now.stores c.args.self.now places = record { same_stores = refl; hold = subst (λ (ss : List StoreWords). (p : ℕ) → HoldsPlace ss (get_or c.args.self.now.list p None) (places p)) (sym are.same_stores) are.hold } in
+    let holds : HoldsPlace c.args.self.now.stores c.below-held.result (down (shapes_of c.args.self.now.stores) c.args.node c.args.offset (places c.args.place)) = c.below-held.ensures.holds places here in
+    step stores places (down (shapes_of stores) c.args.node c.args.offset (places c.args.place)) are (subst (λ (ss : List StoreWords). HoldsPlace ss c.below-held.result (down (shapes_of ss) c.args.node c.args.offset (places c.args.place))) are.same_stores holds)) c.put.ensures.ok

@@ -1,6 +1,6 @@
 use Rattle.std.proofs.Common.{◌≡◌, ℕ, ◌+◌, ◌%◌, length, ap, ◌∙◌, subst, arith}
-use Rattle.sg_words.specs.RaceMachine.{place_of}
-use Rattle.sg_hash.specs.steps.Searching.{Passed}
+use Rattle.sg_words.specs.RaceMachine.{place_in_order}
+use Rattle.sg_hash.specs.steps.Searching.{HasLookedPast}
 use Rattle.sg_hash.proofs.Turns.{place_next}
 use Rattle.sg_hash.proofs.Searches.{more-passed, none-there}
 use Rattle.sg_hash.proofs.seat.HashPass.search.Goals as goal
@@ -8,7 +8,7 @@ use Rattle.sg_hash.proofs.seat.HashPass.search.Goals as goal
 pub loop-turn-preserved : goal.loop-turn-preserved
 loop-turn-preserved c =
     let n : ℕ = length c.args.self.now.start.links in
-    let at : c.loop-turn.at ≡ place_of n c.args.key c.loop-turn._turn = c.loop-turn.invariant.at_turn (omega arith) in
+    let at : c.loop-turn.at ≡ place_in_order n c.args.key c.loop-turn._turn = c.loop-turn.invariant.at_turn (omega arith) in
     record {
       at_turn = λ more. c.following-at.ensures ∙ ap (λ m. (c.loop-turn.at + 1) % m) c.len-places.ensures ∙ ap (λ x. (x + 1) % n) at ∙ place_next n c.args.key c.loop-turn._turn more;
       below = omega arith;
@@ -23,4 +23,4 @@ returns-clause-found c =
     let slots = c.args.self.now.slots in
     let all : c.loop-turn._turn ≡ length c.args.self.now.start.links = omega arith in
     none-there _ c.args.key c.args.seat.now.seat.me.0 c.loop-turn.seat.seat.me.0 slots
-    (subst (λ j. Passed (length c.args.self.now.start.links) c.args.key j c.args.seat.now.seat.me.0 c.loop-turn.seat.seat.me.0) all c.loop-turn.invariant.passed)
+    (subst (λ j. HasLookedPast (length c.args.self.now.start.links) c.args.key j c.args.seat.now.seat.me.0 c.loop-turn.seat.seat.me.0) all c.loop-turn.invariant.passed)

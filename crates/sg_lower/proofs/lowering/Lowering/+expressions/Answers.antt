@@ -5,7 +5,7 @@ use Rattle.sg_types.specs.declared.typed.Form.TheVariants as form
 use Rattle.sg_lower.specs.steps.Agreeing.{AllValues}
 use Rattle.sg_ir.specs.Runs.{named_by}
 use Rattle.sg_ir.specs.Places.{place_at}
-use Rattle.sg_ir.specs.steps.Emits.{LeadsTo}
+use Rattle.sg_ir.specs.steps.Emits.{LeadsToPlace}
 use Rattle.sg_types.specs.Expressions.{equals_some}
 use Rattle.sg_types.specs.WellTyped.{axes_in}
 use Rattle.sg_ir.specs.Apt.{Use}
@@ -20,7 +20,7 @@ use Rattle.sg_lower.proofs.TypingForms.{const_ok, var_typed, paren_typed, conver
 use Rattle.sg_lower.proofs.Simulating.{values-more}
 use Rattle.sg_lower.proofs.Turns.{item_holds, take_item, grows-trans, named-more}
 use Rattle.sg_lower.proofs.Forms.{literal_ok, constant_ok, var_ok, paren_ok, convert_ok, un_ok, bin_ok, mulq_ok}
-use Rattle.sg_lower.specs.steps.Fitting.{fits}
+use Rattle.sg_lower.specs.steps.Fitting.{can_be_lowered}
 use Rattle.sg_lower.proofs.CellReads.{own_read_ok, read_ok}
 use Rattle.sg_lower.proofs.UsingForms.{uses-trans, all_uses-push, literal_uses, constant_uses, var_uses, paren_uses, convert_uses, un_uses, bin_uses, mulq_uses, read_form_uses, own_read_uses, cell_read_uses}
 use Rattle.sg_lower.proofs.lowering.Lowering.+expressions.Goals as goal
@@ -72,7 +72,7 @@ indices-loop-part-preserved t c =
       named = subst (λ (all : List ℕ). All (λ r. r < length c.expr.new.names.regs) all) (sym pushed) (named-more c.loop-part.names c.expr.new.names regs to grows.0 grows.1 before.named);
       count = ap length pushed ∙ (length_push regs to ∙ ap (λ (n : ℕ). n + 1) before.count);
       values = λ h.
-          let item = item_holds (fits basis) c.args.index.now c.loop-part.part-index c.part-item.result c.loop-part-test.true c.part-item.is h in
+          let item = item_holds (can_be_lowered basis) c.args.index.now c.loop-part.part-index c.part-item.result c.loop-part-test.true c.part-item.is h in
           let more = values-more basis (take c.loop-part.part-index c.args.index.now) regs c.part-item.result to c.args.names.now c.loop-part.names c.expr.new.names c.args.block.now c.loop-part.block c.expr.new.block (before.values h) (c.in_ok-expr.ensures.values item) in
           subst (λ (all : List ℕ). AllValues basis (take (c.loop-part.part-index + 1) c.args.index.now) all c.args.names.now c.expr.new.names c.args.block.now c.expr.new.block) (sym pushed)
           (subst (λ (done : List TypedExpr). AllValues basis done (regs ++ to ∷ []) c.args.names.now c.expr.new.names c.args.block.now c.expr.new.block) (sym (take_item c.args.index.now c.loop-part.part-index c.part-item.result c.loop-part-test.true c.part-item.is)) more);
@@ -110,7 +110,7 @@ read-returns-clause-values t c =
     let basis = basis_of c.args.layouts.now c.args.self.now in
     read_ok basis c.args.names.now _ c.args.block.now _ c.read_cell.result c.args.ty c.args.layout c.args.place c.args.index.now c.in_ok-regs.regs c.in_ok-at.at c.indices.new.names c.named_place.new.names c.indices.new.block c.named_place.new.block
     (sym c.is_owned.ensures ∙ c.if-is_owned.false) c.in_ok-regs.ensures.values c.in_ok-regs.ensures.count
-    (subst (λ (regs : List ℕ). equals_some (axes_in basis.shapes c.args.layout) (length regs) ≡ true → LeadsTo basis.shapes regs (λ seen now. place_at basis.shapes c.args.layout (named_by regs now)) c.in_ok-at.at c.indices.new.names c.named_place.new.names c.indices.new.block c.named_place.new.block) c.as_slice.ensures c.in_ok-at.ensures.leads)
+    (subst (λ (regs : List ℕ). equals_some (axes_in basis.shapes c.args.layout) (length regs) ≡ true → LeadsToPlace basis.shapes regs (λ seen now. place_at basis.shapes c.args.layout (named_by regs now)) c.in_ok-at.at c.indices.new.names c.named_place.new.names c.indices.new.block c.named_place.new.block) c.as_slice.ensures c.in_ok-at.ensures.leads)
     c.read_cell.ensures.fetches
 
 pub expr-returns-in-Literal-clause-uses : goal.expr-returns-in-Literal-clause-uses

@@ -3,7 +3,7 @@ use Rattle.sg_types.specs.Expressions.{equals_some}
 use Rattle.sg_types.specs.WellTyped.{axes_in}
 use Rattle.sg_ir.specs.Runs.{named_by}
 use Rattle.sg_ir.specs.Places.{place_at}
-use Rattle.sg_ir.specs.steps.Emits.{LeadsTo}
+use Rattle.sg_ir.specs.steps.Emits.{LeadsToPlace}
 use Rattle.sg_lower.specs.steps.Basis.{basis_of}
 use Rattle.sg_lower.proofs.Stepping.{does_want, does_own, does_acc}
 use Rattle.sg_ir.specs.steps.Types.{Adds, CanRead}
@@ -32,7 +32,7 @@ returns-in_ok-push-in-Acc-clause-steps c =
     let basis = basis_of a.layouts.now a.self.now in
     does_acc basis a.stmt a.layout a.place a.index.now a.way c.in-Acc.op c.in-Acc.is a.value.now c.in_ok-from.from c.in_ok-at-in-Acc.at c.in_ok-index-in-Acc.index _ _ c.indices-in-Acc.new.names c.named_place.new.names _ _ c.indices-in-Acc.new.block c.named_place.new.block _
     c.if-self.false c.in_ok-from.ensures.values c.in_ok-index-in-Acc.ensures.values c.in_ok-index-in-Acc.ensures.count
-    (subst (λ (regs : List ℕ). equals_some (axes_in basis.shapes a.layout) (length regs) ≡ true → LeadsTo basis.shapes regs (λ seen now. place_at basis.shapes a.layout (named_by regs now)) c.in_ok-at-in-Acc.at c.indices-in-Acc.new.names c.named_place.new.names c.indices-in-Acc.new.block c.named_place.new.block) c.as_slice.ensures c.in_ok-at-in-Acc.ensures.leads)
+    (subst (λ (regs : List ℕ). equals_some (axes_in basis.shapes a.layout) (length regs) ≡ true → LeadsToPlace basis.shapes regs (λ seen now. place_at basis.shapes a.layout (named_by regs now)) c.in_ok-at-in-Acc.at c.indices-in-Acc.new.names c.named_place.new.names c.indices-in-Acc.new.block c.named_place.new.block) c.as_slice.ensures c.in_ok-at-in-Acc.ensures.leads)
     c.in_ok-push-in-Acc.ensures.ok
 
 pub returns-then-self-clause-uses : goal.returns-then-self-clause-uses

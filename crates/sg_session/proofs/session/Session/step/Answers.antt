@@ -1,5 +1,5 @@
 use Rattle.sg_outside.specs.Files.{Missing}
-use Rattle.std.proofs.Common.{◌≡◌, ℤ, w64, to_z, of_z, arith, sym, subst}
+use Rattle.std.proofs.Common.{◌≡◌, w64, to_z, of_z, arith, sym}
 use Rattle.std.proofs.lemmas.Int.{to_z-of_z}
 use Rattle.sg_session.proofs.Performing.{still_stand}
 use Rattle.sg_session.proofs.Viewing.{image_between}

@@ -7,7 +7,7 @@ use Rattle.std.proofs.lemmas.Result.{on_ok_weaker}
 use Rattle.sg_ir.specs.declared.code.Inst.{Inst}
 use Rattle.sg_ir.specs.Blocks.{End, link, block_of}
 use Rattle.sg_ir.specs.Span.{sets}
-use Rattle.sg_simplify.specs.steps.Counted.{flag, has_words}
+use Rattle.sg_simplify.specs.steps.Counted.{one_where, has_words}
 use Rattle.sg_simplify.specs.steps.Tally.{tally}
 use Rattle.sg_simplify.proofs.Counting.{counts-same, const-words, words-more, set-count, if-count, for-count, more-count}
 use Rattle.sg_simplify.proofs.setters.Setters.+setters.Goals as goal
@@ -41,7 +41,7 @@ inst-returns-in-Const-clause-words t c =
 pub inst-returns-in-Set-clause-counts : goal.inst-returns-in-Set-clause-counts
 inst-returns-in-Set-clause-counts t c =
     on_ok_weaker c.note.result
-    (λ counts types count tells. counts-same (λ v. count v + flag (c.in-Set.var == v)) (λ v. count v + sets v (link types c.args.inst.now End)) c.note.new.self.again.entries
+    (λ counts types count tells. counts-same (λ v. count v + one_where (c.in-Set.var == v)) (λ v. count v + sets v (link types c.args.inst.now End)) c.note.new.self.again.entries
     (λ v. ap (λ n. count v + n) (set-count types c.args.inst.now c.in-Set.var c.in-Set._from v c.in-Set.is)) (counts count tells))
     c.note.ensures
 
@@ -60,7 +60,7 @@ pub inst-returns-in_ok-note-in-For-clause-counts : goal.inst-returns-in_ok-note-
 inst-returns-in_ok-note-in-For-clause-counts t c =
     let is = c.in-For in
     on_ok_weaker c.block-in-For.result
-    (λ counts types count tells. counts-same (λ v. count v + flag (is.var == v) + sets v (block_of types c.as_slice-in-For.result.now)) (λ v. count v + sets v (link types c.args.inst.now End)) c.block-in-For.new.self.again.entries
-    (λ v. ap (λ insts. count v + flag (is.var == v) + sets v (block_of types insts)) c.as_slice-in-For.ensures ∙ for-count types c.args.inst.now is.var is._lo is._hi is.body v (count v) is.is)
-    (counts types (λ v. count v + flag (is.var == v)) (c.in_ok-note-in-For.ensures count tells)))
+    (λ counts types count tells. counts-same (λ v. count v + one_where (is.var == v) + sets v (block_of types c.as_slice-in-For.result.now)) (λ v. count v + sets v (link types c.args.inst.now End)) c.block-in-For.new.self.again.entries
+    (λ v. ap (λ insts. count v + one_where (is.var == v) + sets v (block_of types insts)) c.as_slice-in-For.ensures ∙ for-count types c.args.inst.now is.var is._lo is._hi is.body v (count v) is.is)
+    (counts types (λ v. count v + one_where (is.var == v)) (c.in_ok-note-in-For.ensures count tells)))
     c.block-in-For.ensures.counts

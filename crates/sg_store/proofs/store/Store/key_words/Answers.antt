@@ -1,7 +1,7 @@
 use Rattle.std.proofs.Common.{◌≡◌, ◌<◌, List, length, ap, ◌∙◌, sym, subst, arith}
 use Rattle.std.proofs.lemmas.Option.{slice_get_within}
 use Rattle.sg_hash.specs.Tables.{IsTable, AreBeside}
-use Rattle.sg_layout.specs.NeedLaws.{IsNode}
+use Rattle.sg_layout.specs.NeedLaws.{IsNumberedNode}
 use Rattle.sg_layout.specs.declared.shape.NodeShape.{NodeShape}
 use Rattle.sg_layout.specs.Axes.{count_of}
 use Rattle.sg_store.specs.declared.node.NodeWords.{NodeWords}
@@ -54,5 +54,5 @@ returns-clause-more c =
     let store : StoreWords = c.args.self.now in
     let well : IsWellFormed store = subst IsWellFormed c.self.view_is c.self.invariant in
     let at = at_number store well 1 (omega arith) (λ dense. cc (sym c.requires.hash ∙ dense)) in
-    subst (λ keys. (shape : NodeShape) → IsNode store.shape 1 shape → count_of shape.cap < length keys) (sym (read c))
+    subst (λ keys. (shape : NodeShape) → IsNumberedNode store.shape 1 shape → count_of shape.cap < length keys) (sym (read c))
     (lemmas.keys_more store 0 at.0 at.1 at.2 (c.rules_decide.ensures.accepted store.shape) (sym at.3 ∙ c.requires.hash))

@@ -4,7 +4,7 @@ use Rattle.sg_pool.specs.Numbers.{live_count}
 use Rattle.sg_layout.specs.Live.{kind_or}
 use Rattle.sg_store.specs.declared.node.NodeWords.{NodeWords}
 use Rattle.sg_store.specs.StoreWords.{StoreWords}
-use Rattle.sg_store.specs.WellFormed.{has_cap, IsWellFormed}
+use Rattle.sg_store.specs.WellFormed.{kind_has_cap, IsWellFormed}
 use Rattle.sg_store.proofs.CellWords as lemmas
 use Rattle.sg_store.proofs.store.Store.live.Goals as goal
 
@@ -32,6 +32,6 @@ returns-clause-need c = λ flat stands shape is.
     let nodes = c.as_slice.ensures.value ∙ ap (λ (s : StoreWords). s.nodes) c.self.view_is in
     let within = lemmas.node_within store well c.args.node c.requires.capped in
     let read = slice_get-get_or store.nodes (c.args.node - 1) c.index-as_slice-node.result within in
-    let linked = sym (ap (λ o. has_cap (kind_or o)) is.there) ∙ c.requires.capped in
+    let linked = sym (ap (λ o. kind_has_cap (kind_or o)) is.there) ∙ c.requires.capped in
     c.live.ensures ∙ ap (λ (words : List NodeWords). live_count (get_or words (c.args.node - 1) c.index-as_slice-node.result).pool) nodes
     ∙ c.live_is_need.ensures store well flat stands c.args.node shape is linked _ read

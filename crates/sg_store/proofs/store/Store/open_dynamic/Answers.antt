@@ -5,7 +5,7 @@ use Rattle.sg_layout.specs.Axes.{size_of, sizes_of}
 use Rattle.sg_store.specs.declared.node.NodeWords.{NodeWords}
 use Rattle.sg_store.specs.StoreWords.{StoreWords}
 use Rattle.sg_store.specs.WellFormed.{IsWellFormed}
-use Rattle.sg_store.specs.steps.Raising.{AreRaised}
+use Rattle.sg_store.specs.steps.Raising.{RiseByMany}
 use Rattle.sg_store.proofs.Stepping.{size_at, read_as}
 use Rattle.sg_store.proofs.DynamicLevel.{dynamic_opening, parents_there, can_settle_lengths, dynamic_opened}
 use Rattle.sg_store.proofs.DynamicFull.{dynamic_full}
@@ -54,9 +54,9 @@ relength_node-requires-clause-can c =
     let kept : c.index-as_slice-index.result ≡ o.kept =
     read_as c.as_slice.result.now store.nodes c.args.index c.index-as_slice-index.result o.kept (c.as_slice.ensures.value ∙ ap (λ (s : StoreWords). s.nodes) c.self.view_is) c.index-as_slice-index.is o.is.has in
     let same : c.in_ok-lengths.lengths ≡ o.kept.lengths = c.in_ok-lengths.ensures ∙ c.as_slice-2.ensures ∙ ap (λ (k : NodeWords). k.lengths) kept in
-    let raised : AreRaised o.kept.lengths c.as_slice-3.result.now c.size-size.result c.args.slots.now =
-    subst (λ (l : List ℕ). AreRaised l c.as_slice-3.result.now c.size-size.result c.args.slots.now) same
-    (subst (λ (m : List ℕ). AreRaised c.in_ok-lengths.lengths m c.size-size.result c.args.slots.now) (sym c.as_slice-3.ensures) c.raise_all.ensures) in
+    let raised : RiseByMany o.kept.lengths c.as_slice-3.result.now c.size-size.result c.args.slots.now =
+    subst (λ (l : List ℕ). RiseByMany l c.as_slice-3.result.now c.size-size.result c.args.slots.now) same
+    (subst (λ (m : List ℕ). RiseByMany c.in_ok-lengths.lengths m c.size-size.result c.args.slots.now) (sym c.as_slice-3.ensures) c.raise_all.ensures) in
     can_settle_lengths store c.args.index c.args.cap c.args.chunk c.args.wanted.now c.args.slots.now c.as_slice-3.result.now c.size-size.result o sized raised
 
 pub returns-in-Ok-clause-opened : goal.returns-in-Ok-clause-opened
@@ -69,9 +69,9 @@ returns-in-Ok-clause-opened c =
     let kept : c.index-as_slice-index.result ≡ o.kept =
     read_as c.as_slice.result.now store.nodes c.args.index c.index-as_slice-index.result o.kept (c.as_slice.ensures.value ∙ ap (λ (s : StoreWords). s.nodes) c.self.view_is) c.index-as_slice-index.is o.is.has in
     let same : c.in_ok-lengths.lengths ≡ o.kept.lengths = c.in_ok-lengths.ensures ∙ c.as_slice-2.ensures ∙ ap (λ (k : NodeWords). k.lengths) kept in
-    let raised : AreRaised o.kept.lengths c.as_slice-3.result.now c.size-size.result c.args.slots.now =
-    subst (λ (l : List ℕ). AreRaised l c.as_slice-3.result.now c.size-size.result c.args.slots.now) same
-    (subst (λ (m : List ℕ). AreRaised c.in_ok-lengths.lengths m c.size-size.result c.args.slots.now) (sym c.as_slice-3.ensures) c.raise_all.ensures) in
+    let raised : RiseByMany o.kept.lengths c.as_slice-3.result.now c.size-size.result c.args.slots.now =
+    subst (λ (l : List ℕ). RiseByMany l c.as_slice-3.result.now c.size-size.result c.args.slots.now) same
+    (subst (λ (m : List ℕ). RiseByMany c.in_ok-lengths.lengths m c.size-size.result c.args.slots.now) (sym c.as_slice-3.ensures) c.raise_all.ensures) in
     (dynamic_opened store c.relength_node.new.self c.args.index c.args.cap c.args.chunk c.args.wanted.now c.args.slots.now c.as_slice-3.result.now c.size-size.result o sized raised c.in-Ok.ensures.fitted).0
 
 pub returns-in-Ok-clause-keeps : goal.returns-in-Ok-clause-keeps
@@ -84,9 +84,9 @@ returns-in-Ok-clause-keeps c =
     let kept : c.index-as_slice-index.result ≡ o.kept =
     read_as c.as_slice.result.now store.nodes c.args.index c.index-as_slice-index.result o.kept (c.as_slice.ensures.value ∙ ap (λ (s : StoreWords). s.nodes) c.self.view_is) c.index-as_slice-index.is o.is.has in
     let same : c.in_ok-lengths.lengths ≡ o.kept.lengths = c.in_ok-lengths.ensures ∙ c.as_slice-2.ensures ∙ ap (λ (k : NodeWords). k.lengths) kept in
-    let raised : AreRaised o.kept.lengths c.as_slice-3.result.now c.size-size.result c.args.slots.now =
-    subst (λ (l : List ℕ). AreRaised l c.as_slice-3.result.now c.size-size.result c.args.slots.now) same
-    (subst (λ (m : List ℕ). AreRaised c.in_ok-lengths.lengths m c.size-size.result c.args.slots.now) (sym c.as_slice-3.ensures) c.raise_all.ensures) in
+    let raised : RiseByMany o.kept.lengths c.as_slice-3.result.now c.size-size.result c.args.slots.now =
+    subst (λ (l : List ℕ). RiseByMany l c.as_slice-3.result.now c.size-size.result c.args.slots.now) same
+    (subst (λ (m : List ℕ). RiseByMany c.in_ok-lengths.lengths m c.size-size.result c.args.slots.now) (sym c.as_slice-3.ensures) c.raise_all.ensures) in
     (dynamic_opened store c.relength_node.new.self c.args.index c.args.cap c.args.chunk c.args.wanted.now c.args.slots.now c.as_slice-3.result.now c.size-size.result o sized raised c.in-Ok.ensures.fitted).1
 
 pub returns-clause-full : goal.returns-clause-full
@@ -99,9 +99,9 @@ returns-clause-full c =
     let kept : c.index-as_slice-index.result ≡ o.kept =
     read_as c.as_slice.result.now store.nodes c.args.index c.index-as_slice-index.result o.kept (c.as_slice.ensures.value ∙ ap (λ (s : StoreWords). s.nodes) c.self.view_is) c.index-as_slice-index.is o.is.has in
     let same : c.in_ok-lengths.lengths ≡ o.kept.lengths = c.in_ok-lengths.ensures ∙ c.as_slice-2.ensures ∙ ap (λ (k : NodeWords). k.lengths) kept in
-    let raised : AreRaised o.kept.lengths c.as_slice-3.result.now c.size-size.result c.args.slots.now =
-    subst (λ (l : List ℕ). AreRaised l c.as_slice-3.result.now c.size-size.result c.args.slots.now) same
-    (subst (λ (m : List ℕ). AreRaised c.in_ok-lengths.lengths m c.size-size.result c.args.slots.now) (sym c.as_slice-3.ensures) c.raise_all.ensures) in
+    let raised : RiseByMany o.kept.lengths c.as_slice-3.result.now c.size-size.result c.args.slots.now =
+    subst (λ (l : List ℕ). RiseByMany l c.as_slice-3.result.now c.size-size.result c.args.slots.now) same
+    (subst (λ (m : List ℕ). RiseByMany c.in_ok-lengths.lengths m c.size-size.result c.args.slots.now) (sym c.as_slice-3.ensures) c.raise_all.ensures) in
     let next : c.args.index + 1 ≡ suc c.args.index = omega arith in
     dynamic_full store c.args.index c.args.cap c.args.chunk c.args.wanted.now c.args.slots.now c.as_slice-3.result.now c.size-size.result c.in-Err._full o sized raised
     (record {

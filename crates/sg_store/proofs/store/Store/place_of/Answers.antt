@@ -4,7 +4,7 @@ use Rattle.std.specs.Prelude.{slice_index}
 use Rattle.sg_store.specs.StoreWords.{StoreWords}
 use Rattle.sg_store.specs.Walks.{place_after}
 use Rattle.sg_store.specs.WellFormed.{IsWellFormed}
-use Rattle.sg_store.specs.steps.Walking.{step_of}
+use Rattle.sg_store.specs.steps.Walking.{step_of_walk}
 use Rattle.sg_store.proofs.PathWalks.{place_at, place_next, place_ends}
 use Rattle.sg_store.proofs.store.Store.place_of.Goals as goal
 
@@ -35,4 +35,4 @@ loop-index-preserved c =
 pub returns : goal.returns
 returns c =
     let whole : c.loop-index.index ≡ c.args.through = omega (arith, c.loop-index.auto.index-end, c.loop-index-test.false) in
-    sym (ap (λ n. place_after (step_of c.args.bits) c.args.self.now.shape.nodes c.args.self.now.nodes 0 (path c.args.self.now.shape c.args.at n)) (sym whole) ∙ c.loop-index.invariant)
+    sym (ap (λ n. place_after (step_of_walk c.args.bits) c.args.self.now.shape.nodes c.args.self.now.nodes 0 (path c.args.self.now.shape c.args.at n)) (sym whole) ∙ c.loop-index.invariant)

@@ -7,7 +7,7 @@ use Rattle.sg_layout.specs.Axes.{count_of}
 use Rattle.sg_dynamic.specs.Chunks.{fit}
 use Rattle.sg_pool.specs.Numbers.{place_count}
 use Rattle.sg_store.specs.StoreWords.{StoreWords}
-use Rattle.sg_store.specs.Changes.{IsFitted, ChangesNode}
+use Rattle.sg_store.specs.Changes.{IsRefitted, ChangesNode}
 use Rattle.sg_store.specs.steps.AtNode.{AtNodeOf}
 use Rattle.sg_store.specs.steps.Raising.{CanLengthen}
 use Rattle.sg_store.proofs.Stepping.{read_as}
@@ -62,11 +62,11 @@ returns-clause-settled c = λ node here.
     read_as c.as_slice.result.now store.shape.nodes last c.index-as_slice-last.result at.0
     (c.as_slice.ensures ∙ ap (λ (s : Shape). s.nodes) c.shape.ensures.value ∙ ap (λ (s : StoreWords). s.shape.nodes) c.self.view_is) c.index-as_slice-last.is at.2.at in
     let chunk : c.chunk_of-chunk.result ≡ count_of at.0.chunk = c.chunk_of-chunk.ensures ∙ ap (λ (n : NodeShape). count_of n.chunk) node_is in
-    let fitted : OnOk c.relength_node-answer.result (ChangesNode (IsFitted c.args.lengths.now (count_of at.0.chunk)) store c.relength_node-answer.new.self last) =
-    subst (λ k. OnOk c.relength_node-answer.result (ChangesNode (IsFitted c.args.lengths.now k) store c.relength_node-answer.new.self last)) chunk c.relength_node-answer.ensures.fitted in
+    let fitted : OnOk c.relength_node-answer.result (ChangesNode (IsRefitted c.args.lengths.now (count_of at.0.chunk)) store c.relength_node-answer.new.self last) =
+    subst (λ k. OnOk c.relength_node-answer.result (ChangesNode (IsRefitted c.args.lengths.now k) store c.relength_node-answer.new.self last)) chunk c.relength_node-answer.ensures.fitted in
     let same : at.0 ≡ node = lemmas.node_same store (length store.shape.nodes) last at.0 node at.1 at.2 here in
-    subst (λ k. OnOk c.relength_node-answer.result (ChangesNode (IsFitted c.args.lengths.now (count_of node.chunk)) store c.relength_node-answer.new.self (k - 1))) many
-    (subst (λ (n : NodeShape). OnOk c.relength_node-answer.result (ChangesNode (IsFitted c.args.lengths.now (count_of n.chunk)) store c.relength_node-answer.new.self last)) same fitted)
+    subst (λ k. OnOk c.relength_node-answer.result (ChangesNode (IsRefitted c.args.lengths.now (count_of node.chunk)) store c.relength_node-answer.new.self (k - 1))) many
+    (subst (λ (n : NodeShape). OnOk c.relength_node-answer.result (ChangesNode (IsRefitted c.args.lengths.now (count_of n.chunk)) store c.relength_node-answer.new.self last)) same fitted)
 
 pub returns-clause-keeps : goal.returns-clause-keeps
 returns-clause-keeps c =
@@ -78,8 +78,8 @@ returns-clause-keeps c =
     read_as c.as_slice.result.now store.shape.nodes last c.index-as_slice-last.result at.0
     (c.as_slice.ensures ∙ ap (λ (s : Shape). s.nodes) c.shape.ensures.value ∙ ap (λ (s : StoreWords). s.shape.nodes) c.self.view_is) c.index-as_slice-last.is at.2.at in
     let chunk : c.chunk_of-chunk.result ≡ count_of at.0.chunk = c.chunk_of-chunk.ensures ∙ ap (λ (n : NodeShape). count_of n.chunk) node_is in
-    let fitted : OnOk c.relength_node-answer.result (ChangesNode (IsFitted c.args.lengths.now (count_of at.0.chunk)) store c.relength_node-answer.new.self last) =
-    subst (λ k. OnOk c.relength_node-answer.result (ChangesNode (IsFitted c.args.lengths.now k) store c.relength_node-answer.new.self last)) chunk c.relength_node-answer.ensures.fitted in
+    let fitted : OnOk c.relength_node-answer.result (ChangesNode (IsRefitted c.args.lengths.now (count_of at.0.chunk)) store c.relength_node-answer.new.self last) =
+    subst (λ k. OnOk c.relength_node-answer.result (ChangesNode (IsRefitted c.args.lengths.now k) store c.relength_node-answer.new.self last)) chunk c.relength_node-answer.ensures.fitted in
     on_ok_map c.relength_node-answer.result
     (λ changed. lemmas.lengths_keep store c.relength_node-answer.new.self (length store.shape.nodes) last at.0 at.1 c.args.lengths.now at.2 (c.rules_decide.ensures.accepted store.shape) at.3 c.requires.can changed)
     fitted
@@ -94,8 +94,8 @@ returns-clause-opened c =
     read_as c.as_slice.result.now store.shape.nodes last c.index-as_slice-last.result at.0
     (c.as_slice.ensures ∙ ap (λ (s : Shape). s.nodes) c.shape.ensures.value ∙ ap (λ (s : StoreWords). s.shape.nodes) c.self.view_is) c.index-as_slice-last.is at.2.at in
     let chunk : c.chunk_of-chunk.result ≡ count_of at.0.chunk = c.chunk_of-chunk.ensures ∙ ap (λ (n : NodeShape). count_of n.chunk) node_is in
-    let fitted : OnOk c.relength_node-answer.result (ChangesNode (IsFitted c.args.lengths.now (count_of at.0.chunk)) store c.relength_node-answer.new.self last) =
-    subst (λ k. OnOk c.relength_node-answer.result (ChangesNode (IsFitted c.args.lengths.now k) store c.relength_node-answer.new.self last)) chunk c.relength_node-answer.ensures.fitted in
+    let fitted : OnOk c.relength_node-answer.result (ChangesNode (IsRefitted c.args.lengths.now (count_of at.0.chunk)) store c.relength_node-answer.new.self last) =
+    subst (λ k. OnOk c.relength_node-answer.result (ChangesNode (IsRefitted c.args.lengths.now k) store c.relength_node-answer.new.self last)) chunk c.relength_node-answer.ensures.fitted in
     on_ok_map c.relength_node-answer.result
     (λ changed wanted below new. lemmas.lengths_open store c.relength_node-answer.new.self (length store.shape.nodes) last at.0 at.1 c.args.lengths.now wanted at.2
     (c.paths_tell.ensures.is_slot store.shape) (c.rules_decide.ensures.accepted store.shape) at.3 c.requires.can changed below new)

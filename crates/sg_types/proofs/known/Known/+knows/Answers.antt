@@ -1,19 +1,19 @@
 use Rattle.std.proofs.Common.{◌∙◌, sym, ap, true}
 use Rattle.std.specs.List.{list_all}
 use Rattle.sg_types.specs.Expressions.{knows}
-use Rattle.sg_types.specs.steps.Views.{known_of}
+use Rattle.sg_types.specs.steps.Views.{known_view}
 use Rattle.sg_types.proofs.ExprWords.{knows_read, knows_call}
 use Rattle.sg_types.proofs.known.Known.+knows.Goals as goal
 
 pub knows-returns-then-has_field : goal.knows-returns-then-has_field
 knows-returns-then-has_field t c =
-    let known = known_of c.args.self.now in
+    let known = known_view c.args.self.now in
     knows_read known c.args.scope.now c.in-Read.field c.in-Read.index c.args.expr.now c.in-Read.is true c.knows_all.result
     (sym c.if-has_field.true ∙ c.has_field.ensures)
     (c.knows_all.ensures ∙ ap (list_all (knows known c.args.scope.now)) c.as_slice.ensures)
 
 pub knows-returns-in-Call : goal.knows-returns-in-Call
 knows-returns-in-Call t c =
-    let known = known_of c.args.self.now in
+    let known = known_view c.args.self.now in
     knows_call known c.args.scope.now c.in-Call.callee c.in-Call.args c.args.expr.now c.in-Call.is c.knows_all-in-Call.result
     (c.knows_all-in-Call.ensures ∙ ap (list_all (knows known c.args.scope.now)) c.as_slice-in-Call.ensures)

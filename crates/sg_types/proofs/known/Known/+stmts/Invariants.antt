@@ -1,7 +1,7 @@
 use Rattle.std.proofs.Common.{◌≡◌, ◌+◌, ◌*◌, drop, map}
 use Rattle.sg_types.specs.Statements.{in_turn, typed_stmt}
 use Rattle.sg_types.specs.Counting.{stmt_count, block_count, else_count}
-use Rattle.sg_types.specs.steps.Views.{known_of, reached_of, HasRoom}
+use Rattle.sg_types.specs.steps.Views.{known_view, reached_of, HasRoom}
 use Rattle.sg_types.proofs.Turns.{after}
 use Rattle.sg_types.proofs.known.Known.+stmts.Given as goal
 
@@ -26,7 +26,7 @@ decreases-for_stmt l = 8 * block_count l.body.now + 5
 -- the statements so far, and those that are left from where typing has come to, are those of the block; and there is room for them
 abbrev pub invariant-stmts-loop-stmt : goal.invariant-stmts-loop-stmt
 invariant-stmts-loop-stmt l = record {
-  value : after l.typed (in_turn (map (typed_stmt (known_of l.self)) (drop l.stmt-index l.block)) (reached_of l.at))
-      ≡ in_turn (map (typed_stmt (known_of l.self)) l.block) (reached_of l.fn.at);
+  value : after l.typed (in_turn (map (typed_stmt (known_view l.self)) (drop l.stmt-index l.block)) (reached_of l.at))
+      ≡ in_turn (map (typed_stmt (known_view l.self)) l.block) (reached_of l.fn.at);
   room : HasRoom (reached_of l.at) (block_count (drop l.stmt-index l.block));
 }

@@ -1,6 +1,6 @@
 use Rattle.std.proofs.Common.{Some, ap, sym, ◌∙◌}
-use Rattle.sparsegrid.proofs.Bound.{found_here, not_here}
-use Rattle.sparsegrid.proofs.unbound.file_bound.Goals as goal
+use Rattle.sg_session.proofs.BoundFiles.{found_here, not_here}
+use Rattle.sg_session.proofs.binds.file_bound.Goals as goal
 
 pub returns-then-is : goal.returns-then-is
 returns-then-is c =

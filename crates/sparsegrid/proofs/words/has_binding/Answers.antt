@@ -1,6 +1,6 @@
 use Rattle.std.proofs.Common.{sym, ◌∙◌}
 use Rattle.sparsegrid.proofs.Cuts.{bound_there}
-use Rattle.sparsegrid.proofs.words.is_bound.Goals as goal
+use Rattle.sparsegrid.proofs.words.has_binding.Goals as goal
 
 pub returns-then-is : goal.returns-then-is
 returns-then-is c =
