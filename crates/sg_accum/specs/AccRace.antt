@@ -23,9 +23,11 @@ IsEntry acc.Add n = Unit {0}
 IsEntry acc.Min n = n < 2 ^ 32
 IsEntry acc.Max n = n < 2 ^ 32
 
+-- each word stands for a cell: for sums any words do, and for least and greatest they are ranks, below 2 ^ 32
 abbrev pub AreEntries : AccOp → List ℕ → Type 0
 AreEntries op words = (c : ℕ) → IsEntry op (slice_index words c)
 
+-- the setting of a race for cells alone: the values at the start, into which contributions go by the pass's operator and type
 abbrev pub setting_of : Start → Setting
 setting_of start = record {
   slots = [];
@@ -44,6 +46,7 @@ setting_of start = record {
   told = [];
 }
 
+-- the state of the race in which the cells are those for which words stand, these are the workers, and there is nothing else
 abbrev pub race_of : Start → List ℕ → List Worker → Race
 race_of start words views = record { slots = []; keys = []; masks = []; lengths = []; cells = map (cell_of start.op start.ty) words; counts = []; workers = views }
 

@@ -14,9 +14,11 @@ use Rattle.sg_accum.specs.declared.seat.AccPass.{AccPass}
 abbrev pub old_values : AccPass → List ℕ
 old_values p = p.start.values
 
+-- whether a pass leaves the sum, in 32 bits, the least or the greatest of a cell's old value and the contributions to it
 abbrev pub operator_of : AccPass → AccOp
 operator_of p = p.start.op
 
+-- the type of a pass's values, by which the lesser and the greater of two words are told
 abbrev pub type_of : AccPass → Ty
 type_of p = p.start.ty
 

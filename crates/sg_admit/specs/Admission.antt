@@ -28,6 +28,7 @@ abbrev pub first_fault : Facts → List Line → Option AdmitFault
 first_fault facts [] = None
 first_fault facts (line ∷ lines) = option_or (line_fault facts line) (first_fault facts lines)
 
+-- a statement is the inner loop of this variable; the kernel's own loop is never one
 abbrev pub turns_var : ℕ → Deed → Bool
 turns_var var (Sets other value) = false
 turns_var var (Writes layout place index way value) = false

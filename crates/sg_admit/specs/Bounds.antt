@@ -29,6 +29,7 @@ constant_step (f.Convert inner) = inner
 abbrev pub is_constant : TypedExpr → Bool
 is_constant = fold-TypedExpr Bool Bool constant_step (λ expr. expr.form)
 
+-- a range of which both bounds are constant
 abbrev pub is_constant_range : TypedRange → Bool
 is_constant_range range = is_constant range.lo && is_constant range.hi
 

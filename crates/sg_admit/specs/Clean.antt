@@ -27,6 +27,7 @@ clean_step unclean (f.Convert inner) = inner
 abbrev pub is_clean : Unclean → TypedExpr → Bool
 is_clean unclean = fold-TypedExpr Bool Bool (clean_step unclean) (λ expr. expr.form)
 
+-- a statement by itself writes the field at this place of this layout
 abbrev pub deed_writes : ℕ → ℕ → Deed → Bool
 deed_writes layout place (Sets var value) = false
 deed_writes layout place (Writes at_layout at_place index way value) = (at_layout == layout) && (at_place == place)
@@ -52,6 +53,7 @@ givings_of around (Tests condition) = []
 givings_of around (Turns var range) = record { var = var; hangs_on = around.conditions } ∷ []
 givings_of around (Opens ranges) = []
 
+-- where the lines give a variable a word, in order; the variables of the kernel's own loop are given by none
 abbrev pub givings : List Line → List Giving
 givings lines = flat_map (λ line. givings_of line.around line.deed) lines
 
@@ -59,6 +61,7 @@ givings lines = flat_map (λ line. givings_of line.around line.deed) lines
 abbrev pub unclean_with : (ℕ → ℕ → Bool) → List ℕ → Unclean
 unclean_with fields dirty = record { fields = fields; vars = λ var. list_any (λ it. it == var) dirty }
 
+-- all that a giving hangs on is clean; true where it hangs on nothing
 abbrev pub is_clean_giving : Unclean → Giving → Bool
 is_clean_giving unclean giving = list_all (is_clean unclean) giving.hangs_on
 

@@ -81,6 +81,7 @@ Says kernel (Ok kept) = (kept ≡ kept_of kernel) × (AllByRecursion (KeepsAll (
 Says kernel (Err BoxTooLarge) = AllByRecursion (KeepsAll (facts_of kernel)) (kernel_lines kernel) × (most_box_points < box_size (constant_domain kernel))
 Says kernel (Err (Rule stmt rule)) = IsFirstBroken (facts_of kernel) (kernel_lines kernel) stmt rule
 
+-- every answer of admission is true; a rule that it names is the smallest that the first line to break any breaks
 abbrev pub FaultsAreFirst : Type 0
 FaultsAreFirst = (kernel : TypedKernel) → Says kernel (admission kernel)
 

@@ -30,15 +30,19 @@ pub record Line : Type 0 where
   pub around : Around
   pub deed : Deed
 
+-- what stands round the kernel's loop and the statements right in its body: no `if` and no inner loop
 abbrev pub nothing_round : Around
 nothing_round = record { conditions = []; ranges = [] }
 
+-- what stands round the statements in either block of an `if`, by its condition and what stands round it
 abbrev pub within_if : TypedExpr → Around → Around
 within_if condition around = record { conditions = condition ∷ around.conditions; ranges = around.ranges }
 
+-- what stands round the statements in an inner loop, by its range and what stands round it
 abbrev pub within_loop : TypedRange → Around → Around
 within_loop range around = record { conditions = around.conditions; ranges = range ∷ around.ranges }
 
+-- the line of a statement that has this number, stands in these and does this
 abbrev pub line_of : ℕ → Around → Deed → Line
 line_of number around deed = record { number = number; around = around; deed = deed }
 
@@ -60,6 +64,7 @@ line_step (k.For var range body) number around = line_of number around (Turns va
 abbrev pub stmt_lines : TypedStmt → Around → List Line
 stmt_lines = fold-TypedStmt (ℕ → Around → List Line) (Around → List Line) line_step (λ stmt. stmt.kind stmt.number)
 
+-- the lines of the statements of a block, each with those of the statements in it right behind
 abbrev pub block_lines : List TypedStmt → Around → List Line
 block_lines block = lines_round (map stmt_lines block)
 

@@ -22,9 +22,11 @@ pub record Guard : Type 0 where
   pub is_cell : Bool
   pub is_guarded : Bool
 
+-- an expression that is none of these
 abbrev pub no_guard : Guard
 no_guard = record { name = None; is_zero = false; is_cell = false; is_guarded = false }
 
+-- an operator makes a guarded expression: the own cell `!=` the literal 0, in this order, or `&&` where the left operand is guarded
 abbrev pub bin_guard : BinOp → Guard → Guard → Bool
 bin_guard bin.Ne left right = left.is_cell && right.is_zero
 bin_guard bin.LAnd left right = left.is_guarded
@@ -43,6 +45,7 @@ guard_step walked vars (f.Bin op left right) = record { name = None; is_zero = f
 guard_step walked vars (f.Mulq a b s) = no_guard
 guard_step walked vars (f.Convert inner) = no_guard
 
+-- what an expression is in a kernel that walks this layout with so many variables
 abbrev pub guard_of : ℕ → ℕ → TypedExpr → Guard
 guard_of walked vars = fold-TypedExpr Guard Guard (guard_step walked vars) (λ expr. expr.form)
 
@@ -60,6 +63,7 @@ is_guarded_body walked vars [] = false
 is_guarded_body walked vars (stmt ∷ []) = is_guard walked vars (out-TypedKind stmt.kind)
 is_guarded_body walked vars (stmt ∷ other ∷ more) = false
 
+-- a kernel whose loop goes over this domain is neutral: always over a box, over a layout where its body is so guarded
 abbrev pub is_neutral_over : TypedKernel → TypedDomain → Bool
 is_neutral_over kernel (domain.Walk layout) = is_guarded_body layout kernel.vars kernel.body
 is_neutral_over kernel (domain.Ranges ranges) = true

@@ -18,6 +18,7 @@ use Rattle.sg_admit.specs.Bounds.{is_constant_range, turns_of, turns_over}
 
 -- ---- how fields are written
 
+-- the field that a statement by itself writes, with the way; none where it isn't a write
 abbrev pub deed_ways : Deed → List FieldWay
 deed_ways (Sets var value) = []
 deed_ways (Writes layout place index way value) = record { layout = layout; place = place; way = way } ∷ []
@@ -29,6 +30,7 @@ deed_ways (Opens ranges) = []
 abbrev pub ways_in : List Line → List FieldWay
 ways_in lines = flat_map (λ line. deed_ways line.deed) lines
 
+-- a write is one of the field at this place of this layout
 abbrev pub is_of_field : ℕ → ℕ → FieldWay → Bool
 is_of_field layout place it = (it.layout == layout) && (it.place == place)
 
@@ -40,6 +42,7 @@ first_way ways layout place = option_map (λ it. it.way) (find (is_of_field layo
 abbrev pub has_own : List FieldWay → ℕ → ℕ → Bool
 has_own ways layout place = list_any (λ it. is_of_field layout place it && is_own it.way) ways
 
+-- a field is accumulated by one of the writes
 abbrev pub has_acc : List FieldWay → ℕ → ℕ → Bool
 has_acc ways layout place = list_any (λ it. is_of_field layout place it && not (is_own it.way)) ways
 
@@ -53,6 +56,7 @@ pub record Facts : Type 0 where
   pub walked : Option ℕ
   pub unclean : Unclean
 
+-- what the rules look at of a kernel, all of it known from its text
 abbrev pub facts_of : TypedKernel → Facts
 facts_of kernel = record {
   first = first_way (ways_in (kernel_lines kernel));
@@ -81,6 +85,7 @@ name_step (f.Convert inner) = None
 abbrev pub name_of : TypedExpr → Option ℕ
 name_of = fold-TypedExpr (Option ℕ) (Option ℕ) name_step (λ expr. expr.form)
 
+-- the bare name is that of this variable; false where there is no bare name
 abbrev pub is_name_of : ℕ → Option ℕ → Bool
 is_name_of var None = false
 is_name_of var (Some name) = name == var
@@ -107,12 +112,15 @@ seen_step vars good (f.Bin op left right) = (None, left.1 && right.1)
 seen_step vars good (f.Mulq a b s) = (None, a.1 && (b.1 && s.1))
 seen_step vars good (f.Convert inner) = (None, inner.1)
 
+-- the variable that an expression is the bare name of, or none, and whether each read in it is good
 abbrev pub reads_in : ℕ → (ℕ → ℕ → Bool → Bool) → TypedExpr → SeenPart
 reads_in vars good = fold-TypedExpr SeenPart SeenPart (seen_step vars good) (λ expr. expr.form)
 
+-- each read in an expression is good, those in indices too; true where it reads no field
 abbrev pub has_good_reads : ℕ → (ℕ → ℕ → Bool → Bool) → TypedExpr → Bool
 has_good_reads vars good expr = (reads_in vars good expr).1
 
+-- the bounds of a range, the lower and then the upper
 abbrev pub range_exprs : TypedRange → List TypedExpr
 range_exprs range = range.lo ∷ range.hi ∷ []
 
@@ -126,6 +134,7 @@ deed_exprs (Opens ranges) = flat_map range_exprs ranges
 
 -- ---- the rules
 
+-- a write has the way in which its field is written first, or there is no such way
 abbrev pub is_first : Option Way → Way → Bool
 is_first None way = true
 is_first (Some first) way = same_way first way
@@ -154,6 +163,7 @@ is_own_read facts layout place named = not (facts.own layout place) || named
 abbrev pub is_unaccumulated : Facts → ℕ → ℕ → Bool → Bool
 is_unaccumulated facts layout place named = not (facts.acc layout place)
 
+-- each read in the expressions of a statement is good, without those of the statements in it
 abbrev pub are_good_reads : Facts → (ℕ → ℕ → Bool → Bool) → Deed → Bool
 are_good_reads facts good deed = list_all (has_good_reads facts.vars good) (deed_exprs deed)
 

@@ -21,6 +21,7 @@ abbrev pub walked_by : TypedDomain → Option ℕ
 walked_by (domain.Walk layout) = Some layout
 walked_by (domain.Ranges ranges) = None
 
+-- the kernel's loop walks this layout; false where it goes over a box
 abbrev pub is_walked : Option ℕ → ℕ → Bool
 is_walked None layout = false
 is_walked (Some walked) layout = walked == layout
@@ -33,6 +34,7 @@ may_activate walked layout way = not (is_own way && is_walked walked layout)
 abbrev pub no_value : TypedExpr → TypedExpr
 no_value value = record { ty = value.ty; form = form.Literal 0 }
 
+-- the statement of this number and kind; one in a slice has the number of the kernel's statement that it stands for
 abbrev pub stmt_of : ℕ → TypedKind → TypedStmt
 stmt_of number kind = record { number = number; kind = kind }
 
@@ -40,6 +42,7 @@ stmt_of number kind = record { number = number; kind = kind }
 abbrev pub stmt_if : Bool → TypedStmt → List TypedStmt
 stmt_if kept stmt = if kept then stmt ∷ [] else []
 
+-- what is kept of statements one after the other, as one block
 abbrev pub in_line : List (List TypedStmt) → List TypedStmt
 in_line = flat_map (λ stmts. stmts)
 
@@ -58,6 +61,7 @@ slice_step walked unclean (k.For var range body) number = stmt_of number (kind.F
 abbrev pub stmt_slice : Option ℕ → Unclean → TypedStmt → List TypedStmt
 stmt_slice walked unclean = fold-TypedStmt (ℕ → List TypedStmt) (List TypedStmt) (slice_step walked unclean) (λ stmt. stmt.kind stmt.number)
 
+-- what is kept of a block, in its order
 abbrev pub block_slice : Option ℕ → Unclean → List TypedStmt → List TypedStmt
 block_slice walked unclean block = in_line (map (stmt_slice walked unclean) block)
 

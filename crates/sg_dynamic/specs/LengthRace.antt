@@ -5,6 +5,7 @@ use Rattle.sg_words.specs.declared.race.Worker.{Worker}
 use Rattle.sg_words.specs.RaceMachine.{Setting, Race, newcomer, after_raise}
 use Rattle.sg_words.specs.RaceInvariant.{MeetsRaceInvariant}
 
+-- the setting of a race for lengths alone: those at the start, no stock of numbers, and nothing that workers are told
 abbrev pub setting_of : List ℕ → Setting
 setting_of start = record {
   slots = [];
@@ -23,6 +24,7 @@ setting_of start = record {
   told = [];
 }
 
+-- the state of the race in which these are the lengths and the workers, and there is nothing else
 abbrev pub race_of : List ℕ → List Worker → Race
 race_of words views = record { slots = []; keys = []; masks = []; lengths = words; cells = []; counts = []; workers = views }
 

@@ -3,6 +3,7 @@ use Rattle.std.specs.List.{list_all, range_with_len}
 
 -- The words of a field are seen as a list of rows with their words, in rising order of the rows, where no word is 0.
 
+-- no row in the list has the word 0
 abbrev pub has_no_zero : List (ℕ × ℕ) → Bool
 has_no_zero words = list_all (λ entry. not (entry.1 == 0)) words
 

@@ -10,6 +10,7 @@ use Rattle.sg_words.specs.steps.RaceSteps.{after_look, after_try}
 use Rattle.sg_hash.specs.steps.Searching.{after_look_key, TellKeys}
 use Rattle.sg_hash.specs.declared.rule.Start.{Start}
 
+-- the setting of a race for keys and the slots beside them, of one node; each worker is told how long the stock is, and how many places there are
 abbrev pub setting_of : Start → Setting
 setting_of start = record {
   slots = start.links;
@@ -28,6 +29,7 @@ setting_of start = record {
   told = length start.stock ∷ length start.links ∷ [];
 }
 
+-- the state of the race for which words stand: as many slots as links at the start, as many keys, then the count, and the workers
 abbrev pub race_of : Start → List ℕ → List Worker → Race
 race_of start words views = record {
   slots = take (length start.links) words;

@@ -10,6 +10,7 @@ use Rattle.sg_hash.specs.declared.seat.HashPass.{HashPass}
 abbrev pub old_links : HashPass → List ℕ
 old_links p = p.start.links
 
+-- the numbers for new links with which a pass started: ticket t stands for the one at place t
 abbrev pub stock_of : HashPass → List ℕ
 stock_of p = p.start.stock
 
@@ -17,6 +18,7 @@ stock_of p = p.start.stock
 abbrev pub worker_of : HashSeat → Worker
 worker_of s = s.seat.me.0
 
+-- the key words with which a pass started: 0 where a place was empty, else one more than its key
 abbrev pub old_keys : HashPass → List ℕ
 old_keys p = p.start.keys
 

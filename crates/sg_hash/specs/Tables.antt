@@ -6,6 +6,7 @@ use Rattle.std.specs.Prelude.{◌≡◌, ◌≢◌, ℕ, ◌+◌, ◌-◌, ◌<�
 abbrev pub place : ℕ → ℕ → ℕ → ℕ
 place places key turn = (key + turn) % places
 
+-- a key word whose place isn't empty, and holds another key than this one
 abbrev pub HoldsOther : ℕ → ℕ → Type 0
 HoldsOther word key = (word ≢ 0) × (word ≢ key + 1)
 

@@ -73,5 +73,6 @@ link regs = fold-Inst Link (link_step regs)
 abbrev pub block_of : List Ty → List Inst → Block
 block_of regs insts = chained (map (link regs) insts) End
 
+-- the chain of a code's body, where the types of its registers say which constants are truth values
 abbrev pub block_in : Code → Block
 block_in code = block_of code.regs code.body

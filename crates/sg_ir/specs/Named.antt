@@ -14,6 +14,7 @@ use Rattle.sg_ir.specs.Places.{place_at}
 abbrev pub IsNamedAccess : List Shape → Access → Type 0
 IsNamedAccess shapes access = access.place ≡ place_at shapes access.layout access.at
 
+-- each of these accesses had the place of the coordinate that its index registers named
 abbrev pub AreNamed : List Shape → List Access → Type 0
 AreNamed shapes accesses = All (IsNamedAccess shapes) accesses
 

@@ -63,21 +63,27 @@ pub record Moved : Type 0 where
 abbrev pub put : {A : Type 0} → ℕ → A → (ℕ → A) → ℕ → A
 put to new old other = if other == to then new else old other
 
+-- how far a run has come once this register holds this word; all else is as it was
 abbrev pub set_reg : ℕ → ℕ → Moved → Moved
 set_reg to word now = record { regs = put to word now.regs; places = now.places; vars = now.vars; writes = now.writes; wants = now.wants; accesses = now.accesses }
 
+-- how far a run has come once this place is that one, or none; all else is as it was
 abbrev pub set_place : ℕ → Option Place → Moved → Moved
 set_place to place now = record { regs = now.regs; places = put to place now.places; vars = now.vars; writes = now.writes; wants = now.wants; accesses = now.accesses }
 
+-- how far a run has come once this variable has this word; all else is as it was
 abbrev pub set_var_word : ℕ → ℕ → Moved → Moved
 set_var_word var word now = record { regs = now.regs; places = now.places; vars = put var word now.vars; writes = now.writes; wants = now.wants; accesses = now.accesses }
 
+-- how far a run has come once it has told this write too, behind those so far; all else is as it was
 abbrev pub add_code_write : CodeWrite → Moved → Moved
 add_code_write write now = record { regs = now.regs; places = now.places; vars = now.vars; writes = now.writes ++ write ∷ []; wants = now.wants; accesses = now.accesses }
 
+-- how far a run has come once it has told this want too, behind those so far; all else is as it was
 abbrev pub add_want : CodeWant → Moved → Moved
 add_want want now = record { regs = now.regs; places = now.places; vars = now.vars; writes = now.writes; wants = now.wants ++ want ∷ []; accesses = now.accesses }
 
+-- how far a run has come once it has told this access too, behind those so far; all else is as it was
 abbrev pub add_access : Access → Moved → Moved
 add_access access now = record { regs = now.regs; places = now.places; vars = now.vars; writes = now.writes; wants = now.wants; accesses = now.accesses ++ access ∷ [] }
 
@@ -103,6 +109,7 @@ abbrev pub node_in : List NodeShape → ℕ → Option NodeShape
 node_in nodes zero = None
 node_in nodes (suc before) = slice_get nodes before
 
+-- the node with this number, from 1, of the layout with that number, counted from 0; none where either isn't there
 abbrev pub node_of : List Shape → ℕ → ℕ → Option NodeShape
 node_of shapes layout number = option_and_then (λ (shape : Shape). node_in shape.nodes number) (slice_get shapes layout)
 
@@ -134,6 +141,7 @@ is_own (Acc op) = false
 abbrev pub own_write : ℕ → ℕ → List CodeWrite → Option CodeWrite
 own_write layout field writes = find (λ write. is_own write.way && ((write.layout == layout) && (write.field == field))) (reverse writes)
 
+-- the value of an own write, or the given value where there is no such write
 abbrev pub value_or_own : Option CodeWrite → ℕ → ℕ
 value_or_own None value = value
 value_or_own (Some write) value = write.value

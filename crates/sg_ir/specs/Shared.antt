@@ -13,6 +13,7 @@ use Rattle.sg_ir.specs.Span.{sets}
 abbrev pub same_op : Op → Op → Bool
 same_op = (op_eq.eq-value).it
 
+-- two steps are of one kind with the same numbers, whatever places they set
 abbrev pub same_step : Step → Step → Bool
 same_step = (step_eq.eq-value).it
 

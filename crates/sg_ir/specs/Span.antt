@@ -16,6 +16,7 @@ use Rattle.sg_ir.specs.declared.op.Op.TheVariants as op
 use Rattle.sg_ir.specs.Places.{extents_in}
 use Rattle.sg_ir.specs.Blocks.{Block, End, Word, Spot, Cell, Do, Branch, Loop, Act, SetVar, WriteOwn, Contribute, Wish}
 
+-- one number and no other
 abbrev pub only : ℤ → Span
 only z = record { lo = z; hi = z }
 
@@ -31,9 +32,11 @@ fits_i32 z = int_le (negsuc 2147483647) z && int_le z (pos 2147483647)
 abbrev pub cut_to_i32 : ℤ → ℤ → Span
 cut_to_i32 lo hi = if fits_i32 lo && fits_i32 hi then record { lo = lo; hi = hi } else whole_i32
 
+-- the one of two numbers that is not above the other
 abbrev pub lesser_of : ℤ → ℤ → ℤ
 lesser_of a b = if int_le a b then a else b
 
+-- the one of two numbers that is not below the other
 abbrev pub greater_of : ℤ → ℤ → ℤ
 greater_of a b = if int_le a b then b else a
 
@@ -66,9 +69,11 @@ abbrev pub held : Span → List (ℕ × Span) → ℕ → Span
 held other [] key = other
 held other (entry ∷ entries) key = if key == entry.0 then entry.1 else held other entries key
 
+-- where a register's word lies: in all of I32 where the register isn't set here or in a block round here
 abbrev pub reg_span : Spans → ℕ → Span
 reg_span spans r = held whole_i32 spans.regs r
 
+-- where a variable's word lies: in the numbers of the innermost loop round here with this variable, or by `others` where none is
 abbrev pub var_span : Spans → ℕ → Span
 var_span spans var = held (spans.others var) spans.loops var
 
@@ -88,6 +93,7 @@ op_span spans (op.OwnRead layout field) = whole_i32
 abbrev pub with_span : ℕ → Span → Spans → Spans
 with_span to span spans = record { regs = (to, span) ∷ spans.regs; loops = spans.loops; others = spans.others }
 
+-- what is known in the body of an inner loop, whose variable has the numbers from `lo` up to below `hi`
 abbrev pub in_loop : ℕ → ℤ → ℤ → Spans → Spans
 in_loop var lo hi spans = record { regs = spans.regs; loops = (var, range_span lo hi) ∷ spans.loops; others = spans.others }
 
@@ -116,6 +122,7 @@ abbrev pub walk_span : Option Shape → ℕ → Span
 walk_span None var = whole_i32
 walk_span (Some shape) var = extent_span (get_or (extents_in (bounds_of_shape shape)) var 1)
 
+-- the parts on an axis of a box from `lo` up to below `hi`; 0 alone past its axes, and where it has none
 abbrev pub box_span : Coord → Coord → ℕ → Span
 box_span lo hi zero = if nat_le 1 lo.n then range_span lo.a hi.a else only (pos 0)
 box_span lo hi (suc zero) = if nat_le 2 lo.n then range_span lo.b hi.b else only (pos 0)

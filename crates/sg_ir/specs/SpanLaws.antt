@@ -87,6 +87,7 @@ StateIsWords seen = (layout field : ℕ) (at : Coord) → IsWord (flat.value_of 
 abbrev pub RoomFits : Spans → Room → Type 0
 RoomFits spans room = (r : ℕ) → Lies (reg_span spans r) (room.regs r)
 
+-- at a moment each variable's word lies in its span, and each value written so far is a word
 pub record FitsSpans (spans : Spans) (now : RunMoment) : Type 0 where
   pub vars : (var : ℕ) → Lies (var_span spans var) (now.vars var)
   pub writes : All (λ (write : CodeWrite). IsWord write.value) now.writes

@@ -21,6 +21,7 @@ ty_text ty.I32 = codes "i32"
 ty_text ty.U32 = codes "u32"
 ty_text ty.Bool = codes "bool"
 
+-- the name of an operator on two registers
 abbrev pub bin_text : BinOp → List ℕ
 bin_text bin.Add = codes "add"
 bin_text bin.Sub = codes "sub"
@@ -43,11 +44,13 @@ bin_text bin.Le = codes "le"
 bin_text bin.Gt = codes "gt"
 bin_text bin.Ge = codes "ge"
 
+-- the name of an operator on one register
 abbrev pub un_text : UnOp → List ℕ
 un_text un.Neg = codes "neg"
 un_text un.Not = codes "not"
 un_text un.LNot = codes "lnot"
 
+-- the name of an operator that contributions accumulate by
 abbrev pub acc_text : AccOp → List ℕ
 acc_text acc.Add = codes "add"
 acc_text acc.Min = codes "min"
@@ -57,12 +60,15 @@ acc_text acc.Max = codes "max"
 abbrev pub reg : ℕ → List ℕ
 reg r = 114 ∷ decimal r
 
+-- a place: `p` and its number in decimal
 abbrev pub place_text : ℕ → List ℕ
 place_text p = 112 ∷ decimal p
 
+-- a number in decimal behind a space
 abbrev pub then_number : ℕ → List ℕ
 then_number n = 32 ∷ decimal n
 
+-- a register behind a space
 abbrev pub then_reg : ℕ → List ℕ
 then_reg r = 32 ∷ reg r
 
@@ -74,12 +80,15 @@ index_text index = flat_map then_reg index
 abbrev pub Lines : Type 0
 Lines = List ℕ → List ℕ
 
+-- one line: its indent, its text and the line feed that ends it
 abbrev pub line : List ℕ → List ℕ → List ℕ
 line indent text = indent ++ text ++ 10 ∷ []
 
+-- the indent of what stands inside an `if` or a `for`: two spaces more
 abbrev pub deeper : List ℕ → List ℕ
 deeper indent = indent ++ codes "  "
 
+-- the lines of several instructions, one after the other, at the same indent
 abbrev pub all_lines : List Lines → Lines
 all_lines lines indent = flat_map (λ (one : Lines). one indent) lines
 
@@ -91,27 +100,35 @@ step_line name to from node offset = place_text to ++ codes " = " ++ name ++ 32 
 abbrev pub bin_line : ℕ → BinOp → Ty → ℕ → ℕ → List ℕ
 bin_line to op given a b = reg to ++ codes " = " ++ bin_text op ++ 32 ∷ ty_text given ++ then_reg a ++ then_reg b
 
+-- an `extract` without indent: the register that is set, what is divided by, the size, and the register that it's taken from
 abbrev pub extract_line : List ℕ → ℕ → ℕ → ℕ → ℕ → List ℕ
 extract_line name to div size from = reg to ++ codes " = " ++ name ++ then_number div ++ then_number size ++ then_reg from
 
+-- an `offset` without indent: the register that is set, the high part's register, the size, and the low part's register
 abbrev pub offset_line : List ℕ → ℕ → ℕ → ℕ → ℕ → List ℕ
 offset_line name to high size low = reg to ++ codes " = " ++ name ++ then_reg high ++ then_number size ++ then_reg low
 
+-- an own read without indent: the register that is set, the layout and the field
 abbrev pub own_read_line : List ℕ → ℕ → ℕ → ℕ → List ℕ
 own_read_line name to layout field = reg to ++ codes " = " ++ name ++ then_number layout ++ then_number field
 
+-- an own write without indent: the layout, the field and the value's register; the number of its statement isn't in the text
 abbrev pub own_write_line : ℕ → ℕ → ℕ → List ℕ
 own_write_line layout field from = codes "ownwrite" ++ then_number layout ++ then_number field ++ then_reg from
 
+-- an operator on one register without indent: the register that is set, the operator, its type and that one
 abbrev pub un_line : ℕ → UnOp → Ty → ℕ → List ℕ
 un_line to op given a = reg to ++ codes " = " ++ un_text op ++ 32 ∷ ty_text given ++ then_reg a
 
+-- a read of a cell without indent: the register that is set, the place, the layout, the field and the index registers
 abbrev pub read_line : ℕ → ℕ → ℕ → ℕ → List ℕ → List ℕ
 read_line to from layout field index = reg to ++ codes " = read " ++ place_text from ++ then_number layout ++ then_number field ++ index_text index
 
+-- a contribution without indent: operator, layout, field, place, value's register, index registers; its statement isn't in the text
 abbrev pub acc_line : AccOp → ℕ → ℕ → ℕ → ℕ → List ℕ → List ℕ
 acc_line op layout field from value index = codes "acc " ++ acc_text op ++ then_number layout ++ then_number field ++ 32 ∷ place_text from ++ then_reg value ++ index_text index
 
+-- a want without indent: the layout and the index registers; the number of its statement isn't in the text
 abbrev pub want_line : ℕ → List ℕ → List ℕ
 want_line layout index = codes "want" ++ then_number layout ++ index_text index
 
@@ -119,9 +136,11 @@ want_line layout index = codes "want" ++ then_number layout ++ index_text index
 abbrev pub else_lines : List ℕ → Lines
 else_lines lines indent = line indent (codes "else") ++ lines ++ line indent (codes "end")
 
+-- the lines of an `if`: its condition's register, the block, `else` (also where nothing follows it), the other block, and `end`
 abbrev pub if_lines : ℕ → Lines → Lines → Lines
 if_lines cond block otherwise indent = line indent (codes "if" ++ then_reg cond) ++ block (deeper indent) ++ else_lines (otherwise (deeper indent)) indent
 
+-- the lines of a `for`: its variable, the number that it starts at, the one that it stops below, the body, and `end`
 abbrev pub for_lines : ℕ → ℤ → ℤ → Lines → Lines
 for_lines var lo hi body indent =
     line indent (codes "for" ++ then_number var ++ 32 ∷ signed_decimal lo ++ 32 ∷ signed_decimal hi) ++ body (deeper indent) ++ line indent (codes "end")
@@ -154,6 +173,7 @@ text_step (i.For var lo hi body) indent = for_lines var lo hi (all_lines body) i
 abbrev pub inst_text : Inst → Lines
 inst_text = fold-Inst Lines text_step
 
+-- the lines of a block, an instruction after the other
 abbrev pub block_text : List Inst → Lines
 block_text block = all_lines (map inst_text block)
 

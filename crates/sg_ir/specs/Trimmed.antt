@@ -25,6 +25,7 @@ pub record AxisCheck : Type 0 where
 abbrev pub Ways : Type 0
 Ways = List (ℕ × List AxisCheck)
 
+-- the checks that a place has passed, in order; none for a place of which nothing is known
 abbrev pub way_to : Ways → ℕ → List AxisCheck
 way_to [] place = []
 way_to (way ∷ ways) place = if way.0 == place then way.1 else way_to ways place

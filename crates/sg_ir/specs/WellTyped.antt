@@ -40,15 +40,19 @@ pub record Frame : Type 0 where
   pub vars : List Ty
   pub setters : ℕ → ℕ
 
+-- the scope where this register is set too
 abbrev pub with_reg : ℕ → Scope → Scope
 with_reg to scope = record { regs = put to true scope.regs; places = scope.places; vars = scope.vars }
 
+-- the scope where this place is set too, and this is known of it
 abbrev pub with_place : ℕ → KnownPlace → Scope → Scope
 with_place to known scope = record { regs = scope.regs; places = put to (Some known) scope.places; vars = scope.vars }
 
+-- the scope where this variable may be read too
 abbrev pub with_var : ℕ → Scope → Scope
 with_var var scope = record { regs = scope.regs; places = scope.places; vars = put var true scope.vars }
 
+-- words of this type are truth values
 abbrev pub is_truth : Ty → Bool
 is_truth ty.Bool = true
 is_truth ty.I32 = false
@@ -73,6 +77,7 @@ reads at scope truth r = scope.regs r && is_truth_as truth (slice_get at.regs r)
 abbrev pub indexes : Frame → Scope → Shape → List ℕ → Bool
 indexes at scope shape index = (length index == shape.axes) && list_all (reads at scope false) index
 
+-- the type is I32, the only one that an inner loop's variable may have
 abbrev pub is_i32 : Ty → Bool
 is_i32 ty.I32 = true
 is_i32 ty.U32 = false
@@ -84,6 +89,7 @@ takes_truth bin.LAnd = true
 takes_truth bin.LOr = true
 takes_truth _ = false
 
+-- operators that give a truth value: logical `and` and `or`, and comparisons
 abbrev pub gives_truth : BinOp → Bool
 gives_truth bin.LAnd = true
 gives_truth bin.LOr = true
@@ -95,6 +101,7 @@ gives_truth bin.Gt = true
 gives_truth bin.Ge = true
 gives_truth _ = false
 
+-- the one operator on one register that takes and gives a truth value
 abbrev pub is_lnot : UnOp → Bool
 is_lnot un.LNot = true
 is_lnot un.Neg = false
@@ -107,6 +114,7 @@ pub data Way_down : Type 0 where
   ByBit : Way_down
   ByLength : Way_down
 
+-- a node of this kind is gone down in this way: dense and pointer by child, hash by key, bitmasked by bit, dynamic by length
 abbrev pub goes_down : Way_down → Kind → Bool
 goes_down ByChild Dense = true
 goes_down ByChild Pointer = true
@@ -128,6 +136,7 @@ Judge = Scope → Bool × Scope
 abbrev pub judge_step : Bool × Scope → Judge → Bool × Scope
 judge_step reached judge = let next = judge reached.1 in (reached.0 && next.0, next.1)
 
+-- judgements one after the other: whether all are good, and the scope behind the last
 abbrev pub judge_all : List Judge → Judge
 judge_all judges scope = fold judge_step (true, scope) judges
 
@@ -198,6 +207,7 @@ inst_fits at (i.For var lo hi body) scope =
 abbrev pub judges : Frame → Inst → Judge
 judges at = fold-Inst Judge (inst_fits at)
 
+-- whether each instruction of a block is good in the scope behind those before it, and the scope behind the whole block
 abbrev pub judged : Frame → List Inst → Judge
 judged at block = judge_all (map (judges at) block)
 
@@ -207,6 +217,7 @@ pub data SetName : Type 0 where
   SetsPlace : ℕ → SetName
   SetsVar : ℕ → SetName
 
+-- what instructions set one after the other, as one list
 abbrev pub in_order : List (List SetName) → List SetName
 in_order = flat_map (λ settings. settings)
 
@@ -238,14 +249,17 @@ sets_step (i.For var lo hi body) = SetsVar var ∷ in_order body
 abbrev pub settings : List Inst → List SetName
 settings block = flat_map (fold-Inst (List SetName) sets_step) block
 
+-- the number of the register that is set; nothing where a place or a variable is
 abbrev pub reg_number : SetName → List ℕ
 reg_number (SetsReg r) = r ∷ []
 reg_number _ = []
 
+-- the number of the place that is set; nothing where a register or a variable is
 abbrev pub place_number : SetName → List ℕ
 place_number (SetsPlace p) = p ∷ []
 place_number _ = []
 
+-- the number of the variable that is set; nothing where a register or a place is
 abbrev pub var_number : SetName → List ℕ
 var_number (SetsVar v) = v ∷ []
 var_number _ = []
@@ -254,9 +268,11 @@ var_number _ = []
 abbrev pub set_regs : List Inst → List ℕ
 set_regs block = flat_map reg_number (settings block)
 
+-- the numbers of the places that a block sets, in order of the text
 abbrev pub set_places : List Inst → List ℕ
 set_places block = flat_map place_number (settings block)
 
+-- the numbers of the variables that a block sets, those of its inner loops among them, in order of the text
 abbrev pub set_vars : List Inst → List ℕ
 set_vars block = flat_map var_number (settings block)
 

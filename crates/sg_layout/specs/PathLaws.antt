@@ -52,24 +52,27 @@ SlotIsReached shape =
 abbrev pub SlotsFillVolume : Shape → Type 0
 SlotsFillVolume shape = IsAccepted shape → slots_of shape.nodes ≡ volume (bounds_of_shape shape)
 
--- the numbers of slots are those below the product of the sizes, one for each slot
+-- a slot has a number below the product of the sizes, and the slot with that number is this slot
 abbrev pub SlotHasNumber : List NodeShape → Type 0
 SlotHasNumber nodes =
     (slot : List ℕ) → IsSlot nodes slot →
     (slot_number nodes slot < slots_of nodes) × (slot_at nodes (slot_number nodes slot) ≡ slot)
 
+-- each number below the product of the sizes has a slot, and this slot has that number
 abbrev pub NumberHasSlot : List NodeShape → Type 0
 NumberHasSlot nodes =
     (number : ℕ) → number < slots_of nodes →
     IsSlot nodes (slot_at nodes number) × (slot_number nodes (slot_at nodes number) ≡ number)
 
--- the list of slots has each of them, and as many as the product of the sizes, in order of their numbers
+-- the list of slots has each slot of the last node, and nothing else
 abbrev pub SlotsAreListed : List NodeShape → Type 0
 SlotsAreListed nodes = (slot : List ℕ) → Contains (slots nodes) slot ↔ IsSlot nodes slot
 
+-- the list of slots is as long as the product of the sizes; with no nodes it has one slot, the empty path
 abbrev pub SlotsAreCounted : List NodeShape → Type 0
 SlotsAreCounted nodes = length (slots nodes) ≡ slots_of nodes
 
+-- a slot in the list has a smaller number than each slot behind it, so none stands there twice
 abbrev pub SlotsAreInOrder : List NodeShape → Type 0
 SlotsAreInOrder nodes = AllPairs (λ x y. slot_number nodes x < slot_number nodes y) (slots nodes)
 

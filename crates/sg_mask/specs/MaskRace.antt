@@ -5,6 +5,7 @@ use Rattle.sg_words.specs.declared.race.Worker.{Worker}
 use Rattle.sg_words.specs.RaceMachine.{Setting, Race, newcomer, after_mark}
 use Rattle.sg_words.specs.RaceInvariant.{MeetsRaceInvariant}
 
+-- the setting of a race for bits alone: the masks at the start, no stock of numbers, and nothing that workers are told
 abbrev pub setting_of : List ℕ → Setting
 setting_of start = record {
   slots = [];
@@ -23,6 +24,7 @@ setting_of start = record {
   told = [];
 }
 
+-- the state of the race in which these are the mask words and the workers, and there is nothing else
 abbrev pub race_of : List ℕ → List Worker → Race
 race_of words views = record { slots = []; keys = []; masks = words; lengths = []; cells = []; counts = []; workers = views }
 

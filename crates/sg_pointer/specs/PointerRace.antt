@@ -8,6 +8,7 @@ use Rattle.sg_words.specs.RaceInvariant.{MeetsRaceInvariant}
 use Rattle.sg_words.specs.steps.RaceSteps.{after_look, after_try}
 use Rattle.sg_pointer.specs.declared.rule.Start.{Start}
 
+-- the setting of a race for the slots of one node: the links and the stock at the start, and each worker is told how long the stock is
 abbrev pub setting_of : Start → Setting
 setting_of start = record {
   slots = start.links;
@@ -26,6 +27,7 @@ setting_of start = record {
   told = length start.stock ∷ [];
 }
 
+-- the state of the race for which words stand: as many slots as links at the start, then the count, and the workers
 abbrev pub race_of : Start → List ℕ → List Worker → Race
 race_of start words views = record {
   slots = take (length start.links) words;

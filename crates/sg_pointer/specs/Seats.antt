@@ -9,6 +9,7 @@ use Rattle.sg_pointer.specs.declared.seat.PointerPass.{PointerPass}
 abbrev pub old_links : PointerPass → List ℕ
 old_links p = p.start.links
 
+-- the numbers for new links with which a pass started: ticket t stands for the one at place t
 abbrev pub stock_of : PointerPass → List ℕ
 stock_of p = p.start.stock
 

@@ -54,12 +54,15 @@ Making = Pass → Next → Block × Next
 abbrev pub made_name : Next → ℕ → ℕ
 made_name next r = unwrap_or (lookup (nat_eq r) next.names) r
 
+-- from here on the given register has this new name, in place of any that it had
 abbrev pub with_name : ℕ → ℕ → Next → Next
 with_name from to next = record { types = next.types; spans = next.spans; places = next.places; names = insert_entry nat_eq next.names from to }
 
+-- one more register was put out, of this type and span: its number is how many there were
 abbrev pub next_with_reg : Ty → Span → Next → Next
 next_with_reg type span next = record { types = next.types ++ type ∷ []; spans = next.spans ++ span ∷ []; places = next.places; names = next.names }
 
+-- one more place was put out: its number is how many there were
 abbrev pub next_with_place : Next → Next
 next_with_place next = record { types = next.types; spans = next.spans; places = suc next.places; names = next.names }
 
@@ -71,9 +74,11 @@ given_type given r = get_or given.types r ty.U32
 abbrev pub span_in : Next → ℕ → Span
 span_in next r = get_or next.spans r whole_i32
 
+-- the spans of variables here: for the variable of a loop round here that of its range, else the given one; none of registers
 abbrev pub vars_of : Given → Pass → Spans
 vars_of given pass = record { regs = []; loops = pass.loops; others = given.others }
 
+-- the span in which the word of an operation on new registers lies here: all of i32 where nothing is known of it
 abbrev pub span_of : Given → Pass → Next → Op → Span
 span_of given pass next (op.Bin how kind a b) = bin_span how kind (span_in next a) (span_in next b)
 span_of given pass next how = op_span (vars_of given pass) how
@@ -94,6 +99,7 @@ renamed next (op.OwnRead layout field) = op.OwnRead layout field
 abbrev pub and_op : Op → ℕ → Pass → Pass
 and_op how to pass = record { ops = pass.ops ++ (how, to) ∷ []; steps = pass.steps; loops = pass.loops }
 
+-- behind a step that is put out it is known which place it gives
 abbrev pub and_step : Step → ℕ → Pass → Pass
 and_step how to pass = record { ops = pass.ops; steps = pass.steps ++ (how, to) ∷ []; loops = pass.loops }
 
@@ -111,15 +117,18 @@ abbrev pub fresh : Given → Ty → Op → List ℕ → (ℕ → Making) → Mak
 fresh given type how index go pass next =
     put_in_front (set_word (length next.spans) how index) (go (length next.spans) pass (next_with_reg type (span_of given pass next how) next))
 
+-- what follows gets the known register where there is one, else a new one that is known from here on
 abbrev pub taken_at : Given → Ty → Op → List ℕ → (ℕ → Making) → Option ℕ → Making
 taken_at given type how index go (Some t) pass next = go t pass next
 taken_at given type how index go None pass next =
     put_in_front (set_word (length next.spans) how index)
     (go (length next.spans) (and_op how (length next.spans) pass) (next_with_reg type (span_of given pass next how) next))
 
+-- a register that holds the operation: one known to hold the same operation, else a new one
 abbrev pub taken : Given → Ty → Op → List ℕ → (ℕ → Making) → Making
 taken given type how index go pass next = taken_at given type how index go (lookup (same_op how) pass.ops) pass next
 
+-- the register of an operation: a shared one where the operation is pure, else always a new one
 abbrev pub numbered : Bool → Given → Ty → Op → (ℕ → Making) → Making
 numbered true given type how go pass next = taken given type how [] go pass next
 numbered false given type how go pass next = fresh given type how [] go pass next
@@ -129,6 +138,7 @@ abbrev pub stepped_at : Step → (ℕ → Making) → Option ℕ → Making
 stepped_at how go (Some t) pass next = go t pass next
 stepped_at how go None pass next = put_in_front (Spot next.places how) (go next.places (and_step how next.places pass) (next_with_place next))
 
+-- the place of the same step where one is known, else a new place that is known from here on
 abbrev pub stepped : Step → (ℕ → Making) → Making
 stepped how go pass next = stepped_at how go (lookup (same_step how) pass.steps) pass next
 
@@ -137,6 +147,7 @@ abbrev pub check_at : Bool → Step → ℕ → (ℕ → Making) → Making
 check_at true how place go pass next = go place pass next
 check_at false how place go pass next = stepped how go pass next
 
+-- one check for each axis from here on whose index register may lie outside; what follows gets the place behind the last
 abbrev pub checks_made : ℕ → List ℕ → List ℕ → ℕ → (ℕ → Making) → Making
 checks_made axis [] index place go pass next = go place pass next
 checks_made axis (extent ∷ extents) [] place go pass next = go place pass next
@@ -154,10 +165,12 @@ offset_made given node later axis (r ∷ index) high go pass next =
     part given node later axis r
     (λ low. taken given ty.U32 (op.Offset high (extent_in node.sizes axis) low) [] (λ o. offset_made given node later (suc axis) index o go)) pass next
 
+-- the offset at a node of the coordinate that index registers name; register 0 where there are no index registers
 abbrev pub offset : Given → NodeShape → List NodeShape → List ℕ → (ℕ → Making) → Making
 offset given node later [] go pass next = go 0 pass next
 offset given node later (r ∷ index) go pass next = part given node later 1 r (λ high. offset_made given node later 2 index high go) pass next
 
+-- the instruction that goes down a node of this kind: to a child, to one by its key, by a bit, or to a cell of a chunk
 abbrev pub descent_of : Kind → Descent
 descent_of Dense = by.Child
 descent_of Pointer = by.Child
@@ -179,6 +192,7 @@ placed_in given (Some shape) layout index go pass next =
     stepped (step.Root layout)
     (λ r. checks_made 0 (extents_in (bounds_of_shape shape)) index r (λ p. descended given shape.nodes 1 index p go)) pass next
 
+-- the place of an access to the layout with this number, from 0; place 0 where there is no such layout
 abbrev pub place_made : Given → ℕ → List ℕ → (ℕ → Making) → Making
 place_made given layout index go pass next = placed_in given (slice_get given.shapes layout) layout index go pass next
 
@@ -220,9 +234,11 @@ simplified given (Loop var lo hi body rest) pass next =
 abbrev pub given_of : List Shape → Domain → List Ty → Block → Given
 given_of shapes domain types block = record { shapes = shapes; types = types; single = is_single block; others = (first_spans shapes domain block).others }
 
+-- at the start of a whole block nothing is known, and no inner loop is round here
 abbrev pub first_pass : Pass
 first_pass = record { ops = []; steps = []; loops = [] }
 
+-- at the start nothing was put out, and no given register has a new name
 abbrev pub first_next : Next
 first_next = record { types = []; spans = []; places = 0; names = [] }
 

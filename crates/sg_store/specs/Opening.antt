@@ -23,27 +23,34 @@ abbrev pub links_or_none : Option NodeWords → List ℕ
 links_or_none None = []
 links_or_none (Some kept) = kept.links
 
+-- the link words of the node with this number, from 1; none past the last node
 abbrev pub links_of : StoreWords → ℕ → List ℕ
 links_of store number = links_or_none (slice_get store.nodes (number - 1))
 
+-- the key words of a hash node's table, each 0 or one more than a slot's number; none where there is no such node
 abbrev pub keys_or_none : Option NodeWords → List ℕ
 keys_or_none None = []
 keys_or_none (Some kept) = kept.keys
 
+-- the key words of the node with this number, from 1; none past the last node
 abbrev pub keys_of : StoreWords → ℕ → List ℕ
 keys_of store number = keys_or_none (slice_get store.nodes (number - 1))
 
+-- the mask words of a bitmasked node, 64 bits in each, one for each slot; none where there is no such node
 abbrev pub masks_or_none : Option NodeWords → List ℕ
 masks_or_none None = []
 masks_or_none (Some kept) = kept.masks
 
+-- the mask words of the node with this number, from 1; none past the last node
 abbrev pub masks_of : StoreWords → ℕ → List ℕ
 masks_of store number = masks_or_none (slice_get store.nodes (number - 1))
 
+-- the lengths of a dynamic node, one for each place above it, in slots; none where there is no such node
 abbrev pub lengths_or_none : Option NodeWords → List ℕ
 lengths_or_none None = []
 lengths_or_none (Some kept) = kept.lengths
 
+-- the lengths of the node with this number, from 1; none past the last node
 abbrev pub lengths_of : StoreWords → ℕ → List ℕ
 lengths_of store number = lengths_or_none (slice_get store.nodes (number - 1))
 
@@ -52,6 +59,7 @@ abbrev pub pool_or_none : Option NodeWords → PoolNumbers
 pool_or_none None = record { live = [] }
 pool_or_none (Some kept) = kept.pool
 
+-- the pool of the node with this number, from 1; one without numbers past the last node
 abbrev pub pool_of : StoreWords → ℕ → PoolNumbers
 pool_of store number = pool_or_none (slice_get store.nodes (number - 1))
 
@@ -128,6 +136,7 @@ abbrev pub WantedHaveLinks : StoreWords → ℕ → List ℕ → List Coord → 
 WantedHaveLinks store number links wanted =
     (at : Coord) → Contains wanted at → (slot : ℕ) → place_in store number at ≡ Some slot → slice_index links slot ≢ 0
 
+-- each slot that has a link only now is the slot of a wanted coordinate
 abbrev pub NewLinksAreWanted : StoreWords → ℕ → List ℕ → List Coord → Type 0
 NewLinksAreWanted store number links wanted =
     (slot : ℕ) → slice_index (links_of store number) slot ≡ 0 → slice_index links slot ≢ 0 →
@@ -138,6 +147,7 @@ abbrev pub WantedHaveKeys : StoreWords → List ℕ → List Coord → Type 0
 WantedHaveKeys store keys wanted =
     (at : Coord) → Contains wanted at → (key : ℕ) → place_in store 1 at ≡ Some key → Contains keys (suc key)
 
+-- each key at a place of the table that was free is the number of a wanted coordinate's slot
 abbrev pub NewKeysAreWanted : StoreWords → List ℕ → List Coord → Type 0
 NewKeysAreWanted store keys wanted =
     (place key : ℕ) → slice_index (keys_of store 1) place ≡ 0 → slice_index keys place ≡ suc key →
@@ -148,6 +158,7 @@ abbrev pub WantedHaveBits : StoreWords → ℕ → List ℕ → List Coord → T
 WantedHaveBits store number masks wanted =
     (at : Coord) → Contains wanted at → (slot : ℕ) → place_in store number at ≡ Some slot → IsTrue (mask_bit masks slot)
 
+-- each bit that is set only now is the bit of a wanted coordinate
 abbrev pub NewBitsAreWanted : StoreWords → ℕ → List ℕ → List Coord → Type 0
 NewBitsAreWanted store number masks wanted =
     (slot : ℕ) → mask_bit (masks_of store number) slot ≡ false → IsTrue (mask_bit masks slot) →
@@ -158,17 +169,20 @@ NewBitsAreWanted store number masks wanted =
 abbrev pub offset_in : StoreWords → ℕ → Coord → ℕ
 offset_in store number at = slice_index (offsets store.shape.nodes at) (number - 1)
 
+-- each wanted coordinate to whose parent links lead has its offset at the node below the parent's length
 abbrev pub WantedAreBelow : StoreWords → ℕ → List ℕ → List Coord → Type 0
 WantedAreBelow store number lengths wanted =
     (at : Coord) → Contains wanted at → (parent : ℕ) → place_in store number at ≡ Some parent →
     offset_in store number at < slice_index lengths parent
 
+-- under this parent the length ends right behind one of these coordinates: it is one more than its offset
 pub record IsLengthOf (store : StoreWords) (number : ℕ) (coords : List Coord) (parent long : ℕ) : Type 0 where
   pub at : Coord
   pub is_of : Contains coords at
   pub has_place : place_in store number at ≡ Some parent
   pub reaches : long ≡ suc (offset_in store number at)
 
+-- each length that has risen is one more than the offset of a wanted coordinate under its parent
 abbrev pub NewLengthsAreWanted : StoreWords → ℕ → List ℕ → List Coord → Type 0
 NewLengthsAreWanted store number lengths wanted =
     (parent : ℕ) → slice_index (lengths_of store number) parent < slice_index lengths parent →

@@ -69,6 +69,7 @@ abbrev pub HashIsFirst : StoreWords → Type 0
 HashIsFirst store =
     IsWellFormed store → (number : ℕ) → 1 ≤ number → kind_at store.shape.nodes number ≡ Hash → number ≡ 1
 
+-- no node stands below a dynamic one: its number, from 1, is that of the last node
 abbrev pub DynamicIsLast : StoreWords → Type 0
 DynamicIsLast store =
     IsWellFormed store → (number : ℕ) → 1 ≤ number → kind_at store.shape.nodes number ≡ Dynamic →

@@ -12,11 +12,12 @@ one b = if b then 1 else 0
 abbrev pub once_below : ℕ → ℕ → ℕ
 once_below t n = min 1 (n - t)
 
--- the sum of a number of each element, and the greatest of them
+-- the sum of a number of each element
 abbrev pub total : {A : Type 0} → (A → ℕ) → List A → ℕ
 total f [] = 0
 total f (x ∷ xs) = f x + total f xs
 
+-- the greatest of a number of each element, or 0 where there is no element
 abbrev pub greatest : {A : Type 0} → (A → ℕ) → List A → ℕ
 greatest f [] = 0
 greatest f (x ∷ xs) = max (f x) (greatest f xs)
@@ -25,13 +26,15 @@ greatest f (x ∷ xs) = max (f x) (greatest f xs)
 abbrev pub Each : {A : Type 0} → (A → Type 0) → List A → Type 0
 Each {A} F xs = (id : ℕ) (x : A) → get_elem? xs id ≡ some x → F x
 
--- how often a number, a pair, and any pair that begins with a number stand in a list
+-- how often a number stands in a list
 abbrev pub times_in : ℕ → List ℕ → ℕ
 times_in a xs = total (λ x. one (x == a)) xs
 
+-- how often the pair of two numbers stands in a list
 abbrev pub pairs : ℕ → ℕ → List (ℕ × ℕ) → ℕ
 pairs a b xs = total (λ x. one ((x.0 == a) && (x.1 == b))) xs
 
+-- how many pairs of a list begin with a number
 abbrev pub firsts : ℕ → List (ℕ × ℕ) → ℕ
 firsts a xs = total (λ x. one (x.0 == a)) xs
 

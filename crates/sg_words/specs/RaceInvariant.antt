@@ -17,6 +17,7 @@ made_at node l t made = total (λ x. one ((node x.0 == l) && (x.1 == t))) made
 abbrev pub holds_ticket : (ℕ → ℕ) → ℕ → ℕ → Worker → ℕ
 holds_ticket node l t v = made_at node l t v.made + (pairs l t v.spare + pairs l t v.left)
 
+-- how often a worker holds a ticket that was drawn past the end of its stock
 abbrev pub held_past : ℕ → ℕ → Worker → ℕ
 held_past l t v = pairs l t v.past
 
@@ -25,9 +26,11 @@ pub record TicketsStandOnce (node : ℕ → ℕ) (stock : ℕ → List ℕ) (cou
   pub within : (l t : ℕ) → total (holds_ticket node l t) workers ≡ once_below t (min (slice_index counts l) (length (stock l)))
   pub beyond : (l t : ℕ) → total (held_past l t) workers ≡ once_below t (slice_index counts l) - once_below t (length (stock l))
 
+-- how often a worker linked slot i by ticket t
 abbrev pub has_made : ℕ → ℕ → Worker → ℕ
 has_made i t v = pairs i t v.made
 
+-- how often a worker linked slot i, by any ticket
 abbrev pub has_linked : ℕ → Worker → ℕ
 has_linked i v = firsts i v.made
 
@@ -36,16 +39,19 @@ pub record LinksAreMade (g : Setting) (slots : List ℕ) (workers : List Worker)
   pub made : (i t : ℕ) → 0 < total (has_made i t) workers → (slice_index g.slots i ≡ 0) × (i < length slots) × (slice_index slots i ≡ ticket_number g (g.node i) t + 1)
   pub bare : (i : ℕ) → slice_index g.slots i ≡ 0 → total (has_linked i) workers ≡ 0 → slice_index slots i ≡ 0
 
+-- how often a worker saw slot i link container n
 abbrev pub has_seen : ℕ → ℕ → Worker → ℕ
 has_seen i n v = pairs i n v.seen
 
+-- how often a worker found key k at place p
 abbrev pub has_key : ℕ → ℕ → Worker → ℕ
 has_key p k v = pairs p k v.keys
 
--- what was seen in the slots and in the keys is there
+-- what a worker saw in a slot stands there still
 abbrev pub SeenIsThere : List ℕ → List Worker → Type 0
 SeenIsThere slots workers = (i n : ℕ) → 0 < total (has_seen i n) workers → slice_index slots i ≡ n + 1
 
+-- a key that a worker found at a place stands there still
 abbrev pub SeenKeysAreThere : List ℕ → List Worker → Type 0
 SeenKeysAreThere keys workers = (p k : ℕ) → 0 < total (has_key p k) workers → slice_index keys p ≡ k + 1
 
@@ -57,6 +63,7 @@ pub record Standing (v : Worker) : Type 0 where
   pub left : (l : ℕ) → firsts l v.left < v.size
   pub past : (l : ℕ) → firsts l v.past ≤ v.size
 
+-- the share that a worker has, with the shares of those that were joined into it
 abbrev pub handed_share : Worker → ℕ
 handed_share v = v.share + v.back
 
@@ -76,6 +83,7 @@ abbrev pub Probed : List ℕ → Type 0
 Probed keys = (k j i : ℕ) → j < length keys → slice_index keys (place_in_order (length keys) k j) ≡ k + 1 → i < j
     → (slice_index keys (place_in_order (length keys) k i) ≢ 0) × (slice_index keys (place_in_order (length keys) k i) ≢ k + 1)
 
+-- how often a worker put key k into a place that was empty
 abbrev pub has_put : ℕ → Worker → ℕ
 has_put k v = times_in k v.put
 
@@ -84,6 +92,7 @@ pub record KeysArePut (g : Setting) (keys : List ℕ) (workers : List Worker) : 
   pub probed : Probed keys
   pub put : (p k : ℕ) → slice_index g.keys p ≡ 0 → slice_index keys p ≡ k + 1 → 0 < total (has_put k) workers
 
+-- how often a worker marked bit b
 abbrev pub has_marked : ℕ → Worker → ℕ
 has_marked b v = times_in b v.marked
 
@@ -99,14 +108,16 @@ raised_to q v = greatest (λ x. if x.0 == q then x.1 + 1 else 0) v.raised
 abbrev pub LengthsAreRaised : Setting → List ℕ → List Worker → Type 0
 LengthsAreRaised g lengths workers = (length lengths ≡ length g.lengths) × ((q : ℕ) → slice_index lengths q ≡ max (slice_index g.lengths q) (greatest (raised_to q) workers))
 
--- a cell's word with one contribution, if it is to this cell; with all of a worker; and with those of all workers
+-- the word of cell c with one contribution, or as it was where that is to another cell
 abbrev pub with_one : (ℕ → ℕ → ℕ) → ℕ → ℕ → ℕ × ℕ → ℕ
 with_one into c a x = if x.0 == c then into a x.1 else a
 
+-- the word of cell c after a list of contributions, in their order; those to other cells leave it
 abbrev pub fold_in : (ℕ → ℕ → ℕ) → ℕ → ℕ → List (ℕ × ℕ) → ℕ
 fold_in into c a [] = a
 fold_in into c a (x ∷ xs) = fold_in into c (with_one into c a x) xs
 
+-- the word of cell c after the contributions of all workers, one worker after the other
 abbrev pub fold_all : (ℕ → ℕ → ℕ) → ℕ → ℕ → List Worker → ℕ
 fold_all into c a [] = a
 fold_all into c a (v ∷ vs) = fold_all into c (fold_in into c a v.given) vs

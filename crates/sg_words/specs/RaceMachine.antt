@@ -33,9 +33,11 @@ pub record Race : Type 0 where
   pub counts : List ℕ
   pub workers : List Worker
 
+-- a worker that has done nothing yet: it knows what it was told, and has a share
 abbrev pub newcomer : List ℕ → ℕ → Worker
 newcomer told share = record { told = told; size = 1; share = share; back = 0; spare = []; left = []; past = []; seen = []; missed = []; made = []; keys = []; put = []; marked = []; raised = []; given = [] }
 
+-- what stands in the place of a worker that was joined into another, and of one that was never enrolled
 abbrev pub nobody : Worker
 nobody = record { told = []; size = 0; share = 0; back = 0; spare = []; left = []; past = []; seen = []; missed = []; made = []; keys = []; put = []; marked = []; raised = []; given = [] }
 
@@ -43,6 +45,7 @@ nobody = record { told = []; size = 0; share = 0; back = 0; spare = []; left = [
 abbrev pub opening_race : Setting → Race
 opening_race g = record { slots = g.slots; keys = g.keys; masks = g.masks; lengths = g.lengths; cells = g.cells; counts = replicate g.nodes 0; workers = [] }
 
+-- the worker with a number, or nobody
 abbrev pub worker : Race → ℕ → Worker
 worker s id = slice_index_or s.workers id nobody
 
@@ -55,6 +58,7 @@ ticket_number g l t = slice_index (g.stock l) t
 abbrev pub after_split : Worker → Worker
 after_split v = record v { share = v.share - v.share / 2 }
 
+-- the worker that a split makes: it was told the same, and has half the share, rounded down
 abbrev pub other_half : Worker → Worker
 other_half v = newcomer v.told (v.share / 2)
 
@@ -82,10 +86,11 @@ after_join v w = record {
 abbrev pub after_draw : ℕ → ℕ → ℕ → Worker → Worker
 after_draw l limit t v = if nat_lt t limit then record v { spare = v.spare ++ (l, t) ∷ [] } else record v { past = v.past ++ (l, t) ∷ [] }
 
--- slot i was seen to hold the number n, and to be empty
+-- slot i was seen to hold the number n
 abbrev pub after_see : ℕ → ℕ → Worker → Worker
 after_see i n v = record v { seen = v.seen ++ (i, n) ∷ [] }
 
+-- slot i was seen to be empty
 abbrev pub after_miss : ℕ → Worker → Worker
 after_miss i v = record v { missed = v.missed ++ i ∷ [] }
 
@@ -93,19 +98,23 @@ after_miss i v = record v { missed = v.missed ++ i ∷ [] }
 abbrev pub after_link : ℕ → ℕ → ℕ → ℕ → Worker → Worker
 after_link l i t n v = record v { spare = without l v.spare; made = v.made ++ (i, t) ∷ []; seen = v.seen ++ (i, n) ∷ [] }
 
--- at place p the key k was found, and put
+-- at place p the key k was found
 abbrev pub after_key : ℕ → ℕ → Worker → Worker
 after_key p k v = record v { keys = v.keys ++ (p, k) ∷ [] }
 
+-- at place p, which was empty, the key k was put
 abbrev pub after_key_put : ℕ → ℕ → Worker → Worker
 after_key_put p k v = record v { keys = v.keys ++ (p, k) ∷ []; put = v.put ++ k ∷ [] }
 
+-- bit b was marked
 abbrev pub after_mark : ℕ → Worker → Worker
 after_mark b v = record v { marked = v.marked ++ b ∷ [] }
 
+-- length q was raised to hold index i
 abbrev pub after_raise : ℕ → ℕ → Worker → Worker
 after_raise q i v = record v { raised = v.raised ++ (q, i) ∷ [] }
 
+-- the word x was given to cell c
 abbrev pub after_add : ℕ → ℕ → Worker → Worker
 after_add c x v = record v { given = v.given ++ (c, x) ∷ [] }
 
@@ -122,6 +131,7 @@ KnowsContainer g v c = (g.live c ≡ true) ⊎ ((slot : ℕ) × (g.node slot ≡
 abbrev pub HasOthersBefore : ℕ → ℕ → ℕ → Worker → Type 0
 HasOthersBefore n k j v = (i : ℕ) → i < j → (other : ℕ) × (other ≢ k) × (0 < pairs (place_in_order n k i) other v.keys)
 
+-- a worker may put key k at place p: it is a place of its order, and the worker has found another key in each place before
 abbrev pub MayPut : ℕ → ℕ → ℕ → Worker → Type 0
 MayPut n p k v = (j : ℕ) × (j < n) × (p ≡ place_in_order n k j) × HasOthersBefore n k j v
 
@@ -140,6 +150,8 @@ pub data Event : Type 0 where
   add : ℕ → ℕ → ℕ → Event
   join : ℕ → ℕ → Event
 
+-- What must hold before an event: the worker has a share and what it takes is there. A link, a mark and a raise stand in a container
+-- that the worker knows; a link takes a spare ticket of its own and an empty slot; a draw comes where it holds no ticket of the node.
 abbrev pub Needs : Setting → Race → Event → Type 0
 Needs g s first = s.workers ≡ []
 Needs g s (enrol v) = 2 ≤ (worker s v).share
@@ -156,6 +168,7 @@ Needs g s (add v c x) = (0 < (worker s v).share) × (c < length s.cells)
 Needs g s (join v w) = (0 < (worker s v).share) × (0 < (worker s w).share) × (w ≢ v)
 
 -- ---- what an event does
+-- the race with another worker in the place of worker v
 abbrev pub with_worker : ℕ → Worker → Race → Race
 with_worker v w s = record s { workers = slice_set s.workers v w }
 
@@ -163,12 +176,15 @@ with_worker v w s = record s { workers = slice_set s.workers v w }
 abbrev pub key_word : ℕ → ℕ → ℕ
 key_word k word = if word == 0 then k + 1 else word
 
+-- a worker after its step on a key word: where the word was 0 it has put its key, else it has found the key that stands there
 abbrev pub after_key_word : ℕ → ℕ → ℕ → Worker → Worker
 after_key_word p k word v = if word == 0 then after_key_put p k v else after_key p (word - 1) v
 
+-- the word of a mask with bit b set, whose place in the word is what is left of b over 64
 abbrev pub mark_word : ℕ → ℕ → ℕ
 mark_word b word = bit_or word (2 ^ (b % 64))
 
+-- the words and the workers after one event: it changes the word that it names and its own workers, and nothing else
 abbrev pub state_after : Setting → Event → Race → Race
 state_after g first s = record s { workers = newcomer g.told 16 ∷ [] }
 state_after g (enrol v) s = record s { workers = slice_set s.workers v (after_split (worker s v)) ++ other_half (worker s v) ∷ [] }
@@ -205,6 +221,7 @@ abbrev pub IsRun : Setting → Race → List Event → Type 0
 IsRun g s [] = Unit {0}
 IsRun g s (e ∷ es) = Needs g s e × IsRun g (state_after g e s) es
 
+-- the words and the workers after a list of events, in their order
 abbrev pub state_after_all : Setting → List Event → Race → Race
 state_after_all g [] s = s
 state_after_all g (e ∷ es) s = state_after_all g es (state_after g e s)

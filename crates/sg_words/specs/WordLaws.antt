@@ -28,13 +28,15 @@ WordHasNumber t w = IsWord w → IsOfType t (number t w) × (word_of (number t w
 abbrev pub NumberHasWord : Ty → ℤ → Type 0
 NumberHasWord t z = IsOfType t z → IsWord (word_of z) × (number t (word_of z) ≡ z)
 
--- in each type the sum, the difference and the product of two words are those of their numbers, modulo 2 ^ 32
+-- in each type the word of a sum is that of the sum of the numbers, modulo 2 ^ 32
 abbrev pub SumIsModular : Ty → ℕ → ℕ → Type 0
 SumIsModular t a b = IsWord a → IsWord b → applied bin.Add t a b ≡ word_of (number t a +ℤ number t b)
 
+-- the word of a difference is that of the difference of the numbers
 abbrev pub DifferenceIsModular : Ty → ℕ → ℕ → Type 0
 DifferenceIsModular t a b = IsWord a → IsWord b → applied bin.Sub t a b ≡ word_of (number t a -ℤ number t b)
 
+-- the word of a product is that of the product of the numbers
 abbrev pub ProductIsModular : Ty → ℕ → ℕ → Type 0
 ProductIsModular t a b = IsWord a → IsWord b → applied bin.Mul t a b ≡ word_of (number t a *ℤ number t b)
 
@@ -50,23 +52,27 @@ FloorIsGreatest z m = 0 < m → ((floor_over z m *ℤ pos m) ≤ℤ z) × (z <�
 abbrev pub RankKeepsOrder : Ty → ℕ → ℕ → Type 0
 RankKeepsOrder t a b = IsWord a → IsWord b → (rank_of t a < rank_of t b) ↔ (number t a <ℤ number t b)
 
--- each word has a rank of its own, and each number below 2 ^ 32 is the rank of a word
+-- each word has a rank below 2 ^ 32, and is the word at its rank
 abbrev pub RankIsInverted : Ty → ℕ → Type 0
 RankIsInverted t w = IsWord w → (rank_of t w < 2 ^ 32) × (unrank_of t (rank_of t w) ≡ w)
 
+-- each number below 2 ^ 32 is the rank of the word that stands at it
 abbrev pub UnrankIsInverted : Ty → ℕ → Type 0
 UnrankIsInverted t k = k < 2 ^ 32 → IsWord (unrank_of t k) × (rank_of t (unrank_of t k) ≡ k)
 
--- operators give words on words
+-- an operator with two sides gives a word on words
 abbrev pub AppliedIsWord : BinOp → Ty → ℕ → ℕ → Type 0
 AppliedIsWord op t a b = IsWord a → IsWord b → IsWord (applied op t a b)
 
+-- an operator with one side gives a word on every number
 abbrev pub AppliedUnIsWord : UnOp → ℕ → Type 0
 AppliedUnIsWord op a = IsWord (applied_un op a)
 
+-- a product of fixed-point numbers is a word
 abbrev pub MulqIsWord : ℕ → ℕ → ℕ → Type 0
 MulqIsWord a b s = IsWord (mulq_of a b s)
 
+-- an accumulation of two words gives a word
 abbrev pub FoldedIsWord : AccOp → Ty → ℕ → ℕ → Type 0
 FoldedIsWord op t a b = IsWord a → IsWord b → IsWord (folded op t a b)
 
@@ -76,6 +82,7 @@ joining_operator acc.Add = bin.Add
 joining_operator acc.Min = bin.Min
 joining_operator acc.Max = bin.Max
 
+-- an accumulation joins two words as its operator does
 abbrev pub FoldedIsApplied : AccOp → Ty → ℕ → ℕ → Type 0
 FoldedIsApplied op t a b = IsWord a → IsWord b → folded op t a b ≡ applied (joining_operator op) t a b
 

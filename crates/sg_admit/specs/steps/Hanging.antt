@@ -16,6 +16,7 @@ use Rattle.sg_admit.specs.steps.Spread.{has_spread, bears_mark}
 abbrev pub Vars : Type 0
 Vars = ℕ → Bool
 
+-- a set of places: each `if` has one and each variable has one
 abbrev pub PlaceSet : Type 0
 PlaceSet = ℕ → Bool
 
@@ -23,6 +24,7 @@ PlaceSet = ℕ → Bool
 abbrev pub Test : Type 0
 Test = PlaceSet → Bool
 
+-- a field is written by one of the writes, in whatever way
 abbrev pub is_noted_in : List FieldWay → ℕ → ℕ → Bool
 is_noted_in ways layout place = list_any (is_of_field layout place) ways
 
@@ -38,6 +40,7 @@ vars_in text places var = places (text.ifs + var)
 abbrev pub is_clean_by : Text → PlaceSet → TypedExpr → Bool
 is_clean_by text places expr = is_clean (unclean_beside (is_noted_in text.writes) (vars_in text places)) expr
 
+-- each of these expressions is clean where the written fields, and the variables whose places are in the set, aren't
 abbrev pub are_clean_by : Text → PlaceSet → List TypedExpr → Bool
 are_clean_by text places exprs = list_all (is_clean (unclean_beside (is_noted_in text.writes) (vars_in text places))) exprs
 
@@ -49,6 +52,7 @@ is_in_set text places round to expr = (is_clean_by text places expr || places to
 abbrev pub SpreadWhereTested : Test → Links → Links → Type 0
 SpreadWhereTested test before after = (places : PlaceSet) → has_spread places after.links after.start ≡ (has_spread places before.links before.start && test places)
 
+-- the set has each place that is marked by itself, and each where a link from one of it leads
 abbrev pub IsSpread : Links → PlaceSet → Type 0
 IsSpread links places = has_spread places links.links links.start ≡ true
 
@@ -56,6 +60,7 @@ IsSpread links places = has_spread places links.links links.start ≡ true
 abbrev pub has_givings : (ℕ → ℕ → Bool) → List Giving → Vars → Bool
 has_givings fields all vars = list_all (λ giving. is_clean_giving (unclean_beside fields vars) giving || vars giving.var) all
 
+-- the set has the place of each variable that the lines give a word from what isn't clean by the set
 abbrev pub has_given : Text → PlaceSet → List Line → Bool
 has_given text places lines = has_givings (is_noted_in text.writes) (givings lines) (vars_in text places)
 

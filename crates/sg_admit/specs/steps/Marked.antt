@@ -8,12 +8,14 @@ use Rattle.sg_admit.specs.Clean.{Unclean}
 use Rattle.sg_admit.specs.Bounds.{is_constant, constant_word}
 use Rattle.sg_admit.specs.Rules.{Facts, is_of_field, first_way, has_own, has_acc}
 
+-- what isn't clean by the marks: the fields that are written, and the variables marked dirty
 abbrev pub unclean_of : Marks → Unclean
 unclean_of marks = record {
   fields = λ layout place. list_any (is_of_field layout place) marks.ways;
   vars = λ var. get_or marks.dirty var false;
 }
 
+-- what the rules look at, as the marks tell it
 abbrev pub marked_facts : Marks → Facts
 marked_facts marks = record {
   first = first_way marks.ways;

@@ -18,6 +18,7 @@ pub record AreAlike (xs ys : List FieldWay) : Type 0 where
 abbrev pub has_noted : List FieldWay → FieldWay → Bool
 has_noted ways it = if is_own it.way then has_own ways it.layout it.place else has_acc ways it.layout it.place
 
+-- the variable of a statement that is an inner loop; none for another statement
 abbrev pub deed_loops : Deed → List ℕ
 deed_loops (Sets var value) = []
 deed_loops (Writes layout place index way value) = []
@@ -29,6 +30,7 @@ deed_loops (Opens ranges) = []
 abbrev pub loops_in : List Line → List ℕ
 loops_in lines = flat_map (λ line. deed_loops line.deed) lines
 
+-- the condition of a statement that is an `if`, before those round it; none for another statement
 abbrev pub deed_tests : Around → Deed → List (List TypedExpr)
 deed_tests around (Sets var value) = []
 deed_tests around (Writes layout place index way value) = []

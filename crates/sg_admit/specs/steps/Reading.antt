@@ -32,5 +32,6 @@ pub record IsRound (marks : Marks) (clean : Bool) (depth turns : ℕ) (around : 
   pub loops : length around.ranges ≡ depth
   pub product : turns_over around.ranges ≡ turns
 
+-- each read in the bounds of a range is good
 abbrev pub is_good_range : ℕ → (ℕ → ℕ → Bool → Bool) → TypedRange → Bool
 is_good_range vars good range = has_good_reads vars good range.lo && has_good_reads vars good range.hi

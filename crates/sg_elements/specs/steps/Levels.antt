@@ -19,7 +19,7 @@ is_led store path = is_some (cell_along store path)
 abbrev pub led_over : StoreWords → List ℕ → List ℕ → List (List ℕ)
 led_over store path offsets = filter (is_led store) (map (λ offset. path ++ offset ∷ []) offsets)
 
--- the same of all offsets below a size
+-- those paths along which the store leads, of a path with each offset below a size behind it
 abbrev pub led_below : StoreWords → ℕ → List ℕ → List (List ℕ)
 led_below store size path = led_over store path (range_with_len 0 size)
 
@@ -50,6 +50,7 @@ SharesInside shape node =
 abbrev pub way_of : Shape → ℕ → ℕ → Way
 way_of shape node offset = record { offset = offset; share = share_row shape node offset }
 
+-- the offsets of some ways, in the order of the ways
 abbrev pub offsets_of : List Way → List ℕ
 offsets_of ways = map (λ (way : Way). way.offset) ways
 

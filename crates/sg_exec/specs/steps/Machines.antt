@@ -85,6 +85,7 @@ pub record IsOwnCell (stores : List StoreWords) (at : Coord) (own : OwnCell) : T
   pub is : own.cell ≡ cell_there stores own.layout (Some at)
   pub reached : IfSome own.cell (IsCellOf stores own.layout)
 
+-- each that was found is the cell of the iteration's coordinate in its layout's store, or none where the coordinate has none there
 abbrev pub AreOwnCells : List StoreWords → Coord → List OwnCell → Type 0
 AreOwnCells stores at found = All (IsOwnCell stores at) found
 

@@ -12,6 +12,7 @@ use Rattle.sg_exec.specs.declared.moment.Moment.{Moment}
 use Rattle.sg_exec.specs.Standing.{shapes_of}
 use Rattle.sg_exec.specs.steps.Machines.{seen_in, Sees, ArePlaces, AreWords, cell_write, IsAtLoop, want_write}
 
+-- a moment's rows are those of a run of code at a coordinate that has come so far, and each own write of the run is at the coordinate
 pub record IsMoved (stores : List StoreWords) (at : Coord) (moment : Moment) (now : Moved) : Type 0 where
   pub regs_are : AreWords moment.regs.items now.regs
   pub vars_are : AreWords moment.vars.items now.vars

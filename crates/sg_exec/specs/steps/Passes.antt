@@ -57,6 +57,7 @@ pub record HaveFields (stores : List StoreWords) (uses : List Use) (accumulated 
   pub each : (layout field : ℕ) (op : AccOp) → Contains uses (Writes layout field (Acc op)) → HasActive stores layout field → HasPass accumulated layout field
   pub own : (layout field : ℕ) → Contains uses (Writes layout field Own) → IsAmong layout field owned
 
+-- a record of written fields holds the passes, the new seats and the own-written fields that these uses ask for
 abbrev pub HaveWritten : List StoreWords → List Use → WrittenFields → Type 0
 HaveWritten stores uses fields = HaveFields stores uses fields.accumulated.items fields.seats.items fields.owned.items
 
@@ -74,6 +75,7 @@ AddsUses stores more old now = (uses : List Use) → HaveWritten stores uses old
 abbrev pub to_field : ℕ → ℕ → Write → Bool
 to_field layout place write = (write.layout == layout) && (write.place == place)
 
+-- those of some writes that go to a field of a layout, in their order
 abbrev pub into_field : ℕ → ℕ → List Write → List Write
 into_field layout place writes = filter (to_field layout place) writes
 
@@ -101,6 +103,7 @@ pub record IsGiven (stores : List StoreWords) (it : Accumulated) (given : List (
   pub ways : (write : Write) → Contains writes write → write.layout ≡ it.layout → write.place ≡ it.field → write.way ≡ Acc it.op
   pub given_is : given ≡ contributions it.layout it.field (map (landing stores) writes)
 
+-- all writes to each pass's field are contributions by its operator, and these are what its seat has given
 abbrev pub AreGiven : List StoreWords → List Accumulated → List AccSeat → List Write → Type 0
 AreGiven stores accumulated seats writes =
     (k : ℕ) (it : Accumulated) (seat : AccSeat) → slice_get accumulated k ≡ Some it → slice_get seats k ≡ Some seat →

@@ -40,6 +40,7 @@ contributions layout place writes = flat_map (given_by layout place) writes
 
 -- ---- own values
 
+-- a write as a list of one, or the empty list where there is none
 abbrev pub listed : Option CellWrite → List CellWrite
 listed None = []
 listed (Some write) = write ∷ []
@@ -114,6 +115,7 @@ pub record IsSplit (old now other : AccSeat) : Type 0 where
   pub now_is : worker_of now ≡ after_split (worker_of old)
   pub other_is : worker_of other ≡ other_half (worker_of old)
 
+-- each seat was split into one that keeps half of the share, rounded up, and a new one that has the other half
 abbrev pub AreSplit : List AccSeat → List AccSeat → List AccSeat → Type 0
 AreSplit olds nows others =
     (k : ℕ) (old now other : AccSeat) → slice_get olds k ≡ Some old → slice_get nows k ≡ Some now → slice_get others k ≡ Some other →

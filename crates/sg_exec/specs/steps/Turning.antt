@@ -137,7 +137,8 @@ abbrev pub in_both : Bool → Result Bool (Stop RunFault) → Result Bool (Stop 
 in_both active (Ok others) = Ok (active && others)
 in_both active (Err why) = Err why
 
--- the same of a slice at points, over stores that see any state
+-- what is told of the first write outside of a slice's turns at points, and where none is, of whether all their writes are at active
+-- coordinates, at any state whose values the stores have and at which the block reads and contributes where its index registers say
 abbrev pub SliceTells : List StoreWords → List Inst → List Coord → Result Bool (Stop RunFault) → Type 0
 SliceTells stores block points result = (state : FlatState) → Sees stores state → AreNamedAt stores state block points →
     TellsOutside stores (map (slice_turn stores state block) points) result

@@ -66,25 +66,28 @@ length_at all block whole coords number =
 abbrev pub is_reached : Bounds → Bounds → Bool → List Coord → Coord → Bool
 is_reached all block whole coords at = nat_lt (row_in_block block at) (unwrap_or (length_at all block whole coords (block_number all block at)) 0)
 
--- the same of the coordinate with a row number, where there is one
+-- there is a coordinate with a row number, and its place in its block is below the length that a list of coordinates gives the block
 abbrev pub is_row_reached : Bounds → Bounds → Bool → List Coord → ℕ → Bool
 is_row_reached all block whole coords row = nat_lt row (volume all) && is_reached all block whole coords (point_at all row)
 
--- ---- the same of a layout's blocks, as the code has them
--- the extents of the layout, and those of a block
+-- ---- blocks, the places in them and their lengths, of a layout cut into blocks as the code has them
+-- the extents of the layout
 abbrev pub all_of : Blocks → Bounds
 all_of blocks = bounds_of blocks.extents
 
+-- the extents of a block, the same for each block of the layout
 abbrev pub each_of : Blocks → Bounds
 each_of blocks = bounds_of blocks.block
 
--- the number of the block of a coordinate, its place in it, and how far it reaches there
+-- the number of the block that a coordinate is in: the row in the layout of the block's first point
 abbrev pub number_in : Blocks → Coord → ℕ
 number_in blocks at = block_number (all_of blocks) (each_of blocks) at
 
+-- the place of a coordinate in its block, from 0, in row order
 abbrev pub row_in_blocks : Blocks → Coord → ℕ
 row_in_blocks blocks at = row_in_block (each_of blocks) at
 
+-- how many points of its block, in row order, a coordinate makes live: all of them, or those up to itself
 abbrev pub reach_in : Blocks → Coord → ℕ
 reach_in blocks at = live_points blocks.whole (each_of blocks) at
 

@@ -54,7 +54,7 @@ pub record Reaches (shapes : List Shape) (place : Seen → Moved → Option Plac
   pub named : to < new.places
   pub value : (seen : Seen) → seen.shapes ≡ shapes → (start : Moved) → (runs seen after start).places to ≡ place seen (runs seen before start)
 
--- the same of a place, where the index registers hold words
+-- a new place is one that depends on what was there before, in each run where the index registers then held words, below 2^32
 pub record LeadsToPlace (shapes : List Shape) (index : List ℕ) (place : Seen → Moved → Option Place) (to : ℕ) (old new : Names) (before after : List Inst) : Type 0 where
   pub extends : Extends shapes old new before after
   pub quiet : IsQuiet shapes before after

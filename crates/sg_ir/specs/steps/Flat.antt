@@ -12,6 +12,7 @@ use Rattle.sg_ir.specs.steps.Scoped.{Room, RunMoment, op_word, step_place}
 abbrev pub room_of : Moved → Room
 room_of now = record { regs = now.regs; places = now.places }
 
+-- the variables, writes and wants of a run, without its accesses
 abbrev pub moment_of : Moved → RunMoment
 moment_of now = record { vars = now.vars; writes = now.writes; wants = now.wants }
 

@@ -19,9 +19,11 @@ use Rattle.sg_ir.specs.steps.Scopes.{scope_at}
 abbrev pub free_in : Typing → ℕ → Bool
 free_in typing var = if var == 0 then typing.a else (if var == 1 then typing.b else (if var == 2 then typing.c else false))
 
+-- what is the same in all of the code that the test goes through
 abbrev pub frame_in : Typing → Frame
 frame_in typing = record { shapes = typing.layouts.now; regs = typing.regs.now; places = typing.places; vars = typing.vars.now; setters = setters_in typing.body.now }
 
+-- what may be used at a point of the code that the test goes through
 abbrev pub scope_in : Typing → Before → Scope
 scope_in typing before = scope_at (free_in typing) before
 
@@ -29,9 +31,11 @@ scope_in typing before = scope_at (free_in typing) before
 abbrev pub is_good : Typing → Before → Inst → Bool
 is_good typing before inst = (judges (frame_in typing) inst (scope_in typing before)).0
 
+-- whether a block is good that begins at this point: each of its instructions is, behind those before it
 abbrev pub are_good : Typing → Before → List Inst → Bool
 are_good typing before block = (judged (frame_in typing) block (scope_in typing before)).0
 
+-- the way down a node that the test's kind of step stands for
 abbrev pub way_of_step : StepKind → Way_down
 way_of_step step.Child = ByChild
 way_of_step step.Key = ByKey
@@ -44,6 +48,7 @@ without_blocks_step (i.If cond block otherwise) = false
 without_blocks_step (i.For var lo hi body) = false
 without_blocks_step _ = true
 
+-- whether an instruction is neither an `if` nor a `for`
 abbrev pub is_without_blocks : Inst → Bool
 is_without_blocks = fold-Inst Bool without_blocks_step
 

@@ -13,12 +13,15 @@ pub record InScope : Type 0 where
   pub regs : ℕ → Bool
   pub places : ℕ → Bool
 
+-- the scope where this register is set too
 abbrev pub and_reg : ℕ → InScope → InScope
 and_reg to scope = record { regs = put to true scope.regs; places = scope.places }
 
+-- the scope where this place is set too
 abbrev pub and_place : ℕ → InScope → InScope
 and_place to scope = record { regs = scope.regs; places = put to true scope.places }
 
+-- the scope where no register and no place is set
 abbrev pub nothing : InScope
 nothing = record { regs = λ r. false; places = λ p. false }
 
@@ -34,26 +37,31 @@ op_regs (op.Offset high size low) = high ∷ low ∷ []
 op_regs (op.Read place layout field) = []
 op_regs (op.OwnRead layout field) = []
 
+-- the place that an operation reads: that of a read of a cell; no other operation reads one
 abbrev pub op_places : Op → List ℕ
 op_places (op.Read place layout field) = place ∷ []
 op_places _ = []
 
+-- the register that a step reads: the index of a check, or the offset of a step down; none for a root
 abbrev pub step_regs : Step → List ℕ
 step_regs (step.Root layout) = []
 step_regs (step.Check place axis extent index) = index ∷ []
 step_regs (step.Down descent place node offset) = offset ∷ []
 
+-- the place that a step goes on from; none for a root
 abbrev pub step_places : Step → List ℕ
 step_places (step.Root layout) = []
 step_places (step.Check place axis extent index) = place ∷ []
 step_places (step.Down descent place node offset) = place ∷ []
 
+-- the registers that an act reads: the one that has its value, and its index registers, so far as it has them
 abbrev pub act_regs : Act → List ℕ
 act_regs (SetVar var from) = from ∷ []
 act_regs (WriteOwn layout field from stmt) = from ∷ []
 act_regs (Contribute how layout field place from index stmt) = from ∷ index
 act_regs (Wish layout index stmt) = index
 
+-- the place that an act reads: that of a contribution; no other act reads one
 abbrev pub act_places : Act → List ℕ
 act_places (SetVar var from) = []
 act_places (WriteOwn layout field from stmt) = []

@@ -22,9 +22,11 @@ pub record Room : Type 0 where
   pub regs : ℕ → ℕ
   pub places : ℕ → Option Place
 
+-- what is set in scope, where this register now holds this word
 abbrev pub room_reg : ℕ → ℕ → Room → Room
 room_reg to word room = record { regs = put to word room.regs; places = room.places }
 
+-- what is set in scope, where this place is now that one, or none
 abbrev pub room_place : ℕ → Option Place → Room → Room
 room_place to place room = record { regs = room.regs; places = put to place room.places }
 

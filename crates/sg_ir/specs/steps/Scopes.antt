@@ -28,6 +28,7 @@ set_step what b.Start = false
 set_step what (b.Block done outer) = list_any (leaves what) done.now || outer.now
 set_step what (b.Loop var outer) = is_setting what (set_name_of (t.Var var)) || outer.now
 
+-- whether this is set before a point of code, in its block or one round it, or is the variable of a loop round it
 abbrev pub set_before : Target → Before → Bool
 set_before what = fold-Before Bool (set_step what)
 
@@ -55,6 +56,7 @@ origin_step (i.Want layout index stmt) = None
 origin_step (i.If cond block otherwise) = None
 origin_step (i.For var lo hi body) = None
 
+-- where the place comes from that an instruction sets; none where it sets no place
 abbrev pub origin : Inst → Option Origin
 origin = fold-Inst (Option Origin) origin_step
 
@@ -62,6 +64,7 @@ origin = fold-Inst (Option Origin) origin_step
 abbrev pub KnownPlaces : Type 0
 KnownPlaces = ℕ → Option Passed
 
+-- what is known of a place on from one of which this is known: its layout, and so many nodes passed; nothing where that is none
 abbrev pub passed_on : ℕ → Option Passed → Option Passed
 passed_on passed None = None
 passed_on passed (Some known) = Some (record { layout = known.layout; passed = passed })
@@ -77,6 +80,7 @@ abbrev pub settled : ℕ → Option Passed → KnownPlaces → KnownPlaces
 settled to None places = places
 settled to (Some known) places = put to (Some known) places
 
+-- what is known of the places behind a setting: this of a place that it sets, where it isn't none; else what was known before
 abbrev pub places_then : Option Target → Option Passed → KnownPlaces → KnownPlaces
 places_then None known places = places
 places_then (Some (t.Reg r)) known places = places
@@ -87,6 +91,7 @@ places_then (Some (t.Var v)) known places = places
 abbrev pub place_step : KnownPlaces → Inst → KnownPlaces
 place_step places inst = places_then (left inst) (known_from places (origin inst)) places
 
+-- what is known of the places behind instructions, given what is known before them
 abbrev pub places_after : KnownPlaces → List Inst → KnownPlaces
 places_after places done = fold place_step places done
 
@@ -96,6 +101,7 @@ before_step b.Start = λ p. None
 before_step (b.Block done outer) = places_after outer.now done.now
 before_step (b.Loop var outer) = outer.now
 
+-- what is known of each place at a point of code; nothing of a place that isn't set before it
 abbrev pub places_before : Before → KnownPlaces
 places_before = fold-Before KnownPlaces before_step
 
@@ -105,6 +111,7 @@ weight_step b.Start = 0
 weight_step (b.Block done outer) = length done.now + outer.now + 2
 weight_step (b.Loop var outer) = outer.now + 2
 
+-- how much there is to look through before a point: 1 for each instruction right in a block round it, 2 for each such block and loop
 abbrev pub size_of_before : Before → ℕ
 size_of_before = fold-Before ℕ weight_step
 
@@ -113,6 +120,7 @@ abbrev pub known_by_check : Option Passed → Option KnownPlace
 known_by_check None = None
 known_by_check (Some known) = Some (record { layout = known.layout; passed = known.passed })
 
+-- the scope where these registers are set, this is known of the places, and these variables may be read
 abbrev pub scope_with : (ℕ → Bool) → KnownPlaces → (ℕ → Bool) → Scope
 scope_with regs places vars = record { regs = regs; places = λ p. known_by_check (places p); vars = vars }
 

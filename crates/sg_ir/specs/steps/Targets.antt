@@ -45,6 +45,7 @@ left_step (i.Want layout index stmt) = None
 left_step (i.If cond block otherwise) = None
 left_step (i.For var lo hi body) = None
 
+-- the register, place or variable that is set behind an instruction; none behind an `if` or a `for`, and where it sets none
 abbrev pub left : Inst → Option Target
 left = fold-Inst (Option Target) left_step
 
@@ -54,6 +55,7 @@ set_name_of (t.Reg r) = SetsReg r
 set_name_of (t.Place p) = SetsPlace p
 set_name_of (t.Var v) = SetsVar v
 
+-- a register, place or variable that may be there, as a list of settings; empty where there is none
 abbrev pub settings_of : Option Target → List SetName
 settings_of None = []
 settings_of (Some target) = set_name_of target ∷ []
@@ -70,14 +72,17 @@ set_times target set = min 2 (count_by (is_setting target) set)
 abbrev pub past : ℕ → ℕ → Option ℕ
 past number next = if nat_lt number next then None else Some (number + 1)
 
+-- the next numbers, where that of a register is now this one; none where there isn't one
 abbrev pub with_next_reg : Next → Option ℕ → Option Next
 with_next_reg from None = None
 with_next_reg from (Some reg) = Some (record { reg = reg; place = from.place })
 
+-- the next numbers, where that of a place is now this one; none where there isn't one
 abbrev pub with_next_place : Next → Option ℕ → Option Next
 with_next_place from None = None
 with_next_place from (Some place) = Some (record { reg = from.reg; place = place })
 
+-- the next numbers behind a setting; none where its register's or place's number is below the next; a variable changes nothing
 abbrev pub passes : SetName → Next → Option Next
 passes (SetsReg r) from = with_next_reg from (past r from.reg)
 passes (SetsPlace p) from = with_next_place from (past p from.place)
@@ -94,6 +99,7 @@ once_in all (SetsReg r) = nat_lt (set_times (t.Reg r) all) 2
 once_in all (SetsPlace p) = nat_lt (set_times (t.Place p) all) 2
 once_in all (SetsVar v) = true
 
+-- no register or place that is set in an instruction is set twice among all these settings
 abbrev pub inst_once : List SetName → Inst → Bool
 inst_once all inst = list_all (once_in all) (inst_settings inst)
 

@@ -27,6 +27,7 @@ measure_at [] index = (bounds_below [], bounds_below [])
 measure_at (node ∷ later) zero = (node_bounds node, bounds_below later)
 measure_at (node ∷ later) (suc index) = measure_at later index
 
+-- the pair that measures kept by the code stand for: the extents of a node, and those over the nodes below it
 abbrev pub measure_of : Measures → Bounds × Bounds
 measure_of measures = (bounds_of measures.own, bounds_of measures.below)
 

@@ -8,6 +8,7 @@ abbrev pub numbers_along : List ℕ → ℕ → ℕ → List ℕ
 numbers_along next x zero = []
 numbers_along next x (suc k) = x ∷ numbers_along next (slice_index next x) k
 
+-- the lists that heads lead along, one for each head: from its first number on, as many along the row as it counts
 abbrev pub lists_of : List ℕ → List Head → List (List ℕ)
 lists_of next heads = map (λ head. numbers_along next head.first head.len) heads
 
@@ -22,9 +23,11 @@ pub record IsLinked (next : List ℕ) (head : Head) (list : List ℕ) : Type 0 w
   pub path : IsPath next head.first list (length next)
   pub last : 0 < length list → head.last ≡ slice_index list (length list - 1)
 
+-- what stands for a head past the last one; its numbers mean nothing
 abbrev pub no_head : Head
 no_head = record { first = 0; last = 0; len = 0 }
 
+-- a row and heads keep these disjoint lists: each head leads along the list at its place; numbers and heads are each fewer than 2 ^ 32
 pub record AreLinked (next : List ℕ) (heads : List Head) (lists : List (List ℕ)) : Type 0 where
   pub as_many : length heads ≡ length lists
   pub linked : (i : ℕ) → i < length lists → IsLinked next (slice_index_or heads i no_head) (slice_index_or lists i [])

@@ -26,6 +26,7 @@ use Rattle.sg_lower.specs.steps.Basis.{Basis, is_owned}
 abbrev pub told_writes : Basis → List Write → List CodeWrite
 told_writes basis writes = if basis.slicing then [] else map (code_write basis.shapes) writes
 
+-- the wants that code tells for the writes so far; none where no slice is lowered
 abbrev pub told_wants : Basis → List Write → List CodeWant
 told_wants basis writes = if basis.slicing then map want_of writes else []
 
@@ -49,6 +50,7 @@ pub record IsPoint (vars : ℕ) (at : Coord) : Type 0 where
   pub whole : coord_of (part_words at) ≡ at
   pub small : (var : ℕ) → IsWord (get_or (part_words at) var 0)
 
+-- what the iteration at this coordinate sees of a world
 abbrev pub seen_of : World → Coord → Seen
 seen_of world at = record { shapes = world.shapes; state = world.state; at = at }
 

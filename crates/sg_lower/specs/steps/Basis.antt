@@ -19,6 +19,7 @@ pub record Basis : Type 0 where
   pub vars : ℕ
   pub slicing : Bool
 
+-- what a kernel is lowered over, by the layouts and the way it is lowered
 abbrev pub basis_of : Layouts → Lowering → Basis
 basis_of layouts lowering = record { shapes = layouts.list; owned = lowering.owned; vars = lowering.vars; slicing = lowering.slicing }
 

@@ -27,6 +27,7 @@ Fitted = Option ℕ × Bool
 abbrev pub fits_owned : Basis → ℕ → ℕ → Bool → Bool
 fits_owned basis layout place named = not (is_owned basis.owned layout place) || (not basis.slicing && named)
 
+-- one layer of an expression, where it is known of each part which name it is, if any, and whether it can be lowered
 abbrev pub fit_step : Basis → Form-F Fitted Fitted → Fitted
 fit_step basis (f.Literal word) = (None, true)
 fit_step basis (f.Constant word) = (None, true)
@@ -42,6 +43,7 @@ fit_step basis (f.Bin op left right) = (None, left.1 && right.1)
 fit_step basis (f.Mulq a b s) = (None, a.1 && (b.1 && s.1))
 fit_step basis (f.Convert inner) = (None, inner.1)
 
+-- the variable that an expression is the bare name of, or none, and whether it can be lowered
 abbrev pub fitted : Basis → TypedExpr → Fitted
 fitted basis = fold-TypedExpr Fitted Fitted (fit_step basis) (λ expr. expr.form)
 
@@ -59,6 +61,7 @@ write_fits basis layout place index way value =
     (equals_some (axes_in basis.shapes layout) (length index) && list_all (can_be_lowered basis) index)
     && (basis.slicing || (can_be_lowered basis value && (not (is_own way) || is_own_index basis index))) && (not (is_own way) || is_owned basis.owned layout place)
 
+-- one layer of a statement, where it is known of each statement in it whether it can be lowered
 abbrev pub lowered_layer : Basis → TypedKind-F Bool Bool → Bool
 lowered_layer basis (k.Let var value) = nat_le basis.vars var && can_be_lowered basis value
 lowered_layer basis (k.Assign var value) = nat_le basis.vars var && can_be_lowered basis value
@@ -74,5 +77,6 @@ stmt_fits basis = fold-TypedStmt Bool Bool (lowered_layer basis) (λ stmt. stmt.
 abbrev pub typed_read : Ty → ℕ → ℕ → List TypedExpr → TypedExpr
 typed_read ty layout place index = record { ty = ty; form = form.Read layout place index }
 
+-- a write as the statement of this number
 abbrev pub write_stmt : ℕ → ℕ → ℕ → List TypedExpr → Way → TypedExpr → TypedStmt
 write_stmt number layout place index way value = record { number = number; kind = kind.Write layout place index way value }

@@ -34,7 +34,7 @@ AddsExpr shapes expr to old new before after = (setting : Surroundings) → sett
 abbrev pub is_part : Surroundings → TypedExpr → Bool
 is_part setting expr = is_signed expr.ty && is_well_typed_expr setting expr
 
--- the same of index expressions
+-- the code of index expressions is well typed wherever each of them may be an index
 abbrev pub AddsIndex : List Shape → List TypedExpr → List ℕ → Names → Names → List Inst → List Inst → Type 0
 AddsIndex shapes exprs regs old new before after = (setting : Surroundings) → setting.shapes ≡ shapes → list_all (is_part setting) exprs ≡ true
     → Adds shapes (Ready setting) (CanRead regs) old new before after
@@ -62,6 +62,7 @@ OnceDeed at (Tests condition) = Unit {0}
 OnceDeed at (Turns var range) = at.setters var ≡ 1
 OnceDeed at (Opens ranges) = Unit {0}
 
+-- the variable of each inner loop among lines is set once in the code
 abbrev pub Once : Frame → List Line → Type 0
 Once at lines = AllByRecursion (λ line. OnceDeed at line.deed) lines
 
@@ -70,6 +71,7 @@ abbrev pub AddsStmt : List Shape → TypedStmt → Names → Names → List Inst
 AddsStmt shapes stmt old new before after = (types : List Ty) (visible : List Visible) (around : Around) → (fitting shapes types stmt visible).0 ≡ true
     → AddsSet shapes (λ at scope. Ready (setting shapes types visible) at scope × Once at (stmt_lines stmt around)) (Ready (setting shapes types (fitting shapes types stmt visible).1)) old new before after
 
+-- the code of the statements of a block is well typed wherever the block is
 abbrev pub AddsBlock : List Shape → List TypedStmt → Names → Names → List Inst → List Inst → Type 0
 AddsBlock shapes stmts old new before after = (types : List Ty) (visible : List Visible) (around : Around) → (all_fit (map (fitting shapes types) stmts) visible).0 ≡ true
     → AddsSet shapes (λ at scope. Ready (setting shapes types visible) at scope × Once at (block_lines stmts around)) (Ready (setting shapes types (all_fit (map (fitting shapes types) stmts) visible).1)) old new before after
@@ -82,6 +84,7 @@ deed_sets (Tests condition) = []
 deed_sets (Turns var range) = var ∷ []
 deed_sets (Opens ranges) = []
 
+-- the variables that lines set, those of inner loops included, in order; one that is set twice stands there twice
 abbrev pub line_sets : List Line → List ℕ
 line_sets lines = flat_map (λ line. deed_sets line.deed) lines
 
@@ -93,11 +96,14 @@ deed_turns (Tests condition) = []
 deed_turns (Turns var range) = var ∷ []
 deed_turns (Opens ranges) = []
 
+-- the variables of the inner loops among lines, in order
 abbrev pub line_turns : List Line → List ℕ
 line_turns lines = flat_map (λ line. deed_turns line.deed) lines
 
+-- behind what was set before, the code sets the variables that a statement and those in it set, in order
 abbrev pub SetsStmt : TypedStmt → List Inst → List Inst → Type 0
 SetsStmt stmt before after = (around : Around) → set_vars after ≡ set_vars before ++ line_sets (stmt_lines stmt around)
 
+-- behind what was set before, the code sets the variables that the statements of a block and those in them set, in order
 abbrev pub SetsBlock : List TypedStmt → List Inst → List Inst → Type 0
 SetsBlock stmts before after = (around : Around) → set_vars after ≡ set_vars before ++ line_sets (block_lines stmts around)

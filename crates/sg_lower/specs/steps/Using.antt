@@ -34,6 +34,7 @@ use_step owned (f.Convert inner) = inner
 abbrev pub expr_uses : List Field → TypedExpr → List Use
 expr_uses owned = fold-TypedExpr (List Use) (List Use) (use_step owned) (λ expr. expr.form)
 
+-- the uses of expressions, one after the other
 abbrev pub all_uses : List Field → List TypedExpr → List Use
 all_uses owned exprs = flat_map (expr_uses owned) exprs
 
@@ -51,6 +52,7 @@ deed_uses basis (lines.Tests condition) = expr_uses basis.owned condition
 deed_uses basis (lines.Turns var range) = []
 deed_uses basis (lines.Opens ranges) = []
 
+-- the uses of lines, one after the other
 abbrev pub line_uses : Basis → List Line → List Use
 line_uses basis all = flat_map (λ line. deed_uses basis line.deed) all
 
@@ -62,5 +64,6 @@ Uses more before after = uses_in after ≡ uses_in before ++ more
 abbrev pub UsesStmt : Basis → TypedStmt → List Inst → List Inst → Type 0
 UsesStmt basis stmt before after = (around : Around) → Uses (line_uses basis (stmt_lines stmt around)) before after
 
+-- the code of a block has the uses of its statements behind those before, wherever the block stands
 abbrev pub UsesBlock : Basis → List TypedStmt → List Inst → List Inst → Type 0
 UsesBlock basis stmts before after = (around : Around) → Uses (line_uses basis (block_lines stmts around)) before after

@@ -16,6 +16,7 @@ use Rattle.sg_ir.specs.steps.InScope.{InScope, IsScoped}
 use Rattle.sg_simplify.specs.steps.Serves.{EachByRecursion, Leads}
 use Rattle.sg_simplify.specs.steps.Ruled.{HasSettledOps, HasAccessLayouts}
 
+-- 1 where the test holds, else 0
 abbrev pub one_where : Bool → ℕ
 one_where test = if test then 1 else 0
 
@@ -29,6 +30,7 @@ regs_set r (Do what rest) = regs_set r rest
 regs_set r (Branch cond block otherwise rest) = regs_set r block + (regs_set r otherwise + regs_set r rest)
 regs_set r (Loop var lo hi body rest) = regs_set r body + regs_set r rest
 
+-- how many instructions of a block, those of the blocks inside it too, set a place
 abbrev pub places_set : ℕ → Block → ℕ
 places_set p End = 0
 places_set p (Word to how rest) = places_set p rest
@@ -85,6 +87,7 @@ words_step (i.If cond block otherwise) = list_all (λ b. b) block && list_all (�
 words_step (i.For var lo hi body) = list_all (λ b. b) body
 words_step _ = true
 
+-- each constant of an instruction, and of those inside it, is a word: below 2 ^ 32
 abbrev pub has_words : Inst → Bool
 has_words = fold-Inst Bool words_step
 

@@ -21,6 +21,7 @@ gives_type (Some truth) type = is_truth_as truth type
 abbrev pub field_truth : List Shape → ℕ → ℕ → Option Bool
 field_truth shapes layout field = option_map is_truth (option_and_then (λ (shape : Shape). slice_get shape.fields field) (slice_get shapes layout))
 
+-- whether an operation gives a truth value; not known of a variable or a field that isn't there
 abbrev pub truth_of : List Shape → List Ty → Op → Option Bool
 truth_of shapes vars (op.Const word truth) = Some truth
 truth_of shapes vars (op.Var var) = option_map is_truth (slice_get vars var)
@@ -53,6 +54,7 @@ abbrev pub IndexIsGood : Frame → Scope → Op → List ℕ → Type 0
 IndexIsGood at scope (op.Read place layout field) index = index_fits at scope layout index ≡ true
 IndexIsGood at scope how index = Unit {0}
 
+-- how a place goes down a node by this instruction: to a child, by a key, by a bit, or below a length
 abbrev pub way_by : Descent → Way_down
 way_by by.Child = ByChild
 way_by by.HashChild = ByKey
@@ -85,6 +87,7 @@ act_fits at scope (Contribute how layout field place from index stmt) =
     && (scope.regs from && (gives_type (field_truth at.shapes layout field) (slice_get at.regs from) && index_fits at scope layout index))
 act_fits at scope (Wish layout index stmt) = index_fits at scope layout index
 
+-- the scope behind an act: a variable that is set is in it from here on, and no other act adds anything
 abbrev pub behind_act : Act → Scope → Scope
 behind_act (SetVar var from) scope = with_var var scope
 behind_act (WriteOwn layout field from stmt) scope = scope

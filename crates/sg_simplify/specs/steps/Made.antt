@@ -42,9 +42,11 @@ span_in_loop looped = (looped.var, looped.span)
 abbrev pub pass_of : Made → Pass
 pass_of made = record { ops = made.ops.entries; steps = made.steps.entries; loops = reverse (map span_in_loop made.loops) }
 
+-- the types and spans of the registers, how many places, and the new names, as code has put them out so far
 abbrev pub next_of : Made → Next
 next_of made = record { types = map (λ reg. reg.ty) made.regs; spans = map (λ reg. reg.span) made.regs; places = made.places; names = made.names.entries }
 
+-- the types of the registers that were put out so far, by their numbers
 abbrev pub types_of : Made → List Ty
 types_of made = map (λ reg. reg.ty) made.regs
 
@@ -98,6 +100,7 @@ word_step (i.Offset to high size low) = true
 word_step (i.OwnRead to layout field) = true
 word_step _ = false
 
+-- an instruction sets a register to an operation other than a read of a cell
 abbrev pub is_word : Inst → Bool
 is_word = fold-Inst Bool word_step
 
@@ -106,6 +109,7 @@ abbrev pub HasTruth : Ty → Op → Type 0
 HasTruth type (op.Const word truth) = truth ≡ is_truth type
 HasTruth type how = Unit {0}
 
+-- a constant set to this register is a truth value exactly where the register's type is Bool; U32 where the register isn't there
 abbrev pub TruthIs : List Ty → ℕ → Op → Type 0
 TruthIs types to how = HasTruth (get_or types to ty.U32) how
 

@@ -12,12 +12,14 @@ op_use test (op.Read place layout field) = test (Reads layout field)
 op_use test (op.OwnRead layout field) = test (ReadsOwn layout field)
 op_use test how = false
 
+-- an act writes a field in a way that passes the test: its own cell, or a contribution by an operator
 abbrev pub act_use : (Use → Bool) → Act → Bool
 act_use test (SetVar var from) = false
 act_use test (WriteOwn layout field from stmt) = test (Writes layout field Own)
 act_use test (Contribute how layout field place from index stmt) = test (Writes layout field (Acc how))
 act_use test (Wish layout index stmt) = false
 
+-- some operation or act of a block, or of a block inside it, uses a field in a way that passes the test
 abbrev pub has_use : (Use → Bool) → Block → Bool
 has_use test End = false
 has_use test (Word to how rest) = op_use test how || has_use test rest

@@ -17,6 +17,7 @@ abbrev pub OpSettles : (ℕ → Bool) → Block → Op → Type 0
 OpSettles single rest (op.Var var) = single var ≡ true → sets var rest ≡ 0
 OpSettles single rest how = Unit {0}
 
+-- in a block and in each block inside it, what follows a use of such a variable there doesn't set it
 abbrev pub HasSettledOps : (ℕ → Bool) → Block → Type 0
 HasSettledOps single End = Unit {0}
 HasSettledOps single (Word to how rest) = OpSettles single rest how × HasSettledOps single rest
@@ -32,6 +33,7 @@ pub record HasLayout (shapes : List Shape) (layout axes : ℕ) : Type 0 where
   pub there : slice_get shapes layout ≡ Some shape
   pub leads : (words : List ℕ) → length words ≡ axes → EachByRecursion IsWord words → Leads shapes layout shape words
 
+-- an access has an index register, and down its layout, which is there, as many words lead to their coordinate's place
 abbrev pub IndexFits : List Shape → ℕ → List ℕ → Type 0
 IndexFits shapes layout [] = ⊥
 IndexFits shapes layout (r ∷ index) = HasLayout shapes layout (length (r ∷ index))
@@ -70,6 +72,7 @@ pub record IsRenamed (next : Next) (from to : Room) (r : ℕ) : Type 0 where
   pub word : to.regs (made_name next r) ≡ from.regs r
   pub lies : Lies (span_in next (made_name next r)) (to.regs (made_name next r))
 
+-- each given register in scope has a new one with the same word, which lies in its span
 abbrev pub AllRenamed : InScope → Next → Room → Room → Type 0
 AllRenamed scope next from to = (r : ℕ) → scope.regs r ≡ true → IsRenamed next from to r
 

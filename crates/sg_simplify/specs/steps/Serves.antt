@@ -65,6 +65,7 @@ OpBelow regs places (op.Offset high size low) = (high < regs) × (low < regs)
 OpBelow regs places (op.Read place layout field) = place < places
 OpBelow regs places (op.OwnRead layout field) = Unit {0}
 
+-- the place and the register that a step reads are below these numbers; a root reads none
 abbrev pub StepBelow : ℕ → ℕ → Step → Type 0
 StepBelow regs places (step.Root layout) = Unit {0}
 StepBelow regs places (step.Check place axis extent index) = (place < places) × (index < regs)
@@ -84,6 +85,7 @@ pub record OpHolds (seen : Seen) (rest : Block) (next : Next) (room : Room) (now
   pub word : room.regs entry.1 ≡ op_word seen room now entry.0
   pub lies : Lies (span_in next entry.1) (room.regs entry.1)
 
+-- a known step reads what was put out, and its place, put out too, is in this room the one that the step gives
 pub record StepHolds (seen : Seen) (next : Next) (room : Room) (entry : Step × ℕ) : Type 0 where
   pub named : entry.1 < next.places
   pub below : StepBelow (length next.spans) next.places entry.0
@@ -120,6 +122,7 @@ Serves seen given rest pass next room now result word go =
     (t : ℕ) (known : Pass) (further : Next) (beyond : Room) → Later next room further beyond → Alike pass next known further → HoldsInRoom seen given rest known further beyond now →
     t < length further.spans → beyond.regs t ≡ word → Lies (span_in further t) word → Good seen (go t known further) beyond now result
 
+-- what follows is good, given a place of this room that is this one, or none where this is none
 abbrev pub ServesPlace : Seen → Given → Block → Pass → Next → Room → RunMoment → RunMoment → Option Place → (ℕ → Making) → Type 0
 ServesPlace seen given rest pass next room now result place go =
     (t : ℕ) (known : Pass) (further : Next) (beyond : Room) → Later next room further beyond → Alike pass next known further → HoldsInRoom seen given rest known further beyond now →

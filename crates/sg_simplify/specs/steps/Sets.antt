@@ -22,6 +22,7 @@ pub record Sets (scope : InScope) (pass : Pass) (next : Next) : Type 0 where
 abbrev pub GoesOnIn : InScope → Next → (ℕ → Making) → Type 0
 GoesOnIn scope next go = (t : ℕ) (known : Pass) (further : Next) (wide : InScope) → Wider scope wide → further.names ≡ next.names → Sets wide known further → wide.regs t ≡ true → IsScoped wide (go t known further).0
 
+-- what follows is scoped, given a place in scope
 abbrev pub GoesOnAt : InScope → Next → (ℕ → Making) → Type 0
 GoesOnAt scope next go = (t : ℕ) (known : Pass) (further : Next) (wide : InScope) → Wider scope wide → further.names ≡ next.names → Sets wide known further → wide.places t ≡ true → IsScoped wide (go t known further).0
 

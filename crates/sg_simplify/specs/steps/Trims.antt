@@ -16,6 +16,7 @@ pub record StepTrims (scope : InScope) (ways : Ways) (entry : Step × ℕ) : Typ
   pub places : AreSet scope.places (step_places entry.0)
   pub way : way_to ways entry.1 ≡ way_behind ways entry.1 entry.0
 
+-- at this point the walk over the output has the pass's spans, and its way to a known step's place is that behind the step
 pub record Trims (given : Given) (scope : InScope) (known : Pass) (next : Next) (spans : Spans) (ways : Ways) : Type 0 where
   pub sets : Sets scope known next
   pub regs : (r : ℕ) → scope.regs r ≡ true → reg_span spans r ≡ span_in next r
@@ -40,6 +41,7 @@ abbrev pub GoesTrim : Given → InScope → Next → Ways → (ℕ → Making) �
 GoesTrim given scope next ways go = (t : ℕ) (known : Pass) (further : Next) (wide : InScope) (spans : Spans) (beyond : Ways) → Onward scope next ways wide further beyond → Trims given wide known further spans beyond → wide.regs t ≡ true
     → accesses_are_trim given.shapes spans beyond (go t known further).0 ≡ true
 
+-- what follows has trim accesses, given a place in scope with such a way
 abbrev pub GoesTrimAt : Given → InScope → Next → Ways → (List AxisCheck → Type 0) → (ℕ → Making) → Type 0
 GoesTrimAt given scope next ways is_way go = (t : ℕ) (known : Pass) (further : Next) (wide : InScope) (spans : Spans) (beyond : Ways) → Onward scope next ways wide further beyond → Trims given wide known further spans beyond → wide.places t ≡ true
     → is_way (way_to beyond t) → accesses_are_trim given.shapes spans beyond (go t known further).0 ≡ true

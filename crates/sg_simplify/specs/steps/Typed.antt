@@ -38,6 +38,7 @@ pub record OpTyped (fixed : Fixed) (scope : Scope) (next : Next) (entry : Op × 
   pub set : scope.regs entry.1 ≡ true
   pub type : gives_type (truth_of fixed.shapes fixed.vars entry.0) (slice_get next.types entry.1) ≡ true
 
+-- what is known of the place of a known step is what the step gives: its layout, and how many nodes it has passed
 pub record StepTyped (scope : Scope) (entry : Step × ℕ) : Type 0 where
   pub known : KnownPlace
   pub comes : step_known scope entry.0 ≡ Some known
@@ -63,6 +64,7 @@ abbrev pub GoesTyped : Fixed → Scope → Next → Option Bool → (ℕ → Mak
 GoesTyped fixed scope next truth go = (t : ℕ) (known : Pass) (further : Next) (wide : Scope) → Widens scope wide → further.names ≡ next.names → Starts next further → Types fixed wide known further →
     wide.regs t ≡ true → gives_type truth (slice_get further.types t) ≡ true → Typed fixed wide further (go t known further)
 
+-- what follows is good, given a place in scope of which this is known
 abbrev pub GoesDown : Fixed → Scope → Next → KnownPlace → (ℕ → Making) → Type 0
 GoesDown fixed scope next place go = (t : ℕ) (known : Pass) (further : Next) (wide : Scope) → Widens scope wide → further.names ≡ next.names → Starts next further → Types fixed wide known further →
     wide.places t ≡ Some place → Typed fixed wide further (go t known further)
@@ -88,6 +90,7 @@ pub record IsNamedTyped (types : List Ty) (scope : Scope) (next : Next) (r : ℕ
   pub set : scope.regs (made_name next r) ≡ true
   pub same : (truth : Bool) → is_truth_as truth (slice_get types r) ≡ true → is_truth_as truth (slice_get next.types (made_name next r)) ≡ true
 
+-- each given register in scope has a new name in scope with a type that fits as well
 abbrev pub NamesTyped : List Ty → Scope → Scope → Next → Type 0
 NamesTyped types given scope next = (r : ℕ) → given.regs r ≡ true → IsNamedTyped types scope next r
 
@@ -99,5 +102,6 @@ pub record IsWalked (shape : Shape) : Type 0 where
   pub c : nat_lt 0 (extent_over shape.nodes 3) ≡ true
   pub nodes : NodesFit shape.nodes
 
+-- each of these layouts has axes that can be checked and nodes that can be gone down
 abbrev pub AreWalked : List Shape → Type 0
 AreWalked shapes = (layout : ℕ) (shape : Shape) → slice_get shapes layout ≡ Some shape → IsWalked shape

@@ -72,6 +72,7 @@ abbrev pub plan_by_slots : KeyPlan → ℕ → Plan
 plan_by_slots plan count =
     record { links = links_by_slot plan.keys plan.links count; stock = plan.stock; room = plan.room; taken = plan.taken }
 
+-- the plan is a table of as many places as before, and by slots a plan of links for these slots under this cap
 pub record IsKeyPlan (kept : NodeWords) (cap : ℕ) (slots : List ℕ) (count : ℕ) (plan : KeyPlan) : Type 0 where
   pub keyed : IsKeyed plan.keys plan.links (length kept.keys) count
   pub linked : IsPlan (by_slots kept count) cap slots (plan_by_slots plan count)

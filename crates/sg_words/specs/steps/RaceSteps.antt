@@ -7,6 +7,7 @@ use Rattle.sg_words.specs.RaceMachine.{Event, see, miss, link, after_see, after_
 abbrev pub after_look : ℕ → ℕ → Worker → Worker
 after_look i word v = if word == 0 then after_miss i v else after_see i (word - 1) v
 
+-- the event of a load of slot i by worker v: a miss where the word was 0, else a sight
 abbrev pub look_event : ℕ → ℕ → ℕ → Event
 look_event v i word = if word == 0 then miss v i else see v i
 
@@ -14,5 +15,6 @@ look_event v i word = if word == 0 then miss v i else see v i
 abbrev pub after_try : ℕ → ℕ → ℕ → ℕ → ℕ → Worker → Worker
 after_try l i t n word v = if word == 0 then after_link l i t n v else after_see i (word - 1) v
 
+-- the event of such an exchange by worker v: a link where the word was 0, else a sight
 abbrev pub try_event : ℕ → ℕ → ℕ → ℕ → Event
 try_event v i t word = if word == 0 then link v i t else see v i

@@ -17,15 +17,18 @@ option_of name = record (new_rule name) { long = Some name; action = Some Set }
 abbrev pub positionals_given : Rule
 positionals_given = record (new_rule (codes "positionals")) { action = Some Append }
 
+-- the command that splits the words: `--workers`, `--mode` and positional words, with no program name and no help flag
 abbrev pub words_command : App
 words_command =
     with_rule (with_rule (with_rule (on_top (λ s. record s { no_binary_name = true; disable_help_flag = true }) (new_app (codes "sparsegrid")))
     (option_of (codes "workers"))) (option_of (codes "mode"))) positionals_given
 
+-- a parse is refused: there is a kind of error that it may give
 abbrev pub has_fault : Kinds → Bool
 has_fault [] = false
 has_fault (kind ∷ kinds) = true
 
+-- the value, or none where it is refused
 abbrev pub unless : {A : Type 0} → Bool → A → Option A
 unless refused value = if refused then None else Some value
 
