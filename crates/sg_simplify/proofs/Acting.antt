@@ -10,7 +10,7 @@ use Rattle.sg_ir.specs.Blocks.{Block, Link, Word, Cell, Do, SetVar, WriteOwn, Co
 use Rattle.sg_ir.specs.Shared.{is_pure}
 use Rattle.sg_ir.proofs.Uses.{fold-Set, fold-OwnWrite, fold-Acc, fold-Want}
 use Rattle.sg_simplify.specs.declared.made.Made.{Made}
-use Rattle.sg_simplify.specs.Pass.{Given, Pass, Next, Making, put_in_front, made_name, given_type, renamed, with_name, taken, numbered, place_made, simplified}
+use Rattle.sg_simplify.specs.steps.Pass.{Given, Pass, Next, Making, put_in_front, made_name, given_type, renamed, with_name, taken, numbered, place_made, simplified}
 use Rattle.sg_simplify.specs.steps.Made.{pass_of, next_of, types_of, Goes, onward}
 use Rattle.sg_simplify.proofs.Making.{longer-none, goes-on, goes-from, goes-put}
 use Rattle.sg_simplify.proofs.Taking.{onward-goes}

@@ -23,7 +23,7 @@ use Rattle.sg_ir.specs.Named.{IsNamed}
 use Rattle.sg_ir.specs.Shared.{is_shared}
 use Rattle.sg_ir.specs.Trimmed.{is_trimmed}
 use Rattle.sg_ir.specs.WellTyped.{is_well_typed}
-use Rattle.sg_simplify.specs.Pass.{Next, given_of, first_pass, first_next, simple, simplified}
+use Rattle.sg_simplify.specs.steps.Pass.{Next, given_of, first_pass, first_next, simple, simplified}
 use Rattle.sg_simplify.specs.Simplified.{IsSimplified}
 use Rattle.sg_simplify.specs.steps.Counted.{has_words}
 use Rattle.sg_simplify.proofs.Laid.{are_laid}

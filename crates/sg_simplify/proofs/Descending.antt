@@ -19,7 +19,7 @@ use Rattle.sg_ir.specs.declared.op.Op.TheVariants as op
 use Rattle.sg_ir.specs.declared.op.Step.TheVariants as step
 use Rattle.sg_ir.specs.declared.op.Descent.{Descent}
 use Rattle.sg_simplify.specs.declared.made.Made.{Made}
-use Rattle.sg_simplify.specs.Pass.{Given, Making, taken, stepped, checks_made, part, offset_made, offset, descent_of, descended, placed_in, place_made}
+use Rattle.sg_simplify.specs.steps.Pass.{Given, Making, taken, stepped, checks_made, part, offset_made, offset, descent_of, descended, placed_in, place_made}
 use Rattle.sg_simplify.specs.steps.Made.{pass_of, next_of, Goes, AreWide, check_in}
 use Rattle.sg_simplify.proofs.Making.{longer-none, goes-here, goes-on, goes-from}
 

@@ -8,7 +8,7 @@ use Rattle.sg_ir.specs.Blocks.{Block, Link, chained, link}
 use Rattle.sg_simplify.proofs.Reading.{append-none, map-append, chained-append}
 use Rattle.sg_simplify.specs.declared.made.Made.{Made}
 use Rattle.sg_simplify.specs.declared.made.Reg.{Reg}
-use Rattle.sg_simplify.specs.Pass.{Given, Pass, Next, Making, put_in_front, set_word, fresh, next_with_reg, span_of}
+use Rattle.sg_simplify.specs.steps.Pass.{Given, Pass, Next, Making, put_in_front, set_word, fresh, next_with_reg, span_of}
 use Rattle.sg_simplify.specs.steps.Made.{pass_of, next_of, types_of, onto, Longer, Continues, Goes, AddsMadeReg, HasTruth, TruthIs}
 
 -- one instruction more

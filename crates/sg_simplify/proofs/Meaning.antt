@@ -26,7 +26,7 @@ use Rattle.sg_ir.proofs.Uses.{lies_whole, bin_lies, range_lies, op_lies}
 use Rattle.sg_ir.proofs.Uses.{sound}
 use Rattle.sg_ir.proofs.Uses.{values_low, first_fits}
 use Rattle.sg_ir.proofs.Uses.{forms_alike}
-use Rattle.sg_simplify.specs.Pass.{given_of, first_pass, vars_of, simple}
+use Rattle.sg_simplify.specs.steps.Pass.{given_of, first_pass, vars_of, simple}
 use Rattle.sg_simplify.specs.steps.Serves.{Laws, NamesAll}
 use Rattle.sg_simplify.specs.steps.Ruled.{IsRuled}
 use Rattle.sg_simplify.proofs.Whole.{simple_keeps, simple_scoped}

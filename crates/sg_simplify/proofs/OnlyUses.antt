@@ -17,7 +17,7 @@ use Rattle.sg_ir.specs.Trimmed.{is_within}
 use Rattle.sg_ir.specs.Places.{extents_in}
 use Rattle.sg_ir.specs.Apt.{Use, Writes, Reads}
 use Rattle.sg_flat.specs.declared.effects.Way.TheVariants.{Own, Acc}
-use Rattle.sg_simplify.specs.Pass.{Given, Pass, Next, Making, made_name, with_name, next_with_reg, next_with_place, given_type, span_in, span_of, renamed, and_op, and_step, put_in_front, set_word, fresh, taken_at, taken, numbered, stepped_at, stepped, check_at, checks_made, offset_made, offset, descent_of, descended, placed_in, place_made, looped, simplified}
+use Rattle.sg_simplify.specs.steps.Pass.{Given, Pass, Next, Making, made_name, with_name, next_with_reg, next_with_place, given_type, span_in, span_of, renamed, and_op, and_step, put_in_front, set_word, fresh, taken_at, taken, numbered, stepped_at, stepped, check_at, checks_made, offset_made, offset, descent_of, descended, placed_in, place_made, looped, simplified}
 use Rattle.sg_simplify.specs.steps.Only.{op_use, has_use}
 
 word_use : (test : Use → Bool) (n : ℕ) (how : Op) (index : List ℕ) (rest : Block) → has_use test (set_word n how index rest) ≡ (op_use test how || has_use test rest)

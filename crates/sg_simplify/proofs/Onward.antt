@@ -8,7 +8,7 @@ use Rattle.sg_ir.specs.declared.op.Step.TheVariants as step
 use Rattle.sg_ir.specs.Runs.{put}
 use Rattle.sg_ir.specs.Trimmed.{AxisCheck, Ways, way_to, way_behind}
 use Rattle.sg_ir.specs.steps.InScope.{InScope, step_places, AreSet}
-use Rattle.sg_simplify.specs.Pass.{Pass, Next, offset}
+use Rattle.sg_simplify.specs.steps.Pass.{Pass, Next, offset}
 use Rattle.sg_simplify.specs.steps.Sets.{Sets}
 use Rattle.sg_simplify.specs.steps.Trims.{Onward}
 use Rattle.sg_simplify.proofs.Setting.{wider_same, wider_on, put_still}

@@ -13,7 +13,7 @@ use Rattle.sg_ir.specs.declared.span.Span.{Span}
 use Rattle.sg_ir.proofs.Uses.{by_inst, fold-Const, fold-Var, fold-Bin, fold-Un, fold-Mulq, fold-Root, fold-Check, fold-Extract, fold-Offset, fold-Child, fold-HashChild, fold-MaskBit, fold-DynCell, fold-OwnRead, fold-If, fold-For}
 use Rattle.sg_simplify.specs.declared.made.Made.{Made}
 use Rattle.sg_simplify.specs.declared.made.Looped.{Looped}
-use Rattle.sg_simplify.specs.Pass.{Given, Pass, Next, Making, put_in_front, made_name, looped, simplified}
+use Rattle.sg_simplify.specs.steps.Pass.{Given, Pass, Next, Making, put_in_front, made_name, looped, simplified}
 use Rattle.sg_simplify.specs.steps.Made.{span_in_loop, pass_of, next_of, types_of, Longer, Goes, word_step, is_word}
 use Rattle.sg_simplify.proofs.Reading.{append-none, map-append, take-front}
 use Rattle.sg_simplify.proofs.Making.{longer-none, longer-on, goes-here, goes-from, goes-on, goes-put}

@@ -19,7 +19,7 @@ use Rattle.sg_ir.specs.SpanLaws.{Lies}
 use Rattle.sg_ir.specs.steps.Scoped.{RunMoment, Room}
 use Rattle.sg_ir.specs.Places.{extents_in}
 use Rattle.sg_ir.specs.steps.Walks.{checks, digit, offset_from, node_offset, led}
-use Rattle.sg_simplify.specs.Pass.{Given, Pass, Next, Making, span_in, taken, stepped, check_at, checks_made, part, offset_made, offset, descent_of, descended, placed_in, place_made}
+use Rattle.sg_simplify.specs.steps.Pass.{Given, Pass, Next, Making, span_in, taken, stepped, check_at, checks_made, part, offset_made, offset, descent_of, descended, placed_in, place_made}
 use Rattle.sg_simplify.specs.steps.Serves.{EachByRecursion, Laws, HoldsInRoom, Later, Good, Serves, ServesPlace, IsIndex, Leads}
 use Rattle.sg_simplify.proofs.Serving.{later_same, later_on, alike_same, alike_on, serves_later, serves_place_later, taken_law, stepped_law}
 

@@ -14,7 +14,7 @@ use Rattle.sg_ir.specs.Shared.{is_pure}
 use Rattle.sg_ir.specs.SpanLaws.{Lies, HasConstantWord, IsSpanned}
 use Rattle.sg_ir.specs.steps.Scoped.{RunMoment, Room, room_reg, room_place, op_word}
 use Rattle.sg_ir.specs.steps.InScope.{InScope, and_reg, and_place, op_regs, AreSet}
-use Rattle.sg_simplify.specs.Pass.{Next, made_name, with_name, span_in, renamed}
+use Rattle.sg_simplify.specs.steps.Pass.{Next, made_name, with_name, span_in, renamed}
 use Rattle.sg_simplify.specs.steps.Serves.{EachByRecursion, Later, OpBelow, OpStays, OpIsAt, OpLies, IsIndex}
 use Rattle.sg_simplify.specs.steps.Ruled.{OpSettles, IsNotRead, IsRenamed, AllRenamed, Grown}
 use Rattle.sg_simplify.proofs.Growing.{name_here, name_other}

@@ -19,7 +19,7 @@ use Rattle.sg_ir.specs.Shared.{same_op, same_step, is_pure, is_single, shares, i
 use Rattle.sg_ir.specs.Trimmed.{is_within}
 use Rattle.sg_ir.specs.Places.{extents_in}
 use Rattle.sg_ir.proofs.Uses.{op_exact}
-use Rattle.sg_simplify.specs.Pass.{Given, Pass, Next, Making, made_name, with_name, next_with_reg, next_with_place, given_type, span_in, span_of, renamed, and_op, and_step, put_in_front, set_word, fresh, taken_at, taken, numbered, stepped_at, stepped, check_at, checks_made, offset_made, offset, descent_of, descended, placed_in, place_made, looped, simplified, given_of, first_pass, first_next, simple}
+use Rattle.sg_simplify.specs.steps.Pass.{Given, Pass, Next, Making, made_name, with_name, next_with_reg, next_with_place, given_type, span_in, span_of, renamed, and_op, and_step, put_in_front, set_word, fresh, taken_at, taken, numbered, stepped_at, stepped, check_at, checks_made, offset_made, offset, descent_of, descended, placed_in, place_made, looped, simplified, given_of, first_pass, first_next, simple}
 use Rattle.sg_simplify.proofs.Sharing.{simplified_shares}
 
 word_sets : (var n : ℕ) (how : Op) (index : List ℕ) (rest : Block) → sets var (set_word n how index rest) ≡ sets var rest

@@ -19,7 +19,7 @@ use Rattle.sg_ir.specs.SpanLaws.{Lies, HasConstantWord, WhereTest, EachTurn, IsS
 use Rattle.sg_ir.specs.steps.Scoped.{RunMoment, Room, room_reg, room_place, op_word, step_place, moment_after_act, at_turn, run}
 use Rattle.sg_ir.specs.steps.InScope.{InScope, and_reg, and_place, op_regs, AreSet}
 use Rattle.sg_ir.proofs.Uses.{entered, left, counted}
-use Rattle.sg_simplify.specs.Pass.{Given, Pass, Next, Making, made_name, with_name, given_type, span_in, vars_of, renamed, put_in_front, taken, numbered, looped, simplified}
+use Rattle.sg_simplify.specs.steps.Pass.{Given, Pass, Next, Making, made_name, with_name, given_type, span_in, vars_of, renamed, put_in_front, taken, numbered, looped, simplified}
 use Rattle.sg_simplify.specs.steps.Serves.{Laws, NamesAll, OpStays, HoldsInRoom, Later, Alike, Good, Serves}
 use Rattle.sg_simplify.specs.steps.Ruled.{IsNotRead, HasLayout, IsRuled, AllRenamed}
 use Rattle.sg_simplify.proofs.Serving.{later_on, alike_on, holds_later, fresh_law, taken_law}

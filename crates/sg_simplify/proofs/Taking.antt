@@ -10,7 +10,7 @@ use Rattle.sg_ir.specs.Blocks.{Block, link, Spot}
 use Rattle.sg_ir.specs.Shared.{same_op, same_step}
 use Rattle.sg_ir.specs.Trimmed.{is_within}
 use Rattle.sg_simplify.specs.declared.made.Made.{Made}
-use Rattle.sg_simplify.specs.Pass.{Given, Pass, Next, Making, fresh, taken, taken_at, stepped, stepped_at, and_op, and_step, next_with_place, with_name, span_in, check_at, numbered, simplified}
+use Rattle.sg_simplify.specs.steps.Pass.{Given, Pass, Next, Making, fresh, taken, taken_at, stepped, stepped_at, and_op, and_step, next_with_place, with_name, span_in, check_at, numbered, simplified}
 use Rattle.sg_simplify.specs.steps.Made.{pass_of, next_of, types_of, Longer, Goes, onward, check_in}
 use Rattle.sg_simplify.proofs.Reading.{append-none}
 use Rattle.sg_simplify.proofs.Making.{longer-none, goes-here, goes-from, goes-to, goes-put}

@@ -22,7 +22,7 @@ use Rattle.sg_ir.specs.Trimmed.{is_within, AxisCheck, Ways, way_to, way_behind, 
 use Rattle.sg_ir.specs.steps.InScope.{InScope, and_reg, and_place, op_regs, step_places, AreSet, IsScoped}
 use Rattle.sg_ir.specs.Places.{extents_in}
 use Rattle.sg_ir.proofs.Uses.{step_exact}
-use Rattle.sg_simplify.specs.Pass.{Given, Pass, Next, Making, made_name, with_name, next_with_reg, next_with_place, given_type, span_in, span_of, renamed, and_op, and_step, put_in_front, set_word, fresh, taken_at, taken, numbered, stepped_at, stepped, check_at, checks_made, offset_made, offset, descent_of, descended, placed_in, place_made, looped, simplified}
+use Rattle.sg_simplify.specs.steps.Pass.{Given, Pass, Next, Making, made_name, with_name, next_with_reg, next_with_place, given_type, span_in, span_of, renamed, and_op, and_step, put_in_front, set_word, fresh, taken_at, taken, numbered, stepped_at, stepped, check_at, checks_made, offset_made, offset, descent_of, descended, placed_in, place_made, looped, simplified}
 use Rattle.sg_simplify.specs.steps.Ruled.{IsNotRead, HasAccessLayouts, HasLayout, Grown}
 use Rattle.sg_simplify.specs.steps.Sets.{Sets, AllNamed}
 use Rattle.sg_simplify.specs.steps.Trims.{StepTrims, Trims, Onward, asked, GoesTrim, GoesTrimAt, GoesOnBy, OpIsTrim}

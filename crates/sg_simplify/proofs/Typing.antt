@@ -24,7 +24,7 @@ use Rattle.sg_ir.specs.Trimmed.{is_within}
 use Rattle.sg_ir.specs.WellTyped as well
 use Rattle.sg_ir.specs.WellTyped.{KnownPlace, Scope, Frame, is_truth_as, reads, holds_of, goes_down, checkable, descends}
 use Rattle.sg_ir.proofs.Uses.{op_exact, step_exact}
-use Rattle.sg_simplify.specs.Pass.{Given, Pass, Next, Making, next_with_reg, next_with_place, span_in, span_of, and_op, and_step, put_in_front, set_word, fresh, taken_at, taken, numbered, stepped_at, stepped, check_at, checks_made, offset_made, offset, descent_of, descended, placed_in, place_made}
+use Rattle.sg_simplify.specs.steps.Pass.{Given, Pass, Next, Making, next_with_reg, next_with_place, span_in, span_of, and_op, and_step, put_in_front, set_word, fresh, taken_at, taken, numbered, stepped_at, stepped, check_at, checks_made, offset_made, offset, descent_of, descended, placed_in, place_made}
 use Rattle.sg_simplify.specs.steps.Judged.{gives_type, truth_of, operands_fit, IndexIsGood, way_by, step_reads, step_known, and_known, act_fits, behind_act, fits_scope}
 use Rattle.sg_simplify.specs.steps.Typed.{Fixed, frame_by, Starts, OpTyped, StepTyped, Types, Typed, GoesTyped, GoesDown, AllRead, ChecksFit, NodesFit}
 use Rattle.sg_simplify.proofs.Tables.{each_push, IsFound, each_found, length_push}

@@ -14,7 +14,7 @@ use Rattle.sg_ir.specs.Runs.{put}
 use Rattle.sg_ir.specs.Blocks.{Block}
 use Rattle.sg_ir.specs.WellTyped as well
 use Rattle.sg_ir.specs.WellTyped.{KnownPlace, Scope, Frame, is_truth_as, reads, indexes, holds_of, takes_truth, is_lnot, is_cell, checkable, descends}
-use Rattle.sg_simplify.specs.Pass.{Pass, Next, next_with_reg, next_with_place, with_name, set_word}
+use Rattle.sg_simplify.specs.steps.Pass.{Pass, Next, next_with_reg, next_with_place, with_name, set_word}
 use Rattle.sg_simplify.specs.steps.Serves.{EachByRecursion}
 use Rattle.sg_simplify.specs.steps.Judged.{gives_type, truth_of, operands_fit, index_fits, IndexIsGood, way_by, step_reads, step_known, fits_scope}
 use Rattle.sg_simplify.specs.steps.Typed.{Fixed, frame_by, Starts, Widens, OpTyped, StepTyped, Types, Typed, AllRead}

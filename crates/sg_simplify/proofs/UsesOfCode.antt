@@ -10,7 +10,7 @@ use Rattle.sg_ir.specs.declared.code.Inst.{Inst, fold-Inst}
 use Rattle.sg_ir.specs.Apt.{Use, Writes, Reads, ReadsOwn, uses_step, uses_in}
 use Rattle.sg_ir.specs.Blocks.{Block, End, Link, chained, link_step, link, block_of}
 use Rattle.sg_ir.proofs.Uses.{fold-Const, fold-Var, fold-Set, fold-Bin, fold-Un, fold-Mulq, fold-Root, fold-Check, fold-Extract, fold-Offset, fold-Child, fold-HashChild, fold-MaskBit, fold-DynCell, fold-ReadCell, fold-OwnRead, fold-OwnWrite, fold-Acc, fold-Want, fold-If, fold-For}
-use Rattle.sg_simplify.specs.Pass.{given_of, first_pass, first_next, simple}
+use Rattle.sg_simplify.specs.steps.Pass.{given_of, first_pass, first_next, simple}
 use Rattle.sg_simplify.specs.steps.Serves.{EachByRecursion}
 use Rattle.sg_simplify.specs.steps.Only.{has_use}
 use Rattle.sg_simplify.proofs.Inducting.{inductively}

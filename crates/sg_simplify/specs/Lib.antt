@@ -1,4 +1,2 @@
 pub mod Simplified
-pub mod Pass
-pub mod PassExamples
 pub mod steps

@@ -1,4 +1,6 @@
 -- What serves proofs alone: what the pass keeps along a run of what it puts out.
+pub mod Pass
+pub mod PassExamples
 pub mod Serves
 pub mod Ruled
 pub mod Sets

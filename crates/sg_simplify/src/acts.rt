@@ -1,7 +1,7 @@
 //! Instructions that set no register and no place.
 ghost use Rattle.std.specs.Prelude.{◌≡◌, ℕ, List, OnOk};
 ghost use Rattle.sg_ir.specs.Blocks.{Block, Do, SetVar, WriteOwn, Contribute, Wish};
-ghost use Rattle.sg_simplify.specs.Pass.{simplified};
+ghost use Rattle.sg_simplify.specs.steps.Pass.{simplified};
 ghost use Rattle.sg_simplify.specs.steps.Made.{given_in, Goes};
 
 use crate::given::Given;

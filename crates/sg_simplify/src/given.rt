@@ -25,7 +25,7 @@ pub(crate) struct Given<'a> {
 
 impl Given<'_> {
     ghost use Rattle.sg_ir.specs.Shared.{is_pure};
-    ghost use Rattle.sg_simplify.specs.Pass.{given_type};
+    ghost use Rattle.sg_simplify.specs.steps.Pass.{given_type};
     ghost use Rattle.sg_simplify.specs.steps.Made.{given_in};
 
     /// The type of a register; u32 where it isn't there.

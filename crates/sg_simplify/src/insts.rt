@@ -2,7 +2,7 @@
 ghost use Rattle.std.specs.Prelude.{◌≡◌, ◌∷◌, [], List};
 ghost use Rattle.sg_words.specs.declared.operators.Ty.{Ty};
 ghost use Rattle.sg_ir.specs.Blocks.{Block, Spot, link};
-ghost use Rattle.sg_simplify.specs.Pass.{set_word};
+ghost use Rattle.sg_simplify.specs.steps.Pass.{set_word};
 ghost use Rattle.sg_simplify.specs.steps.Made.{TruthIs};
 
 use sg_ir::{Descent, Inst, Op, Step};

@@ -1,6 +1,6 @@
 //! What the pass has made so far, and what of it is known in scope.
 ghost use Rattle.std.specs.Prelude.{◌≡◌, IfOk, OnOk, ℕ, map, reverse};
-ghost use Rattle.sg_simplify.specs.Pass.{Making, made_name, span_in, vars_of, span_of, fresh, taken, stepped, first_pass, first_next};
+ghost use Rattle.sg_simplify.specs.steps.Pass.{Making, made_name, span_in, vars_of, span_of, fresh, taken, stepped, first_pass, first_next};
 ghost use Rattle.sg_ir.specs.Span.{held, var_span};
 ghost use Rattle.sg_simplify.specs.steps.Made.{given_in, span_in_loop, pass_of, next_of, AddsMadeReg, Goes, HasTruth};
 

@@ -3,7 +3,7 @@ ghost use Rattle.std.specs.Prelude.{◌≡◌, ◌++◌, true, IfOk, OnOk, List,
 ghost use Rattle.std.specs.List.{list_all};
 ghost use Rattle.sg_words.specs.declared.operators.Ty.{Ty};
 ghost use Rattle.sg_ir.specs.Blocks.{Block, Loop, link, block_of, block_in};
-ghost use Rattle.sg_simplify.specs.Pass.{simplified};
+ghost use Rattle.sg_simplify.specs.steps.Pass.{simplified};
 ghost use Rattle.sg_simplify.specs.steps.Counted.{has_words};
 ghost use Rattle.sg_simplify.specs.steps.Made.{given_in, put_out, pass_of, next_of, types_of, Longer, Goes};
 

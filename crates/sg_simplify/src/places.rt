@@ -1,6 +1,6 @@
 //! The place of an access, built anew from its index registers.
 ghost use Rattle.std.specs.Prelude.{◌≡◌, ◌≤◌, ◌+◌, ◌∷◌, ℕ, length, IfOk};
-ghost use Rattle.sg_simplify.specs.Pass.{Making, checks_made, descended, offset, offset_made, part, place_made, descent_of};
+ghost use Rattle.sg_simplify.specs.steps.Pass.{Making, checks_made, descended, offset, offset_made, part, place_made, descent_of};
 ghost use Rattle.sg_simplify.specs.steps.Made.{given_in, check_in, AreWide, Goes};
 
 use crate::given::Given;

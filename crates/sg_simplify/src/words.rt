@@ -2,7 +2,7 @@
 ghost use Rattle.std.specs.Prelude.{◌≡◌, false, ℕ, List, map, IfOk, OnOk, IfSome, IfNone};
 ghost use Rattle.sg_ir.specs.Blocks.{Block, link, Cell};
 ghost use Rattle.sg_ir.specs.Shared.{is_pure};
-ghost use Rattle.sg_simplify.specs.Pass.{Making, made_name, given_type, numbered, simplified};
+ghost use Rattle.sg_simplify.specs.steps.Pass.{Making, made_name, given_type, numbered, simplified};
 ghost use Rattle.sg_simplify.specs.steps.Made.{given_in, pass_of, next_of, onward, is_word, HasTruth, Goes};
 
 use crate::given::Given;

@@ -71,7 +71,7 @@ AddsUses stores more old now = (uses : List Use) → HaveWritten stores uses old
 
 -- ---- the ends of passes
 
--- the writes to a field of a layout
+-- whether a write goes to a field of a layout
 abbrev pub to_field : ℕ → ℕ → Write → Bool
 to_field layout place write = (write.layout == layout) && (write.place == place)
 

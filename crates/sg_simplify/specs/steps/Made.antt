@@ -24,7 +24,7 @@ use Rattle.sg_simplify.specs.declared.given.Given as code
 use Rattle.sg_simplify.specs.declared.made.Made.{Made}
 use Rattle.sg_simplify.specs.declared.made.Looped.{Looped}
 use Rattle.sg_ir.specs.declared.span.Span.{Span}
-use Rattle.sg_simplify.specs.Pass.{Given, Pass, Next, Making, given_of, span_of, next_with_reg, with_name, span_in, check_at, first_pass, first_next, simplified}
+use Rattle.sg_simplify.specs.steps.Pass.{Given, Pass, Next, Making, given_of, span_of, next_with_reg, with_name, span_in, check_at, first_pass, first_next, simplified}
 
 -- what is given in code
 abbrev pub given_in : code.Given → Given

@@ -9,7 +9,7 @@ use Rattle.sg_ir.specs.Span.{Spans, sets}
 use Rattle.sg_ir.specs.SpanLaws.{Lies, IsSpanned}
 use Rattle.sg_ir.specs.steps.Scoped.{Room}
 use Rattle.sg_ir.specs.steps.InScope.{InScope, IsScoped}
-use Rattle.sg_simplify.specs.Pass.{Next, made_name, span_in}
+use Rattle.sg_simplify.specs.steps.Pass.{Next, made_name, span_in}
 use Rattle.sg_simplify.specs.steps.Serves.{EachByRecursion, Leads}
 
 -- behind a use of a variable that at most one instruction sets, none of the block sets it
@@ -27,7 +27,7 @@ HasSettledOps single (Do what rest) = HasSettledOps single rest
 HasSettledOps single (Branch cond block otherwise rest) = HasSettledOps single block × HasSettledOps single otherwise × HasSettledOps single rest
 HasSettledOps single (Loop var lo hi body rest) = HasSettledOps single body × HasSettledOps single rest
 
--- a layout with so many axes, down which words lead to the place of their coordinate
+-- a layout down which so many words as axes lead to the place of their coordinate
 pub record HasLayout (shapes : List Shape) (layout axes : ℕ) : Type 0 where
   pub shape : Shape
   pub there : slice_get shapes layout ≡ Some shape

@@ -21,7 +21,7 @@ use Rattle.sg_ir.specs.SpanLaws.{Lies, HasConstantWord, WhereTest, EachTurn, IsS
 use Rattle.sg_ir.specs.steps.Scoped.{RunMoment, Room, room_reg, room_place, op_word, step_place, moment_after_act, at_turn, run}
 use Rattle.sg_ir.specs.Places.{extents_in}
 use Rattle.sg_ir.specs.steps.Walks.{checks, led}
-use Rattle.sg_simplify.specs.Pass.{Given, Pass, Next, Making, span_in, vars_of}
+use Rattle.sg_simplify.specs.steps.Pass.{Given, Pass, Next, Making, span_in, vars_of}
 
 -- each item of a list
 abbrev pub EachByRecursion : {A : Type 0} → (A → Type 0) → List A → Type 0

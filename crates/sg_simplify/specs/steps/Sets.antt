@@ -3,7 +3,7 @@ use Rattle.std.specs.Prelude.{◌≡◌, ℕ, ◌≤◌, true, false, List, leng
 use Rattle.sg_ir.specs.declared.op.Op.{Op}
 use Rattle.sg_ir.specs.declared.op.Op.TheVariants as op
 use Rattle.sg_ir.specs.steps.InScope.{InScope, AreSet, IsScoped}
-use Rattle.sg_simplify.specs.Pass.{Pass, Next, Making, made_name}
+use Rattle.sg_simplify.specs.steps.Pass.{Pass, Next, Making, made_name}
 use Rattle.sg_simplify.specs.steps.Serves.{EachByRecursion}
 
 -- what is in one scope is in the other

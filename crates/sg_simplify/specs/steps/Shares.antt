@@ -5,7 +5,7 @@ use Rattle.std.specs.Map.{lookup}
 use Rattle.sg_ir.specs.declared.op.Op.{Op}
 use Rattle.sg_ir.specs.declared.op.Step.{Step}
 use Rattle.sg_ir.specs.Shared.{same_op, same_step, is_pure, shares}
-use Rattle.sg_simplify.specs.Pass.{Pass, Next, Making}
+use Rattle.sg_simplify.specs.steps.Pass.{Pass, Next, Making}
 
 -- each pure operation of these, and each of these steps, is known
 pub record Knows (single : ℕ → Bool) (computed : List Op) (stepped : List Step) (pass : Pass) : Type 0 where

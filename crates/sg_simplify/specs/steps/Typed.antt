@@ -8,7 +8,7 @@ use Rattle.sg_ir.specs.declared.op.Op.{Op}
 use Rattle.sg_ir.specs.declared.op.Step.{Step}
 use Rattle.sg_ir.specs.Blocks.{Block}
 use Rattle.sg_ir.specs.WellTyped.{KnownPlace, Scope, Frame, is_truth_as, reads, checkable}
-use Rattle.sg_simplify.specs.Pass.{Pass, Next, Making, made_name}
+use Rattle.sg_simplify.specs.steps.Pass.{Pass, Next, Making, made_name}
 use Rattle.sg_simplify.specs.steps.Serves.{EachByRecursion}
 use Rattle.sg_simplify.specs.steps.Judged.{gives_type, truth_of, step_known, fits_scope}
 

@@ -5,7 +5,7 @@ use Rattle.sg_ir.specs.declared.code.Inst.{Inst}
 use Rattle.sg_ir.specs.Blocks.{Block, block_of, block_in}
 use Rattle.sg_ir.specs.Span.{sets}
 use Rattle.sg_simplify.specs.declared.made.Reg.{Reg}
-use Rattle.sg_simplify.specs.Pass.{Pass, Next, given_of, first_pass, simplified}
+use Rattle.sg_simplify.specs.steps.Pass.{Pass, Next, given_of, first_pass, simplified}
 use Rattle.sg_simplify.specs.steps.Made.{pass_of, next_of, types_of}
 use Rattle.sg_simplify.specs.steps.Counted.{has_words}
 use Rattle.sg_simplify.specs.steps.Tally.{tally}

@@ -8,7 +8,7 @@ use Rattle.sg_ir.specs.Blocks.{Block, Link, Cell, Do, SetVar, WriteOwn, Contribu
 use Rattle.sg_ir.proofs.Uses.{fold-ReadCell, fold-Set, fold-OwnWrite, fold-Acc, fold-Want, fold-If, fold-For}
 use Rattle.sg_ir.specs.declared.span.Span.{Span}
 use Rattle.sg_ir.specs.Span.{range_span}
-use Rattle.sg_simplify.specs.Pass.{Pass, simplified}
+use Rattle.sg_simplify.specs.steps.Pass.{Pass, simplified}
 use Rattle.sg_simplify.specs.steps.Made.{given_in, span_in_loop, pass_of, Goes}
 use Rattle.sg_simplify.proofs.Reading.{drop-none}
 use Rattle.sg_simplify.proofs.Making.{longer-none, goes-here, goes-from}

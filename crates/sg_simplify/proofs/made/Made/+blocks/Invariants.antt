@@ -1,6 +1,6 @@
 use Rattle.std.proofs.Common.{[], drop}
 use Rattle.sg_ir.specs.Blocks.{block_of}
-use Rattle.sg_simplify.specs.Pass.{simplified}
+use Rattle.sg_simplify.specs.steps.Pass.{simplified}
 use Rattle.sg_simplify.specs.steps.Made.{given_in, Goes}
 use Rattle.sg_simplify.proofs.made.Made.+blocks.Given as goal
 

@@ -1,5 +1,5 @@
 use Rattle.std.proofs.Common.{subst, List, ℕ}
-use Rattle.sg_simplify.specs.Pass.{Making, place_made}
+use Rattle.sg_simplify.specs.steps.Pass.{Making, place_made}
 use Rattle.sg_simplify.specs.steps.Made.{given_in, Goes}
 use Rattle.sg_simplify.proofs.Acting.{contribute-goes}
 use Rattle.sg_simplify.proofs.made.Made.contribute.Goals as goal

@@ -1,5 +1,5 @@
 use Rattle.std.proofs.Common.{◌≡◌, map, take}
-use Rattle.sg_simplify.specs.Pass.{made_name}
+use Rattle.sg_simplify.specs.steps.Pass.{made_name}
 use Rattle.sg_simplify.specs.steps.Made.{next_of}
 use Rattle.sg_simplify.proofs.made.Made.index.Given as goal
 

@@ -2,7 +2,7 @@ use Rattle.std.proofs.Common.{◌∙◌, ap, refl}
 use Rattle.sg_ir.specs.declared.op.Op.TheVariants as op
 use Rattle.sg_ir.specs.Blocks.{Link, link_step, link}
 use Rattle.sg_ir.proofs.Uses.{fold-Bin, fold-Un, fold-Mulq, fold-Extract, fold-Offset}
-use Rattle.sg_simplify.specs.Pass.{made_name}
+use Rattle.sg_simplify.specs.steps.Pass.{made_name}
 use Rattle.sg_simplify.specs.steps.Made.{given_in, pass_of, next_of}
 use Rattle.sg_simplify.proofs.Acting.{word-named}
 use Rattle.sg_simplify.proofs.made.Made.operation.Goals as goal

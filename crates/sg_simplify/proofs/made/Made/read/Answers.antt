@@ -1,7 +1,7 @@
 use Rattle.std.proofs.Common.{ap, subst, List, ℕ, refl}
 use Rattle.sg_words.specs.declared.operators.Ty.{Ty}
 use Rattle.sg_ir.specs.declared.op.Op.TheVariants as op
-use Rattle.sg_simplify.specs.Pass.{Making, place_made, taken}
+use Rattle.sg_simplify.specs.steps.Pass.{Making, place_made, taken}
 use Rattle.sg_simplify.specs.steps.Made.{given_in, next_of, Goes}
 use Rattle.sg_simplify.proofs.Acting.{read-goes}
 use Rattle.sg_simplify.proofs.Taking.{with_names}

@@ -2,7 +2,7 @@ use Rattle.std.proofs.Common.{◌≡◌, ◌++◌, ◌∷◌, [], None, sym, ap,
 use Rattle.std.specs.Map.{lookup}
 use Rattle.indexmap.proofs.CallerLemmas.{insert_entry-new}
 use Rattle.sg_ir.specs.Shared.{same_op}
-use Rattle.sg_simplify.specs.Pass.{Pass}
+use Rattle.sg_simplify.specs.steps.Pass.{Pass}
 use Rattle.sg_simplify.specs.steps.Made.{given_in, pass_of}
 use Rattle.sg_simplify.proofs.Taking.{known-goes, taken-goes, with_ops}
 use Rattle.sg_simplify.proofs.made.Made.taken.Goals as goal

@@ -1,7 +1,7 @@
 use Rattle.std.proofs.Common.{ap, refl, subst}
 use Rattle.sg_words.specs.declared.operators.Ty.{Ty}
 use Rattle.sg_ir.specs.Shared.{is_pure}
-use Rattle.sg_simplify.specs.Pass.{numbered}
+use Rattle.sg_simplify.specs.steps.Pass.{numbered}
 use Rattle.sg_simplify.specs.steps.Made.{given_in, next_of, onward, Goes}
 use Rattle.sg_simplify.proofs.Taking.{onward-goes, with_names}
 use Rattle.sg_simplify.proofs.made.Made.word.Goals as goal

@@ -10,7 +10,7 @@ use Rattle.sg_ir.specs.Blocks.{End, Word, Spot, Cell, Do, Branch, WriteOwn}
 use Rattle.sg_ir.specs.Shared.{is_shared}
 use Rattle.sg_ir.specs.Trimmed.{is_trimmed}
 use Rattle.sg_ir.specs.BlockExamples.{row_of_eight, two_reads}
-use Rattle.sg_simplify.specs.Pass.{simple}
+use Rattle.sg_simplify.specs.steps.Pass.{simple}
 
 -- a constant twice, and a sum of both
 constants_are_shared : simple [] (Walk 0) [] (Word 4 (op.Const 5 false) (Word 5 (op.Const 5 false) (Word 6 (op.Bin bin.Add ty.I32 4 5) (Do (WriteOwn 0 0 6 0) End))))
