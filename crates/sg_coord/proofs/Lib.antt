@@ -1,5 +1,6 @@
 pub mod Places
 pub mod RowLaws
 pub mod SliceLaws
+pub mod Masked
 pub mod OrderLaws
 pub mod Uses

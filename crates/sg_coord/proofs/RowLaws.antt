@@ -45,20 +45,20 @@ point_of_row e at inside =
     (ap pos (place_third e.b e.c (count_of at.a) (count_of at.b) (count_of at.c) c_below) ∙ sym (part_is at.c inside.c_low))
 
 -- the point as the code makes it, by casts of its parts
-unfoldable pub cast_point : Bounds → ℕ → Coord
-cast_point e k = record { n = e.n; a = to_z w32 (k / (e.b * e.c)); b = to_z w32 (k / e.c % e.b); c = to_z w32 (k % e.c) }
+unfoldable pub cast_point : ℕ → ℕ → ℕ → ℕ → Coord
+cast_point n a b c = record { n = n; a = to_z w32 a; b = to_z w32 b; c = to_z w32 c }
 
-pub cast_point_is : (e : Bounds) (k : ℕ) → IsBounds e → k < volume e → cast_point e k ≡ point_at e k
+pub cast_point_is : (e : Bounds) (k a b c : ℕ) → a ≡ k / (e.b * e.c) → b ≡ k / e.c % e.b → c ≡ k % e.c → IsBounds e → k < volume e → cast_point e.n a b c ≡ point_at e k
 unfolding cast_point
-cast_point_is e k bounds below =
+cast_point_is e k a b c a_is b_is c_is bounds below =
     let some = factors_above e.a e.b e.c k below in
     let first = first_below e.a e.b e.c k below in
     let second = mod_below (k / e.c) e.b some.1 in
     let third = mod_below k e.c some.2 in
-    same_parts (cast_point e k) (point_at e k) refl
-    (to_z_pos w32 (k / (e.b * e.c)) (omega (arith, bounds.a_most)))
-    (to_z_pos w32 (k / e.c % e.b) (omega (arith, bounds.b_most)))
-    (to_z_pos w32 (k % e.c) (omega (arith, bounds.c_most)))
+    same_parts (cast_point e.n a b c) (point_at e k) refl
+    (ap (to_z w32) a_is ∙ to_z_pos w32 (k / (e.b * e.c)) (omega (arith, bounds.a_most)))
+    (ap (to_z w32) b_is ∙ to_z_pos w32 (k / e.c % e.b) (omega (arith, bounds.b_most)))
+    (ap (to_z w32) c_is ∙ to_z_pos w32 (k % e.c) (omega (arith, bounds.c_most)))
 
 -- offsets follow the order of parts
 offset_rises : (x y : ℤ) → pos 0 ≤ℤ x → x <ℤ y → count_of x < count_of y

@@ -3,6 +3,7 @@ ghost use Rattle.sg_coord.specs.Bounds.{bounds_of, volume};
 ghost use Rattle.sg_coord.specs.Coord.{Inside, is_inside, is_on_axis, row_of, point_at};
 
 use crate::coord::{Coord, count};
+use crate::digits::{quotient, remainder};
 use crate::extents::Extents;
 
 /// Whether a coordinate has as many axes as the extents, with each part at least 0 and below the
@@ -42,8 +43,8 @@ pub fn coord_at(extents: &Extents, k: u32) -> Coord
 {
     Coord {
         n: extents.n,
-        a: (k / (extents.b * extents.c)) as i32,
-        b: (k / extents.c % extents.b) as i32,
-        c: (k % extents.c) as i32,
+        a: quotient(k, extents.b * extents.c) as i32,
+        b: remainder(quotient(k, extents.c), extents.b) as i32,
+        c: remainder(k, extents.c) as i32,
     }
 }

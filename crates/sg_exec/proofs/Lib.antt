@@ -1,6 +1,5 @@
 pub mod Going
 pub mod Rows
-pub mod Digits
 pub mod Seeing
 pub mod CellsLanded
 pub mod RowsMoved

@@ -1,7 +1,8 @@
-ghost use Rattle.std.specs.Prelude.{◌≡◌, ◌+◌, ◌*◌, ◌/◌, ◌%◌, ◌^◌};
+ghost use Rattle.std.specs.Prelude.{◌≡◌, ◌+◌, ◌*◌, ◌%◌, ◌^◌};
 ghost use Rattle.sg_words.specs.Words.{applied};
 
 use crate::moment::Moment;
+use sg_coord::digit;
 use sg_words::{BinOp, Ty, UnOp, apply, apply_un, mulq, number, word_of};
 
 impl<'a> Moment<'a> {
@@ -133,38 +134,6 @@ fn combined(op: BinOp, ty: Ty, a: u32, b: u32) -> u32
         BinOp::Shr => word_of(number(ty, a) >> (b % 32)),
         _ => apply(op, ty, a, b),
     }
-}
-
-/// A word divided by `div`, modulo `size`. Extents are powers of two, by which no division is needed.
-#[inline(always)]
-fn digit(word: u32, div: u32, size: u32) -> u32
-    ensures { result ≡ word / div % size }
-{
-    remainder(quotient(word, div), size)
-}
-
-/// A word divided by a number, and 0 where that is 0.
-#[inline(always)]
-fn quotient(word: u32, div: u32) -> u32
-    ensures { result ≡ word / div }
-{
-    let shift = div.trailing_zeros();
-    if shift < 32 && 1_u32 << shift == div {
-        return word >> shift;
-    }
-    if div == 0 { 0 } else { word / div }
-}
-
-/// A word modulo a number, and the word itself where that is 0.
-#[inline(always)]
-fn remainder(word: u32, size: u32) -> u32
-    ensures { result ≡ word % size }
-{
-    let shift = size.trailing_zeros();
-    if shift < 32 && 1_u32 << shift == size {
-        return word & (size - 1);
-    }
-    if size == 0 { word } else { word % size }
 }
 
 /// `high` times `size` plus `low`, modulo 2^32.

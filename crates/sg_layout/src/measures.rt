@@ -1,7 +1,7 @@
 ghost use Rattle.std.specs.Prelude.{◌≡◌, ◌*◌, ◌^◌, ◌<◌, ◌≤◌, pos, ◌≤ℤ◌, ◌<ℤ◌};
 ghost use Rattle.sg_coord.specs.Coord.{count_of};
 
-use sg_coord::{Coord, Extents, coord_at, coord_of, count, row};
+use sg_coord::{Coord, Extents, coord_at, coord_of, count, digit, row};
 
 /// A node's extents on three axes, and the products of the extents of the nodes below it.
 #[derive(Clone, Copy, Debug, PartialEq, Eq)]
@@ -47,9 +47,9 @@ impl Measures {
     {
         coord_of(
             self.own.n,
-            count(at.a) / self.below.a % self.own.a,
-            count(at.b) / self.below.b % self.own.b,
-            count(at.c) / self.below.c % self.own.c,
+            digit(count(at.a), self.below.a, self.own.a),
+            digit(count(at.b), self.below.b, self.own.b),
+            digit(count(at.c), self.below.c, self.own.c),
         )
     }
 

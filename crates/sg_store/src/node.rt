@@ -5,7 +5,7 @@ ghost use Rattle.sg_links.specs.Lists.{list_of};
 ghost use Rattle.sg_layout.specs.Axes.{count_of, size_of};
 ghost use Rattle.sg_store.specs.steps.Walking.{step_of_walk, unless_unset, CanFind, IsTableFor, IsChainFor};
 
-use sg_coord::count;
+use sg_coord::{count, wide_quotient, wide_remainder};
 use sg_hash::find;
 use sg_layout::{Kind, NodeShape};
 use sg_links::Links;
@@ -95,8 +95,8 @@ fn chunk_cell(chains: &Links, chunk: u32, parent: usize, index: usize) -> Option
 {
     // for the bound that it ensures
     let _heads = chains.heads();
-    let number = chains.nth(parent as u32, (index / chunk as usize) as u32)?;
-    Some(number as usize * chunk as usize + index % chunk as usize)
+    let number = chains.nth(parent as u32, wide_quotient(index, chunk as usize) as u32)?;
+    Some(number as usize * chunk as usize + wide_remainder(index, chunk as usize))
 }
 
 /// The chunk of a node; 0 where it is negative, as no accepted layout's is.

@@ -2,6 +2,7 @@ ghost use Rattle.std.specs.Prelude.{◌≡◌, ℕ, ◌+◌, ◌*◌, ◌^◌, �
 
 use crate::frame::NodeWidths;
 use crate::store::Store;
+use sg_coord::{wide_quotient, wide_remainder};
 use sg_layout::{Kind, rules_decide};
 
 /// A place in the tree after `node` nodes: `part` is the number of the copy of its segment, and `slot` the row-major
@@ -65,8 +66,8 @@ impl NodeWidths {
             },
             Kind::Dynamic => Spot {
                 node: spot.node + 1,
-                part: (place / self.after as usize) as u32,
-                slot: (place % self.after as usize) as u32,
+                part: wide_quotient(place, self.after as usize) as u32,
+                slot: wide_remainder(place, self.after as usize) as u32,
             },
         }
     }

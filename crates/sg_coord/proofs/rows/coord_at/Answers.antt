@@ -1,4 +1,4 @@
-use Rattle.std.proofs.Common.{sym, subst, rules, ◌∙◌, ap}
+use Rattle.std.proofs.Common.{◌%◌, sym, subst, rules, ◌∙◌, ap}
 use Rattle.sg_coord.specs.declared.coord.Coord.{Coord}
 use Rattle.sg_coord.specs.Bounds.{IsBounds, bounds_of}
 use Rattle.sg_coord.specs.Coord.{Inside, row_of}
@@ -10,11 +10,14 @@ unfolding cast_point
 returns-clause-inside c =
     let e = bounds_of c.args.extents.now in
     let bounds : IsBounds (bounds_of c.args.extents.now) = search rules in
-    subst (λ (x : Coord). Inside (bounds_of c.args.extents.now) x) (sym (cast_point_is e c.args.k bounds c.requires)) (point_inside e c.args.k c.requires)
+    subst (λ (x : Coord). Inside (bounds_of c.args.extents.now) x)
+    (sym (cast_point_is e c.args.k _ _ _ c.quotient.ensures (c.remainder.ensures ∙ ap (λ n. n % e.b) c.quotient-2.ensures) c.remainder-2.ensures bounds c.requires))
+    (point_inside e c.args.k c.requires)
 
 pub returns-clause-inverse : goal.returns-clause-inverse
 unfolding cast_point
 returns-clause-inverse c =
     let e = bounds_of c.args.extents.now in
     let bounds : IsBounds (bounds_of c.args.extents.now) = search rules in
-    ap (row_of e) (cast_point_is e c.args.k bounds c.requires) ∙ row_of_point e c.args.k c.requires
+    ap (row_of e) (cast_point_is e c.args.k _ _ _ c.quotient.ensures (c.remainder.ensures ∙ ap (λ n. n % e.b) c.quotient-2.ensures) c.remainder-2.ensures bounds c.requires)
+    ∙ row_of_point e c.args.k c.requires

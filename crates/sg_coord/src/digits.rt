@@ -1,0 +1,59 @@
+//! Quotients and remainders of whole numbers. Extents are powers of two, by which no division is needed.
+
+ghost use Rattle.std.specs.Prelude.{◌≡◌, ◌/◌, ◌%◌};
+
+/// A word divided by a number, rounded down, and 0 where the number is 0.
+#[inline(always)]
+pub fn quotient(word: u32, div: u32) -> u32
+    ensures { result ≡ word / div }
+{
+    let shift = div.trailing_zeros();
+    if shift < 32 && 1_u32 << shift == div {
+        return word >> shift;
+    }
+    if div == 0 { 0 } else { word / div }
+}
+
+/// A word modulo a number, and the word itself where the number is 0.
+#[inline(always)]
+pub fn remainder(word: u32, size: u32) -> u32
+    ensures { result ≡ word % size }
+{
+    let shift = size.trailing_zeros();
+    if shift < 32 && 1_u32 << shift == size {
+        return word & (size - 1);
+    }
+    if size == 0 { word } else { word % size }
+}
+
+/// A word's digit: divided by `div`, modulo `size`.
+#[inline(always)]
+pub fn digit(word: u32, div: u32, size: u32) -> u32
+    ensures { result ≡ word / div % size }
+{
+    remainder(quotient(word, div), size)
+}
+
+/// A number of rows divided by another, rounded down, and 0 where that is 0.
+#[inline(always)]
+pub fn wide_quotient(number: usize, div: usize) -> usize
+    ensures { result ≡ number / div }
+{
+    let shift = div.trailing_zeros();
+    if shift < 64 && 1_usize << shift == div {
+        return number >> shift;
+    }
+    if div == 0 { 0 } else { number / div }
+}
+
+/// A number of rows modulo another, and the number itself where that is 0.
+#[inline(always)]
+pub fn wide_remainder(number: usize, size: usize) -> usize
+    ensures { result ≡ number % size }
+{
+    let shift = size.trailing_zeros();
+    if shift < 64 && 1_usize << shift == size {
+        return number & (size - 1);
+    }
+    if size == 0 { number } else { number % size }
+}
