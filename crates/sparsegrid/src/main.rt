@@ -5,6 +5,8 @@ mod drive;
 #[cfg(test)]
 mod examples;
 mod generated;
+#[cfg(test)]
+mod larger_examples;
 mod last_line;
 pub mod laws;
 #[cfg(test)]

@@ -1,5 +1,6 @@
 use super::setting::{Setting, compare};
 use crate::examples::EXAMPLES;
+use crate::larger_examples::LARGER_EXAMPLES;
 use crate::loading_examples::LOADING_EXAMPLES;
 use std::test::Fail;
 
@@ -156,6 +157,19 @@ fn examples_write_their_output(rt: HostRuntime) -> Result<(), Fail> {
 #[test]
 fn examples_that_load_write_their_output(rt: HostRuntime) -> Result<(), Fail> {
     for example in LOADING_EXAMPLES {
+        let setting = Setting {
+            words: example.words,
+            others: example.others,
+            ..Setting::of(example.source)
+        };
+        setting.ends(&rt, rt.alloc(), 0, example.output)?;
+    }
+    Ok(())
+}
+
+#[test]
+fn larger_examples_write_their_output(rt: HostRuntime) -> Result<(), Fail> {
+    for example in LARGER_EXAMPLES {
         let setting = Setting {
             words: example.words,
             others: example.others,
