@@ -56,7 +56,7 @@ pub(crate) fn activated_for_slice<R: Threads + Sync, G: Gate + Sync>(
     activated_copies(rt, alloc, stores, turns, active, workers, gate)
 }
 
-/// The same of listed writes, each a turn at its own coordinate, on one worker.
+/// The copies of the stores after the activation that listed writes ask for, each a turn at its own coordinate, on one worker.
 pub(crate) fn activated_for_rows<R: Threads + Sync>(
     rt: &R,
     alloc: Global,

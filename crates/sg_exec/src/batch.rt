@@ -16,6 +16,9 @@ use sg_store::{Store, Stores};
 use sg_words::Memory;
 use std::alloc::Global;
 
+/// How many iterations a worker runs side by side, of the code and of its slice.
+pub(crate) const SIDE_BY_SIDE: usize = 16;
+
 /// The rows of so many iterations over the stores, with each copy in the place of the store that it was made of.
 pub(crate) fn rows_for<'a>(
     alloc: Global,

@@ -103,7 +103,7 @@ pub(crate) fn number_of(
     }
 }
 
-/// The same among those from one number up to below another.
+/// The number of a field among accumulated ones, which is looked for from one number up to below another.
 fn number_between(
     accumulated: &[Accumulated],
     layout: u32,

@@ -8,7 +8,7 @@ ghost use Rattle.sg_exec.specs.Standing.{shapes_of};
 ghost use Rattle.sg_exec.specs.steps.Moments.{AreOver};
 ghost use Rattle.sg_exec.specs.steps.Turning.{SliceTells, IsActive, IsActiveAt, in_both};
 
-use crate::batch::{iterate_all, rows_for};
+use crate::batch::{SIDE_BY_SIDE, iterate_all, rows_for};
 use crate::moment::Moment;
 use crate::turns::block_seeks;
 use sg_coord::{Coord, inside};
@@ -18,9 +18,6 @@ use sg_store::Stores;
 use sg_words::Stop;
 use std::alloc::Global;
 use std::thread::{Threads, join};
-
-/// At how many points a worker runs a slice side by side.
-const SIDE_BY_SIDE: usize = 16;
 
 /// Refuses where a slice wants a coordinate outside at one of these points, with the fault of the first. Else it tells whether all that the
 /// slice wants there is active. A slice in which no instruction wants isn't run; any other by so many workers.
@@ -41,8 +38,8 @@ pub(crate) fn first_pass<R: Threads + Sync>(
     Ok(true)
 }
 
-/// The same of any slice. The workers run it each at a part of the points; what the left half finds stands before what the right half
-/// finds.
+/// What the first pass tells of any slice. The workers run it each at a part of the points; what the left half finds stands before what
+/// the right half finds.
 fn no_want_outside<R: Threads + Sync>(
     rt: &R,
     alloc: Global,
@@ -86,7 +83,7 @@ fn in_both(active: bool, second: Result<bool, Stop<RunFault>>) -> Result<bool, S
     }
 }
 
-/// The same by one worker, which runs the slice at several points side by side.
+/// What the first pass tells, by one worker, which runs the slice at several points side by side.
 fn no_want_outside_here(
     alloc: Global,
     stores: &Stores,
@@ -109,7 +106,7 @@ fn no_want_outside_here(
     Ok(active)
 }
 
-/// The same of as many points as there are rows, and of whether all was active so far.
+/// What the first pass tells of as many points as there are rows, where it is known whether all was active so far.
 fn no_want_outside_among(
     stores: &Stores,
     rows: &mut [Moment],

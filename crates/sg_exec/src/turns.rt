@@ -62,7 +62,7 @@ fn block_wants(block: &[Inst], layout: u32) -> bool
     false
 }
 
-/// The same of an instruction, with those in it.
+/// Whether an instruction, or one in it, wants a coordinate of a layout. Where the answer is no, none wants one.
 #[cycle(wanting)]
 fn inst_wants(inst: &Inst, layout: u32) -> bool
     ensures { result ≡ false → InstWantsNone layout inst.now }
@@ -101,7 +101,7 @@ pub(crate) fn block_seeks(block: &[Inst]) -> bool
     false
 }
 
-/// The same of an instruction, with those in it.
+/// Whether an instruction, or one in it, wants a coordinate, of any layout. Where the answer is no, none wants one.
 #[cycle(seeking)]
 fn inst_seeks(inst: &Inst) -> bool
     ensures { result ≡ false → InstSeeksNone inst.now }

@@ -16,7 +16,7 @@ ghost use Rattle.sg_exec.specs.steps.Landing.{current};
 ghost use Rattle.sg_exec.specs.steps.Racing.{wrote, between, ArePasses, AreSeats, HaveShares, AreSplit, AreJoined, IsDivided, IsOfBoth};
 ghost use Rattle.sg_exec.specs.steps.Working.{HasRunAt};
 
-use crate::batch::{iterate_all, rows_for};
+use crate::batch::{SIDE_BY_SIDE, iterate_all, rows_for};
 use crate::contributions::{give_all, put_all};
 use crate::hand::Hand;
 use crate::moment::Moment;
@@ -29,9 +29,6 @@ use sg_store::{Store, Stores};
 use sg_words::Memory;
 use std::alloc::Global;
 use std::thread::{Threads, join};
-
-/// How many iterations a worker runs side by side.
-const SIDE_BY_SIDE: usize = 16;
 
 /// Runs the iterations of workers, from this one on, each worker in a thread of its own, side by side. With fewer points than workers the
 /// last workers have none, and no thread.
@@ -358,7 +355,7 @@ fn both(
     joined(stores, reached, accumulated, hand, other)
 }
 
-/// The same of two hands that are there.
+/// What two hands that are there have, the second behind the first.
 fn joined(
     stores: &Stores,
     reached: &[Option<Store>],
