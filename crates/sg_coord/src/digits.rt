@@ -1,6 +1,6 @@
 //! Quotients and remainders of whole numbers. Extents are powers of two, by which no division is needed.
 
-ghost use Rattle.std.specs.Prelude.{◌≡◌, ◌/◌, ◌%◌};
+ghost use Rattle.std.specs.Prelude.{◌≡◌, ◌/◌, ◌%◌, ◌<◌, ◌^◌, ℕ, true, bit_and};
 
 /// A word divided by a number, rounded down, and 0 where the number is 0.
 #[inline(always)]
@@ -56,4 +56,56 @@ pub fn wide_remainder(number: usize, size: usize) -> usize
         return number & (size - 1);
     }
     if size == 0 { number } else { number % size }
+}
+
+/// A divisor and a modulus, by which digits of words are found; by a shift and a mask where both are powers of two, which is asked once.
+#[derive(Clone, Copy, Debug, PartialEq, Eq)]
+pub struct Digits {
+    pub div: u32,
+    pub size: u32,
+    by_shift: bool,
+    shift: u32,
+    mask: u32,
+    ghost small: { shift < 32 },
+    ghost shifts: { by_shift ≡ true → (word : ℕ) → bit_and (word / 2 ^ shift) mask ≡ word / div % size },
+}
+
+impl Digits {
+    ghost use Rattle.std.specs.Prelude.{◌≡◌, ◌/◌, ◌%◌};
+
+    /// The digits by a divisor and a modulus.
+    pub fn of(div: u32, size: u32) -> Digits
+        ensures div { result.div ≡ div }
+        ensures size { result.size ≡ size }
+    {
+        let shift = div.trailing_zeros();
+        let bits = size.trailing_zeros();
+        if shift < 32 && bits < 32 && 1_u32 << shift == div && 1_u32 << bits == size {
+            return Digits {
+                div,
+                size,
+                by_shift: true,
+                shift,
+                mask: size - 1,
+            };
+        }
+        Digits {
+            div,
+            size,
+            by_shift: false,
+            shift: 0,
+            mask: 0,
+        }
+    }
+
+    /// A word's digit: divided by the divisor, by the modulus.
+    #[inline(always)]
+    pub fn digit(&self, word: u32) -> u32
+        ensures { result ≡ word / self.now.div % self.now.size }
+    {
+        if self.by_shift {
+            return (word >> self.shift) & self.mask;
+        }
+        digit(word, self.div, self.size)
+    }
 }

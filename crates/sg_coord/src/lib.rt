@@ -11,7 +11,7 @@ pub mod slices;
 mod tests;
 
 pub use coord::{Coord, coord_of, count, rises};
-pub use digits::{digit, quotient, remainder, wide_quotient, wide_remainder};
+pub use digits::{Digits, digit, quotient, remainder, wide_quotient, wide_remainder};
 pub use extents::Extents;
 pub use laws::{numbering, row_order, slices_partition, strict_order};
 pub use rows::{coord_at, inside, row};

@@ -9,7 +9,7 @@ ghost use Rattle.sg_layout.specs.Rules.{is_extent, has_good_extents, first_node_
 use crate::measures::Measures;
 use crate::rules::MOST_EXTENT;
 use crate::shape::{NodeShape, Shape, Size};
-use sg_coord::Extents;
+use sg_coord::{Digits, Extents};
 use sg_words::{Items, Memory};
 use std::alloc::Global;
 
@@ -91,14 +91,19 @@ fn node_measures(axes: u32, number: u32, node: &NodeShape, later: &[NodeShape]) 
     ensures below { bounds_of result.below ≡ bounds_below later.now }
 {
     let sizes = node.sizes.as_slice();
+    let own = Extents {
+        n: 3,
+        a: extent_in(sizes, 1),
+        b: extent_in(sizes, 2),
+        c: extent_in(sizes, 3),
+    };
+    let below = extents_below(axes, number, node, later);
     Measures {
-        own: Extents {
-            n: 3,
-            a: extent_in(sizes, 1),
-            b: extent_in(sizes, 2),
-            c: extent_in(sizes, 3),
-        },
-        below: extents_below(axes, number, node, later),
+        own,
+        below,
+        a: Digits::of(below.a, own.a),
+        b: Digits::of(below.b, own.b),
+        c: Digits::of(below.c, own.c),
     }
 }
 

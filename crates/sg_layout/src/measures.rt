@@ -1,16 +1,22 @@
 ghost use Rattle.std.specs.Prelude.{◌≡◌, ◌*◌, ◌^◌, ◌<◌, ◌≤◌, pos, ◌≤ℤ◌, ◌<ℤ◌};
 ghost use Rattle.sg_coord.specs.Coord.{count_of};
 
-use sg_coord::{Coord, Extents, coord_at, coord_of, count, digit, row};
+use sg_coord::{Coord, Digits, Extents, coord_at, coord_of, count, row};
 
-/// A node's extents on three axes, and the products of the extents of the nodes below it.
+/// A node's extents on three axes, the products of the extents of the nodes below it, and by these the digits of a coordinate's parts.
 #[derive(Clone, Copy, Debug, PartialEq, Eq)]
 pub(crate) struct Measures {
     pub(crate) own: Extents,
     pub(crate) below: Extents,
+    pub(crate) a: Digits,
+    pub(crate) b: Digits,
+    pub(crate) c: Digits,
     ghost a_fits: { own.a * below.a ≤ 2 ^ 15 },
     ghost b_fits: { own.b * below.b ≤ 2 ^ 15 },
     ghost c_fits: { own.c * below.c ≤ 2 ^ 15 },
+    ghost a_digits: { (a.div ≡ below.a) × (a.size ≡ own.a) },
+    ghost b_digits: { (b.div ≡ below.b) × (b.size ≡ own.b) },
+    ghost c_digits: { (c.div ≡ below.c) × (c.size ≡ own.c) },
 }
 
 impl Measures {
@@ -47,9 +53,9 @@ impl Measures {
     {
         coord_of(
             self.own.n,
-            digit(count(at.a), self.below.a, self.own.a),
-            digit(count(at.b), self.below.b, self.own.b),
-            digit(count(at.c), self.below.c, self.own.c),
+            self.a.digit(count(at.a)),
+            self.b.digit(count(at.b)),
+            self.c.digit(count(at.c)),
         )
     }
 

@@ -3,8 +3,8 @@ use Rattle.sg_layout.specs.Axes.{extent_in}
 use Rattle.sg_layout.proofs.Measured.{own_fits}
 use Rattle.sg_layout.proofs.axes.node_measures.Goals as goal
 
-pub invariant_of-result : goal.invariant_of-result
-invariant_of-result c =
+pub invariant_of-own : goal.invariant_of-own
+invariant_of-own c =
     let sizes = c.args.node.now.sizes in
     let a_is : c.extent_in.result ≡ extent_in sizes 1 = c.extent_in.ensures.value ∙ ap (λ s. extent_in s 1) c.as_slice-sizes.ensures in
     let b_is : c.extent_in-2.result ≡ extent_in sizes 2 = c.extent_in-2.ensures.value ∙ ap (λ s. extent_in s 2) c.as_slice-sizes.ensures in
