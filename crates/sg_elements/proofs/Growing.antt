@@ -1,8 +1,8 @@
 -- A level of the walk grows branch by branch.
-use Rattle.std.proofs.Common.{◌≡◌, ◌⊎◌, inl, inr, ℕ, suc, ◌+◌, ◌^◌, ◌<◌, ◌≤◌, Bool, true, false, cond, List, [], ◌∷◌, ◌++◌, length, map, filter, take, get_or, slice_index, Some, None, is_some, refl, sym, ap, ◌∙◌, subst, arith, append_assoc, append-nil}
+use Rattle.std.proofs.Common.{◌≡◌, ◌⊎◌, inl, inr, ℕ, zero, suc, ◌+◌, ◌^◌, ◌<◌, ◌≤◌, Bool, true, cond, List, [], ◌∷◌, ◌++◌, length, map, filter, take, get_or, slice_index, Some, None, is_some, refl, sym, ap, ◌∙◌, subst, arith, append_assoc, append-nil}
 use Rattle.std.specs.Prelude.{slice_get}
 use Rattle.std.specs.List.{flat_map}
-use Rattle.std.proofs.lemmas.List.{take_more, take_all, map-append}
+use Rattle.std.proofs.lemmas.List.{take_more, take_all, map-append, length-append, length-map}
 use Rattle.std.proofs.lemmas.List.Concat.{flat_map-append}
 use Rattle.std.proofs.lemmas.List.Elements.{filter-append}
 use Rattle.std.proofs.lemmas.Option.{slice_get-get_or, get_or_from_slice_get}
@@ -19,7 +19,7 @@ use Rattle.sg_store.specs.Walks.{cell_along}
 use Rattle.sg_store.specs.Spots.{LeadsAlong}
 use Rattle.sg_elements.specs.declared.branches.Branch.{Branch}
 use Rattle.sg_elements.specs.declared.ways.Way.{Way}
-use Rattle.sg_elements.specs.steps.Levels.{is_led, led_over, led_below, node_size, level_at, row_along, offsets_of, AreWays, IsBranch, AreBranches, AddsBranches, AddsRows}
+use Rattle.sg_elements.specs.steps.Levels.{is_led, led_over, led_below, node_size, level_at, row_along, rows_upto, walk_rows, FewBelow, offsets_of, AreWays, IsBranch, AreBranches, AddsBranches, AddsRows}
 use Rattle.sg_elements.proofs.Lists.{zip_append, zip_length, zip_at}
 use Rattle.sg_elements.proofs.Paths.{slot_push, coordinate_inside, share_inside, row_push, row_none}
 
@@ -190,18 +190,18 @@ level_more store node index level old new ways are below of so adds =
     (subst (AreBranches store (suc node) (old ++ adds.more)) (sym (below_more store node index level are below))
     (zip_append (IsBranch store (suc node)) old adds.more (flat_map f (take index paths)) (f path) so more))
 
-pub rows_more : (store : StoreWords) (node index : ℕ) (level : List Branch) (old new : List ℕ) (ways : List Way) → AreBranches store node level (level_at store node) → index < length level → AreWays store node ways
-    → old ≡ map (row_along store.shape) (flat_map (led_below store (node_size store node)) (take index (level_at store node)))
-    → AddsRows store (offsets_of ways) (get_or (level_at store node) index []) old new
-    → new ≡ map (row_along store.shape) (flat_map (led_below store (node_size store node)) (take (index + 1) (level_at store node)))
-rows_more store node index level old new ways are below of so adds =
+pub rows_more : (store : StoreWords) (node index : ℕ) (level : List Branch) (front old new : List ℕ) (ways : List Way) → AreBranches store node level (level_at store node) → index < length level → AreWays store node ways
+    → rows_upto store node index ≡ front ++ old → AddsRows store (offsets_of ways) (get_or (level_at store node) index []) old new → rows_upto store node (index + 1) ≡ front ++ new
+rows_more store node index level front old new ways are below of so adds =
     let paths = level_at store node in
     let f = led_below store (node_size store node) in
     let path = get_or paths index [] in
-    adds ∙ ap (λ (list : List (List ℕ)). old ++ map (row_along store.shape) list) (of.all path (path_long store node index level are below))
+    ap (map (row_along store.shape)) (below_more store node index level are below)
+    ∙ map-append (row_along store.shape) (flat_map f (take index paths)) (f path)
     ∙ ap (λ (list : List ℕ). list ++ map (row_along store.shape) (f path)) so
-    ∙ sym (map-append (row_along store.shape) (flat_map f (take index paths)) (f path))
-    ∙ ap (map (row_along store.shape)) (sym (below_more store node index level are below))
+    ∙ append_assoc front old (map (row_along store.shape) (f path))
+    ∙ ap (λ (list : List (List ℕ)). front ++ (old ++ map (row_along store.shape) list)) (sym (of.all path (path_long store node index level are below)))
+    ∙ ap (λ (list : List ℕ). front ++ list) (sym adds)
 
 -- all of them
 pub taken_all : (store : StoreWords) (node index : ℕ) (level : List Branch) → AreBranches store node level (level_at store node) → length level ≤ index
@@ -221,3 +221,39 @@ branch_at store node index level branch are below there =
 
 pub root_level : (store : StoreWords) (spot : Spot) → LeadsAlong store spot [] → AreBranches store 0 (record { spot = spot; row = 0 } ∷ []) (level_at store 0)
 root_level store spot leads = (record { many = refl; leads = leads; is_slot = tt; row = sym (row_none store.shape) }, tt)
+
+-- ---- how many branches there are
+
+-- one way more, over which the store leads, or doesn't
+pub count_one : (store : StoreWords) (path : List ℕ) (ways : List Way) (i : ℕ) (d : Way) → i < length ways → is_led store (path ++ (get_or ways i d).offset ∷ []) ≡ true
+    → length (led_over store path (offsets_of (take (i + 1) ways))) ≡ length (led_over store path (offsets_of (take i ways))) + 1
+count_one store path ways i d below led = ap length (led_one store path ways i d below led) ∙ length-append (led_over store path (offsets_of (take i ways))) ((path ++ (get_or ways i d).offset ∷ []) ∷ [])
+
+pub count_none : (store : StoreWords) (path : List ℕ) (ways : List Way) (i : ℕ) (d : Way) → i < length ways → cell_along store (path ++ (get_or ways i d).offset ∷ []) ≡ None
+    → length (led_over store path (offsets_of (take (i + 1) ways))) ≡ length (led_over store path (offsets_of (take i ways)))
+count_none store path ways i d below none = ap length (led_none store path ways i d below none)
+
+-- one branch more
+pub count_more : (store : StoreWords) (node index : ℕ) (level : List Branch) (ways : List Way) → AreBranches store node level (level_at store node) → index < length level → AreWays store node ways
+    → length (rows_upto store node (index + 1)) ≡ length (rows_upto store node index) + length (led_over store (get_or (level_at store node) index []) (offsets_of ways))
+count_more store node index level ways are below of =
+    let path = get_or (level_at store node) index [] in
+    let more = map (row_along store.shape) (led_over store path (offsets_of ways)) in
+    ap length (rows_more store node index level [] (rows_upto store node index) (rows_upto store node index ++ more) ways are below of refl refl)
+    ∙ length-append (rows_upto store node index) more
+    ∙ ap (λ (n : ℕ). length (rows_upto store node index) + n) (length-map (led_over store path (offsets_of ways)) (row_along store.shape))
+
+-- those of some branches are no more than those of all
+front_short : {X Y : Type 0} (f : X → List Y) (i : ℕ) (xs : List X) → length (flat_map f (take i xs)) ≤ length (flat_map f xs)
+front_short f zero xs = omega arith
+front_short f (suc i) [] = omega arith
+front_short f (suc i) (x ∷ xs) =
+    let later = front_short f i xs in
+    omega (arith, later, length-append (f x) (flat_map f (take i xs)), length-append (f x) (flat_map f xs))
+
+pub few_below : (store : StoreWords) (node : ℕ) → suc node ≡ length store.shape.nodes → length (walk_rows store) < 2 ^ 32 → FewBelow store node
+few_below store node last few = λ count.
+    let f = led_below store (node_size store node) in
+    let short = front_short f count (level_at store node) in
+    let all : length (level_at store (suc node)) ≡ length (walk_rows store) = ap (λ (n : ℕ). length (level_at store n)) last ∙ sym (length-map (level_at store (length store.shape.nodes)) (row_along store.shape)) in
+    omega (arith, short, all, few, length-map (flat_map f (take count (level_at store node))) (row_along store.shape))

@@ -1,4 +1,5 @@
 pub mod Growing
+pub mod Halves
 pub mod Levels
 pub mod Lists
 pub mod Paths

@@ -1,21 +1,23 @@
 -- The row numbers that the walk collects are those of the active coordinates, so that in order they are the active list.
-use Rattle.std.proofs.Common.{◌≡◌, ℕ, ◌+◌, ◌<◌, Bool, true, false, cond, eqb, List, length, map, filter, take, get_or, None, is_some, Result, Ok, Err, refl, sym, ap, ◌∙◌, subst, arith}
+use Rattle.std.proofs.Common.{◌≡◌, ℕ, ◌+◌, ◌<◌, ◌≤◌, Bool, true, false, cond, eqb, List, length, map, filter, take, get_or, None, is_some, Result, Ok, Err, refl, sym, ap, ◌∙◌, subst, arith}
 use Rattle.std.specs.Result.{IfOk}
-use Rattle.std.specs.List.{Contains, All, range_with_len}
+use Rattle.std.specs.List.{Contains, All, IsDistinct, range_with_len}
 use Rattle.std.specs.List.Sorted.{IsPermutation, IsSorted, IsStrictlySortedBy}
 use Rattle.std.specs.Ordering.{nat_cmp}
 use Rattle.std.specs.BTreeSet.{BTreeSet, contains}
 use Rattle.std.proofs.lemmas.Bool.{cond-true, ne_eqb}
 use Rattle.std.proofs.lemmas.Bool.Decides.{nat_tests}
-use Rattle.std.proofs.lemmas.List.{take_all}
+use Rattle.std.proofs.lemmas.List.{take_all, length-map}
 use Rattle.std.proofs.lemmas.List.FromFn.{length-range_with_len, get_or-range_with_len}
 use Rattle.std.proofs.lemmas.List.Kept.{IsStrictlySortedBy-filter}
-use Rattle.std.proofs.lemmas.List.Elements.{All-from_get_or, Contains-get_or}
-use Rattle.std.proofs.lemmas.List.Sorted.{Contains-permutation, IsPermutation-sym, IsNonDecreasingBy-from_sort}
-use Rattle.std.proofs.lemmas.Map.Keys.{IsDistinct-IsPermutation, IsDistinct-from_apart, IsStrictlyIncreasing-from_distinct, sorted_from_strictly_increasing}
-use Rattle.std.proofs.lemmas.Map.Views.{btree_set_contains_iff}
+use Rattle.std.proofs.lemmas.List.Elements.{All-from_get_or, All-contains, Contains-get_or}
+use Rattle.std.proofs.lemmas.List.Sorted.{Contains-permutation, IsPermutation-refl, IsPermutation-sym, IsNonDecreasingBy-from_sort}
+use Rattle.std.proofs.lemmas.Map.Keys.{below_from_sorted, IsDistinct-IsPermutation, IsDistinct-from_apart, IsStrictlyIncreasing-from_distinct, sorted_from_strictly_increasing}
+use Rattle.std.proofs.lemmas.Map.Views.{btree_set_contains_iff, list_any-from_Contains, Contains-from_any, exact_unsigned_eq}
+use Rattle.std.proofs.lemmas.Map.Made.{length-le_from_is_member}
+use Rattle.std.proofs.lemmas.Map.Steps.{length-le_from_distinct_below}
 use Rattle.std.proofs.lemmas.Map.Lookups.{btree_set_from_contains, exact_unsigned}
-use Rattle.std.specs.Cmp.{nat_cmp_total}
+use Rattle.std.specs.Cmp.{nat_cmp_total, nat_eq_equiv}
 use Rattle.sg_words.proofs.Uses.{same_tests, from_map, into_map, from_filter, into_filter}
 use Rattle.sg_coord.specs.declared.coord.Coord.{Coord}
 use Rattle.sg_coord.specs.Bounds.{Bounds, volume}
@@ -33,7 +35,7 @@ use Rattle.sg_store.specs.Walks.{cell_along, cell_in}
 use Rattle.sg_store.specs.WellFormed.{IsWellFormed}
 use Rattle.sg_store.specs.StandsFor.{StandsFor}
 use Rattle.sg_store.specs.StoreLaws.{CellsAreActive}
-use Rattle.sg_elements.specs.steps.Levels.{is_led, level_at, row_along}
+use Rattle.sg_elements.specs.steps.Levels.{is_led, level_at, row_along, walk_rows}
 use Rattle.sg_elements.proofs.Lists.{AreApart, apart_map, filter-map}
 use Rattle.sg_elements.proofs.Levels.{in_range, below_range, from_level, into_level, level_apart}
 
@@ -51,10 +53,6 @@ pub record WalkLaws (store : StoreWords) : Type 0 where
   pub point_of_row : PointOfRow
   pub tested : ClosureIsTested store.shape
   pub active : CellsAreActive store
-
--- the row numbers that the walk collects
-abbrev pub walk_rows : StoreWords → List ℕ
-walk_rows store = map (row_along store.shape) (level_at store (length store.shape.nodes))
 
 -- ---- a path of the last level
 
@@ -147,9 +145,19 @@ rows_below store laws rows mixed =
     let P : ℕ → Type 0 = λ k. k < volume e in
     subst P found.2 (laws.row_below e (coordinate_of store.shape found.0) is.inside))
 
+rows_distinct : (store : StoreWords) → WalkLaws store → IsDistinct eqb (walk_rows store)
+rows_distinct store laws = IsDistinct-from_apart eqb (walk_rows store) (λ i j d less below. ne_eqb _ _ (rows_apart store laws i j d less below))
+
+-- they are no more than the points
+pub rows_few : (store : StoreWords) → WalkLaws store → length (walk_rows store) ≤ volume (bounds_of_shape store.shape)
+rows_few store laws =
+    let below = rows_below store laws (walk_rows store) (IsPermutation-refl (walk_rows store)) in
+    length-le_from_distinct_below (walk_rows store) (volume (bounds_of_shape store.shape)) (rows_distinct store laws)
+    (λ row has. All-contains (λ (k : ℕ). k < volume (bounds_of_shape store.shape)) (walk_rows store) row below (Contains-from_any {eq = eqb} exact_unsigned_eq row (walk_rows store) has))
+
 rows_sorted : (store : StoreWords) → WalkLaws store → (rows : List ℕ) → IsPermutation (walk_rows store) rows → IsSorted nat_cmp rows → IsStrictlySortedBy nat_cmp rows
 rows_sorted store laws rows mixed sorted =
-    let distinct = IsDistinct-from_apart eqb (walk_rows store) (λ i j d less below. ne_eqb _ _ (rows_apart store laws i j d less below)) in
+    let distinct = rows_distinct store laws in
     sorted_from_strictly_increasing rows
     (IsStrictlyIncreasing-from_distinct rows (IsNonDecreasingBy-from_sort (λ (k : ℕ). k) rows sorted)
     (IsDistinct-IsPermutation eqb (λ x y. grind (arith, nat_tests)) (walk_rows store) rows mixed distinct))
@@ -189,6 +197,40 @@ rows_are_active store laws rows mixed sorted flat stands =
     (λ row below test. Contains-permutation (walk_rows store) rows row mixed (into_rows store laws flat stands row below test)))
     ∙ sym (filter-map (point_at e) (is_in_closure store.shape flat.active) (range_with_len 0 (volume e)))
     ∙ sym stands.is_flat.closed
+
+-- ---- as many as the active ones
+
+-- numbers each once, all among others
+fewer : (xs ys : List ℕ) → IsDistinct eqb xs → ((x : ℕ) → Contains xs x → Contains ys x) → length xs ≤ length ys
+fewer xs ys distinct into =
+    length-le_from_is_member {eq = eqb} nat_eq_equiv xs ys distinct
+    (λ x has. list_any-from_Contains {eq = eqb} nat_eq_equiv x ys (into x (Contains-from_any {eq = eqb} exact_unsigned_eq x xs has)))
+
+passing_distinct : (size : ℕ) (test : ℕ → Bool) → IsDistinct eqb (filter test (range_with_len 0 size))
+passing_distinct size test =
+    let passing = filter test (range_with_len 0 size) in
+    let sorted = IsStrictlySortedBy-filter nat_cmp test (range_with_len 0 size) (range_sorted size) in
+    IsDistinct-from_apart eqb passing (λ i j d less below.
+    let low = below_from_sorted passing i j d sorted less below in
+    ne_eqb _ _ (λ same. omega (arith, low, same)))
+
+pub rows_count : (store : StoreWords) → WalkLaws store → (flat : FlatLayout) → StandsFor store flat → length (walk_rows store) ≡ length flat.active
+rows_count store laws flat stands =
+    let e = bounds_of_shape store.shape in
+    let size = volume (bounds_of_shape store.shape) in
+    let passing = filter (is_active_row store flat) (range_with_len 0 size) in
+    let active : flat.active ≡ map (point_at e) passing = stands.is_flat.closed ∙ filter-map (point_at e) (is_in_closure store.shape flat.active) (range_with_len 0 size) in
+    let some = fewer (walk_rows store) passing (rows_distinct store laws)
+    (λ row has. let found = from_rows store laws flat stands row has in into_filter (is_active_row store flat) (range_with_len 0 size) row (in_range size row found.0) found.1) in
+    let all = fewer passing (walk_rows store) (passing_distinct size (is_active_row store flat))
+    (λ row has. let kept = from_filter (is_active_row store flat) (range_with_len 0 size) row has in into_rows store laws flat stands row (below_range size row kept.0) kept.1) in
+    let long : length (walk_rows store) ≡ length passing = omega (arith, some, all) in
+    long ∙ sym (length-map passing (point_at e)) ∙ sym (ap length active)
+
+pub then_count : (store : StoreWords) {E : Type 0} (r : Result ℕ E) → IfOk r (λ count. count ≡ length (walk_rows store))
+    → ((flat : FlatLayout) → StandsFor store flat → length (walk_rows store) ≡ length flat.active) → IfOk r (λ count. (flat : FlatLayout) → StandsFor store flat → count ≡ length flat.active)
+then_count store (Ok count) is then = λ flat stands. is ∙ then flat stands
+then_count store (Err f) is then = tt
 
 -- what is answered is the active list, where the points are
 pub then_active : (store : StoreWords) {E : Type 0} (r : Result (List Coord) E) (rows : List ℕ) (e : Bounds) → IfOk r (λ coords. coords ≡ map (point_at e) rows)

@@ -1,8 +1,8 @@
 //! The walk down the tree of a store, node by node, over the slots that are active.
 
-ghost use Rattle.std.specs.Prelude.{◌≡◌, ◌+◌, ℕ, suc, ◌<◌, ◌≤◌, List, length, map, slice_index, slice_get, Some, IfOk, OnOk};
+ghost use Rattle.std.specs.Prelude.{◌≡◌, ◌+◌, ◌++◌, ℕ, suc, ◌<◌, ◌≤◌, List, length, slice_index, slice_get, Some, IfOk, OnOk};
 ghost use Rattle.sg_store.specs.StoreWords.{StoreWords};
-ghost use Rattle.sg_elements.specs.steps.Levels.{IsBranch, AreBranches, AddsBranches, AddsRows, AreWays, offsets_of, level_at, row_along};
+ghost use Rattle.sg_elements.specs.steps.Levels.{IsBranch, AreBranches, AddsBranches, AddsRows, AreWays, FewBelow, led_over, offsets_of, level_at, rows_upto};
 
 use crate::ways::{Way, ways_of};
 use sg_coord::numbering;
@@ -98,27 +98,76 @@ fn push_rows(
     Ok(())
 }
 
-/// The row numbers of the branches below a level, which are those of the node with this index, from 0.
-fn rows_below(
+/// The row numbers of the branches below those of a level from one number up to below another, over ways of the node with this index,
+/// from 0; in the order of their paths.
+pub fn rows_between(
     alloc: Global,
     store: &Store,
     node: usize,
     level: &[Branch],
+    ways: &[Way],
+    from: usize,
+    to: usize,
 ) -> Result<Vec<u32>, Memory>
     requires there { node < length store.now.shape.nodes }
     requires level { AreBranches store.now node level.now (level_at store.now node) }
-    ensures { IfOk result (λ rows. rows.items ≡ map (row_along store.now.shape) (level_at store.now (suc node))) }
+    requires ways { AreWays store.now node ways.now }
+    requires order { from ≤ to }
+    requires within { to ≤ length level.now }
+    ensures { IfOk result (λ rows. rows_upto store.now node to ≡ rows_upto store.now node from ++ rows.items) }
 {
-    let ways = ways_of(alloc, store, node)?;
     let mut rows = Vec::new(alloc);
-    for index in 0..level.len() {
-        push_rows(store, node, level, index, ways.as_slice(), &mut rows)?;
+    for index in from..to {
+        push_rows(store, node, level, index, ways, &mut rows)?;
     }
     Ok(rows)
 }
 
+/// How many branches a branch has below it, over ways of the node with this index, from 0.
+fn count_below(store: &Store, node: usize, level: &[Branch], index: usize, ways: &[Way]) -> usize
+    ghost path: { List ℕ }
+    requires there { node < length store.now.shape.nodes }
+    requires within { index < length level.now }
+    requires branch { (branch : Branch) → slice_get level.now index ≡ Some branch → IsBranch store.now node branch path }
+    requires ways { AreWays store.now node ways.now }
+    ensures { result ≡ length (led_over store.now path (offsets_of ways.now)) }
+{
+    let branch = level[index];
+    let mut count = 0;
+    for way in ways {
+        if let Some(_spot) = store.down(branch.spot, way.offset) {
+            count += 1;
+        }
+    }
+    count
+}
+
+/// How many branches those of a level from one number up to below another have below them, over ways of the node with this index, from 0.
+pub fn count_between(
+    store: &Store,
+    node: usize,
+    level: &[Branch],
+    ways: &[Way],
+    from: usize,
+    to: usize,
+) -> usize
+    requires there { node < length store.now.shape.nodes }
+    requires level { AreBranches store.now node level.now (level_at store.now node) }
+    requires ways { AreWays store.now node ways.now }
+    requires order { from ≤ to }
+    requires within { to ≤ length level.now }
+    requires few { FewBelow store.now node }
+    ensures { length (rows_upto store.now node to) ≡ length (rows_upto store.now node from) + result }
+{
+    let mut count = 0;
+    for index in from..to {
+        count += count_below(store, node, level, index, ways);
+    }
+    count
+}
+
 /// The branches after so many nodes.
-fn level_through(alloc: Global, store: &Store, nodes: usize) -> Result<Vec<Branch>, Memory>
+pub fn level_through(alloc: Global, store: &Store, nodes: usize) -> Result<Vec<Branch>, Memory>
     requires { nodes < length store.now.shape.nodes }
     ensures { IfOk result (λ level. AreBranches store.now nodes level.items (level_at store.now nodes)) }
 {
@@ -131,14 +180,4 @@ fn level_through(alloc: Global, store: &Store, nodes: usize) -> Result<Vec<Branc
         level = next_level(alloc, store, node, &level)?;
     }
     Ok(level)
-}
-
-/// The row numbers of the coordinates to which the walk leads, in the order of their paths.
-pub fn reached_rows(alloc: Global, store: &Store) -> Result<Vec<u32>, Memory>
-    ensures { IfOk result (λ rows. rows.items
-        ≡ map (row_along store.now.shape) (level_at store.now (length store.now.shape.nodes))) }
-{
-    let nodes = store.layout().nodes();
-    let level = level_through(alloc, store, nodes - 1)?;
-    rows_below(alloc, store, nodes - 1, &level)
 }

@@ -1,8 +1,9 @@
-//! The active coordinates of a store, as a list in row order.
+//! The active coordinates of a store, as a list in row order, and how many they are.
 #![tactic(auto)]
 
 mod branches;
 pub mod listing;
+mod reached;
 mod ways;
 
-pub use listing::elements;
+pub use listing::{active_count, elements, elements_by_workers};

@@ -1,19 +1,64 @@
-ghost use Rattle.std.specs.Prelude.{◌≡◌, ◌<◌, All, IfOk, map};
+ghost use Rattle.std.specs.Prelude.{◌≡◌, ◌<◌, ◌≤◌, All, IfOk, length, map};
+ghost use Rattle.std.specs.List.Sorted.{IsPermutation};
 ghost use Rattle.sg_coord.specs.Bounds.{bounds_of, volume};
 ghost use Rattle.sg_coord.specs.Coord.{point_at};
 ghost use Rattle.sg_flat.specs.declared.state.FlatLayout.{FlatLayout};
 ghost use Rattle.sg_store.specs.StandsFor.{StandsFor};
+ghost use Rattle.sg_elements.specs.steps.Levels.{walk_rows};
 
-use crate::branches::reached_rows;
+use crate::reached::{reached_count, reached_rows, rows_reached_by};
 use sg_coord::{Coord, Extents, coord_at, numbering};
 use sg_layout::{closure_members, paths_tell};
 use sg_store::Store;
 use sg_store::laws::cells_are_active;
 use sg_words::{Items, Memory};
 use std::alloc::Global;
+use std::thread::Threads;
 
 /// Each active coordinate once, in row order.
 pub fn elements(alloc: Global, store: &Store) -> Result<Items<Coord>, Memory>
+    ensures { IfOk result (λ coords. (flat : FlatLayout) → StandsFor store.now flat → coords ≡ flat.active) }
+{
+    let rows = reached_rows(alloc, store)?;
+    points_in_order(alloc, store, rows)
+}
+
+/// The same by so many workers, each of which lists a part.
+pub fn elements_by_workers<R: Threads + Sync>(
+    rt: &R,
+    alloc: Global,
+    store: &Store,
+    workers: u32,
+) -> Result<Items<Coord>, Memory>
+    requires some { 1 ≤ workers }
+    ensures { IfOk result (λ coords. (flat : FlatLayout) → StandsFor store.now flat → coords ≡ flat.active) }
+{
+    let rows = rows_reached_by(rt, alloc, store, workers)?;
+    points_in_order(alloc, store, rows)
+}
+
+/// How many coordinates are active, counted by so many workers, each of which counts a part.
+pub fn active_count<R: Threads + Sync>(
+    rt: &R,
+    alloc: Global,
+    store: &Store,
+    workers: u32,
+) -> Result<usize, Memory>
+    requires some { 1 ≤ workers }
+    ensures { IfOk result (λ count. (flat : FlatLayout) → StandsFor store.now flat → count ≡ length flat.active) }
+{
+    // for the laws that they ensure
+    cells_are_active();
+    paths_tell();
+    closure_members();
+    let extents = store.layout().extents();
+    numbering(&extents);
+    reached_count(rt, alloc, store, workers)
+}
+
+/// The points with the row numbers to which the walk leads, in row order.
+fn points_in_order(alloc: Global, store: &Store, rows: Vec<u32>) -> Result<Items<Coord>, Memory>
+    requires { IsPermutation (walk_rows store.now) rows.items }
     ensures { IfOk result (λ coords. (flat : FlatLayout) → StandsFor store.now flat → coords ≡ flat.active) }
 {
     // for the laws that they ensure
@@ -22,7 +67,7 @@ pub fn elements(alloc: Global, store: &Store) -> Result<Items<Coord>, Memory>
     closure_members();
     let extents = store.layout().extents();
     numbering(&extents);
-    let mut rows = reached_rows(alloc, store)?;
+    let mut rows = rows;
     rows.sort()?;
     points_of(alloc, &extents, &rows)
 }

@@ -1,6 +1,6 @@
 //! What is active and live in a store, in one line.
 
-ghost use Rattle.std.specs.Prelude.{◌≡◌, ◌<◌, ◌++◌, suc, length, slice_get, Some, IfOk, OnOk, string_bytes};
+ghost use Rattle.std.specs.Prelude.{◌≡◌, ◌<◌, ◌≤◌, ◌++◌, suc, length, slice_get, Some, IfOk, OnOk, string_bytes};
 ghost use Rattle.sg_layout.specs.declared.shape.NodeShape.{NodeShape};
 ghost use Rattle.sg_layout.specs.Limits.{most_nodes};
 ghost use Rattle.sg_flat.specs.declared.state.FlatLayout.{FlatLayout};
@@ -8,20 +8,27 @@ ghost use Rattle.sg_store.specs.WellFormed.{kind_has_cap};
 ghost use Rattle.sg_store.specs.StandsFor.{StandsFor};
 ghost use Rattle.sg_image.specs.Counts.{live_text, node_text, nodes_text, stats_text};
 
-use sg_elements::elements;
+use sg_elements::active_count;
 use sg_layout::Kind;
 use sg_store::Store;
 use sg_words::{Items, Memory, Text};
 use std::alloc::{AllocError, Global};
+use std::thread::Threads;
 
 /// The line of a layout of this name: how many coordinates are active, and for each pointer, hash and dynamic node how many
-/// containers or chunks are live.
-pub fn stats(alloc: Global, store: &Store, name: &[u8]) -> Result<Text, Memory>
+/// containers or chunks are live. So many workers count the coordinates.
+pub fn stats<R: Threads + Sync>(
+    rt: &R,
+    alloc: Global,
+    store: &Store,
+    name: &[u8],
+    workers: u32,
+) -> Result<Text, Memory>
+    requires some { 1 ≤ workers }
     ensures { IfOk result (λ text. (flat : FlatLayout) → StandsFor store.now flat →
         text.bytes ≡ stats_text store.now.shape flat name.now) }
 {
-    let active = elements(alloc, store)?;
-    let count = active.len();
+    let count = active_count(rt, alloc, store, workers)?;
     let mut counts = format!(in alloc; " active {count}")?;
     push_nodes(&mut counts, store)?;
     let mut bytes = Vec::new(alloc);

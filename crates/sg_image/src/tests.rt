@@ -86,7 +86,7 @@ fn rows_of_sixteen_values(rt: HostRuntime) -> Result<(), Fail> {
     );
     let line = b"stats A active 16 node 1 live 1\n";
     assert_eq!(rt;
-        stats(alloc, &store, b"A")?.bytes.as_slice(),
+        stats(&rt, alloc, &store, b"A", 2)?.bytes.as_slice(),
         line.as_slice()
     );
     Ok(())

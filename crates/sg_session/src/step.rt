@@ -83,7 +83,9 @@ impl Session {
             Task::Image { field, lo, hi } => {
                 draw(alloc, &self.compiled, &self.stores, field, lo, hi)
             }
-            Task::Stats { layout } => count(alloc, &self.compiled, &self.stores, layout),
+            Task::Stats { layout } => {
+                count(rt, alloc, &self.compiled, &self.stores, layout, workers)
+            }
             Task::Prune { layout } => prune(alloc, &self.compiled, &mut self.stores, layout),
             Task::Clear { layout } => clear(alloc, &self.compiled, &mut self.stores, layout),
         }

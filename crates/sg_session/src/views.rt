@@ -1,6 +1,6 @@
 //! Images and counts over stores.
 
-ghost use Rattle.std.specs.Prelude.{◌≡◌, ◌<◌, length, slice_get, IfOk};
+ghost use Rattle.std.specs.Prelude.{◌≡◌, ◌<◌, ◌≤◌, length, slice_get, IfOk};
 ghost use Rattle.sg_flat.specs.declared.state.FlatState.{FlatState};
 ghost use Rattle.sg_names.specs.Tables.{layout_name_of};
 ghost use Rattle.sg_exec.specs.Standing.{StandForState};
@@ -14,6 +14,7 @@ use sg_names::FieldAt;
 use sg_store::Stores;
 use sg_words::{Memory, Stop, Text};
 use std::alloc::Global;
+use std::thread::Threads;
 
 /// Gives the image of a field.
 pub fn draw(
@@ -53,26 +54,37 @@ fn image(
     sg_image::image(alloc, store, at.place, lo, hi)
 }
 
-/// Gives the counts of a layout.
-pub fn count(
+/// Gives the counts of a layout, in which so many workers count the coordinates.
+pub fn count<R: Threads + Sync>(
+    rt: &R,
     alloc: Global,
     compiled: &Compiled,
     stores: &Stores,
     layout: u32,
+    workers: u32,
 ) -> Result<Text, Stop<RunRefusal>>
+    requires some { 1 ≤ workers }
     requires layout { layout < length compiled.now.layouts }
     requires stand { HasState compiled.now.layouts stores.now.list }
     ensures { (state : FlatState) → StandForState compiled.now.layouts stores.now.list state →
         Performs compiled.now.layouts stores.now.list result (stats_made compiled.now.names compiled.now.layouts state layout) }
 {
-    match stats(alloc, compiled, stores, layout) {
+    match stats(rt, alloc, compiled, stores, layout, workers) {
         Ok(text) => Ok(text),
         Err(Memory) => Err(Stop::Memory),
     }
 }
 
 /// The counts of a layout.
-fn stats(alloc: Global, compiled: &Compiled, stores: &Stores, layout: u32) -> Result<Text, Memory>
+fn stats<R: Threads + Sync>(
+    rt: &R,
+    alloc: Global,
+    compiled: &Compiled,
+    stores: &Stores,
+    layout: u32,
+    workers: u32,
+) -> Result<Text, Memory>
+    requires some { 1 ≤ workers }
     requires layout { layout < length compiled.now.layouts }
     requires stand { HasState compiled.now.layouts stores.now.list }
     ensures { IfOk result (λ text. (state : FlatState) → StandForState compiled.now.layouts stores.now.list state →
@@ -80,8 +92,10 @@ fn stats(alloc: Global, compiled: &Compiled, stores: &Stores, layout: u32) -> Re
 {
     let store = &stores.list.as_slice()[layout as usize];
     sg_image::stats(
+        rt,
         alloc,
         store,
         compiled.names.layout_name(layout).text.as_slice(),
+        workers,
     )
 }

@@ -1,6 +1,7 @@
 -- The walk down the tree of a store: the paths at each node over slots that are active, and what the code keeps of each.
-use Rattle.std.specs.Prelude.{◌≡◌, ℕ, zero, suc, ◌<◌, Bool, List, [], ◌∷◌, ◌++◌, length, map, filter, take, slice_index, is_some}
+use Rattle.std.specs.Prelude.{◌≡◌, ℕ, zero, suc, ◌^◌, ◌<◌, Bool, List, [], ◌∷◌, ◌++◌, length, map, filter, take, slice_index, is_some}
 use Rattle.std.specs.List.{All, AllZip, flat_map, range_with_len}
+use Rattle.std.specs.List.Sorted.{IsPermutation}
 use Rattle.sg_coord.specs.Coord.{Inside, row_of}
 use Rattle.sg_layout.specs.declared.shape.Shape.{Shape}
 use Rattle.sg_layout.specs.Axes.{bounds_of_shape, sizes_of}
@@ -36,7 +37,23 @@ level_at store (suc node) = flat_map (led_below store (node_size store node)) (l
 abbrev pub row_along : Shape → List ℕ → ℕ
 row_along shape path = row_of (bounds_of_shape shape) (coordinate_of shape path)
 
--- what an offset of a node adds to it
+-- the row numbers to which the walk leads, in the order of their paths
+abbrev pub walk_rows : StoreWords → List ℕ
+walk_rows store = map (row_along store.shape) (level_at store (length store.shape.nodes))
+
+-- those of the paths below the first so many of a level
+abbrev pub rows_upto : StoreWords → ℕ → ℕ → List ℕ
+rows_upto store node count = map (row_along store.shape) (flat_map (led_below store (node_size store node)) (take count (level_at store node)))
+
+-- however many paths of a level are taken, few row numbers are below them
+abbrev pub FewBelow : StoreWords → ℕ → Type 0
+FewBelow store node = (count : ℕ) → length (rows_upto store node count) < 2 ^ 32
+
+-- these are those below the paths of a level from one number up to below another, in some order: behind those before them they are all up to there
+abbrev pub AreRowsBetween : StoreWords → ℕ → ℕ → ℕ → List ℕ → Type 0
+AreRowsBetween store node from to rows = IsPermutation (rows_upto store node to) (rows_upto store node from ++ rows)
+
+-- what an offset of a node adds to a row number
 abbrev pub share_row : Shape → ℕ → ℕ → ℕ
 share_row shape node offset = row_of (bounds_of_shape shape) (share_at shape.axes shape.nodes node offset)
 

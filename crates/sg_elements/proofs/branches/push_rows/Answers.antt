@@ -1,7 +1,7 @@
-use Rattle.std.proofs.Common.{◌≡◌, ◌+◌, ◌<◌, ◌++◌, ◌∷◌, [], length, take, slice_index, get_or, arith, sym, ap, ◌∙◌, subst, List, ℕ, Vec, Global, append-nil, is_some}
+use Rattle.std.proofs.Common.{◌+◌, take, get_or, arith, sym, ap, ◌∙◌, subst, List, ℕ, Vec, Global, append-nil, is_some}
 use Rattle.sg_coord.specs.Bounds.{IsBounds}
 use Rattle.sg_layout.specs.declared.shape.Shape.{Shape}
-use Rattle.sg_layout.specs.Axes.{sizes_of, bounds_of_shape}
+use Rattle.sg_layout.specs.Axes.{bounds_of_shape}
 use Rattle.sg_elements.specs.declared.branches.Branch.{Branch}
 use Rattle.sg_elements.specs.declared.ways.Way.{Way}
 use Rattle.sg_elements.specs.steps.Levels.{AddsRows, offsets_of}

@@ -6,7 +6,7 @@ use Rattle.sg_session.proofs.Viewing.{stats_done, has_own_store}
 use Rattle.sg_session.proofs.views.stats.Goals as goal
 
 pub returns : goal.returns
-returns c =
+returns g c =
     let layouts = c.args.compiled.now.layouts in
     let stores = c.args.stores.now.list in
     let k = c.args.layout in
