@@ -4,7 +4,6 @@ use Rattle.std.specs.Prelude.{IsTrue}
 use Rattle.std.specs.Result.{IsErrAnd}
 use Rattle.std.proofs.lemmas.Bool.{cases_eq}
 use Rattle.std.proofs.lemmas.List.{map-append, take_all}
-use Rattle.std.proofs.lemmas.List.Elements.{All-append, All-drop}
 use lib.Seq.{take-add}
 use Rattle.sg_words.specs.declared.memory.Stop.{Stop}
 use Rattle.sg_coord.specs.declared.coord.Coord.{Coord}
@@ -13,8 +12,7 @@ use Rattle.sg_flat.specs.declared.effects.RunFault.{RunFault}
 use Rattle.sg_flat.specs.declared.state.FlatState.{FlatState}
 use Rattle.sg_store.specs.StoreWords.{StoreWords}
 use Rattle.sg_ir.specs.declared.code.Inst.{Inst}
-use Rattle.sg_exec.specs.declared.moment.Moment.{Moment}
-use Rattle.sg_exec.specs.steps.Moments.{AreNamedAt, AreOver}
+use Rattle.sg_exec.specs.steps.Moments.{AreNamedAt}
 use Rattle.sg_exec.specs.steps.Turning.{TellsOutside, in_both}
 use Rattle.sg_exec.proofs.Turning.{right_told, told_left, named_left, named_right}
 
@@ -33,13 +31,13 @@ batch_told stores f points batch first count active r is so_far told =
     (right_told stores (map f (take first points)) (map f batch) active r so_far told)
 
 -- the batch was as long as it could be
-to_next : (points : List Coord) (number count : ℕ) → count ≤ 16 → (count < 16 → length points ≤ number * 16 + count) → take (number * 16 + count) points ≡ take ((number + 1) * 16) points
-to_next points number count few short = elim (cases_eq count 16) [
-  | inl whole ↦ ap (λ (n : ℕ). take n points) (let same : number * 16 + count ≡ (number + 1) * 16 = omega (arith, whole) in same)
+to_next : (points : List Coord) (number count : ℕ) → count ≤ 32 → (count < 32 → length points ≤ number * 32 + count) → take (number * 32 + count) points ≡ take ((number + 1) * 32) points
+to_next points number count few short = elim (cases_eq count 32) [
+  | inl whole ↦ ap (λ (n : ℕ). take n points) (let same : number * 32 + count ≡ (number + 1) * 32 = omega (arith, whole) in same)
   | inr other ↦ (
-      let less : count < 16 = omega (arith, few, other) in
-      let past : length points ≤ number * 16 + count = short less in
-      take_all (number * 16 + count) points past ∙ sym (take_all ((number + 1) * 16) points (omega (arith, past, few)))
+      let less : count < 32 = omega (arith, few, other) in
+      let past : length points ≤ number * 32 + count = short less in
+      take_all (number * 32 + count) points past ∙ sym (take_all ((number + 1) * 32) points (omega (arith, past, few)))
       )
 ]
 
@@ -49,13 +47,13 @@ same_both false false so = refl
 same_both false true so = so refl
 
 -- all is told of the points with the batch
-pub told_more : (stores : List StoreWords) (f : Coord → Turn) (points batch : List Coord) (number count : ℕ) (active others : Bool) → batch ≡ take count (drop (number * 16) points)
-    → count ≤ 16 → (count < 16 → length points ≤ number * 16 + count) → (IsTrue others → IsTrue active)
-    → TellsOutside stores (map f (take (number * 16) points)) (Ok active) → TellsOutside stores (map f batch) (Ok others) → TellsOutside stores (map f (take ((number + 1) * 16) points)) (Ok others)
+pub told_more : (stores : List StoreWords) (f : Coord → Turn) (points batch : List Coord) (number count : ℕ) (active others : Bool) → batch ≡ take count (drop (number * 32) points)
+    → count ≤ 32 → (count < 32 → length points ≤ number * 32 + count) → (IsTrue others → IsTrue active)
+    → TellsOutside stores (map f (take (number * 32) points)) (Ok active) → TellsOutside stores (map f batch) (Ok others) → TellsOutside stores (map f (take ((number + 1) * 32) points)) (Ok others)
 told_more stores f points batch number count active others is few short so so_far told =
     subst (λ (ps : List Coord). TellsOutside stores (map f ps) (Ok others)) (to_next points number count few short)
-    (subst (λ (b : Bool). TellsOutside stores (map f (take (number * 16 + count) points)) (Ok b)) (same_both active others so)
-    (batch_told stores f points batch (number * 16) count active (Ok others) is so_far told))
+    (subst (λ (b : Bool). TellsOutside stores (map f (take (number * 32 + count) points)) (Ok b)) (same_both active others so)
+    (batch_told stores f points batch (number * 32) count active (Ok others) is so_far told))
 
 -- or the batch stops it
 pub told_stop : (stores : List StoreWords) (f : Coord → Turn) (points batch : List Coord) (first count : ℕ) (active : Bool) (why : Stop RunFault) (r : Result Bool (Stop RunFault)) → IsErrAnd r (λ x. x ≡ why) → batch ≡ take count (drop first points)
@@ -69,9 +67,3 @@ told_stop stores f points batch first count active why (Err e) same is so_far to
 pub told_end : (stores : List StoreWords) (f : Coord → Turn) (points : List Coord) (done : ℕ) (active : Bool) → length points ≤ done
     → TellsOutside stores (map f (take done points)) (Ok active) → TellsOutside stores (map f points) (Ok active)
 told_end stores f points done active past told = subst (λ (ps : List Coord). TellsOutside stores (map f ps) (Ok active)) (take_all done points past) told
-
--- the rows that ran, and those that didn't, are over the stores
-pub over_rest : (stores : List StoreWords) (rows news : List Moment) (count : ℕ) → AreOver stores rows → AreOver stores news → AreOver stores (news ++ drop count rows)
-over_rest stores rows news count before after =
-    All-append (λ (moment : Moment). moment.places.stores ≡ stores) news (drop count rows) after
-    (All-drop (λ (moment : Moment). moment.places.stores ≡ stores) count rows before)

@@ -1,8 +1,7 @@
--- Writes that land by their cells in copies of stores.
-use Rattle.std.proofs.Common.{◌≡◌, ℕ, zero, suc, ◌+◌, ◌<◌, Bool, true, false, cond, List, [], ◌∷◌, ◌++◌, map, length, get_or, Option, Some, None, refl, sym, ap, ◌∙◌, subst, arith}
-use Rattle.std.specs.Prelude.{slice_get, slice_set, unwrap_or, IfSome}
+-- Writes that land by their cells in stores.
+use Rattle.std.proofs.Common.{◌≡◌, ℕ, zero, suc, ◌<◌, Bool, true, false, cond, List, [], ◌∷◌, map, length, get_or, Option, Some, None, refl, sym, ap, ◌∙◌, subst, arith}
+use Rattle.std.specs.Prelude.{slice_get, IfSome}
 use Rattle.std.proofs.lemmas.Bool.{cond-true}
-use Rattle.std.proofs.lemmas.Option.{same_Some}
 use Rattle.sg_coord.specs.Coord.{is_inside}
 use Rattle.sg_layout.specs.declared.shape.Shape.{Shape}
 use Rattle.sg_layout.specs.Axes.{bounds_of_shape}
@@ -14,15 +13,11 @@ use Rattle.sg_ir.specs.Runs.{CodeWrite, is_own}
 use Rattle.sg_exec.specs.declared.cell_write.CellWrite.{CellWrite}
 use Rattle.sg_exec.specs.Standing.{shapes_of}
 use Rattle.sg_exec.specs.steps.Machines.{cell_there, cell_write}
-use Rattle.sg_exec.specs.steps.Landing.{current, HasTree, IsLanding, AreCopies, code_write, landing}
+use Rattle.sg_exec.specs.steps.Landing.{HasTree, IsLanding, code_write, landing}
 use Rattle.sg_exec.proofs.StoreLists.{shape_at}
 use Rattle.sg_exec.proofs.Reading.{cell_at_store}
-use Rattle.sg_exec.proofs.Rows.{get_or-more}
 
--- ---- copies with the trees of their stores
-
-pub tree_itself : (store : StoreWords) → HasTree store store
-tree_itself store = refl
+-- ---- stores with the same trees
 
 pub tree_then : (store copy next : StoreWords) → HasTree store copy → HasTree copy next → HasTree store next
 tree_then store copy next first second = second ∙ ap (λ (s : StoreWords). record s { fields = next.fields }) first
@@ -42,38 +37,6 @@ landing_with store fields write made is = record { place = is.place; way = is.wa
 
 pub landing_tree : (store copy : StoreWords) (write : CellWrite) (made : Write) → HasTree store copy → IsLanding store write made → IsLanding copy write made
 landing_tree store copy write made tree is = subst (λ (s : StoreWords). IsLanding s write made) (sym tree) (landing_with store copy.fields write made is)
-
--- a copy in its place, or none
-pub copies_at : (stores : List StoreWords) (copies : List (Option StoreWords)) (i : ℕ) (store : StoreWords) (copy : Option StoreWords) → AreCopies stores copies → slice_get stores i ≡ Some store → slice_get copies i ≡ Some copy
-    → IfSome copy (HasTree store)
-copies_at [] copies i store copy are is there = absurd (cc)
-copies_at (first ∷ stores) [] i store copy are is there = absurd are
-copies_at (first ∷ stores) (head ∷ copies) zero store copy are is there =
-    subst (λ (s : StoreWords). IfSome copy (HasTree s)) (same_Some _ _ is) (subst (λ (c : Option StoreWords). IfSome c (HasTree first)) (same_Some _ _ there) are.0)
-copies_at (first ∷ stores) (head ∷ copies) (suc i) store copy are is there = copies_at stores copies i store copy are.1 is there
-
-pub copies_set : (stores : List StoreWords) (copies : List (Option StoreWords)) (i : ℕ) (store : StoreWords) (copy : Option StoreWords) → AreCopies stores copies → slice_get stores i ≡ Some store → IfSome copy (HasTree store)
-    → AreCopies stores (slice_set copies i copy)
-copies_set [] copies i store copy are is has = absurd (cc)
-copies_set (first ∷ stores) [] i store copy are is has = absurd are
-copies_set (first ∷ stores) (head ∷ copies) zero store copy are is has = (subst (λ (s : StoreWords). IfSome copy (HasTree s)) (sym (same_Some _ _ is)) has, are.1)
-copies_set (first ∷ stores) (head ∷ copies) (suc i) store copy are is has = (are.0, copies_set stores copies i store copy are.1 is has)
-
-pub copies_length : (stores : List StoreWords) (copies : List (Option StoreWords)) → AreCopies stores copies → length copies ≡ length stores
-copies_length [] [] are = refl
-copies_length [] (head ∷ copies) are = absurd are
-copies_length (first ∷ stores) [] are = absurd are
-copies_length (first ∷ stores) (head ∷ copies) are = ap suc (copies_length stores copies are.1)
-
--- no copies
-pub none_are : (stores : List StoreWords) (copies : List (Option StoreWords)) → length copies ≡ length stores → ((i : ℕ) → i < length copies → get_or copies i None ≡ None) → AreCopies stores copies
-none_are [] [] same none = tt
-none_are [] (head ∷ copies) same none = absurd (omega (arith, same))
-none_are (first ∷ stores) [] same none = absurd (omega (arith, same))
-none_are (first ∷ stores) (head ∷ copies) same none = (
-  subst (λ (c : Option StoreWords). IfSome c (HasTree first)) (sym (none 0 (omega arith))) tt,
-  none_are stores copies (omega (arith, same)) (λ i below. none (suc i) (omega (arith, below))),
-)
 
 -- ---- a write of code, as it is kept
 
@@ -116,30 +79,3 @@ landings_are stores made writes is = ap (map (cell_write stores)) is ∙ both wr
     both : (ws : List Write) → map (cell_write stores) (map (code_write (shapes_of stores)) ws) ≡ map (landing stores) ws
     both [] = refl
     both (write ∷ ws) = ap (λ (later : List CellWrite). landing stores write ∷ later) (both ws)
-
-pub none_current : (copies : List (Option StoreWords)) (stores : List StoreWords) → ((i : ℕ) → i < length copies → get_or copies i None ≡ None) → length copies ≡ length stores → current copies stores ≡ stores
-none_current [] stores none long = refl
-none_current (head ∷ copies) [] none long = absurd (omega (arith, long))
-none_current (head ∷ copies) (first ∷ stores) none long =
-    ap (λ (c : Option StoreWords). unwrap_or c first ∷ current copies stores) (none 0 (omega arith))
-    ∙ ap (λ (ss : List StoreWords). first ∷ ss) (none_current copies stores (λ i below. none (suc i) (omega (arith, below))) (omega (arith, long)))
-
-pub none_more : (copies copies' : List (Option StoreWords)) → copies' ≡ copies ++ None ∷ [] → ((i : ℕ) → i < length copies → get_or copies i None ≡ None) → (i : ℕ) → i < length copies' → get_or copies' i None ≡ None
-none_more copies copies' grew none i below = ap (λ (cs : List (Option StoreWords)). get_or cs i None) grew ∙ get_or-more copies None i ∙ all copies none i
-  where
-    all : (cs : List (Option StoreWords)) → ((k : ℕ) → k < length cs → get_or cs k None ≡ None) → (k : ℕ) → get_or cs k None ≡ None
-    all [] have zero = refl
-    all [] have (suc k) = refl
-    all (c ∷ cs) have zero = have 0 (omega arith)
-    all (c ∷ cs) have (suc k) = all cs (λ j low. have (suc j) (omega (arith, low))) k
-
-pub long_push : (copies copies' : List (Option StoreWords)) → copies' ≡ copies ++ None ∷ [] → length copies' ≡ length copies + 1
-long_push copies copies' grew = ap (λ (cs : List (Option StoreWords)). length cs) grew ∙ long copies
-  where
-    long : (cs : List (Option StoreWords)) → length (cs ++ None ∷ []) ≡ length cs + 1
-    long [] = refl
-    long (c ∷ cs) = omega (arith, long cs)
-
-pub slot_shape : (store : StoreWords) (slot : Option StoreWords) → IfSome slot (HasTree store) → (unwrap_or slot store).shape ≡ store.shape
-slot_shape store None tree = refl
-slot_shape store (Some copy) tree = tree_shape store copy tree

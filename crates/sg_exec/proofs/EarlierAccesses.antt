@@ -1,5 +1,6 @@
 -- What a run accesses begins with what was accessed before: where all of it is named, so is what came before.
-use Rattle.std.proofs.Common.{◌≡◌, ℕ, zero, suc, ◌<◌, max, Bool, true, false, ◌==◌, List, [], ◌∷◌, map, ℤ, subst, arith}
+use Rattle.std.proofs.lemmas.List.Elements.{All-cons, All-nil, All-head, All-tail}
+use Rattle.std.proofs.Common.{◌≡◌, ℕ, zero, suc, ◌<◌, max, Bool, true, false, ◌==◌, List, [], ◌∷◌, ◌++◌, map, ℤ, subst, arith}
 use Rattle.std.specs.Prelude.{if◌then◌else◌, fold}
 use Rattle.sg_words.specs.Words.{word_of}
 use Rattle.sg_flat.specs.Domain.{numbers}
@@ -8,11 +9,17 @@ use Rattle.sg_ir.specs.declared.code.Inst.{Inst, fold-Inst, out-Inst, roll-Inst,
 use Rattle.sg_ir.specs.declared.code.Inst.TheVariants.{rolls-Const, rolls-Var, rolls-Set, rolls-Bin, rolls-Un, rolls-Mulq, rolls-Root, rolls-Check, rolls-Extract, rolls-Offset, rolls-Child, rolls-HashChild, rolls-MaskBit, rolls-DynCell, rolls-ReadCell, rolls-OwnRead, rolls-OwnWrite, rolls-Acc, rolls-Want, rolls-If, rolls-For}
 use Rattle.sg_ir.specs.declared.code.Inst.TheOpen as i
 use Rattle.sg_ir.specs.declared.code.Inst.TheOpen.{Inst-F}
-use Rattle.sg_ir.specs.Runs.{Seen, Moved, InstAction, set_var_word, actions_in_turn, inst_step, does, named_by}
-use Rattle.sg_ir.specs.Named.{AreNamed}
+use Rattle.sg_ir.specs.Runs.{Seen, Moved, Access, InstAction, set_var_word, actions_in_turn, inst_step, does, named_by}
+use Rattle.sg_ir.specs.Named.{IsNamedAccess, AreNamed}
 use Rattle.sg_ir.proofs.Uses.{fold-Const, fold-Var, fold-Set, fold-Bin, fold-Un, fold-Mulq, fold-Root, fold-Check, fold-Extract, fold-Offset, fold-Child, fold-HashChild, fold-MaskBit, fold-DynCell, fold-ReadCell, fold-OwnRead, fold-OwnWrite, fold-Acc, fold-Want, fold-If, fold-For}
 use Rattle.sg_exec.specs.Standing.{shapes_of}
-use Rattle.sg_exec.proofs.RowsMoved.{named_before}
+
+-- all accesses but the last are named, and the last is
+pub named_before : (stores : List StoreWords) (accesses : List Access) (access : Access) → AreNamed (shapes_of stores) (accesses ++ access ∷ []) → AreNamed (shapes_of stores) accesses × IsNamedAccess (shapes_of stores) access
+named_before stores [] access named = (All-nil _, All-head (IsNamedAccess (shapes_of stores)) access [] named)
+named_before stores (first ∷ accesses) access named =
+    let later = named_before stores accesses access (All-tail (IsNamedAccess (shapes_of stores)) first (accesses ++ access ∷ []) named) in
+    (All-cons (IsNamedAccess (shapes_of stores)) first accesses (All-head (IsNamedAccess (shapes_of stores)) first (accesses ++ access ∷ []) named) later.0, later.1)
 
 -- how deep blocks nest in an instruction
 abbrev largest : List ℕ → ℕ

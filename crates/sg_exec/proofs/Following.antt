@@ -1,6 +1,6 @@
 -- One write or one turn after another.
 use Rattle.std.proofs.Common.{pos, ◌≡◌, ℕ, zero, suc, ◌+◌, ◌<◌, ◌≤◌, Bool, true, false, List, [], ◌∷◌, ◌++◌, map, length, take, drop, get_or, cond, Option, Some, None, Result, Ok, Err, refl, sym, ap, ◌∙◌, subst, arith, append_assoc, append-nil}
-use Rattle.std.specs.Prelude.{slice_get}
+use Rattle.std.specs.Prelude.{slice_get, IsSome, IfSome}
 use Rattle.std.specs.Option.{option_or}
 use Rattle.std.proofs.lemmas.List.{take_more, take_all, drop_all, map-append}
 use Rattle.std.proofs.lemmas.List.Concat.{flat_map-append}
@@ -8,7 +8,9 @@ use Rattle.std.specs.Result.{IsErrAnd}
 use Rattle.sg_words.specs.declared.memory.Stop.{Stop}
 use Rattle.sg_words.specs.declared.memory.Stop.TheVariants as stop
 use Rattle.sg_coord.specs.declared.coord.Coord.{Coord}
+use Rattle.sg_coord.specs.Coord.{is_inside}
 use Rattle.sg_layout.specs.declared.shape.Shape.{Shape}
+use Rattle.sg_layout.specs.Axes.{bounds_of_shape}
 use Rattle.sg_flat.specs.declared.effects.Way.TheVariants.{Own}
 use Rattle.sg_flat.specs.declared.effects.Write.{Write}
 use Rattle.sg_flat.specs.declared.effects.Turn.{Turn}
@@ -18,7 +20,10 @@ use Rattle.sg_flat.specs.declared.state.FlatLayout.{FlatLayout}
 use Rattle.sg_flat.specs.Effects.{writes_of}
 use Rattle.sg_flat.specs.Kernel.{is_inside_of, outside_among, first_outside}
 use Rattle.sg_store.specs.StoreWords.{StoreWords}
+use Rattle.sg_store.specs.Walks.{cell_in}
+use Rattle.sg_exec.specs.Standing.{shapes_of}
 use Rattle.sg_exec.specs.steps.Landing.{Lands}
+use Rattle.sg_exec.specs.steps.Turning.{IsActiveAt}
 use Rattle.sg_exec.specs.steps.Wants.{AreWants, TurnWanted, AllWanted}
 use Rattle.sg_exec.proofs.StoresLanded.{lands_more}
 use Rattle.sg_exec.proofs.Going.{drop_item}
@@ -66,6 +71,23 @@ inside_next shapes at writes i d below none =
 pub inside_later : (shapes : List Shape) (at : Coord) (writes : List Write) (i : ℕ) → i < length writes → outside_among shapes at (drop i writes) ≡ None → outside_among shapes at (drop (i + 1) writes) ≡ None
 inside_later shapes at [] i below none = absurd (omega arith)
 inside_later shapes at (write ∷ writes) i below none = (inside_next shapes at (write ∷ writes) i write below none).1
+
+-- where a coordinate has a cell it is inside
+active_in : (store : StoreWords) (at : Coord) → IsSome (cell_in store at) → is_inside (bounds_of_shape store.shape) at ≡ true
+active_in store at active = by_test (is_inside (bounds_of_shape store.shape) at) _ active
+  where
+    by_test : (b : Bool) (cell : Option ℕ) → IsSome (cond b cell None) → b ≡ true
+    by_test true cell some = refl
+    by_test false cell some = absurd (cc)
+
+active_inside : (stores : List StoreWords) (layout : ℕ) (at : Coord) → IsActiveAt stores layout at → is_inside_of (slice_get (shapes_of stores) layout) at ≡ true
+active_inside [] layout at active = absurd (cc)
+active_inside (store ∷ stores) zero at active = active_in store at active
+active_inside (store ∷ stores) (suc layout) at active = active_inside stores layout at active
+
+pub last_inside : (stores : List StoreWords) (layout : ℕ) (at : Coord) (last : Option (ℕ × Coord)) → IfSome last (λ (it : ℕ × Coord). IsActiveAt stores it.0 it.1) → last ≡ Some (layout, at)
+    → is_inside_of (slice_get (shapes_of stores) layout) at ≡ true
+last_inside stores layout at last active is = active_inside stores layout at (subst (λ (o : Option (ℕ × Coord)). IfSome o (λ (it : ℕ × Coord). IsActiveAt stores it.0 it.1)) is active)
 
 -- ---- wants
 

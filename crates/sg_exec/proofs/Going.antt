@@ -14,9 +14,8 @@ use Rattle.sg_ir.proofs.Uses.{does-If, does-For}
 use Rattle.sg_coord.specs.declared.coord.Coord.{Coord}
 use Rattle.sg_flat.specs.declared.state.FlatState.{FlatState}
 use Rattle.sg_store.specs.StoreWords.{StoreWords}
-use Rattle.sg_exec.specs.declared.moment.Moment.{Moment}
 use Rattle.sg_exec.specs.steps.Machines.{seen_in}
-use Rattle.sg_exec.specs.steps.Moments.{IsMoved, Follows, Moves, run_turns}
+use Rattle.sg_exec.specs.steps.Moments.{Column, IsMoved, Follows, Moves, run_turns}
 use Rattle.sg_exec.proofs.EarlierAccesses.{named_earlier}
 
 -- something holds of how far a run has come from where the rest leads to the whole
@@ -71,26 +70,24 @@ on_ok P Q (Ok a) f h = f h
 on_ok P Q (Err e) f h = tt
 
 -- what follows how far a run has come follows the same run by an equation
-pub as_moved : {stores : List StoreWords} {at : Coord} {moment : Moment} {now next : Moved} → now ≡ next → Follows stores at moment now → Follows stores at moment next
-as_moved {stores} {at} {moment} is follows = subst (λ (moved : Moved). Follows stores at moment moved) is follows
+pub as_moved : {stores : List StoreWords} {at : Coord} {it : Column} {now next : Moved} → now ≡ next → Follows stores at it now → Follows stores at it next
+as_moved {stores} {at} {it} is follows = subst (λ (moved : Moved). Follows stores at it moved) is follows
 
--- and a moment that moved by an action moved by any that is the same
-pub moves_by : {old new : Moment} (act other : Seen → Moved → Moved) → ((seen : Seen) (now : Moved) → act seen now ≡ other seen now) → Moves act old new → Moves other old new
+-- and a column that moved by an action moved by any that is the same
+pub moves_by : {old new : Column} (act other : Seen → Moved → Moved) → ((seen : Seen) (now : Moved) → act seen now ≡ other seen now) → Moves act old new → Moves other old new
 moves_by act other same step = record {
-  stores = step.stores;
   kept = step.kept;
   follows = λ stores state at sees now follows. as_moved (same (seen_in stores state at) now) (step.follows stores state at sees now follows);
 }
 
-pub moves_inst : {old new : Moment} (inst given : Inst) → inst ≡ given → Moves (λ seen. does seen given) old new → Moves (λ seen. does seen inst) old new
+pub moves_inst : {old new : Column} (inst given : Inst) → inst ≡ given → Moves (λ seen. does seen given) old new → Moves (λ seen. does seen inst) old new
 moves_inst inst given is step = moves_by (λ seen. does seen given) (λ seen. does seen inst) (λ seen now. ap (λ (it : Inst). does seen it now) (sym is)) step
 
--- and by an instruction that does the same from where the moment was
-pub moves_there : (old new : Moment) (inst : Inst) (act : Seen → Moved → Moved)
+-- and by an instruction that does the same from where the column was
+pub moves_there : (old new : Column) (inst : Inst) (act : Seen → Moved → Moved)
     → ((stores : List StoreWords) (state : FlatState) (at : Coord) (now : Moved) → IsMoved stores at old now → act (seen_in stores state at) now ≡ does (seen_in stores state at) inst now)
     → Moves act old new → Moves (λ seen. does seen inst) old new
 moves_there old new inst act same step = record {
-  stores = step.stores;
   kept = step.kept;
   follows = λ stores state at sees now follows lacks named.
       let moved = follows (step.kept lacks) (named_earlier stores (seen_in stores state at) inst now named) in

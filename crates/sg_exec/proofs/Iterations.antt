@@ -72,8 +72,8 @@ nat_split (suc n) (suc m) = elim (nat_split n m) [
 ]
 
 -- a batch takes the points up to the next multiple, or the rest
-pub batch_taken : (mine : List Coord) (number count : ℕ) → count ≤ 16 → number * 16 + count ≤ length mine → ((count < 16) → length mine ≤ number * 16 + count) → take (number * 16 + count) mine ≡ take ((number + 1) * 16) mine
-batch_taken mine number count few within rest = elim (nat_split count 16) [
-  | inl short ↦ take_all (number * 16 + count) mine (rest short) ∙ sym (take_all ((number + 1) * 16) mine (omega (arith, rest short, few)))
+pub batch_taken : (mine : List Coord) (number count : ℕ) → count ≤ 32 → number * 32 + count ≤ length mine → ((count < 32) → length mine ≤ number * 32 + count) → take (number * 32 + count) mine ≡ take ((number + 1) * 32) mine
+batch_taken mine number count few within rest = elim (nat_split count 32) [
+  | inl short ↦ take_all (number * 32 + count) mine (rest short) ∙ sym (take_all ((number + 1) * 32) mine (omega (arith, rest short, few)))
   | inr whole ↦ ap (λ (n : ℕ). take n mine) (omega (arith, whole, few))
 ]

@@ -3,6 +3,10 @@ pub mod Rows
 pub mod Seeing
 pub mod CellsLanded
 pub mod RowsMoved
+pub mod PlacesMoved
+pub mod MomentsMoved
+pub mod Added
+pub mod ValuesRead
 pub mod EarlierAccesses
 pub mod PlacesHeld
 pub mod Reading
@@ -43,11 +47,16 @@ pub mod Regrouped
 pub mod SumsStand
 pub mod LastOwn
 pub mod Iterations
+pub mod RunAhead
 pub mod KeptOwn
 pub mod UsedWrites
 pub mod FieldsFound
 pub mod PassesLanded
 pub mod SumsPut
 pub mod SumsEnd
+pub mod TreesKept
+pub mod SumsLanded
+pub mod MadeLands
+pub mod MadeRuns
 pub mod RacedRun
 pub mod RacedHand

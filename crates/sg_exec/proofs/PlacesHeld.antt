@@ -1,8 +1,8 @@
 -- Place registers, and one step down from a place.
-use Rattle.std.proofs.Common.{◌≡◌, ℕ, zero, suc, ◌+◌, ◌-◌, ◌<◌, ◌≤◌, Bool, true, false, inl, inr, List, [], ◌∷◌, ◌++◌, length, get_or, Option, Some, None, Result, Ok, Err, refl, sym, ap, ◌∙◌, subst, arith, append_assoc}
-use Rattle.std.specs.Prelude.{OnOk, OnErr, Contains, take, ◌⊎◌, IfSome, IfNone, slice_get, slice_index, option_and_then, option_map, nat_lt, if◌then◌else◌}
+use Rattle.std.proofs.Common.{◌≡◌, ℕ, zero, suc, ◌+◌, ◌-◌, ◌<◌, ◌≤◌, Bool, true, false, inl, inr, List, [], ◌∷◌, ◌++◌, length, Option, Some, None, refl, sym, ap, ◌∙◌, subst, arith, append_assoc}
+use Rattle.std.specs.Prelude.{Contains, take, ◌⊎◌, IfSome, IfNone, slice_get, slice_index, option_and_then, option_map, nat_lt, if◌then◌else◌}
 use Rattle.std.proofs.Math.Seq.{take-length}
-use Rattle.std.proofs.lemmas.Bool.{both_ways, cases_eq, cond-true, cond-false, eq-eqb, ne_eqb, lt-ltb}
+use Rattle.std.proofs.lemmas.Bool.{cond-true, cond-false, lt-ltb}
 use Rattle.std.proofs.lemmas.Option.{same_Some}
 use Rattle.sg_coord.specs.declared.coord.Coord.{Coord}
 use Rattle.sg_coord.specs.Coord.{is_inside}
@@ -23,61 +23,38 @@ use Rattle.sg_store.specs.Spots.{LeadsAlong, IsSpot}
 use Rattle.sg_store.specs.StandsFor.{StandsFor}
 use Rattle.sg_store.specs.StoreLaws.{CellsAreActive}
 use Rattle.sg_store.specs.WellFormed.{IsWellFormed}
-use Rattle.sg_ir.specs.Runs.{Place, put, down, add_offset, node_in, node_of}
-use Rattle.sg_words.specs.declared.memory.Memory.{Memory}
+use Rattle.sg_ir.specs.Runs.{Place, down, add_offset, node_in, node_of}
 use Rattle.sg_exec.specs.declared.held.Held.{Held}
 use Rattle.sg_exec.specs.Standing.{shapes_of}
 use Rattle.sg_exec.specs.steps.Stepping.{is_below, can_step, IsIdle, StepLeads, StepIsDead}
-use Rattle.sg_exec.specs.steps.Machines.{PlaceRow, IsDead, HoldsPlace, IsHeld, AreHeld, ArePlaces}
+use Rattle.sg_exec.specs.steps.Machines.{IsDead, HoldsPlace, IsHeld, AreHeld, ArePlaces, StepsDown}
+use Rattle.sg_exec.specs.steps.Rows.{IsPut}
+use Rattle.sg_exec.proofs.Rows.{put_all, put_so}
 use Rattle.sg_exec.proofs.StoreLists.{shape_at, some_is_none}
 
--- ---- a row of places
+-- ---- rows of places
 
-holds_put : (stores : List StoreWords) (row : List (Option Held)) (to : ℕ) (held : Option Held) (places : ℕ → Option Place) (place : Option Place) → HoldsPlace stores held place
-    → ((p : ℕ) → HoldsPlace stores (get_or row p None) (places p)) → (p : ℕ) → HoldsPlace stores (put to held (λ q. get_or row q None) p) (put to place places p)
-holds_put stores row to held places place new old p = elim (cases_eq p to) [
-  | inl here ↦ both (sym (cond-true _ held (get_or row p None) (eq-eqb p to here))) (sym (cond-true _ place (places p) (eq-eqb p to here))) new
-  | inr there ↦ both (sym (cond-false _ held (get_or row p None) (ne_eqb p to there))) (sym (cond-false _ place (places p) (ne_eqb p to there))) (old p)
-]
-  where
-    both : {a b : Option Held} {x y : Option Place} → a ≡ b → x ≡ y → HoldsPlace stores a x → HoldsPlace stores b y
-    both {a} {b} {x} {y} same_held same_place h = subst (λ (z : Option Place). HoldsPlace stores b z) same_place (subst (λ (c : Option Held). HoldsPlace stores c x) same_held h)
+-- where each spot that was put is one of a store
+pub held_put : (stores : List StoreWords) (Holds : ℕ → Option Held → Type 0) (first end to : ℕ) (list list' : List (Option Held)) → IsPut Holds first end to None list list'
+    → ((k : ℕ) (held : Option Held) → Holds k held → IfSome held (IsHeld stores)) → AreHeld stores list → AreHeld stores list'
+held_put stores Holds first end to list list' put so old = put_all (λ (held : Option Held). IfSome held (IsHeld stores)) Holds first end to None list list' put (λ k held among. so k held) old
 
-pub places_put : (stores : List StoreWords) (row row' : PlaceRow) (to : ℕ) (held : Option Held) (places : ℕ → Option Place) (place : Option Place) → row'.stores ≡ row.stores
-    → ((p : ℕ) → get_or row'.list p None ≡ put to held (λ q. get_or row.list q None) p) → ArePlaces stores row places → HoldsPlace stores held place → ArePlaces stores row' (put to place places)
-places_put stores row row' to held places place same is old new = record {
-  same_stores = same ∙ old.same_stores;
-  hold = λ p. subst (λ (h : Option Held). HoldsPlace stores h (put to place places p)) (sym (is p)) (holds_put stores row.list to held places place new old.hold p);
-}
+-- items that were put into a list as it was lent
+pub put_lent : (Holds Other : ℕ → Option Held → Type 0) (first end to : ℕ) (lent news old after : List (Option Held)) → lent ≡ old → after ≡ news → ((k : ℕ) (held : Option Held) → Holds k held → Other k held)
+    → IsPut Holds first end to None lent news → IsPut Other first end to None old after
+put_lent Holds Other first end to lent news old after was is so put =
+    subst (λ (items : List (Option Held)). IsPut Other first end to None items after) was
+    (subst (λ (items : List (Option Held)). IsPut Other first end to None lent items) (sym is) (put_so Holds Other first end to None lent news (λ k held among. so k held) put))
 
-pub held_put : (stores : List StoreWords) (row row' : List (Option Held)) (to : ℕ) (held : Option Held) → ((p : ℕ) → get_or row' p None ≡ put to held (λ q. get_or row q None) p)
-    → AreHeld stores row → IfSome held (IsHeld stores) → AreHeld stores row'
-held_put stores row row' to held is old new p it has = elim (cases_eq p to) [
-  | inl here ↦ of_some held it (sym (cond-true _ held (get_or row p None) (eq-eqb p to here)) ∙ sym (is p) ∙ has) new
-  | inr there ↦ old p it (sym (cond-false _ held (get_or row p None) (ne_eqb p to there)) ∙ sym (is p) ∙ has)
-]
-  where
-    of_some : (h : Option Held) (it : Held) → h ≡ Some it → IfSome h (IsHeld stores) → IsHeld stores it
-    of_some None it same is = absurd (cc)
-    of_some (Some h) it same is = subst (IsHeld stores) (same_Some h it same) is
-
-pub held_same : (stores : List StoreWords) (row row' : List (Option Held)) → ((p : ℕ) → get_or row' p None ≡ get_or row p None) → AreHeld stores row → AreHeld stores row'
-held_same stores row row' same old p it has = old p it (sym (same p) ∙ has)
-
-pub held_none : (stores : List StoreWords) (row : List (Option Held)) → ((p : ℕ) → get_or row p None ≡ None) → AreHeld stores row
-held_none stores row none p it has = absurd (let h : None ≡ Some it = sym (none p) ∙ has in cc)
-
-pub held_at : (stores : List StoreWords) (row : List (Option Held)) (p : ℕ) (found : Option Held) → AreHeld stores row → found ≡ get_or row p None → IfSome found (IsHeld stores)
-held_at stores row p None are is = tt
-held_at stores row p (Some it) are is = are p it (sym is)
-
-pub no_places : (stores : List StoreWords) (row : PlaceRow) → row.stores ≡ stores → ((p : ℕ) → get_or row.list p None ≡ None) → ArePlaces stores row (λ place. None)
-no_places stores row same none = record {
-  same_stores = same;
-  hold = λ p. subst (λ (h : Option Held). HoldsPlace stores h None) (sym (none p)) tt;
-}
+-- no place register holds anything
+pub no_places : (stores : List StoreWords) (held : ℕ → Option Held) → ((p : ℕ) → held p ≡ None) → ArePlaces stores held (λ place. None)
+no_places stores held none p = subst (λ (h : Option Held). HoldsPlace stores h None) (sym (none p)) tt
 
 -- ---- checks
+
+pub held_check : (stores : List StoreWords) (held : Option Held) (on : Bool) → IfSome held (IsHeld stores) → IfSome (if on then held else None) (IsHeld stores)
+held_check stores held true is = is
+held_check stores held false is = tt
 
 pub holds_check : (stores : List StoreWords) (held : Option Held) (place : Option Place) (extent word : ℕ) (on : Bool) → HoldsPlace stores held place → HoldsPlace stores (if on then held else None) (if on then place else None)
 holds_check stores held place extent word true h = h
@@ -125,11 +102,7 @@ has_cell store laws flat stands at has none = some_is_none (cell_in store at) (b
     by_test true = none
     by_test false = refl
 
--- past the last node there is no slot, nor past the size of a node
-pub dead_past : (store : StoreWords) → StepLaws store → (spot : Spot) (node : ℕ) (path : List ℕ) (offset : ℕ) → length store.shape.nodes ≤ spot.node → LeadsAlong store spot path → StepIsDead store node path offset
-dead_past store laws spot node path offset past leads = λ can at more is.
-    absurd (let has = slot_has store.shape.nodes path offset more (subst (IsSlot store.shape.nodes) is (is_slot_of store laws at)) in omega (arith, has.0, past, leads.node))
-
+-- past the size of a node there is no slot
 pub dead_size : (store : StoreWords) → StepLaws store → (spot : Spot) (node : ℕ) (path : List ℕ) (offset : ℕ) → slice_index (sizes_of store.shape.nodes) spot.node ≤ offset → LeadsAlong store spot path → StepIsDead store node path offset
 dead_size store laws spot node path offset past leads = λ can at more is.
     let has = slot_has store.shape.nodes path offset more (subst (IsSlot store.shape.nodes) is (is_slot_of store laws at)) in
@@ -151,9 +124,6 @@ dead_under store laws spot node path offset leads found = elim found [
   | inl past ↦ dead_size store laws spot node path offset past leads
   | inr none ↦ dead_along store laws node path offset none
 ]
-
-pub dead_refused : (store : StoreWords) (node : ℕ) (path : List ℕ) (offset : ℕ) → can_step store.shape.nodes node offset ≡ false → StepIsDead store node path offset
-dead_refused store node path offset refused = λ can at more is. absurd (both_ways (can_step store.shape.nodes node offset) refused can)
 
 -- a step that can't be taken leads to no place
 step_place : (nodes : List NodeShape) (node : ℕ) (layout : ℕ) (path : List ℕ) (offset : ℕ) → can_step nodes node offset ≡ true → add_offset offset (record { layout = layout; path = path }) (node_in nodes node) ≡ Some (record { layout = layout; path = path ++ offset ∷ [] })
@@ -229,22 +199,6 @@ holds_none stores (Some there) node offset h = dead_on stores there node offset 
 
 -- ---- as the code goes
 
-pub held_after : (stores : List StoreWords) (row row' : List (Option Held)) (to : ℕ) (held : Option Held) (result : Result Unit Memory)
-    → OnOk result ((p : ℕ) → get_or row' p None ≡ put to held (λ q. get_or row q None) p) → OnErr result ((p : ℕ) → get_or row' p None ≡ get_or row p None)
-    → AreHeld stores row → IfSome held (IsHeld stores) → AreHeld stores row'
-held_after stores row row' to held (Ok done) ok err old new = held_put stores row row' to held ok old new
-held_after stores row row' to held (Err memory) ok err old new = held_same stores row row' err old
-
-pub holds_at : (stores : List StoreWords) (row : PlaceRow) (place : ℕ) (found : Option Held) (places : ℕ → Option Place) → found ≡ get_or row.list place None → ArePlaces stores row places → HoldsPlace stores found (places place)
-holds_at stores row place found places is are = subst (λ (h : Option Held). HoldsPlace stores h (places place)) (sym is) (are.hold place)
-
--- the store of a layout, as it was got, or none
-pub got : (inside : List StoreWords) (row : PlaceRow) (layout : ℕ) (store : StoreWords) → inside ≡ row.stores → Some store ≡ slice_get inside layout → slice_get row.stores layout ≡ Some store
-got inside row layout store same is = ap (λ (stores : List StoreWords). slice_get stores layout) (sym same) ∙ sym is
-
-pub not_got : (inside : List StoreWords) (row : PlaceRow) (layout : ℕ) (store : StoreWords) → inside ≡ row.stores → None ≡ slice_get inside layout → slice_get row.stores layout ≡ Some store → ⊥
-not_got inside row layout store same is there = let h : None ≡ Some store = is ∙ ap (λ (stores : List StoreWords). slice_get stores layout) same ∙ there in absurd (cc)
-
 pub spot_of : (stores : List StoreWords) (held : Held) (store : StoreWords) → IsHeld stores held → slice_get stores held.layout ≡ Some store → IsSpot store held.spot
 spot_of stores held store is there = (is.path, subst (λ (s : StoreWords). LeadsAlong s held.spot is.path) (same_Some is.store store (sym is.there ∙ there)) is.leads)
 
@@ -254,6 +208,24 @@ held_below stores held store None node offset there is some = tt
 held_below stores held store (Some spot) node offset there is some =
     let of = spot_of stores held store is there in
     record { path = of.0 ++ offset ∷ []; store = store; there = there; leads = (some of.0 of.1).leads }
+
+-- the step from a spot, and from none
+pub steps_down : (stores : List StoreWords) (held : Held) (store : StoreWords) (below : Option Spot) (node offset : ℕ) (found : Option Held) → slice_get stores held.layout ≡ Some store → IsHeld stores held
+    → IfSome below (λ spot. (path : List ℕ) → LeadsAlong store held.spot path → StepLeads store spot node path offset)
+    → IfNone below ((path : List ℕ) → LeadsAlong store held.spot path → StepIsDead store node path offset)
+    → found ≡ option_map (λ spot. record { layout = held.layout; spot = spot }) below → StepsDown stores node offset (Some held) found
+steps_down stores held store below node offset found there is some none made =
+    subst (λ (h : Option Held). StepsDown stores node offset (Some held) h) (sym made) (record {
+      held_below = held_below stores held store below node offset there is some;
+      holds = λ place holds. holds_step stores held store below place node offset there holds some none;
+    })
+
+pub steps_none : (stores : List StoreWords) (node offset : ℕ) → StepsDown stores node offset None None
+steps_none stores node offset = record { held_below = tt; holds = λ place holds. holds_none stores place node offset holds }
+
+-- a spot has a store
+pub not_held : (stores : List StoreWords) (held : Held) → IsHeld stores held → None ≡ slice_get stores held.layout → ⊥
+not_held stores held is none = let h : None ≡ Some is.store = none ∙ is.there in absurd (cc)
 
 -- the test of an offset
 below_at : (nodes : List NodeShape) (i offset : ℕ) → i < length nodes → nat_lt offset (slice_index (sizes_of nodes) i) ≡ is_below offset (slice_get nodes i)
@@ -315,3 +287,12 @@ pub under_next : (store : StoreWords) (spot : Spot) (node offset : ℕ) (below :
 under_next store spot node offset None next low some = tt
 under_next store spot node offset (Some under) next low some = λ path leads.
     record { can = step_of_next store spot under node path offset next low leads (some path leads); leads = some path leads }
+
+-- the spot below, where the node is the next one or else the step can be taken
+pub under_either : (store : StoreWords) (spot : Spot) (node offset : ℕ) (below : Option Spot) → (spot.node + 1 ≡ node) ⊎ (can_step store.shape.nodes node offset ≡ true) → spot.node < length store.shape.nodes
+    → IfSome below (λ under. (path : List ℕ) → LeadsAlong store spot path → LeadsAlong store under (path ++ offset ∷ []))
+    → IfSome below (λ under. (path : List ℕ) → LeadsAlong store spot path → StepLeads store under node path offset)
+under_either store spot node offset below goes low some = elim goes [
+  | inl next ↦ under_next store spot node offset below next low some
+  | inr can ↦ under_some store spot node offset below can some
+]

@@ -1,24 +1,23 @@
 -- A hand after all iterations of a run.
-use Rattle.std.proofs.Common.{◌≡◌, ℕ, ◌+◌, ◌-◌, ◌≤◌, List, [], map, length, take, Option, Result, Ok, Err, sym, ap, ◌∙◌, subst, arith}
-use Rattle.std.specs.Prelude.{slice_get, IfOk}
+use Rattle.std.proofs.Common.{◌≡◌, ℕ, ◌+◌, ◌-◌, ◌≤◌, List, [], map, length, take, Result, Ok, Err, sym, ap, ◌∙◌, subst, arith}
+use Rattle.std.specs.Prelude.{IfOk}
 use Rattle.std.proofs.lemmas.List.{take_all}
-use Rattle.std.proofs.lemmas.Option.{same_Some}
 use Rattle.sg_words.specs.declared.memory.Memory.{Memory}
 use Rattle.sg_words.specs.declared.race.Worker.{Worker}
 use Rattle.sg_coord.specs.declared.coord.Coord.{Coord}
 use Rattle.sg_coord.specs.Slices.{slice_start, IsPartition}
 use Rattle.sg_flat.specs.declared.effects.Write.{Write}
 use Rattle.sg_accum.specs.declared.seat.AccSeat.{AccSeat}
-use Rattle.sg_store.specs.StoreWords.{StoreWords, word_in}
+use Rattle.sg_store.specs.StoreWords.{StoreWords}
 use Rattle.sg_ir.specs.declared.code.Inst.{Inst}
 use Rattle.sg_ir.specs.Apt.{uses_in}
 use Rattle.sg_exec.specs.declared.shared.Accumulated.{Accumulated}
 use Rattle.sg_exec.specs.declared.shared.Owned.{Owned}
 use Rattle.sg_exec.specs.declared.hand.Hand.{Hand}
 use Rattle.sg_exec.specs.steps.Machines.{AreCells}
-use Rattle.sg_exec.specs.steps.Landing.{current, Lands}
+use Rattle.sg_exec.specs.steps.Landing.{Lands}
 use Rattle.sg_exec.specs.steps.Racing.{between, wrote, AreSeats, HaveShares}
-use Rattle.sg_exec.specs.steps.Passes.{HaveFields, AreGiven, IsAsBefore, passed}
+use Rattle.sg_exec.specs.steps.Passes.{HaveFields, AreGiven, passed}
 use Rattle.sg_exec.specs.steps.Working.{HasRunAt, HasRaced}
 use Rattle.sg_exec.proofs.CellsLanded.{landings_are}
 use Rattle.sg_exec.proofs.PassesLanded.{turns_writes}
@@ -69,12 +68,3 @@ module _ (stores : List StoreWords) (code : List Inst) (points : List Coord) (ac
       → IfOk result (HasRunAt stores code points (between (slice_start (length points) workers 0) (slice_start (length points) workers (0 + workers)) points) accumulated owned old) → IfOk result (HasRaced stores code points accumulated)
   if_raced (Ok after) seats cells ran = raced after seats cells ran
   if_raced (Err e) seats cells ran = tt
-
-pub if_ok : {A E : Type 0} (P Q : A → Type 0) (result : Result A E) → ((a : A) → P a → Q a) → IfOk result P → IfOk result Q
-if_ok P Q (Ok a) step is = step a is
-if_ok P Q (Err e) step is = tt
-
--- where there are no copies all is as before
-pub fresh_none : (stores : List StoreWords) (copies : List (Option StoreWords)) (layout field : ℕ) → current copies stores ≡ stores → IsAsBefore stores copies layout field
-fresh_none stores copies layout field none = λ store copy at copy_at cell.
-    ap (λ (s : StoreWords). word_in s field cell) (same_Some _ _ (sym copy_at ∙ ap (λ (l : List StoreWords). slice_get l layout) none ∙ at))

@@ -1,114 +1,188 @@
 -- What an instruction makes of the executor's rows.
-use Rattle.std.proofs.Common.{◌≡◌, ℕ, List, [], ◌++◌, ◌∷◌, map, get_or, Option, None, All, sym, ap, ◌∙◌, subst}
-use Rattle.std.proofs.lemmas.List.{map-append}
-use Rattle.std.proofs.lemmas.List.Elements.{All-append, All-cons, All-nil, All-head, All-tail}
+use Rattle.std.proofs.Common.{◌≡◌, ℕ, ◌<◌, ◌≤◌, List, [], ◌++◌, ◌∷◌, length, None, inl, inr, sym, ap, ◌∙◌, subst, arith}
+use Rattle.std.specs.Prelude.{slice_get, take, drop, Some}
+use Rattle.std.proofs.lemmas.Bool.{cases_eq, cond-true, cond-false, eq-eqb, ne_eqb}
+use Rattle.std.proofs.lemmas.List.{append-nil, take_all, drop_all}
+use Rattle.std.proofs.lemmas.Option.{same_Some}
 use Rattle.sg_coord.specs.declared.coord.Coord.{Coord}
 use Rattle.sg_flat.specs.declared.state.FlatState.{FlatState}
-use Rattle.sg_flat.specs.declared.effects.Write.{Write}
 use Rattle.sg_store.specs.StoreWords.{StoreWords}
-use Rattle.sg_ir.specs.Runs.{Seen, Moved, CodeWrite, CodeWant, Access, Place, put, set_reg, set_var_word, add_access, add_code_write}
+use Rattle.sg_ir.specs.Runs.{Seen, Moved, Access, put, set_reg, set_var_word, add_access}
 use Rattle.sg_ir.specs.Named.{IsNamedAccess, AreNamed}
-use Rattle.sg_exec.specs.declared.cell_write.CellWrite.{CellWrite}
-use Rattle.sg_exec.specs.declared.held.Held.{Held}
+use Rattle.sg_exec.specs.declared.batch.Batch.{Batch}
 use Rattle.sg_exec.specs.declared.moment.Moment.{Moment}
 use Rattle.sg_exec.specs.Standing.{shapes_of}
-use Rattle.sg_exec.specs.steps.Machines.{seen_in, Sees, PlaceRow, ArePlaces, HoldsPlace, AreWords, cell_write, IsAtLoop, want_write}
-use Rattle.sg_exec.specs.steps.Moments.{IsMoved, Follows, Moves}
-use Rattle.sg_exec.proofs.Rows.{put_as}
+use Rattle.sg_exec.specs.steps.Machines.{seen_in, Sees, HoldsPlace}
+use Rattle.sg_exec.specs.steps.Rows.{item_in, IsAmong, IsPut}
+use Rattle.sg_exec.specs.steps.Moments.{column, IsMoved, Moves, Stays, AreAt, AllMove, KeepsRows, IsOver}
+use Rattle.sg_exec.proofs.EarlierAccesses.{named_before}
+use Rattle.sg_exec.proofs.Going.{as_moved}
+use Rattle.sg_exec.proofs.Rows.{other_item}
+use Rattle.sg_exec.proofs.SideBySide.{kept_then}
 
--- ---- words
+-- ---- a row that was put
 
-pub words_put : (row row' : List ℕ) (words : ℕ → ℕ) (to word : ℕ) → ((number : ℕ) → get_or row' number 0 ≡ put to word (λ other. get_or row other 0) number) → AreWords row words → AreWords row' (put to word words)
-words_put row row' words to word is are number = is number ∙ put_as to word (λ other. get_or row other 0) words are number
+-- in a column where an item was put, all is as a number's value says
+pub put_there : {A B : Type 0} (Same : A → B → Type 0) (Holds : ℕ → A → Type 0) (first end to : ℕ) (none : A) (old new : List A) (k : ℕ) (value : B) (f : ℕ → B) → k < 32 → end ≤ 32 → IsPut Holds first end to none old new
+    → Same (item_in new none k to) value → ((number : ℕ) → Same (item_in old none k number) (f number)) → (number : ℕ) → Same (item_in new none k number) (put to value f number)
+put_there Same Holds first end to none old new k value f small few is here there number = elim (cases_eq number to) [
+  | inl same ↦ subst (λ b. Same (item_in new none k number) b) (sym (cond-true _ value (f number) (eq-eqb number to same))) (subst (λ (n : ℕ). Same (item_in new none k n) value) (sym same) here)
+  | inr other ↦ subst (λ b. Same (item_in new none k number) b) (sym (cond-false _ value (f number) (ne_eqb number to other)))
+      (subst (λ a. Same a (f number)) (sym (other_item Holds first end to none old new k number is few small (λ (it : (number ≡ to) × IsAmong first end k). other it.0))) (there number))
+]
 
-pub reg_done : (old new : Moment) (to word : ℕ) (value : Seen → Moved → ℕ) (act : Seen → Moved → Moved) → ((seen : Seen) (now : Moved) → act seen now ≡ set_reg to (value seen now) now)
-    → ((stores : List StoreWords) (state : FlatState) (at : Coord) (now : Moved) → Sees stores state → IsMoved stores at old now → word ≡ value (seen_in stores state at) now)
-    → Moves (λ seen. set_reg to word) old new → Moves act old new
-reg_done old new to word value act is same step = record {
-  stores = step.stores;
-  kept = step.kept;
-  follows = λ stores state at sees now follows.
-      subst (λ (m : Moved). Follows stores at new m) (sym (is (seen_in stores state at) now))
-      (λ lacks named. subst (λ (w : ℕ). IsMoved stores at new (set_reg to w now)) (same stores state at now sees (follows (step.kept lacks) named)) (step.follows stores state at sees now follows lacks named));
+-- a list that was lent as a slice of its own length, as it came back
+pub whole_items : {A : Type 0} (n : ℕ) (news olds : List A) → length news ≡ n → length olds ≡ n → take n (news ++ drop (length news) olds) ≡ news
+whole_items {A} n news olds long same =
+    ap (λ (rest : List A). take n (news ++ rest)) (drop_all (length news) olds (omega (arith, long, same))) ∙ ap (take n) (append-nil news) ∙ take_all n news (omega (arith, long))
+
+-- ---- one row of a batch
+
+-- nothing of a batch but its registers is another
+pub record OnlyRegs (old new : Batch) : Type 0 where
+  pub lacks : new.lacks ≡ old.lacks
+  pub vars : new.vars ≡ old.vars
+  pub places : new.places ≡ old.places
+  pub moments : new.moments.items ≡ old.moments.items
+
+pub same_at : (old new : Batch) → new.moments.items ≡ old.moments.items → (k : ℕ) (before after : Moment) → AreAt k old new before after → before ≡ after
+same_at old new same k before after at = same_Some before after (sym at.before_is ∙ sym (ap (λ (ms : List Moment). slice_get ms k) same) ∙ at.after_is)
+
+pub over_same : (old new : Batch) → new.moments.items ≡ old.moments.items → new.places.stores ≡ old.places.stores → (stores : List StoreWords) → IsOver stores old → IsOver stores new
+over_same old new same same_stores stores over = record {
+  places = same_stores ∙ over.places;
+  whole = ap length same ∙ over.whole;
+  moments = λ k moment is. over.moments k moment (sym (ap (λ (ms : List Moment). slice_get ms k) same) ∙ is);
 }
 
-pub var_done : (old new : Moment) (to word : ℕ) (value : Seen → Moved → ℕ) (act : Seen → Moved → Moved) → ((seen : Seen) (now : Moved) → act seen now ≡ set_var_word to (value seen now) now)
-    → ((stores : List StoreWords) (state : FlatState) (at : Coord) (now : Moved) → Sees stores state → IsMoved stores at old now → word ≡ value (seen_in stores state at) now)
-    → Moves (λ seen. set_var_word to word) old new → Moves act old new
-var_done old new to word value act is same step = record {
-  stores = step.stores;
-  kept = step.kept;
-  follows = λ stores state at sees now follows.
-      subst (λ (m : Moved). Follows stores at new m) (sym (is (seen_in stores state at) now))
-      (λ lacks named. subst (λ (w : ℕ). IsMoved stores at new (set_var_word to w now)) (same stores state at now sees (follows (step.kept lacks) named)) (step.follows stores state at sees now follows lacks named));
+-- where registers have become others
+regs_moved : (stores : List StoreWords) (at : Coord) (old new : Batch) (k : ℕ) (moment : Moment) (now : Moved) (regs : ℕ → ℕ) (accesses : List Access) → OnlyRegs old new → ((number : ℕ) → item_in new.regs.items 0 k number ≡ regs number)
+    → IsMoved stores at (column old k moment) now → IsMoved stores at (column new k moment) (record now { regs = regs; accesses = accesses })
+regs_moved stores at old new k moment now regs accesses only are moved = record {
+  stores_are = ap (λ it. it.stores) only.places ∙ moved.stores_are;
+  regs_are = are;
+  vars_are = λ number. ap (λ it. item_in it.items 0 k number) only.vars ∙ moved.vars_are number;
+  places_are = λ p. subst (λ held. HoldsPlace stores held (now.places p)) (sym (ap (λ it. item_in it.list None k p) only.places)) (moved.places_are p);
+  cells_over = moved.cells_over;
+  at_is = moved.at_is;
+  writes_are = moved.writes_are;
+  own_at = moved.own_at;
+  wants_are = moved.wants_are;
 }
+
+-- registers become words that are the values of how far the run has come, where its accesses so far tell something
+pub told_done : (old mid new : Batch) (before after : List ℕ) (first end to : ℕ) (Holds : ℕ → ℕ → Type 0) (value : Seen → Moved → ℕ) (more : Moved → List Access) (act : Seen → Moved → Moved) (Told : List StoreWords → Moved → Type 0)
+    → ((seen : Seen) (now : Moved) → act seen now ≡ record now { regs = put to (value seen now) now.regs; accesses = more now })
+    → ((stores : List StoreWords) (now : Moved) → AreNamed (shapes_of stores) (more now) → AreNamed (shapes_of stores) now.accesses × Told stores now)
+    → end ≤ 32 → KeepsRows old mid → OnlyRegs mid new → before ≡ mid.regs.items → new.regs.items ≡ after → IsPut Holds first end to 0 before after
+    → ((k word : ℕ) (stores : List StoreWords) (state : FlatState) (at : Coord) (moment : Moment) (now : Moved) → k < 32 → slice_get mid.moments.items k ≡ Some moment → Holds k word → Sees stores state
+    → IsMoved stores at (column mid k moment) now → Told stores now → word ≡ value (seen_in stores state at) now)
+    → AllMove act first end old new
+told_done old mid new before_items after_items first end to Holds value more act Told is tells few keeps only was made has_made same =
+    let has_before : IsPut Holds first end to 0 before_items new.regs.items = subst (λ (items : List ℕ). IsPut Holds first end to 0 before_items items) (sym made) has_made in
+    let has : IsPut Holds first end to 0 mid.regs.items new.regs.items = subst (λ (items : List ℕ). IsPut Holds first end to 0 items new.regs.items) was has_before in
+    kept_then act first end old mid new keeps (record {
+      over = over_same mid new only.moments (ap (λ it. it.stores) only.places);
+      long = ap length only.moments;
+      among = λ k before after at small inside.
+          subst (λ (m : Moment). Moves act (column mid k before) (column new k m)) (same_at mid new only.moments k before after at)
+          (record {
+            kept = λ lacks. sym only.lacks ∙ lacks;
+            follows = λ stores state here sees now follows.
+                as_moved (sym (is (seen_in stores state here) now))
+                (λ lacks named.
+                let both = tells stores now named in
+                let moved = follows (sym only.lacks ∙ lacks) both.0 in
+                regs_moved stores here mid new k before now (put to (value (seen_in stores state here) now) now.regs) (more now) only
+                (put_there (λ (a b : ℕ). a ≡ b) Holds first end to 0 mid.regs.items new.regs.items k (value (seen_in stores state here) now) now.regs small few has
+                (same k (item_in new.regs.items 0 k to) stores state here before now small at.before_is (has.there k inside) sees moved both.1) moved.regs_are) moved);
+          });
+      others = λ k before after at small out.
+          subst (λ (m : Moment). Stays (column mid k before) (column new k m)) (same_at mid new only.moments k before after at)
+          (record {
+            kept = λ lacks. sym only.lacks ∙ lacks;
+            follows = λ stores state here sees now follows lacks named.
+                let moved = follows (sym only.lacks ∙ lacks) named in
+                regs_moved stores here mid new k before now now.regs now.accesses only (λ number. other_item Holds first end to 0 mid.regs.items new.regs.items k number has few small (λ (it : (number ≡ to) × IsAmong first end k). out it.1) ∙ moved.regs_are number) moved;
+          });
+    })
+
+-- registers become words that are the values of how far the run has come
+pub regs_done : (old mid new : Batch) (before after : List ℕ) (first end to : ℕ) (Holds : ℕ → ℕ → Type 0) (value : Seen → Moved → ℕ) (act : Seen → Moved → Moved) → ((seen : Seen) (now : Moved) → act seen now ≡ set_reg to (value seen now) now)
+    → end ≤ 32 → KeepsRows old mid → OnlyRegs mid new → before ≡ mid.regs.items → new.regs.items ≡ after → IsPut Holds first end to 0 before after
+    → ((k word : ℕ) (stores : List StoreWords) (state : FlatState) (at : Coord) (moment : Moment) (now : Moved) → k < 32 → Holds k word → Sees stores state → IsMoved stores at (column mid k moment) now → word ≡ value (seen_in stores state at) now)
+    → AllMove act first end old new
+regs_done old mid new before after first end to Holds value act is few keeps only was made has same =
+    told_done old mid new before after first end to Holds value (λ now. now.accesses) act (λ stores now. Unit {0}) is (λ stores now named. (named, tt)) few keeps only was made has
+    (λ k word stores state at moment now small there holds sees moved told. same k word stores state at moment now small holds sees moved)
 
 -- ---- accesses
 
--- all accesses but the last are named, and the last is
-pub named_before : (stores : List StoreWords) (accesses : List Access) (access : Access) → AreNamed (shapes_of stores) (accesses ++ access ∷ []) → AreNamed (shapes_of stores) accesses × IsNamedAccess (shapes_of stores) access
-named_before stores [] access named = (All-nil _, All-head (IsNamedAccess (shapes_of stores)) access [] named)
-named_before stores (first ∷ accesses) access named =
-    let later = named_before stores accesses access (All-tail (IsNamedAccess (shapes_of stores)) first (accesses ++ access ∷ []) named) in
-    (All-cons (IsNamedAccess (shapes_of stores)) first accesses (All-head (IsNamedAccess (shapes_of stores)) first (accesses ++ access ∷ []) named) later.0, later.1)
+-- one access more changes no row, and where all are named the last is
+pub reads_done : (old mid new : Batch) (before after : List ℕ) (first end to : ℕ) (Holds : ℕ → ℕ → Type 0) (value : Seen → Moved → ℕ) (access : Moved → Access) (act : Seen → Moved → Moved)
+    → ((seen : Seen) (now : Moved) → act seen now ≡ set_reg to (value seen now) (add_access (access now) now))
+    → end ≤ 32 → KeepsRows old mid → OnlyRegs mid new → before ≡ mid.regs.items → new.regs.items ≡ after → IsPut Holds first end to 0 before after
+    → ((k word : ℕ) (stores : List StoreWords) (state : FlatState) (at : Coord) (moment : Moment) (now : Moved) → k < 32 → Holds k word → Sees stores state → IsMoved stores at (column mid k moment) now
+    → IsNamedAccess (shapes_of stores) (access now) → word ≡ value (seen_in stores state at) now)
+    → AllMove act first end old new
+reads_done old mid new before after first end to Holds value access act is few keeps only was made has same =
+    told_done old mid new before after first end to Holds value (λ now. now.accesses ++ access now ∷ []) act (λ stores now. IsNamedAccess (shapes_of stores) (access now)) is
+    (λ stores now named. named_before stores now.accesses (access now) named) few keeps only was made has
+    (λ k word stores state at moment now small there holds sees moved told. same k word stores state at moment now small holds sees moved told)
 
--- one access more changes no row
-pub seen_access : (stores : List StoreWords) (at : Coord) (moment : Moment) (access : Access) (now : Moved) → IsMoved stores at moment now → IsMoved stores at moment (add_access access now)
-seen_access stores at moment access now old = record {
-  regs_are = old.regs_are;
-  vars_are = old.vars_are;
-  places_are = old.places_are;
-  at_is = old.at_is;
-  writes_are = old.writes_are;
-  own_at = old.own_at;
-  wants_are = old.wants_are;
-}
+-- ---- variables
 
--- a register becomes a value that an access told
-pub read_done : (old new : Moment) (to word : ℕ) (value : Seen → Moved → ℕ) (access : Moved → Access) (act : Seen → Moved → Moved) → ((seen : Seen) (now : Moved) → act seen now ≡ set_reg to (value seen now) (add_access (access now) now))
-    → ((stores : List StoreWords) (state : FlatState) (at : Coord) (now : Moved) → Sees stores state → IsMoved stores at old now → IsNamedAccess (shapes_of stores) (access now) → word ≡ value (seen_in stores state at) now)
-    → Moves (λ seen. set_reg to word) old new → Moves act old new
-read_done old new to word value access act is same step = record {
-  stores = step.stores;
-  kept = step.kept;
-  follows = λ stores state at sees now follows.
-      subst (λ (m : Moved). Follows stores at new m) (sym (is (seen_in stores state at) now))
-      (λ lacks named.
-      let both = named_before stores now.accesses (access now) named in
-      let moved = follows (step.kept lacks) both.0 in
-      subst (λ (w : ℕ). IsMoved stores at new (set_reg to w (add_access (access now) now))) (same stores state at now sees moved both.1)
-      (step.follows stores state at sees (add_access (access now) now) (λ all every. seen_access stores at old (access now) now moved) lacks named));
-}
+-- nothing of a batch but its variables is another
+pub record OnlyVars (old new : Batch) : Type 0 where
+  pub lacks : new.lacks ≡ old.lacks
+  pub regs : new.regs ≡ old.regs
+  pub places : new.places ≡ old.places
+  pub moments : new.moments.items ≡ old.moments.items
 
--- ---- writes and wants
-
-pub writes_more : (stores : List StoreWords) (old new : List CellWrite) (made : List CodeWrite) (write : CellWrite) (more : CodeWrite) → new ≡ old ++ write ∷ [] → write ≡ cell_write stores more
-    → old ≡ map (cell_write stores) made → new ≡ map (cell_write stores) (made ++ more ∷ [])
-writes_more stores old new made write more grew is was =
-    grew ∙ ap (λ (ws : List CellWrite). ws ++ write ∷ []) was ∙ ap (λ (w : CellWrite). map (cell_write stores) made ++ w ∷ []) is ∙ sym (map-append (cell_write stores) made (more ∷ []))
-
-pub own_more : (at : Coord) (made : List CodeWrite) (more : CodeWrite) → IsAtLoop at more → All (IsAtLoop at) made → All (IsAtLoop at) (made ++ more ∷ [])
-own_more at made more loop old = All-append (IsAtLoop at) made (more ∷ []) old (All-cons (IsAtLoop at) more [] loop (All-nil (IsAtLoop at)))
-
-pub wants_more : (wants wants' : List Write) (made : List CodeWant) (write : Write) (more : CodeWant) → wants' ≡ wants ++ write ∷ [] → write ≡ want_write more → wants ≡ map want_write made → wants' ≡ map want_write (made ++ more ∷ [])
-wants_more wants wants' made write more grew is was =
-    grew ∙ ap (λ (w : Write). wants ++ w ∷ []) is ∙ ap (λ (ws : List Write). ws ++ want_write more ∷ []) was ∙ sym (map-append want_write made (more ∷ []))
-
-places_grown : (stores : List StoreWords) (row row' : PlaceRow) (write : CellWrite) (places : ℕ → Option Place) → row' ≡ record row { writes = row.writes ++ write ∷ [] } → ArePlaces stores row places → ArePlaces stores row' places
-places_grown stores row row' write places grown are = record {
-  same_stores = ap (λ (r : PlaceRow). r.stores) grown ∙ are.same_stores;
-  hold = subst (λ (held : List (Option Held)). (p : ℕ) → HoldsPlace stores (get_or held p None) (places p)) (sym (ap (λ (r : PlaceRow). r.list) grown)) are.hold;
-}
-
--- a write more
-pub write_done : (stores : List StoreWords) (at : Coord) (old : Moment) (row : PlaceRow) (write : CellWrite) (made : CodeWrite) (now : Moved) → row ≡ record old.places { writes = old.places.writes ++ write ∷ [] }
-    → write ≡ cell_write stores made → IsAtLoop at made → IsMoved stores at old now → IsMoved stores at (record old { places = row }) (add_code_write made now)
-write_done stores at old row write made now grown is loop moved = record {
-  regs_are = moved.regs_are;
-  vars_are = moved.vars_are;
-  places_are = places_grown stores old.places row write now.places grown moved.places_are;
-  at_is = ap (λ (r : PlaceRow). r.at) grown ∙ moved.at_is;
-  writes_are = writes_more stores old.places.writes row.writes now.writes write made (ap (λ (r : PlaceRow). r.writes) grown) is moved.writes_are;
-  own_at = own_more at now.writes made loop moved.own_at;
+-- where variables have become others
+vars_moved : (stores : List StoreWords) (at : Coord) (old new : Batch) (k : ℕ) (moment : Moment) (now : Moved) (vars : ℕ → ℕ) → OnlyVars old new → ((number : ℕ) → item_in new.vars.items 0 k number ≡ vars number)
+    → IsMoved stores at (column old k moment) now → IsMoved stores at (column new k moment) (record now { vars = vars })
+vars_moved stores at old new k moment now vars only are moved = record {
+  stores_are = ap (λ it. it.stores) only.places ∙ moved.stores_are;
+  regs_are = λ number. ap (λ it. item_in it.items 0 k number) only.regs ∙ moved.regs_are number;
+  vars_are = are;
+  places_are = λ p. subst (λ held. HoldsPlace stores held (now.places p)) (sym (ap (λ it. item_in it.list None k p) only.places)) (moved.places_are p);
+  cells_over = moved.cells_over;
+  at_is = moved.at_is;
+  writes_are = moved.writes_are;
+  own_at = moved.own_at;
   wants_are = moved.wants_are;
 }
+
+-- variables become words that are the values of how far the run has come
+pub vars_done : (old mid new : Batch) (before after : List ℕ) (first end to : ℕ) (Holds : ℕ → ℕ → Type 0) (value : Seen → Moved → ℕ) (act : Seen → Moved → Moved) → ((seen : Seen) (now : Moved) → act seen now ≡ set_var_word to (value seen now) now)
+    → end ≤ 32 → KeepsRows old mid → OnlyVars mid new → before ≡ mid.vars.items → new.vars.items ≡ after → IsPut Holds first end to 0 before after
+    → ((k word : ℕ) (stores : List StoreWords) (state : FlatState) (at : Coord) (moment : Moment) (now : Moved) → k < 32 → Holds k word → Sees stores state → IsMoved stores at (column mid k moment) now → word ≡ value (seen_in stores state at) now)
+    → AllMove act first end old new
+vars_done old mid new before_items after_items first end to Holds value act is few keeps only was made has_made same =
+    let has_before : IsPut Holds first end to 0 before_items new.vars.items = subst (λ (items : List ℕ). IsPut Holds first end to 0 before_items items) (sym made) has_made in
+    let has : IsPut Holds first end to 0 mid.vars.items new.vars.items = subst (λ (items : List ℕ). IsPut Holds first end to 0 items new.vars.items) was has_before in
+    kept_then act first end old mid new keeps (record {
+      over = over_same mid new only.moments (ap (λ it. it.stores) only.places);
+      long = ap length only.moments;
+      among = λ k before after at small inside.
+          subst (λ (m : Moment). Moves act (column mid k before) (column new k m)) (same_at mid new only.moments k before after at)
+          (record {
+            kept = λ lacks. sym only.lacks ∙ lacks;
+            follows = λ stores state here sees now follows.
+                as_moved (sym (is (seen_in stores state here) now))
+                (λ lacks named.
+                let moved = follows (sym only.lacks ∙ lacks) named in
+                vars_moved stores here mid new k before now (put to (value (seen_in stores state here) now) now.vars) only
+                (put_there (λ (a b : ℕ). a ≡ b) Holds first end to 0 mid.vars.items new.vars.items k (value (seen_in stores state here) now) now.vars small few has
+                (same k (item_in new.vars.items 0 k to) stores state here before now small (has.there k inside) sees moved) moved.vars_are) moved);
+          });
+      others = λ k before after at small out.
+          subst (λ (m : Moment). Stays (column mid k before) (column new k m)) (same_at mid new only.moments k before after at)
+          (record {
+            kept = λ lacks. sym only.lacks ∙ lacks;
+            follows = λ stores state here sees now follows lacks named.
+                let moved = follows (sym only.lacks ∙ lacks) named in
+                vars_moved stores here mid new k before now now.vars only (λ number. other_item Holds first end to 0 mid.vars.items new.vars.items k number has few small (λ (it : (number ≡ to) × IsAmong first end k). out it.1) ∙ moved.vars_are number) moved;
+          });
+    })

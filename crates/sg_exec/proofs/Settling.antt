@@ -8,8 +8,7 @@ use Rattle.sg_exec.proofs.Reaching.{before_push, at_push}
 use Rattle.sg_layout.specs.declared.shape.Shape.{Shape}
 use Rattle.sg_store.specs.StoreWords.{StoreWords}
 use Rattle.sg_exec.specs.Standing.{shapes_of}
-use Rattle.sg_exec.specs.steps.Landing.{current, with_copied_store, with_copy}
-use Rattle.sg_exec.proofs.StoresLanded.{current_length, current_set}
+use Rattle.sg_exec.specs.steps.Landing.{current, with_copied_store}
 
 pub set_long : {A : Type 0} (xs : List A) (i : ℕ) (x : A) → length (slice_set xs i x) ≡ length xs
 set_long [] i x = refl
@@ -80,23 +79,3 @@ shapes_more stores copies i store copy all count is here j s c is_s is_c = elim 
       subst (λ (x : Option StoreWords). (unwrap_or x s).shape ≡ s.shape) same_copy (subst (λ (x : StoreWords). (unwrap_or copy x).shape ≡ x.shape) same_store here)
       )
 ]
-
--- ---- copies of copies
-
-pub with_long : (copies : List (Option StoreWords)) (i : ℕ) (copy : Option StoreWords) → length (with_copy copies i copy) ≡ length copies
-with_long copies i None = refl
-with_long copies i (Some store) = set_long copies i (Some store)
-
-there_is : (stores : List StoreWords) (i : ℕ) → i < length stores → (store : StoreWords) × (slice_get stores i ≡ Some store)
-there_is [] i below = absurd (omega (arith, below))
-there_is (store ∷ stores) zero below = (store, refl)
-there_is (store ∷ stores) (suc i) below = there_is stores i (omega (arith, below))
-
-pub taken : (landed copies : List (Option StoreWords)) (stores : List StoreWords) (i : ℕ) (copy : Option StoreWords) → slice_get landed i ≡ Some copy → length landed ≡ length copies → length stores ≡ length copies
-    → current (slice_set landed i None) (current (with_copy copies i copy) stores) ≡ current landed (current copies stores)
-taken landed copies stores i None is many long = settled_none landed (current copies stores) i is
-taken landed copies stores i (Some store) is many long =
-    let low : i < length landed = slice_get_within landed i (Some store) is in
-    let old = there_is stores i (omega (arith, low, many, long)) in
-    ap (current (slice_set landed i None)) (current_set copies stores i (Some store) old.0 (sym long) old.1)
-    ∙ settled_some landed (current copies stores) i store is (many ∙ sym long ∙ sym (current_length copies stores))

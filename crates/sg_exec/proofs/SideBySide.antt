@@ -1,142 +1,191 @@
 -- Iterations side by side: what holds of each of them, instruction by instruction.
-use Rattle.std.proofs.Common.{◌≡◌, ℕ, zero, suc, ◌+◌, ◌<◌, ◌≤◌, inl, inr, List, [], ◌∷◌, ◌++◌, take, drop, length, get_or, Some, true, false, refl, sym, ap, ◌∙◌, subst, arith}
-use Rattle.std.specs.Prelude.{slice_get, slice_set, ◌==◌}
+use Rattle.std.proofs.Common.{◌≡◌, ℕ, ◌+◌, ◌*◌, ◌<◌, ◌≤◌, inl, inr, List, length, Some, true, false, refl, sym, ap, ◌∙◌, subst, arith}
+use Rattle.std.specs.Prelude.{slice_get, ◌==◌}
 use Rattle.std.proofs.lemmas.Bool.{cases_eq}
 use Rattle.std.proofs.lemmas.Bool.Decides.{nat_tests}
-use Rattle.std.proofs.lemmas.Option.{none-some, same_Some, slice_get_within, slice_get-get_or, get_or_from_slice_get}
-use Rattle.std.proofs.lemmas.List.{length-set}
+use Rattle.std.proofs.lemmas.Option.{same_Some, slice_get_within, slice_get-get_or}
 use Rattle.sg_coord.specs.declared.coord.Coord.{Coord}
 use Rattle.sg_flat.specs.declared.state.FlatState.{FlatState}
 use Rattle.sg_store.specs.StoreWords.{StoreWords}
 use Rattle.sg_ir.specs.declared.code.Inst.{Inst}
 use Rattle.sg_ir.specs.declared.code.Inst.TheVariants as v
 use Rattle.sg_ir.specs.Runs.{Seen, Moved, does, runs}
+use Rattle.sg_exec.specs.declared.batch.Batch.{Batch}
 use Rattle.sg_exec.specs.declared.moment.Moment.{Moment}
-use Rattle.sg_exec.specs.steps.Machines.{seen_in, Sees}
-use Rattle.sg_exec.specs.steps.Moments.{Follows, Moves, EachOf, AllMove}
-use Rattle.sg_exec.proofs.Giving.{set_same, set_other}
+use Rattle.sg_exec.specs.steps.Machines.{seen_in, Sees, HoldsPlace}
+use Rattle.sg_exec.specs.steps.Rows.{item_in, IsAmong}
+use Rattle.sg_exec.specs.steps.Moments.{Column, column, Follows, Moves, Stays, AreAt, AllBecome, AllMove, KeepsRows, IsOver}
 use Rattle.sg_exec.proofs.Going.{Going, going_start, going_next, going_end, goes_otherwise, goes_in, moves_by, moves_inst, moves_there}
 
--- ---- lists of moments
+-- ---- columns of a batch
 
 pub there : (xs ys : List Moment) (k : ℕ) (x : Moment) → slice_get xs k ≡ Some x → length ys ≡ length xs → (y : Moment) × (slice_get ys k ≡ Some y)
 there xs ys k x is same =
     let below : k < length xs = slice_get_within xs k x is in
     (_, slice_get-get_or ys k x (omega arith))
 
-pub each_same : (R : Moment → Moment → Type 0) → ((m : Moment) → R m m) → (xs : List Moment) → EachOf R xs xs
-each_same R same xs = record {
+pub become_same : (R S : Column → Column → Type 0) → ((c : Column) → R c c) → ((c : Column) → S c c) → (first end : ℕ) (batch : Batch) → AllBecome R S first end batch batch
+become_same R S is_same is_left first end batch = record {
+  over = λ stores over. over;
   long = refl;
-  each = λ k before after is now. subst (λ (m : Moment). R before m) (same_Some _ _ (sym is ∙ now)) (same before);
+  among = λ k before after at small inside.
+      subst (λ (m : Moment). R (column batch k before) (column batch k m)) (same_Some _ _ (sym at.before_is ∙ at.after_is)) (is_same (column batch k before));
+  others = λ k before after at small out.
+      subst (λ (m : Moment). S (column batch k before) (column batch k m)) (same_Some _ _ (sym at.before_is ∙ at.after_is)) (is_left (column batch k before));
 }
 
-pub each_then : (R S T : Moment → Moment → Type 0) → ((a b c : Moment) → R a b → S b c → T a c) → (xs ys zs : List Moment) → EachOf R xs ys → EachOf S ys zs → EachOf T xs zs
-each_then R S T both xs ys zs first second = record {
-  long = second.long ∙ first.long;
-  each = λ k before after is now.
-      let mid = there xs ys k before is first.long in
-      both before mid.0 after (first.each k before mid.0 is mid.1) (second.each k mid.0 after mid.1 now);
+pub become_then : (R R' T S S' U : Column → Column → Type 0) → ((a b c : Column) → R a b → R' b c → T a c) → ((a b c : Column) → S a b → S' b c → U a c)
+    → (first end : ℕ) (a b c : Batch) → AllBecome R S first end a b → AllBecome R' S' first end b c → AllBecome T U first end a c
+become_then R R' T S S' U both left first end a b c one two = record {
+  over = λ stores over. two.over stores (one.over stores over);
+  long = two.long ∙ one.long;
+  among = λ k before after at small inside.
+      let mid = there a.moments.items b.moments.items k before at.before_is one.long in
+      both (column a k before) (column b k mid.0) (column c k after)
+      (one.among k before mid.0 (record { before_is = at.before_is; after_is = mid.1 }) small inside)
+      (two.among k mid.0 after (record { before_is = mid.1; after_is = at.after_is }) small inside);
+  others = λ k before after at small out.
+      let mid = there a.moments.items b.moments.items k before at.before_is one.long in
+      left (column a k before) (column b k mid.0) (column c k after)
+      (one.others k before mid.0 (record { before_is = at.before_is; after_is = mid.1 }) small out)
+      (two.others k mid.0 after (record { before_is = mid.1; after_is = at.after_is }) small out);
 }
 
-pub each_so : (R S : Moment → Moment → Type 0) → ((a b : Moment) → R a b → S a b) → (xs ys : List Moment) → EachOf R xs ys → EachOf S xs ys
-each_so R S so xs ys all = record {
+pub become_so : (R S T U : Column → Column → Type 0) → ((a b : Column) → R a b → T a b) → ((a b : Column) → S a b → U a b) → (first end : ℕ) (old new : Batch) → AllBecome R S first end old new → AllBecome T U first end old new
+become_so R S T U so so' first end old new all = record {
+  over = all.over;
   long = all.long;
-  each = λ k before after is now. so before after (all.each k before after is now);
+  among = λ k before after at small inside. so (column old k before) (column new k after) (all.among k before after at small inside);
+  others = λ k before after at small out. so' (column old k before) (column new k after) (all.others k before after at small out);
 }
 
--- the moments before a number have become others, and the rest are left
-pub record Upto (R : Moment → Moment → Type 0) (number : ℕ) (old now : List Moment) : Type 0 where
-  pub long : length now ≡ length old
-  pub done : (k : ℕ) (before after : Moment) → k < number → slice_get old k ≡ Some before → slice_get now k ≡ Some after → R before after
-  pub rest : (k : ℕ) → number ≤ k → slice_get now k ≡ slice_get old k
+-- all goes over the same stores as before
+pub over_still : (R S : Column → Column → Type 0) (first end : ℕ) (old now : Batch) → AllBecome R S first end old now → IsOver old.places.stores old → IsOver now.places.stores now
+over_still R S first end old now all over =
+    let it : IsOver old.places.stores now = all.over old.places.stores over in
+    subst (λ (stores : List StoreWords). IsOver stores now) (sym it.places) it
 
-pub upto_none : (R : Moment → Moment → Type 0) (xs : List Moment) → Upto R 0 xs xs
-upto_none R xs = record {
-  long = refl;
-  done = λ k before after below is now. absurd (omega (arith, below));
-  rest = λ k above. refl;
-}
+-- ---- columns on their way through a block
 
-pub upto_more : (R : Moment → Moment → Type 0) (number : ℕ) (old now : List Moment) (mid after : Moment) → Upto R number old now → slice_get now number ≡ Some mid → R mid after
-    → Upto R (number + 1) old (slice_set now number after)
-upto_more R number old now mid after upto is step =
-    let within : number < length now = slice_get_within now number mid is in
-    record {
-      long = length-set now number after ∙ upto.long;
-      done = λ k before then below was now_is. elim (cases_eq k number) [
-        | inl here ↦ (
-            let old_is : before ≡ mid = same_Some _ _ (sym was ∙ ap (slice_get old) here ∙ sym (upto.rest number (omega arith)) ∙ is) in
-            let new_is : after ≡ then = same_Some _ _ (sym (set_same now number after within) ∙ sym (ap (slice_get (slice_set now number after)) here) ∙ now_is) in
-            subst (λ (m : Moment). R before m) new_is (subst (λ (m : Moment). R m after) (sym old_is) step)
-            )
-        | inr elsewhere ↦ upto.done k before then (omega (arith, below, elsewhere)) was (sym (set_other now number k after elsewhere) ∙ now_is)
-      ];
-      rest = λ k above. set_other now number k after (λ (same : k ≡ number). absurd (omega (arith, above, same))) ∙ upto.rest k (omega (arith, above));
-    }
-
-pub upto_all : (R : Moment → Moment → Type 0) (number : ℕ) (old now : List Moment) → length now ≤ number → Upto R number old now → EachOf R old now
-upto_all R number old now past upto = record {
-  long = upto.long;
-  each = λ k before after was is.
-      let within : k < length now = slice_get_within now k after is in
-      upto.done k before after (omega arith) was is;
-}
-
--- ---- moments on their way through a block
-
--- a moment has come to where the rest leads to the whole
-pub record Comes (rest whole : Seen → Moved → Moved) (old now : Moment) : Type 0 where
-  pub stores : now.places.stores ≡ old.places.stores
+-- a column has come to where the rest leads to the whole
+pub record Comes (rest whole : Seen → Moved → Moved) (old now : Column) : Type 0 where
   pub kept : now.lacks ≡ false → old.lacks ≡ false
   pub going : (stores : List StoreWords) (state : FlatState) (at : Coord) → Sees stores state → (moved : Moved) → Follows stores at old moved
       → Going (Follows stores at now) (rest (seen_in stores state at)) (whole (seen_in stores state at) moved)
 
-pub comes_start : (whole : Seen → Moved → Moved) (m : Moment) → Comes whole whole m m
-comes_start whole m = record {
-  stores = refl;
+pub comes_start : (whole : Seen → Moved → Moved) (c : Column) → Comes whole whole c c
+comes_start whole c = record {
   kept = λ lacks. lacks;
   going = λ stores state at sees moved follows. going_start _ (whole (seen_in stores state at)) moved follows;
 }
 
 pub comes_next : (act rest next whole : Seen → Moved → Moved) → ((seen : Seen) (mid : Moved) → rest seen mid ≡ next seen (act seen mid))
-    → (old mid now : Moment) → Comes rest whole old mid → Moves act mid now → Comes next whole old now
+    → (old mid now : Column) → Comes rest whole old mid → Moves act mid now → Comes next whole old now
 comes_next act rest next whole split old mid now comes step = record {
-  stores = step.stores ∙ comes.stores;
   kept = λ lacks. comes.kept (step.kept lacks);
   going = λ stores state at sees moved follows.
       going_next _ _ (act (seen_in stores state at)) _ (next (seen_in stores state at)) _ (split (seen_in stores state at)) (comes.going stores state at sees moved follows) (step.follows stores state at sees);
 }
 
-pub comes_end : (rest whole : Seen → Moved → Moved) → ((seen : Seen) (mid : Moved) → rest seen mid ≡ mid) → (old now : Moment) → Comes rest whole old now → Moves whole old now
+pub comes_end : (rest whole : Seen → Moved → Moved) → ((seen : Seen) (mid : Moved) → rest seen mid ≡ mid) → (old now : Column) → Comes rest whole old now → Moves whole old now
 comes_end rest whole none old now comes = record {
-  stores = comes.stores;
   kept = comes.kept;
   follows = λ stores state at sees moved follows. going_end _ _ _ (none (seen_in stores state at)) (comes.going stores state at sees moved follows);
 }
 
-pub moves_then : (first second : Seen → Moved → Moved) (a b c : Moment) → Moves first a b → Moves second b c → Moves (λ seen now. second seen (first seen now)) a c
+pub moves_then : (first second : Seen → Moved → Moved) (a b c : Column) → Moves first a b → Moves second b c → Moves (λ seen now. second seen (first seen now)) a c
 moves_then first second a b c one two = record {
-  stores = two.stores ∙ one.stores;
   kept = λ lacks. one.kept (two.kept lacks);
   follows = λ stores state at sees now follows. two.follows stores state at sees (first (seen_in stores state at) now) (one.follows stores state at sees now follows);
 }
 
--- the same for all of them
-pub all_start : (whole : Seen → Moved → Moved) (xs : List Moment) → EachOf (Comes whole whole) xs xs
-all_start whole xs = each_same (Comes whole whole) (comes_start whole) xs
+pub stays_itself : (c : Column) → Stays c c
+stays_itself c = record {
+  kept = λ lacks. lacks;
+  follows = λ stores state at sees now follows. follows;
+}
+
+pub stays_then : (a b c : Column) → Stays a b → Stays b c → Stays a c
+stays_then a b c one two = moves_then (λ seen now. now) (λ seen now. now) a b c one two
+
+-- the same for all columns
+pub all_start : (whole : Seen → Moved → Moved) (first end : ℕ) (batch : Batch) → AllBecome (Comes whole whole) Stays first end batch batch
+all_start whole first end batch = become_same (Comes whole whole) Stays (comes_start whole) stays_itself first end batch
 
 pub all_next : (act rest next whole : Seen → Moved → Moved) → ((seen : Seen) (mid : Moved) → rest seen mid ≡ next seen (act seen mid))
-    → (old mids now : List Moment) → EachOf (Comes rest whole) old mids → AllMove act mids now → EachOf (Comes next whole) old now
-all_next act rest next whole split old mids now come step = each_then _ _ _ (comes_next act rest next whole split) old mids now come step
+    → (first end : ℕ) (old mid now : Batch) → AllBecome (Comes rest whole) Stays first end old mid → AllMove act first end mid now → AllBecome (Comes next whole) Stays first end old now
+all_next act rest next whole split first end old mid now come step =
+    become_then (Comes rest whole) (Moves act) (Comes next whole) Stays Stays Stays (comes_next act rest next whole split) stays_then first end old mid now come step
 
-pub all_end : (rest whole : Seen → Moved → Moved) → ((seen : Seen) (mid : Moved) → rest seen mid ≡ mid) → (old now : List Moment) → EachOf (Comes rest whole) old now → AllMove whole old now
-all_end rest whole none old now come = each_so _ _ (comes_end rest whole none) old now come
+pub all_end : (rest whole : Seen → Moved → Moved) → ((seen : Seen) (mid : Moved) → rest seen mid ≡ mid) → (first end : ℕ) (old now : Batch) → AllBecome (Comes rest whole) Stays first end old now → AllMove whole first end old now
+all_end rest whole none first end old now come = become_so (Comes rest whole) Stays (Moves whole) Stays (comes_end rest whole none) (λ a b stays. stays) first end old now come
 
-pub all_by : (act other : Seen → Moved → Moved) → ((seen : Seen) (now : Moved) → act seen now ≡ other seen now) → (old now : List Moment) → AllMove act old now → AllMove other old now
-all_by act other same old now all = each_so _ _ (λ a b step. moves_by act other same step) old now all
+pub all_by : (act other : Seen → Moved → Moved) → ((seen : Seen) (now : Moved) → act seen now ≡ other seen now) → (first end : ℕ) (old now : Batch) → AllMove act first end old now → AllMove other first end old now
+all_by act other same first end old now all = become_so (Moves act) Stays (Moves other) Stays (λ a b step. moves_by act other same step) (λ a b stays. stays) first end old now all
 
-pub all_inst : (inst given : Inst) → inst ≡ given → (old now : List Moment) → AllMove (λ seen. does seen given) old now → AllMove (λ seen. does seen inst) old now
-all_inst inst given is old now all = each_so _ _ (λ a b step. moves_inst inst given is step) old now all
+pub all_inst : (inst given : Inst) → inst ≡ given → (first end : ℕ) (old now : Batch) → AllMove (λ seen. does seen given) first end old now → AllMove (λ seen. does seen inst) first end old now
+all_inst inst given is first end old now all =
+    become_so (Moves (λ seen. does seen given)) Stays (Moves (λ seen. does seen inst)) Stays (λ a b step. moves_inst inst given is step) (λ a b stays. stays) first end old now all
+
+pub all_then : (one two : Seen → Moved → Moved) (first end : ℕ) (a b c : Batch) → AllMove one first end a b → AllMove two first end b c → AllMove (λ seen now. two seen (one seen now)) first end a c
+all_then one two first end a b c before after = become_then (Moves one) (Moves two) (Moves (λ seen now. two seen (one seen now))) Stays Stays Stays (moves_then one two) stays_then first end a b c before after
+
+-- ---- rows that have at most become longer
+
+kept_moved : (stores : List StoreWords) (at : Coord) (old new : Batch) (k : ℕ) (moment : Moment) (now : Moved) → KeepsRows old new → Follows stores at (column old k moment) now → Follows stores at (column new k moment) now
+kept_moved stores at old new k moment now keeps follows = λ lacks named.
+    let moved = follows (keeps.kept lacks) named in
+    record {
+      stores_are = keeps.stores ∙ moved.stores_are;
+      regs_are = λ number. keeps.regs (number * 32 + k) ∙ moved.regs_are number;
+      vars_are = λ number. keeps.vars (number * 32 + k) ∙ moved.vars_are number;
+      places_are = λ p. subst (λ held. HoldsPlace stores held (now.places p)) (sym (keeps.held (p * 32 + k))) (moved.places_are p);
+      cells_over = moved.cells_over;
+      at_is = moved.at_is;
+      writes_are = moved.writes_are;
+      own_at = moved.own_at;
+      wants_are = moved.wants_are;
+    }
+
+pub keeps_stay : (old new : Batch) (k : ℕ) (moment : Moment) → KeepsRows old new → Stays (column old k moment) (column new k moment)
+keeps_stay old new k moment keeps = record {
+  kept = keeps.kept;
+  follows = λ stores state at sees now follows. kept_moved stores at old new k moment now keeps follows;
+}
+
+same_moment : (old new : Batch) (k : ℕ) (before after : Moment) → KeepsRows old new → AreAt k old new before after → before ≡ after
+same_moment old new k before after keeps at = same_Some before after (sym at.before_is ∙ sym (ap (λ ms. slice_get ms.items k) keeps.moments) ∙ at.after_is)
+
+keeps_over : (old new : Batch) (stores : List StoreWords) → KeepsRows old new → IsOver stores old → IsOver stores new
+keeps_over old new stores keeps over = record {
+  places = keeps.stores ∙ over.places;
+  whole = ap (λ ms. length ms.items) keeps.moments ∙ over.whole;
+  moments = λ k moment is. over.moments k moment (sym (ap (λ ms. slice_get ms.items k) keeps.moments) ∙ is);
+}
+
+pub keeps_all : (first end : ℕ) (old new : Batch) → KeepsRows old new → AllBecome Stays Stays first end old new
+keeps_all first end old new keeps = record {
+  over = λ stores over. keeps_over old new stores keeps over;
+  long = ap (λ ms. length ms.items) keeps.moments;
+  among = λ k before after at small inside. subst (λ (m : Moment). Stays (column old k before) (column new k m)) (same_moment old new k before after keeps at) (keeps_stay old new k before keeps);
+  others = λ k before after at small out. subst (λ (m : Moment). Stays (column old k before) (column new k m)) (same_moment old new k before after keeps at) (keeps_stay old new k before keeps);
+}
+
+-- rows that became longer twice
+pub keeps_both : (old mid new : Batch) → KeepsRows old mid → KeepsRows mid new → KeepsRows old new
+keeps_both old mid new one two = record {
+  moments = two.moments ∙ one.moments;
+  stores = two.stores ∙ one.stores;
+  kept = λ lacks. one.kept (two.kept lacks);
+  regs = λ place. two.regs place ∙ one.regs place;
+  vars = λ place. two.vars place ∙ one.vars place;
+  held = λ place. two.held place ∙ one.held place;
+}
+
+-- rows that became longer first
+pub kept_then : (act : Seen → Moved → Moved) (first end : ℕ) (old mid new : Batch) → KeepsRows old mid → AllMove act first end mid new → AllMove act first end old new
+kept_then act first end old mid new keeps all =
+    become_then Stays (Moves act) (Moves act) Stays Stays Stays (moves_then (λ seen now. now) act) stays_then first end old mid new (keeps_all first end old mid keeps) all
 
 -- ---- branches
 
@@ -146,100 +195,86 @@ is_zero word is = grind (arith, nat_tests, is)
 isnt_zero : (word : ℕ) → (word == 0) ≡ false → word ≡ 0 → ⊥
 isnt_zero word not is = grind (arith, nat_tests, not, is)
 
-pub if_zero : (cond : ℕ) (block otherwise : List Inst) (old now : Moment) → get_or old.regs.items cond 0 ≡ 0 → Moves (λ seen. runs seen otherwise) old now → Moves (λ seen. does seen (v.If cond block otherwise)) old now
+pub if_zero : (cond : ℕ) (block otherwise : List Inst) (old now : Column) → old.regs cond ≡ 0 → Moves (λ seen. runs seen otherwise) old now → Moves (λ seen. does seen (v.If cond block otherwise)) old now
 if_zero cond block otherwise old now nil step =
     moves_there old now (v.If cond block otherwise) (λ seen. runs seen otherwise)
     (λ stores state at moved is. goes_otherwise (seen_in stores state at) moved (v.If cond block otherwise) cond block otherwise refl (sym (is.regs_are cond) ∙ nil)) step
 
-pub if_other : (cond : ℕ) (block otherwise : List Inst) (old now : Moment) → (get_or old.regs.items cond 0 ≡ 0 → ⊥) → Moves (λ seen. runs seen block) old now → Moves (λ seen. does seen (v.If cond block otherwise)) old now
+pub if_other : (cond : ℕ) (block otherwise : List Inst) (old now : Column) → (old.regs cond ≡ 0 → ⊥) → Moves (λ seen. runs seen block) old now → Moves (λ seen. does seen (v.If cond block otherwise)) old now
 if_other cond block otherwise old now other step =
     moves_there old now (v.If cond block otherwise) (λ seen. runs seen block)
     (λ stores state at moved is. goes_in (seen_in stores state at) moved (v.If cond block otherwise) cond block otherwise refl (λ nil. other (is.regs_are cond ∙ nil))) step
 
-pub all_zero : (cond : ℕ) (block otherwise : List Inst) (old now : List Moment) → ((k : ℕ) (m : Moment) → slice_get old k ≡ Some m → (get_or m.regs.items cond 0 == 0) ≡ true)
-    → AllMove (λ seen. runs seen otherwise) old now → AllMove (λ seen. does seen (v.If cond block otherwise)) old now
-all_zero cond block otherwise old now nil all = record {
+pub all_zero : (cond : ℕ) (block otherwise : List Inst) (first end : ℕ) (old now : Batch) → ((k : ℕ) → IsAmong first end k → (item_in old.regs.items 0 k cond == 0) ≡ true)
+    → AllMove (λ seen. runs seen otherwise) first end old now → AllMove (λ seen. does seen (v.If cond block otherwise)) first end old now
+all_zero cond block otherwise first end old now nil all = record {
+  over = all.over;
   long = all.long;
-  each = λ k before after was is. if_zero cond block otherwise before after (is_zero _ (nil k before was)) (all.each k before after was is);
+  among = λ k before after at small inside. if_zero cond block otherwise (column old k before) (column now k after) (is_zero _ (nil k inside)) (all.among k before after at small inside);
+  others = all.others;
 }
 
-pub none_zero : (cond : ℕ) (block otherwise : List Inst) (old now : List Moment) → ((k : ℕ) (m : Moment) → slice_get old k ≡ Some m → (get_or m.regs.items cond 0 == 0) ≡ false)
-    → AllMove (λ seen. runs seen block) old now → AllMove (λ seen. does seen (v.If cond block otherwise)) old now
-none_zero cond block otherwise old now not all = record {
+pub none_zero : (cond : ℕ) (block otherwise : List Inst) (first end : ℕ) (old now : Batch) → ((k : ℕ) → IsAmong first end k → (item_in old.regs.items 0 k cond == 0) ≡ false)
+    → AllMove (λ seen. runs seen block) first end old now → AllMove (λ seen. does seen (v.If cond block otherwise)) first end old now
+none_zero cond block otherwise first end old now not all = record {
+  over = all.over;
   long = all.long;
-  each = λ k before after was is. if_other cond block otherwise before after (isnt_zero _ (not k before was)) (all.each k before after was is);
+  among = λ k before after at small inside. if_other cond block otherwise (column old k before) (column now k after) (isnt_zero _ (not k inside)) (all.among k before after at small inside);
+  others = all.others;
 }
 
-pub all_then : (first second : Seen → Moved → Moved) (xs ys zs : List Moment) → AllMove first xs ys → AllMove second ys zs → AllMove (λ seen now. second seen (first seen now)) xs zs
-all_then first second xs ys zs one two = each_then _ _ _ (moves_then first second) xs ys zs one two
+-- one column after the other
+pub one_more : (act : Seen → Moved → Moved) (first at : ℕ) (old now new : Batch) → first ≤ at → AllMove act first at old now → AllMove act at (at + 1) now new → AllMove act first (at + 1) old new
+one_more act first at old now new from so step = record {
+  over = λ stores over. step.over stores (so.over stores over);
+  long = step.long ∙ so.long;
+  among = λ k before after at_k small inside.
+      let mid = there old.moments.items now.moments.items k before at_k.before_is so.long in
+      let early : AreAt k old now before mid.0 = record { before_is = at_k.before_is; after_is = mid.1 } in
+      let late : AreAt k now new mid.0 after = record { before_is = mid.1; after_is = at_k.after_is } in
+      elim (cases_eq k at) [
+        | inl here ↦ moves_then (λ seen now. now) act (column old k before) (column now k mid.0) (column new k after)
+            (so.others k before mid.0 early small (λ (it : IsAmong first at k). absurd (omega (arith, here, it.1))))
+            (step.among k mid.0 after late small (omega (arith, here), omega (arith, here)))
+        | inr elsewhere ↦ moves_then act (λ seen now. now) (column old k before) (column now k mid.0) (column new k after)
+            (so.among k before mid.0 early small (inside.0, omega (arith, inside.1, elsewhere)))
+            (step.others k mid.0 after late small (λ (it : IsAmong at (at + 1) k). elsewhere (omega (arith, it.0, it.1))))
+      ];
+  others = λ k before after at_k small out.
+      let mid = there old.moments.items now.moments.items k before at_k.before_is so.long in
+      stays_then (column old k before) (column now k mid.0) (column new k after)
+      (so.others k before mid.0 (record { before_is = at_k.before_is; after_is = mid.1 }) small (λ (it : IsAmong first at k). out (it.0, omega (arith, it.1))))
+      (step.others k mid.0 after (record { before_is = mid.1; after_is = at_k.after_is }) small (λ (it : IsAmong at (at + 1) k). out (omega (arith, from, it.0), it.1)));
+}
 
--- ---- one moment of several, as a slice of its own
+pub none_yet : (act : Seen → Moved → Moved) (first : ℕ) (batch : Batch) → AllMove act first first batch batch
+none_yet act first batch = record {
+  over = λ stores over. over;
+  long = refl;
+  among = λ k before after at small inside. absurd (omega (arith, inside.0, inside.1));
+  others = λ k before after at small out. (become_same Stays Stays stays_itself stays_itself first first batch).others k before after at small out;
+}
 
-item_there : (xs : List Moment) (number : ℕ) → number < length xs → (m : Moment) × (slice_get xs number ≡ Some m) × (drop number xs ≡ m ∷ drop (suc number) xs)
-item_there [] number below = absurd (omega (arith, below))
-item_there (x ∷ xs) zero below = (x, refl, refl)
-item_there (x ∷ xs) (suc number) below = item_there xs number (omega (arith, below))
+-- and the branches by the instruction's parts
+pub of_zero : (inst : Inst) (cond : ℕ) (block otherwise given : List Inst) → inst ≡ v.If cond block otherwise → given ≡ otherwise → (first end : ℕ) (old now : Batch) → ((k : ℕ) → IsAmong first end k → (item_in old.regs.items 0 k cond == 0) ≡ true)
+    → AllMove (λ seen. runs seen given) first end old now → AllMove (λ seen. does seen inst) first end old now
+of_zero inst cond block otherwise given is same first end old now nil all =
+    all_inst inst (v.If cond block otherwise) is first end old now (all_zero cond block otherwise first end old now nil (subst (λ (insts : List Inst). AllMove (λ seen. runs seen insts) first end old now) same all))
 
-splice : (xs : List Moment) (number : ℕ) (y : Moment) → number < length xs → take number xs ++ (y ∷ drop (suc number) xs) ≡ slice_set xs number y
-splice [] number y below = absurd (omega (arith, below))
-splice (x ∷ xs) zero y below = refl
-splice (x ∷ xs) (suc number) y below = ap (λ (ms : List Moment). x ∷ ms) (splice xs number y (omega (arith, below)))
+pub of_other : (inst : Inst) (cond : ℕ) (block otherwise given : List Inst) → inst ≡ v.If cond block otherwise → given ≡ block → (first end : ℕ) (old now : Batch) → ((k : ℕ) → IsAmong first end k → (item_in old.regs.items 0 k cond == 0) ≡ false)
+    → AllMove (λ seen. runs seen given) first end old now → AllMove (λ seen. does seen inst) first end old now
+of_other inst cond block otherwise given is same first end old now not all =
+    all_inst inst (v.If cond block otherwise) is first end old now (none_zero cond block otherwise first end old now not (subst (λ (insts : List Inst). AllMove (λ seen. runs seen insts) first end old now) same all))
 
-alone : (R : Moment → Moment → Type 0) (m : Moment) (news : List Moment) → EachOf R (m ∷ []) news → (y : Moment) × (news ≡ y ∷ []) × R m y
-alone R m [] each = absurd (omega (arith, each.long))
-alone R m (y ∷ []) each = (y, refl, each.each 0 m y refl refl)
-alone R m (y ∷ z ∷ more) each = absurd (omega (arith, each.long))
+-- what one column's word tells of the columns from its number up to below the next
+pub column_zero : (batch : Batch) (cond at word : ℕ) → word ≡ item_in batch.regs.items 0 at cond → word ≡ 0 → (k : ℕ) → IsAmong at (at + 1) k → (item_in batch.regs.items 0 k cond == 0) ≡ true
+column_zero batch cond at word is nil k inside =
+    let here : at ≡ k = omega (arith, inside.0, inside.1) in
+    let word_is : item_in batch.regs.items 0 k cond ≡ 0 = sym (ap (λ (c : ℕ). item_in batch.regs.items 0 c cond) here) ∙ sym is ∙ nil in
+    grind (arith, nat_tests, word_is)
 
-sub_one : (R : Moment → Moment → Type 0) (number : ℕ) (old now news : List Moment) → number < length now → Upto R number old now → EachOf R (take 1 (drop number now)) news
-    → Upto R (number + 1) old (take number now ++ (news ++ drop 1 (drop number now)))
-sub_one R number old now news below upto each =
-    let it = item_there now number below in
-    let one : EachOf R (it.0 ∷ []) news = subst (λ (ms : List Moment). EachOf R (take 1 ms) news) it.2 each in
-    let y = alone R it.0 news one in
-    let list : take number now ++ (news ++ drop 1 (drop number now)) ≡ slice_set now number y.0 =
-    ap (λ (ms : List Moment). take number now ++ (ms ++ drop 1 (drop number now))) y.1
-    ∙ ap (λ (ms : List Moment). take number now ++ (y.0 ∷ drop 1 ms)) it.2
-    ∙ splice now number y.0 below in
-    subst (λ (ms : List Moment). Upto R (number + 1) old ms) (sym list) (upto_more R number old now it.0 y.0 upto it.1 y.2)
-
-pub sub_more : (R : Moment → Moment → Type 0) (number count : ℕ) (old now news : List Moment) → count ≡ 1 → number < length now → Upto R number old now → EachOf R (take count (drop number now)) news
-    → Upto R (number + 1) old (take number now ++ (news ++ drop count (drop number now)))
-sub_more R number count old now news is below upto each =
-    subst (λ (n : ℕ). EachOf R (take n (drop number now)) news → Upto R (number + 1) old (take number now ++ (news ++ drop n (drop number now)))) (sym is) (sub_one R number old now news below upto) each
-
-pub of_zero : (inst : Inst) (cond : ℕ) (block otherwise given : List Inst) → inst ≡ v.If cond block otherwise → given ≡ otherwise → (old now : List Moment)
-    → ((k : ℕ) (m : Moment) → slice_get old k ≡ Some m → (get_or m.regs.items cond 0 == 0) ≡ true) → AllMove (λ seen. runs seen given) old now → AllMove (λ seen. does seen inst) old now
-of_zero inst cond block otherwise given is same old now nil all =
-    all_inst inst (v.If cond block otherwise) is old now (all_zero cond block otherwise old now nil (subst (λ (insts : List Inst). AllMove (λ seen. runs seen insts) old now) same all))
-
-pub of_other : (inst : Inst) (cond : ℕ) (block otherwise given : List Inst) → inst ≡ v.If cond block otherwise → given ≡ block → (old now : List Moment)
-    → ((k : ℕ) (m : Moment) → slice_get old k ≡ Some m → (get_or m.regs.items cond 0 == 0) ≡ false) → AllMove (λ seen. runs seen given) old now → AllMove (λ seen. does seen inst) old now
-of_other inst cond block otherwise given is same old now other all =
-    all_inst inst (v.If cond block otherwise) is old now (none_zero cond block otherwise old now other (subst (λ (insts : List Inst). AllMove (λ seen. runs seen insts) old now) same all))
-
-test_zero : (word result : ℕ) → result ≡ word → result ≡ 0 → (word == 0) ≡ true
-test_zero word result is nil = grind (arith, nat_tests, is, nil)
-
-test_other : (word result : ℕ) → result ≡ word → (result ≡ 0 → ⊥) → (word == 0) ≡ false
-test_other word result is other = grind (arith, nat_tests, is, other)
-
-only : (x : Moment) (k : ℕ) (m : Moment) → slice_get (x ∷ []) k ≡ Some m → x ≡ m
-only x zero m at = same_Some _ _ at
-only x (suc k) m at = absurd (none-some m at)
-
--- what holds of the item with a number holds of all of the slice of it alone
-pub of_item : (P : Moment → Type 0) (xs : List Moment) (number count : ℕ) (d : Moment) → count ≡ 1 → number < length xs → P (get_or xs number d)
-    → (k : ℕ) (m : Moment) → slice_get (take count (drop number xs)) k ≡ Some m → P m
-of_item P xs number count d is below holds k m at =
-    let here = item_there xs number below in
-    let one : slice_get (here.0 ∷ []) k ≡ Some m = sym (ap (λ (ms : List Moment). slice_get (take 1 ms) k) here.2) ∙ sym (ap (λ (n : ℕ). slice_get (take n (drop number xs)) k) is) ∙ at in
-    let same : here.0 ≡ m = only here.0 k m one in
-    subst P (get_or_from_slice_get xs number here.0 d here.1 ∙ same) holds
-
-pub item_zero : (xs : List Moment) (number count cond result : ℕ) (d : Moment) → count ≡ 1 → number < length xs → result ≡ get_or (get_or xs number d).regs.items cond 0 → result ≡ 0
-    → (k : ℕ) (m : Moment) → slice_get (take count (drop number xs)) k ≡ Some m → (get_or m.regs.items cond 0 == 0) ≡ true
-item_zero xs number count cond result d one below is nil = of_item (λ (m : Moment). (get_or m.regs.items cond 0 == 0) ≡ true) xs number count d one below (test_zero _ result is nil)
-
-pub item_other : (xs : List Moment) (number count cond result : ℕ) (d : Moment) → count ≡ 1 → number < length xs → result ≡ get_or (get_or xs number d).regs.items cond 0 → (result ≡ 0 → ⊥)
-    → (k : ℕ) (m : Moment) → slice_get (take count (drop number xs)) k ≡ Some m → (get_or m.regs.items cond 0 == 0) ≡ false
-item_other xs number count cond result d one below is other = of_item (λ (m : Moment). (get_or m.regs.items cond 0 == 0) ≡ false) xs number count d one below (test_other _ result is other)
+pub column_other : (batch : Batch) (cond at word : ℕ) → word ≡ item_in batch.regs.items 0 at cond → (word ≡ 0 → ⊥) → (k : ℕ) → IsAmong at (at + 1) k → (item_in batch.regs.items 0 k cond == 0) ≡ false
+column_other batch cond at word is other k inside =
+    let here : at ≡ k = omega (arith, inside.0, inside.1) in
+    let isnt : item_in batch.regs.items 0 k cond ≡ 0 → ⊥ = λ nil. other (is ∙ ap (λ (c : ℕ). item_in batch.regs.items 0 c cond) here ∙ nil) in
+    grind (arith, nat_tests, isnt)

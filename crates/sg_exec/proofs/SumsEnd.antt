@@ -1,7 +1,9 @@
--- The ends of passes, the last first.
-use Rattle.std.proofs.Common.{◌≡◌, ℕ, ◌<◌, List, [], ◌∷◌, ◌++◌, length, Option, Some, refl, sym, ap, ◌∙◌, subst, arith, append_assoc}
+-- What passes made of their fields, the last first.
+use Rattle.std.proofs.Common.{◌≡◌, ℕ, ◌<◌, List, [], ◌∷◌, ◌++◌, length, get_or, Some, refl, sym, ap, ◌∙◌, subst, arith, append_assoc}
 use Rattle.std.specs.Prelude.{slice_get}
 use Rattle.std.proofs.lemmas.List.{append-nil, length-append}
+use Rattle.std.proofs.lemmas.List.Elements.{All-nil, All-cons}
+use Rattle.std.proofs.lemmas.List.Kept.{AllPairs-cons}
 use Rattle.std.proofs.lemmas.Option.{same_Some, slice_get_within}
 use Rattle.sg_words.specs.RaceInvariant.{handed_share}
 use Rattle.sg_flat.specs.declared.effects.Write.{Write}
@@ -10,42 +12,46 @@ use Rattle.sg_accum.specs.Folding.{worker_of, old_values, operator_of, type_of, 
 use Rattle.sg_store.specs.StoreWords.{StoreWords}
 use Rattle.sg_store.specs.WellFormed.{IsFieldRow}
 use Rattle.sg_exec.specs.declared.shared.Accumulated.{Accumulated}
-use Rattle.sg_exec.specs.steps.Landing.{current, Lands}
+use Rattle.sg_exec.specs.declared.sums.Sum.{Sum}
 use Rattle.sg_exec.specs.steps.Racing.{ArePasses, AreSeats}
-use Rattle.sg_exec.specs.steps.Passes.{AreWhole, GaveReached, AreGiven, IsSumOf, IsAsBefore, into_field, passed}
+use Rattle.sg_exec.specs.steps.Passes.{HasPass, AreWhole, GaveReached, AreGiven, IsSumOf, into_field, passed}
+use Rattle.sg_exec.specs.steps.Made.{AddsSums, HasRow, summed}
 use Rattle.sg_exec.proofs.FieldsFound.{snoc_old, snoc_new}
-use Rattle.sg_exec.proofs.StoresLanded.{lands_more}
 use Rattle.sg_exec.proofs.SumsPut.{sum_row}
 
-pub passed_snoc : (list : List Accumulated) (last : Accumulated) (writes : List Write) → passed (list ++ last ∷ []) writes ≡ into_field last.layout last.field writes ++ passed list writes
+passed_snoc : (list : List Accumulated) (last : Accumulated) (writes : List Write) → passed (list ++ last ∷ []) writes ≡ into_field last.layout last.field writes ++ passed list writes
 passed_snoc [] last writes = sym (append-nil (into_field last.layout last.field writes))
 passed_snoc (it ∷ list) last writes =
     ap (λ (ws : List Write). ws ++ into_field it.layout it.field writes) (passed_snoc list last writes)
     ∙ append_assoc (into_field last.layout last.field writes) (passed list writes) (into_field it.layout it.field writes)
 
-pub empty_list : (list : List Accumulated) → length list ≡ 0 → list ≡ []
+empty_list : (list : List Accumulated) → length list ≡ 0 → list ≡ []
 empty_list [] none = refl
 empty_list (it ∷ list) none = absurd (omega (arith, none))
 
 -- ---- all but the last
 
-module _ (stores : List StoreWords) (all list : List Accumulated) (last : Accumulated) (is : all ≡ list ++ last ∷ []) where
+module _ (all list : List Accumulated) (last : Accumulated) (is : all ≡ list ++ last ∷ []) where
   at_front : (k : ℕ) (it : Accumulated) → slice_get list k ≡ Some it → slice_get all k ≡ Some it
   at_front k it at = ap (λ (xs : List Accumulated). slice_get xs k) is ∙ snoc_old list last it k at
 
-  pub at_last : slice_get all (length list) ≡ Some last
+  at_last : slice_get all (length list) ≡ Some last
   at_last = ap (λ (xs : List Accumulated). slice_get xs (length list)) is ∙ snoc_new list last
 
-  pub passes_front : ArePasses stores all → ArePasses stores list
-  passes_front are = record {
+  passes_front : (stores : List StoreWords) → ArePasses stores all → ArePasses stores list
+  passes_front stores are = record {
     each = λ k it at. are.each k it (at_front k it at);
     apart = λ j k it other at also. are.apart j k it other (at_front j it at) (at_front k other also);
   }
 
-  pub apart_last : ArePasses stores all → (k : ℕ) (it : Accumulated) → slice_get list k ≡ Some it → it.layout ≡ last.layout → it.field ≡ last.field → ⊥
-  apart_last are k it at layouts fields =
-      let same : k ≡ length list = are.apart k (length list) it last (at_front k it at) at_last layouts fields in
-      let below = slice_get_within list k it at in
+  has_front : (layout field : ℕ) → HasPass list layout field → HasPass all layout field
+  has_front layout field has = record { number = has.number; it = has.it; there = at_front has.number has.it has.there; layout_is = has.layout_is; field_is = has.field_is }
+
+  -- the others are of other fields
+  apart_last : (stores : List StoreWords) → ArePasses stores all → (layout field : ℕ) → HasPass list layout field → last.layout ≡ layout → last.field ≡ field → ⊥
+  apart_last stores are layout field has layouts fields =
+      let same : has.number ≡ length list = are.apart has.number (length list) has.it last (at_front has.number has.it has.there) at_last (has.layout_is ∙ sym layouts) (has.field_is ∙ sym fields) in
+      let below = slice_get_within list has.number has.it has.there in
       omega (arith, same, below)
 
   module _ (all_seats seats : List AccSeat) (seat : AccSeat) (also_is : all_seats ≡ seats ++ seat ∷ []) where
@@ -74,50 +80,73 @@ module _ (stores : List StoreWords) (all list : List Accumulated) (last : Accumu
     pub whole_last : AreSeats all all_seats → AreWhole all_seats → handed_share (worker_of seat) ≡ 16
     whole_last are whole = whole (length list) seat (seat_last are)
 
-    pub reached_front : GaveReached stores all all_seats → GaveReached stores list seats
-    reached_front reached = λ k it one at also. reached k it one (at_front k it at) (seat_front k one also)
+    reached_front : (stores : List StoreWords) → GaveReached stores all all_seats → GaveReached stores list seats
+    reached_front stores reached = λ k it one at also. reached k it one (at_front k it at) (seat_front k one also)
 
-    given_front : (writes : List Write) → AreGiven stores all all_seats writes → AreGiven stores list seats writes
-    given_front writes given = λ k it one at also. given k it one (at_front k it at) (seat_front k one also)
+    given_front : (stores : List StoreWords) (writes : List Write) → AreGiven stores all all_seats writes → AreGiven stores list seats writes
+    given_front stores writes given = λ k it one at also. given k it one (at_front k it at) (seat_front k one also)
 
-    -- the row of the last
-    pub row_last : ArePasses stores all → AreSeats all all_seats → GaveReached stores all all_seats → (layout field : ℕ) (words : List ℕ) → layout ≡ last.layout → field ≡ last.field
-        → AreFolded (operator_of last.pass) (type_of last.pass) (old_values last.pass) (worker_of seat).given words
-        → (store : StoreWords) → slice_get stores layout ≡ Some store → (field < length store.shape.fields) × IsFieldRow store words
-    row_last are own reached layout field words layouts fields folds store there =
-        let pass = are.each (length list) last at_last in
-        let same : pass.store ≡ store = same_Some _ _ (sym pass.there ∙ ap (slice_get stores) (sym layouts) ∙ there) in (
-          subst (λ (f : ℕ). f < length store.shape.fields) (sym fields)
-              (subst (λ (s : StoreWords). last.field < length s.shape.fields) same (slice_get_within pass.store.shape.fields last.field (type_of last.pass) pass.field)),
-          subst (λ (s : StoreWords). IsFieldRow s words) same
-              (sum_row stores last pass (worker_of seat).given words folds (reached (length list) last seat at_last (seat_last own))),
-        )
+    module _ (own : AreSeats all all_seats) (sum : Sum) (layouts : sum.layout ≡ last.layout) (fields : sum.field ≡ last.field)
+        (folds : AreFolded (operator_of last.pass) (type_of last.pass) (old_values last.pass) (worker_of seat).given sum.words) where
+      -- the row of the last
+      row_last : (stores : List StoreWords) → ArePasses stores all → GaveReached stores all all_seats → HasRow stores sum
+      row_last stores are reached = λ store there.
+          let pass = are.each (length list) last at_last in
+          let same : pass.store ≡ store = same_Some _ _ (sym pass.there ∙ ap (slice_get stores) (sym layouts) ∙ there) in (
+            subst (λ (f : ℕ). f < length store.shape.fields) (sym fields)
+                (subst (λ (s : StoreWords). last.field < length s.shape.fields) same (slice_get_within pass.store.shape.fields last.field (type_of last.pass) pass.field)),
+            subst (λ (s : StoreWords). IsFieldRow s sum.words) same
+                (sum_row stores last pass (worker_of seat).given sum.words folds (reached (length list) last seat at_last (seat_last own))),
+          )
 
-    -- the last field lands, and then the others
-    pub lands_last : ArePasses stores all → AreSeats all all_seats → (layout field : ℕ) (words : List ℕ) → layout ≡ last.layout → field ≡ last.field
-        → AreFolded (operator_of last.pass) (type_of last.pass) (old_values last.pass) (worker_of seat).given words
-        → (olds mids news : List (Option StoreWords))
-        → ((other_layout other : ℕ) → (other_layout ≡ layout → other ≡ field → ⊥) → IsAsBefore stores olds other_layout other → IsAsBefore stores mids other_layout other)
-        → ((writes : List Write) → IsSumOf stores layout field words writes → IsAsBefore stores olds layout field → Lands (current olds stores) (current mids stores) (into_field layout field writes))
-        → ((writes : List Write) → AreGiven stores list seats writes → ((k : ℕ) (it : Accumulated) → slice_get list k ≡ Some it → IsAsBefore stores mids it.layout it.field) → Lands (current mids stores) (current news stores) (passed list writes))
-        → (writes : List Write) → AreGiven stores all all_seats writes → ((k : ℕ) (it : Accumulated) → slice_get all k ≡ Some it → IsAsBefore stores olds it.layout it.field)
-        → Lands (current olds stores) (current news stores) (passed all writes)
-    lands_last are own layout field words layouts fields folds olds mids news stay one later writes given fresh =
-        let pass = are.each (length list) last at_last in
-        let here : IsAsBefore stores olds layout field = subst (λ (l : ℕ). IsAsBefore stores olds l field) (sym layouts) (subst (λ (f : ℕ). IsAsBefore stores olds last.layout f) (sym fields) (fresh (length list) last at_last)) in
-        let sum : IsSumOf stores layout field words writes = record {
-          it = last;
-          given = (worker_of seat).given;
-          layout_is = sym layouts;
-          field_is = sym fields;
-          pass = pass;
-          is_given = given (length list) last seat at_last (seat_last own);
-          folds = folds;
-        } in
-        let first : Lands (current olds stores) (current mids stores) (into_field last.layout last.field writes) =
-        subst (λ (l : ℕ). Lands (current olds stores) (current mids stores) (into_field l last.field writes)) layouts
-        (subst (λ (f : ℕ). Lands (current olds stores) (current mids stores) (into_field layout f writes)) fields (one writes sum here)) in
-        let rest = later writes (given_front writes given)
-        (λ k it at. stay it.layout it.field (λ same there. apart_last are k it at (same ∙ layouts) (there ∙ fields)) (fresh k it (at_front k it at))) in
-        subst (λ (ws : List Write). Lands (current olds stores) (current news stores) ws) (sym (ap (λ (xs : List Accumulated). passed xs writes) is ∙ passed_snoc list last writes))
-        (lands_more (current olds stores) (current mids stores) (current news stores) (into_field last.layout last.field writes) (passed list writes) first rest)
+      sum_last : (stores : List StoreWords) (writes : List Write) → ArePasses stores all → AreGiven stores all all_seats writes → IsSumOf stores sum.layout sum.field sum.words writes
+      sum_last stores writes are given = record {
+        it = last;
+        given = (worker_of seat).given;
+        layout_is = sym layouts;
+        field_is = sym fields;
+        pass = are.each (length list) last at_last;
+        is_given = given (length list) last seat at_last (seat_last own);
+        folds = folds;
+      }
+
+      -- what the last pass made of its field is added, and then what the others made of theirs
+      pub adds_last : (olds news : List Sum) → AddsSums list seats (olds ++ sum ∷ []) news → AddsSums all all_seats olds news
+      adds_last olds news later = record {
+        more = sum ∷ later.more;
+        added = later.added ∙ append_assoc olds (sum ∷ []) later.more;
+        of_passes = All-cons (λ (it : Sum). HasPass all it.layout it.field) sum later.more
+            (record { number = length list; it = last; there = at_last; layout_is = sym layouts; field_is = sym fields })
+            (λ k d below. has_front (get_or later.more k d).layout (get_or later.more k d).field (later.of_passes k d below));
+        rows = λ stores are reached. All-cons (HasRow stores) sum later.more (row_last stores are reached) (later.rows stores (passes_front stores are) (reached_front stores reached));
+        sums = λ stores writes are given.
+            let rest = later.sums stores writes (passes_front stores are) (given_front stores writes given) in (
+              record {
+                each = All-cons (λ (it : Sum). IsSumOf stores it.layout it.field it.words writes) sum later.more (sum_last stores writes are given) rest.0.each;
+                apart = AllPairs-cons (λ (one other : Sum). one.layout ≡ other.layout → one.field ≡ other.field → ⊥) sum later.more
+                    (λ k d below same there. apart_last stores are (get_or later.more k d).layout (get_or later.more k d).field (later.of_passes k d below) (sym layouts ∙ same) (sym fields ∙ there))
+                    rest.0.apart;
+              },
+              (ap (λ (l : ℕ). into_field l sum.field writes ++ summed later.more writes) layouts
+                  ∙ ap (λ (f : ℕ). into_field last.layout f writes ++ summed later.more writes) fields
+                  ∙ ap (λ (ws : List Write). into_field last.layout last.field writes ++ ws) rest.1
+                  ∙ sym (passed_snoc list last writes)
+                  ∙ ap (λ (xs : List Accumulated). passed xs writes) (sym is)),
+            );
+      }
+
+-- without a pass nothing is added
+pub adds_nothing : (list : List Accumulated) (seats : List AccSeat) (olds : List Sum) → length list ≡ 0 → AddsSums list seats olds olds
+adds_nothing list seats olds none = record {
+  more = [];
+  added = sym (append-nil olds);
+  of_passes = All-nil (λ (it : Sum). HasPass list it.layout it.field);
+  rows = λ stores are reached. All-nil (HasRow stores);
+  sums = λ stores writes are given. (
+    record {
+      each = All-nil (λ (it : Sum). IsSumOf stores it.layout it.field it.words writes);
+      apart = λ i j d less below. absurd (omega (arith, below));
+    },
+    ap (λ (xs : List Accumulated). passed xs writes) (sym (empty_list list none)),
+  );
+}

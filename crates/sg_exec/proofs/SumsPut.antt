@@ -1,7 +1,7 @@
 -- What a pass has made of a field, put into a store.
-use Rattle.std.proofs.Common.{◌≡◌, ◌≢◌, ℕ, zero, suc, ◌<◌, ◌^◌, ◌==◌, inl, inr, List, [], ◌∷◌, length, Option, Some, refl, sym, ap, ◌∙◌, subst, arith}
+use Rattle.std.proofs.Common.{◌≡◌, ◌≢◌, ℕ, zero, suc, ◌<◌, ◌^◌, ◌==◌, List, [], ◌∷◌, length, Some, refl, sym, ap, ◌∙◌, subst, arith}
 use Rattle.std.specs.Prelude.{filter, fold, slice_get, slice_set, slice_index, slice_index_or, Contains}
-use Rattle.std.proofs.lemmas.Bool.{cases_eq, eqb-true}
+use Rattle.std.proofs.lemmas.Bool.{eqb-true}
 use Rattle.std.proofs.lemmas.Option.{same_Some}
 use Rattle.sg_words.proofs.Uses.{contains_head, from_filter, from_map}
 use Rattle.sg_words.specs.Words.{folded}
@@ -20,10 +20,9 @@ use Rattle.sg_store.specs.StoreLaws.{CellsAreActive, CellsDiffer}
 use Rattle.sg_store.specs.Rows.{SetsRow}
 use Rattle.sg_exec.specs.declared.shared.Accumulated.{Accumulated}
 use Rattle.sg_exec.specs.steps.Machines.{IsCellOf}
-use Rattle.sg_exec.specs.steps.Landing.{current, landed_layout, HasTree}
+use Rattle.sg_exec.specs.steps.Landing.{landed_layout, HasTree}
 use Rattle.sg_exec.specs.steps.Racing.{IsPassOf}
-use Rattle.sg_exec.specs.steps.Passes.{into_field, with_row, IsSumOf, IsAsBefore, AreActiveTo}
-use Rattle.sg_exec.proofs.Giving.{set_same, set_other}
+use Rattle.sg_exec.specs.steps.Passes.{into_field, with_row, IsSumOf, AreActiveTo}
 use Rattle.sg_exec.proofs.SumStands.{EndedPass, sets}
 
 -- ---- the row
@@ -111,23 +110,9 @@ module _ (stores : List StoreWords) (layout field : ℕ) (words : List ℕ) (wri
 
 -- ---- the other fields
 
-index_other : (fields : List (List ℕ)) (k j : ℕ) (words : List ℕ) → (j ≡ k → ⊥) → slice_index_or (slice_set fields k words) j [] ≡ slice_index_or fields j []
+pub index_other : (fields : List (List ℕ)) (k j : ℕ) (words : List ℕ) → (j ≡ k → ⊥) → slice_index_or (slice_set fields k words) j [] ≡ slice_index_or fields j []
 index_other [] k j words apart = refl
 index_other (field ∷ fields) zero zero words apart = absurd (apart refl)
 index_other (field ∷ fields) zero (suc j) words apart = refl
 index_other (field ∷ fields) (suc k) zero words apart = refl
 index_other (field ∷ fields) (suc k) (suc j) words apart = index_other fields k j words (λ same. apart (ap suc same))
-
--- stays as it was, where another field's values were put
-pub fresh_after : (stores : List StoreWords) (olds nows : List (Option StoreWords)) (layout field other_layout other : ℕ) (was : StoreWords) (words : List ℕ) → current nows stores ≡ slice_set (current olds stores) layout (with_row was field words)
-    → slice_get (current olds stores) layout ≡ Some was → layout < length (current olds stores) → (other_layout ≡ layout → other ≡ field → ⊥) → IsAsBefore stores olds other_layout other → IsAsBefore stores nows other_layout other
-fresh_after stores olds nows layout field other_layout other was words is there below apart fresh = λ store copy at copy_at cell. elim (cases_eq other_layout layout) [
-  | inl same ↦ (
-      let now : with_row was field words ≡ copy = same_Some _ _ (sym (set_same (current olds stores) layout (with_row was field words) below) ∙ ap (λ (l : List StoreWords). slice_get l layout) (sym is) ∙ ap (slice_get (current nows stores)) (sym same) ∙ copy_at) in
-      ap (λ (s : StoreWords). word_in s other cell) (sym now)
-      ∙ ap (λ (row : List ℕ). slice_index row cell) (index_other was.fields field other words (λ there'. apart same there'))
-      ∙ fresh store was at (ap (slice_get (current olds stores)) same ∙ there) cell
-      )
-  | inr elsewhere ↦
-      fresh store copy at (sym (set_other (current olds stores) layout other_layout (with_row was field words) elsewhere) ∙ ap (λ (l : List StoreWords). slice_get l other_layout) (sym is) ∙ copy_at) cell
-]

@@ -8,7 +8,7 @@ ghost use Rattle.sg_exec.specs.steps.Racing.{last_own, listed, ArePasses, AreSea
 ghost use Rattle.sg_exec.specs.steps.Written.{own_write};
 
 use crate::cell_write::CellWrite;
-use crate::places::Places;
+use crate::cells::Cells;
 use crate::shared::{Accumulated, Owned};
 use sg_accum::AccSeat;
 use sg_flat::Way;
@@ -128,26 +128,26 @@ fn number_between(
 /// Adds the last own write to each own-written field.
 pub(crate) fn put_all(
     owned: &[Owned],
-    places: &Places,
+    cells: &Cells,
     puts: &mut Vec<CellWrite>,
 ) -> Result<(), Memory>
-    ensures puts { OnOk result (puts.new.items ≡ puts.old.items ++ last_own owned.now places.now.writes) }
-    ensures cells { OnOk result (AreCells places.now.stores puts.old.items → AreCells places.now.stores puts.new.items) }
+    ensures puts { OnOk result (puts.new.items ≡ puts.old.items ++ last_own owned.now cells.now.writes) }
+    ensures cells { OnOk result (AreCells cells.now.stores puts.old.items → AreCells cells.now.stores puts.new.items) }
 {
     for own in owned {
-        put_one(*own, places, puts)?;
+        put_one(*own, cells, puts)?;
     }
     Ok(())
 }
 
 #[inline(always)]
-fn put_one(own: Owned, places: &Places, puts: &mut Vec<CellWrite>) -> Result<(), Memory>
-    ensures puts { OnOk result (puts.new.items ≡ puts.old.items ++ listed (own_write own.layout own.field places.now.writes)) }
-    ensures cells { OnOk result (AreCells places.now.stores puts.old.items → AreCells places.now.stores puts.new.items) }
+fn put_one(own: Owned, cells: &Cells, puts: &mut Vec<CellWrite>) -> Result<(), Memory>
+    ensures puts { OnOk result (puts.new.items ≡ puts.old.items ++ listed (own_write own.layout own.field cells.now.writes)) }
+    ensures cells { OnOk result (AreCells cells.now.stores puts.old.items → AreCells cells.now.stores puts.new.items) }
 {
     // for the cells that it ensures
-    places.writes();
-    if let Some(write) = places.own_write(own.layout, own.field) {
+    cells.writes();
+    if let Some(write) = cells.own_write(own.layout, own.field) {
         puts.push(write)?;
     }
     Ok(())

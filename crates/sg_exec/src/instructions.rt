@@ -1,138 +1,134 @@
-ghost use Rattle.std.specs.Prelude.{◌≡◌, ◌+◌, ◌*◌, ◌%◌, ◌^◌};
-ghost use Rattle.sg_words.specs.Words.{applied};
+//! Words of registers in some columns, by words of others.
 
-use crate::moment::Moment;
+ghost use Rattle.std.specs.Prelude.{◌≡◌, ◌≤◌, ◌+◌, ◌*◌, ◌/◌, ◌%◌, ◌^◌, length};
+ghost use Rattle.sg_words.specs.Words.{applied, applied_un, mulq_of};
+ghost use Rattle.sg_exec.specs.steps.Rows.{item_in, IsPut};
+
+use crate::columns::Columns;
 use sg_coord::digit;
-use sg_words::{BinOp, Ty, UnOp, apply, apply_un, mulq, number, word_of};
+use sg_words::{BinOp, Ty, UnOp, apply, apply_un, mulq};
 
-impl<'a> Moment<'a> {
-    ghost use Rattle.sg_ir.specs.declared.code.Inst.TheVariants as v;
-    ghost use Rattle.sg_ir.specs.Runs.{does, set_place, down};
-    ghost use Rattle.sg_exec.specs.steps.Moments.{Moves};
-
-    /// A register becomes a word.
-    #[inline(always)]
-    pub fn constant(&mut self, to: u32, word: u32)
-        ensures { Moves (λ seen. does seen (v.Const to word)) self.old self.new }
-    {
-        self.set_reg(to, word);
-    }
-
-    /// A register becomes a variable's word.
-    #[inline(always)]
-    pub fn variable(&mut self, to: u32, var: u32)
-        ensures { Moves (λ seen. does seen (v.Var to var)) self.old self.new }
-    {
-        let word = self.var(var);
-        self.set_reg(to, word);
-    }
-
-    /// A variable becomes a register's word.
-    #[inline(always)]
-    pub fn assign(&mut self, var: u32, from: u32)
-        ensures { Moves (λ seen. does seen (v.Set var from)) self.old self.new }
-    {
-        let word = self.reg(from);
-        self.set_var(var, word);
-    }
-
-    /// An operator on two words.
-    #[inline(always)]
-    pub fn binary(&mut self, to: u32, op: BinOp, ty: Ty, a: u32, b: u32)
-        ensures { Moves (λ seen. does seen (v.Bin to op ty a b)) self.old self.new }
-    {
-        let word = combined(op, ty, self.reg(a), self.reg(b));
-        self.set_reg(to, word);
-    }
-
-    /// An operator on one word.
-    #[inline(always)]
-    pub fn unary(&mut self, to: u32, op: UnOp, ty: Ty, a: u32)
-        ensures { Moves (λ seen. does seen (v.Un to op ty a)) self.old self.new }
-    {
-        let _ty = ty;
-        let word = apply_un(op, self.reg(a));
-        self.set_reg(to, word);
-    }
-
-    /// A product, shifted down.
-    #[inline(always)]
-    pub fn product(&mut self, to: u32, a: u32, b: u32, s: u32)
-        ensures { Moves (λ seen. does seen (v.Mulq to a b s)) self.old self.new }
-    {
-        let word = mulq(self.reg(a), self.reg(b), self.reg(s));
-        self.set_reg(to, word);
-    }
-
-    /// A word's digit.
-    #[inline(always)]
-    pub fn extract(&mut self, to: u32, div: u32, size: u32, from: u32)
-        ensures { Moves (λ seen. does seen (v.Extract to div size from)) self.old self.new }
-    {
-        let word = digit(self.reg(from), div, size);
-        self.set_reg(to, word);
-    }
-
-    /// A word times a size, and another.
-    #[inline(always)]
-    pub fn offset(&mut self, to: u32, high: u32, size: u32, low: u32)
-        ensures { Moves (λ seen. does seen (v.Offset to high size low)) self.old self.new }
-    {
-        let word = joined(self.reg(high), size, self.reg(low));
-        self.set_reg(to, word);
-    }
-
-    /// A layout's root.
-    #[inline(always)]
-    pub fn root(&mut self, to: u32, layout: u32)
-        ensures { Moves (λ seen. does seen (v.Root to layout)) self.old self.new }
-    {
-        match self.places.root(to, layout) {
-            Ok(()) => {}
-            Err(_) => self.lacks = true,
-        }
-    }
-
-    /// A place, or none where a register's word isn't on an axis.
-    #[inline(always)]
-    pub fn check(&mut self, to: u32, place: u32, axis: u32, extent: u32, index: u32)
-        ensures { Moves (λ seen. does seen (v.Check to place axis extent index)) self.old self.new }
-    {
-        let _axis = axis;
-        let word = self.reg(index);
-        match self.places.check(to, place, extent, word) {
-            Ok(()) => {}
-            Err(_) => self.lacks = true,
-        }
-    }
-
-    /// One step down.
-    #[inline(always)]
-    pub fn step(&mut self, to: u32, place: u32, node: u32, offset: u32)
-        ensures { Moves (λ seen now. set_place to (down seen.shapes node (now.regs offset) (now.places place)) now) self.old self.new }
-    {
-        let word = self.reg(offset);
-        match self.places.step(to, place, node, word) {
-            Ok(()) => {}
-            Err(_) => self.lacks = true,
-        }
+/// An operator on two words. Which it is, is asked once for all columns.
+#[inline(always)]
+pub(crate) fn combine(
+    regs: &mut [u32],
+    columns: Columns,
+    to: u32,
+    op: BinOp,
+    ty: Ty,
+    a: u32,
+    b: u32,
+)
+    requires to { to * 32 + 32 ≤ length regs.old }
+    requires a { a * 32 + 32 ≤ length regs.old }
+    requires b { b * 32 + 32 ≤ length regs.old }
+    ensures { IsPut (λ k word. word ≡ applied op ty (item_in regs.old 0 k a) (item_in regs.old 0 k b)) columns.first columns.end to 0 regs.old regs.new }
+{
+    match op {
+        BinOp::Add => combine_by(regs, columns, to, BinOp::Add, ty, a, b),
+        BinOp::Sub => combine_by(regs, columns, to, BinOp::Sub, ty, a, b),
+        BinOp::Mul => combine_by(regs, columns, to, BinOp::Mul, ty, a, b),
+        BinOp::Div => combine_by(regs, columns, to, BinOp::Div, ty, a, b),
+        BinOp::Rem => combine_by(regs, columns, to, BinOp::Rem, ty, a, b),
+        BinOp::And => combine_by(regs, columns, to, BinOp::And, ty, a, b),
+        BinOp::Or => combine_by(regs, columns, to, BinOp::Or, ty, a, b),
+        BinOp::Xor => combine_by(regs, columns, to, BinOp::Xor, ty, a, b),
+        BinOp::LAnd => combine_by(regs, columns, to, BinOp::LAnd, ty, a, b),
+        BinOp::LOr => combine_by(regs, columns, to, BinOp::LOr, ty, a, b),
+        BinOp::Shl => combine_by(regs, columns, to, BinOp::Shl, ty, a, b),
+        BinOp::Shr => combine_by(regs, columns, to, BinOp::Shr, ty, a, b),
+        BinOp::Min => combine_by(regs, columns, to, BinOp::Min, ty, a, b),
+        BinOp::Max => combine_by(regs, columns, to, BinOp::Max, ty, a, b),
+        BinOp::Eq => combine_by(regs, columns, to, BinOp::Eq, ty, a, b),
+        BinOp::Ne => combine_by(regs, columns, to, BinOp::Ne, ty, a, b),
+        BinOp::Lt => combine_by(regs, columns, to, BinOp::Lt, ty, a, b),
+        BinOp::Le => combine_by(regs, columns, to, BinOp::Le, ty, a, b),
+        BinOp::Gt => combine_by(regs, columns, to, BinOp::Gt, ty, a, b),
+        BinOp::Ge => combine_by(regs, columns, to, BinOp::Ge, ty, a, b),
     }
 }
 
-/// The word that an operator gives on two words. The commonest operators stand here, so that they cost no call.
+/// One operator on two words. Where it is passed as it stands, no column asks which it is.
 #[inline(always)]
-fn combined(op: BinOp, ty: Ty, a: u32, b: u32) -> u32
-    ensures { result ≡ applied op ty a b }
+fn combine_by(regs: &mut [u32], columns: Columns, to: u32, op: BinOp, ty: Ty, a: u32, b: u32)
+    requires to { to * 32 + 32 ≤ length regs.old }
+    requires a { a * 32 + 32 ≤ length regs.old }
+    requires b { b * 32 + 32 ≤ length regs.old }
+    ensures { IsPut (λ k word. word ≡ applied op ty (item_in regs.old 0 k a) (item_in regs.old 0 k b)) columns.first columns.end to 0 regs.old regs.new }
 {
-    match op {
-        BinOp::Add => a.wrapping_add(b),
-        BinOp::Sub => a.wrapping_sub(b),
-        BinOp::Mul => a.wrapping_mul(b),
-        BinOp::And => a & b,
-        BinOp::Or => a | b,
-        BinOp::Xor => a ^ b,
-        BinOp::Shr => word_of(number(ty, a) >> (b % 32)),
-        _ => apply(op, ty, a, b),
+    for k in columns.first..columns.end {
+        regs[to as usize * 32 + k] = apply(
+            op,
+            ty,
+            regs[a as usize * 32 + k],
+            regs[b as usize * 32 + k],
+        );
+    }
+}
+
+/// A product, shifted down.
+#[inline(always)]
+pub(crate) fn multiply(regs: &mut [u32], columns: Columns, to: u32, a: u32, b: u32, s: u32)
+    requires to { to * 32 + 32 ≤ length regs.old }
+    requires a { a * 32 + 32 ≤ length regs.old }
+    requires b { b * 32 + 32 ≤ length regs.old }
+    requires s { s * 32 + 32 ≤ length regs.old }
+    ensures { IsPut (λ k word. word ≡ mulq_of (item_in regs.old 0 k a) (item_in regs.old 0 k b) (item_in regs.old 0 k s)) columns.first columns.end to 0 regs.old regs.new }
+{
+    for k in columns.first..columns.end {
+        regs[to as usize * 32 + k] = mulq(
+            regs[a as usize * 32 + k],
+            regs[b as usize * 32 + k],
+            regs[s as usize * 32 + k],
+        );
+    }
+}
+
+/// An operator on one word.
+#[inline(always)]
+pub(crate) fn alter(regs: &mut [u32], columns: Columns, to: u32, op: UnOp, a: u32)
+    requires to { to * 32 + 32 ≤ length regs.old }
+    requires a { a * 32 + 32 ≤ length regs.old }
+    ensures { IsPut (λ k word. word ≡ applied_un op (item_in regs.old 0 k a)) columns.first columns.end to 0 regs.old regs.new }
+{
+    for k in columns.first..columns.end {
+        regs[to as usize * 32 + k] = apply_un(op, regs[a as usize * 32 + k]);
+    }
+}
+
+/// The digits of words.
+#[inline(always)]
+pub(crate) fn take_digits(
+    regs: &mut [u32],
+    columns: Columns,
+    to: u32,
+    div: u32,
+    size: u32,
+    from: u32,
+)
+    requires to { to * 32 + 32 ≤ length regs.old }
+    requires from { from * 32 + 32 ≤ length regs.old }
+    ensures { IsPut (λ k word. word ≡ (item_in regs.old 0 k from) / div % size) columns.first columns.end to 0 regs.old regs.new }
+{
+    for k in columns.first..columns.end {
+        regs[to as usize * 32 + k] = digit(regs[from as usize * 32 + k], div, size);
+    }
+}
+
+/// Words times a size, and others.
+#[inline(always)]
+pub(crate) fn join(regs: &mut [u32], columns: Columns, to: u32, high: u32, size: u32, low: u32)
+    requires to { to * 32 + 32 ≤ length regs.old }
+    requires high { high * 32 + 32 ≤ length regs.old }
+    requires low { low * 32 + 32 ≤ length regs.old }
+    ensures { IsPut (λ k word. word ≡ ((item_in regs.old 0 k high) * size + (item_in regs.old 0 k low)) % 2 ^ 32) columns.first columns.end to 0 regs.old regs.new }
+{
+    for k in columns.first..columns.end {
+        regs[to as usize * 32 + k] = joined(
+            regs[high as usize * 32 + k],
+            size,
+            regs[low as usize * 32 + k],
+        );
     }
 }
 
@@ -142,4 +138,27 @@ fn joined(high: u32, size: u32, low: u32) -> u32
     ensures { result ≡ (high * size + low) % 2 ^ 32 }
 {
     high.wrapping_mul(size).wrapping_add(low)
+}
+
+/// A row becomes a word.
+#[inline(always)]
+pub(crate) fn fill(items: &mut [u32], columns: Columns, to: u32, word: u32)
+    requires to { to * 32 + 32 ≤ length items.old }
+    ensures { IsPut (λ k item. item ≡ word) columns.first columns.end to 0 items.old items.new }
+{
+    for k in columns.first..columns.end {
+        items[to as usize * 32 + k] = word;
+    }
+}
+
+/// A row becomes another one, of another list.
+#[inline(always)]
+pub(crate) fn copy(items: &mut [u32], columns: Columns, to: u32, others: &[u32], from: u32)
+    requires to { to * 32 + 32 ≤ length items.old }
+    requires from { from * 32 + 32 ≤ length others.now }
+    ensures { IsPut (λ k item. item ≡ item_in others.now 0 k from) columns.first columns.end to 0 items.old items.new }
+{
+    for k in columns.first..columns.end {
+        items[to as usize * 32 + k] = others[from as usize * 32 + k];
+    }
 }

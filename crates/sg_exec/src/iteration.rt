@@ -1,103 +1,116 @@
 //! Runs of a block in several iterations, which go side by side: each instruction is read once for all of them.
 
-ghost use Rattle.std.specs.Prelude.{◌≡◌, ◌<◌, ◌^◌, ◌==◌, ℕ, ◌+ℤ◌, ◌-ℤ◌, pos, get_or, slice_get, Some, IfSome};
+ghost use Rattle.std.specs.Prelude.{◌≡◌, ◌<◌, ◌^◌, ◌==◌, ℕ, ◌+ℤ◌, ◌-ℤ◌, pos, length, IfSome, ◌≤◌};
 ghost use Rattle.sg_words.specs.Words.{word_of};
 ghost use Rattle.sg_layout.specs.Axes.{count_of};
 ghost use Rattle.sg_flat.specs.Domain.{numbers};
 ghost use Rattle.sg_ir.specs.Runs.{does, runs};
 ghost use Rattle.sg_ir.specs.declared.code.Inst.TheVariants as v;
-ghost use Rattle.sg_exec.specs.declared.moment.Moment.{Moment};
-ghost use Rattle.sg_exec.specs.steps.Moments.{run_turns, AllMove};
+ghost use Rattle.sg_exec.specs.steps.Rows.{item_in, IsAmong};
+ghost use Rattle.sg_exec.specs.steps.Moments.{run_turns, AllMove, IsOver};
 
+use crate::accesses::{checks, contributions, own_reads, own_writes, reads, roots, steps, wants};
+use crate::batch::Batch;
+use crate::columns::Columns;
 use crate::lanes::{
-    assigns, binaries, checks, constants, contributions, extracts, offsets, own_reads, own_writes,
-    products, reads, roots, set_vars, steps, unaries, variables, wants,
+    assigns, binaries, constants, extracts, offsets, products, set_vars, unaries, variables,
 };
-use crate::moment::Moment;
 use sg_ir::Inst;
 use sg_words::word_of;
 
-/// Runs instructions one after the other.
+/// Runs instructions one after the other, in some columns.
 #[cycle(insts)]
 #[inline(never)]
-pub(crate) fn run_all(moments: &mut [Moment], block: &[Inst])
-    ensures { AllMove (λ seen. runs seen block.now) moments.old moments.new }
+pub(crate) fn run_all(batch: &mut Batch, columns: Columns, block: &[Inst])
+    requires room { columns.end ≤ length batch.old.moments.items }
+    requires over { IsOver batch.old.places.stores batch.old }
+    ensures { AllMove (λ seen. runs seen block.now) columns.first columns.end batch.old batch.new }
 {
     for inst in block {
-        run(moments, inst);
+        run(batch, columns, inst);
     }
 }
 
 /// Runs an instruction. Where a register decides, the iterations go on together if all decide the same, and else one after the other.
 #[cycle(insts)]
-fn run(moments: &mut [Moment], inst: &Inst)
-    ensures { AllMove (λ seen. does seen inst.now) moments.old moments.new }
+fn run(batch: &mut Batch, columns: Columns, inst: &Inst)
+    requires room { columns.end ≤ length batch.old.moments.items }
+    requires over { IsOver batch.old.places.stores batch.old }
+    ensures { AllMove (λ seen. does seen inst.now) columns.first columns.end batch.old batch.new }
 {
     match inst {
-        Inst::Const { to, word } => constants(moments, *to, *word),
-        Inst::Var { to, var } => variables(moments, *to, *var),
-        Inst::Set { var, from } => assigns(moments, *var, *from),
-        Inst::Bin { to, op, ty, a, b } => binaries(moments, *to, *op, *ty, *a, *b),
-        Inst::Un { to, op, ty, a } => unaries(moments, *to, *op, *ty, *a),
-        Inst::Mulq { to, a, b, s } => products(moments, *to, *a, *b, *s),
-        Inst::Root { to, layout } => roots(moments, *to, *layout),
+        Inst::Const { to, word } => constants(batch, columns, *to, *word),
+        Inst::Var { to, var } => variables(batch, columns, *to, *var),
+        Inst::Set { var, from } => assigns(batch, columns, *var, *from),
+        Inst::Bin { to, op, ty, a, b } => binaries(batch, columns, *to, *op, *ty, *a, *b),
+        Inst::Un { to, op, ty, a } => unaries(batch, columns, *to, *op, *ty, *a),
+        Inst::Mulq { to, a, b, s } => products(batch, columns, *to, *a, *b, *s),
+        Inst::Root { to, layout } => roots(batch, columns, *to, *layout),
         Inst::Check {
             to,
             place,
             axis,
             extent,
             index,
-        } => checks(moments, *to, *place, *axis, *extent, *index),
+        } => checks(batch, columns, *to, *place, *axis, *extent, *index),
         Inst::Extract {
             to,
             div,
             size,
             from,
-        } => extracts(moments, *to, *div, *size, *from),
+        } => extracts(batch, columns, *to, *div, *size, *from),
         Inst::Offset {
             to,
             high,
             size,
             low,
-        } => offsets(moments, *to, *high, *size, *low),
+        } => offsets(batch, columns, *to, *high, *size, *low),
         Inst::Child {
             to,
             place,
             node,
             offset,
-        } => steps(moments, *to, *place, *node, *offset),
+        } => steps(batch, columns, *to, *place, *node, *offset),
         Inst::HashChild {
             to,
             place,
             node,
             offset,
-        } => steps(moments, *to, *place, *node, *offset),
+        } => steps(batch, columns, *to, *place, *node, *offset),
         Inst::MaskBit {
             to,
             place,
             node,
             offset,
-        } => steps(moments, *to, *place, *node, *offset),
+        } => steps(batch, columns, *to, *place, *node, *offset),
         Inst::DynCell {
             to,
             place,
             node,
             offset,
-        } => steps(moments, *to, *place, *node, *offset),
+        } => steps(batch, columns, *to, *place, *node, *offset),
         Inst::ReadCell {
             to,
             place,
             layout,
             field,
             index,
-        } => reads(moments, *to, *place, *layout, *field, index.as_slice()),
-        Inst::OwnRead { to, layout, field } => own_reads(moments, *to, *layout, *field),
+        } => reads(
+            batch,
+            columns,
+            *to,
+            *place,
+            *layout,
+            *field,
+            index.as_slice(),
+        ),
+        Inst::OwnRead { to, layout, field } => own_reads(batch, columns, *to, *layout, *field),
         Inst::OwnWrite {
             layout,
             field,
             from,
             stmt,
-        } => own_writes(moments, *layout, *field, *from, *stmt),
+        } => own_writes(batch, columns, *layout, *field, *from, *stmt),
         Inst::Acc {
             op,
             layout,
@@ -107,7 +120,8 @@ fn run(moments: &mut [Moment], inst: &Inst)
             index,
             stmt,
         } => contributions(
-            moments,
+            batch,
+            columns,
             *op,
             *layout,
             *field,
@@ -120,35 +134,54 @@ fn run(moments: &mut [Moment], inst: &Inst)
             layout,
             index,
             stmt,
-        } => wants(moments, *layout, index.as_slice(), *stmt),
-        Inst::If { cond, yes, no } => match choice(moments, *cond) {
-            Some(true) => run_all(moments, no.as_slice()),
-            Some(false) => run_all(moments, yes.as_slice()),
+        } => wants(batch, columns, *layout, index.as_slice(), *stmt),
+        Inst::If { cond, yes, no } => match choice(batch, columns, *cond) {
+            Some(true) => run_all(batch, columns, no.as_slice()),
+            Some(false) => run_all(batch, columns, yes.as_slice()),
             None => {
-                for k in 0..moments.len() {
-                    if moments[k].reg(*cond) == 0 {
-                        run_all(&mut moments[k..k + 1], no.as_slice());
+                for k in columns.first..columns.end {
+                    let column = Columns {
+                        first: k,
+                        end: k + 1,
+                    };
+                    if word_at(batch, *cond, k) == 0 {
+                        run_all(batch, column, no.as_slice());
                     } else {
-                        run_all(&mut moments[k..k + 1], yes.as_slice());
+                        run_all(batch, column, yes.as_slice());
                     }
                 }
             }
         },
-        Inst::For { var, lo, hi, body } => run_turns(moments, *var, *lo, *hi, body.as_slice()),
+        Inst::For { var, lo, hi, body } => run_turns(
+            batch,
+            columns,
+            *var,
+            *lo,
+            *hi,
+            body.as_slice(),
+        ),
     }
 }
 
-/// Whether a register is 0, where it is so in all iterations, or in none.
-fn choice(moments: &[Moment], cond: u32) -> Option<bool>
-    ensures { IfSome result (λ zero. (k : ℕ) (moment : Moment) → slice_get moments.now k ≡ Some moment →
-        (get_or moment.regs.items cond 0 == 0) ≡ zero) }
+/// The word of a register in a column.
+#[inline(always)]
+fn word_at(batch: &Batch, reg: u32, k: usize) -> u32
+    requires column { k < 32 }
+    ensures { result ≡ item_in batch.now.regs.items 0 k reg }
 {
-    let zero = match moments.first() {
-        Some(moment) => moment.reg(cond) == 0,
-        None => return None,
-    };
-    for moment in moments {
-        if (moment.reg(cond) == 0) != zero {
+    batch.regs.get(reg as usize * 32 + k).copied().unwrap_or(0)
+}
+
+/// Whether a register is 0, where it is so in all these columns, or in none.
+fn choice(batch: &Batch, columns: Columns, cond: u32) -> Option<bool>
+    ensures { IfSome result (λ zero. (k : ℕ) → IsAmong columns.first columns.end k → (item_in batch.now.regs.items 0 k cond == 0) ≡ zero) }
+{
+    if columns.end <= columns.first {
+        return None;
+    }
+    let zero = word_at(batch, cond, columns.first) == 0;
+    for k in columns.first..columns.end {
+        if (word_at(batch, cond, k) == 0) != zero {
             return None;
         }
     }
@@ -157,12 +190,14 @@ fn choice(moments: &[Moment], cond: u32) -> Option<bool>
 
 /// Runs the body of an inner loop, with its variable at each of the numbers from one up to below another.
 #[cycle(insts)]
-fn run_turns(moments: &mut [Moment], var: u32, lo: i32, hi: i32, body: &[Inst])
-    ensures { AllMove (λ seen now. run_turns seen var body.now now (numbers lo hi)) moments.old moments.new }
+fn run_turns(batch: &mut Batch, columns: Columns, var: u32, lo: i32, hi: i32, body: &[Inst])
+    requires room { columns.end ≤ length batch.old.moments.items }
+    requires over { IsOver batch.old.places.stores batch.old }
+    ensures { AllMove (λ seen now. run_turns seen var body.now now (numbers lo hi)) columns.first columns.end batch.old batch.new }
 {
     for k in 0..count_between(lo, hi) {
-        set_vars(moments, var, turn_word(lo, k));
-        run_all(moments, body);
+        set_vars(batch, columns, var, turn_word(lo, k));
+        run_all(batch, columns, body);
     }
 }
 

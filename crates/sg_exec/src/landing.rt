@@ -1,15 +1,13 @@
-ghost use Rattle.std.specs.Prelude.{◌≡◌, ◌∷◌, [], List, map, length, Contains, IfOk, IfSome, OnOk, unwrap_or};
+ghost use Rattle.std.specs.Prelude.{◌≡◌, ◌∷◌, [], length, Contains, IfSome, OnOk, unwrap_or};
 ghost use Rattle.sg_flat.specs.declared.effects.Write.{Write};
 ghost use Rattle.sg_flat.specs.declared.state.FlatLayout.{FlatLayout};
 ghost use Rattle.sg_flat.specs.Effects.{land};
 ghost use Rattle.sg_store.specs.StandsFor.{StandsFor};
 ghost use Rattle.sg_store.specs.WellFormed.{IsReached};
-ghost use Rattle.sg_exec.specs.steps.Machines.{IsCellOf, AreCells};
-ghost use Rattle.sg_exec.specs.steps.Landing.{current, landing, landed_layout, HasTree, IsLanding, AreCopies, Lands};
+ghost use Rattle.sg_exec.specs.steps.Landing.{current, landed_layout, HasTree, IsLanding, Lands};
 
 use crate::cell_write::CellWrite;
 use crate::values::ONE_POINT;
-use crate::view::View;
 use sg_coord::numbering;
 use sg_flat::{Way, Write};
 use sg_layout::{closure_closes, closure_members};
@@ -18,92 +16,8 @@ use sg_store::{Store, Stores};
 use sg_words::{Memory, Ty, fold};
 use std::alloc::Global;
 
-/// No copy of any store.
-pub(crate) fn no_copies(
-    alloc: Global,
-    stores: &Stores,
-    reached: &[Option<Store>],
-) -> Result<Vec<Option<Store>>, Memory>
-    ensures copies { IfOk result (λ copies. AreCopies (current reached.now stores.now.list) copies.items) }
-    ensures none { IfOk result (λ copies. current copies.items (current reached.now stores.now.list) ≡ (current reached.now stores.now.list)) }
-{
-    let _reached = reached;
-    let mut copies = Vec::new(alloc);
-    for _number in 0..stores.list.len() {
-        copies.push(None)?;
-    }
-    Ok(copies)
-}
-
-/// Lands what an iteration wrote in the copies, in order.
-pub(crate) fn land_cells(
-    alloc: Global,
-    stores: &Stores,
-    reached: &[Option<Store>],
-    copies: &mut Vec<Option<Store>>,
-    writes: &[CellWrite],
-) -> Result<(), Memory>
-    requires copies { AreCopies (current reached.now stores.now.list) copies.old.items }
-    requires cells { AreCells (current reached.now stores.now.list) writes.now }
-    ensures lands { OnOk result ((made : List Write) → writes.now ≡ map (landing (current reached.now stores.now.list)) made →
-        Lands (current copies.old.items (current reached.now stores.now.list)) (current copies.new.items (current reached.now stores.now.list)) made) }
-    ensures copies { AreCopies (current reached.now stores.now.list) copies.new.items }
-{
-    for write in writes {
-        land_cell(alloc, stores, reached, copies, write)?;
-    }
-    Ok(())
-}
-
-/// Lands a write in the copy of its layout's store, which is made where there is none.
-fn land_cell(
-    alloc: Global,
-    stores: &Stores,
-    reached: &[Option<Store>],
-    copies: &mut Vec<Option<Store>>,
-    write: &CellWrite,
-) -> Result<(), Memory>
-    requires copies { AreCopies (current reached.now stores.now.list) copies.old.items }
-    requires cell { IfSome write.now.cell (IsCellOf (current reached.now stores.now.list) write.now.layout) }
-    ensures lands { OnOk result ((made : Write) → write.now ≡ landing (current reached.now stores.now.list) made →
-        Lands (current copies.old.items (current reached.now stores.now.list)) (current copies.new.items (current reached.now stores.now.list)) (made ∷ [])) }
-    ensures copies { AreCopies (current reached.now stores.now.list) copies.new.items }
-{
-    let view = View::of(stores, reached);
-    let Some(store) = view.get(write.layout) else {
-        return Ok(());
-    };
-    let slot = &mut copies[write.layout as usize];
-    land_in_copy(alloc, store, slot, write)
-}
-
-/// Lands a write in the copy of a store, which is made where there is none.
-fn land_in_copy(
-    alloc: Global,
-    store: &Store,
-    slot: &mut Option<Store>,
-    write: &CellWrite,
-) -> Result<(), Memory>
-    requires same { IfSome slot.old (HasTree store.now) }
-    requires cell { IfSome write.now.cell (IsReached store.now) }
-    ensures same { IfSome slot.new (HasTree store.now) }
-    ensures lands { OnOk result ((flat : FlatLayout) → StandsFor (unwrap_or slot.old store.now) flat →
-        (made : Write) → IsLanding store.now write.now made → Contains flat.active made.at →
-        StandsFor (unwrap_or slot.new store.now) (landed_layout made.layout store.now.shape flat (made ∷ []))) }
-{
-    match slot {
-        Some(copy) => put_cell(copy, write),
-        None => {
-            let mut copy = store.copy(alloc)?;
-            put_cell(&mut copy, write);
-            *slot = Some(copy);
-        }
-    }
-    Ok(())
-}
-
 /// Lands a write in a store.
-fn put_cell(store: &mut Store, write: &CellWrite)
+pub(crate) fn put_cell(store: &mut Store, write: &CellWrite)
     requires cell { IfSome write.now.cell (IsReached store.old) }
     ensures same { HasTree store.old store.new }
     ensures lands { (flat : FlatLayout) → StandsFor store.old flat → (made : Write) → IsLanding store.old write.now made →

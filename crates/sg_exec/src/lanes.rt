@@ -1,218 +1,121 @@
-//! One instruction in each of several iterations, which run side by side.
+//! One instruction on registers and variables, in some columns.
 
 ghost use Rattle.sg_ir.specs.declared.code.Inst.TheVariants as v;
-ghost use Rattle.sg_ir.specs.Runs.{does, set_var_word, set_place, down};
+ghost use Rattle.sg_ir.specs.Runs.{does, set_var_word};
 ghost use Rattle.sg_exec.specs.steps.Moments.{AllMove};
 
-use crate::moment::Moment;
-use sg_words::{AccOp, BinOp, Ty, UnOp};
+use crate::batch::Batch;
+use crate::columns::Columns;
+use crate::instructions::{alter, combine, copy, fill, join, multiply, take_digits};
+use sg_words::{BinOp, Ty, UnOp};
 
 /// Registers become a word.
 #[inline(always)]
-pub(crate) fn constants(moments: &mut [Moment], to: u32, word: u32)
-    ensures { AllMove (λ seen. does seen (v.Const to word)) moments.old moments.new }
+pub(crate) fn constants(batch: &mut Batch, columns: Columns, to: u32, word: u32)
+    ensures { AllMove (λ seen. does seen (v.Const to word)) columns.first columns.end batch.old batch.new }
 {
-    for k in 0..moments.len() {
-        let moment = &mut moments[k];
-        moment.constant(to, word);
+    if batch.has_regs(to, to, to) {
+        fill(batch.regs.as_mut_slice(), columns, to, word);
     }
 }
 
 /// Registers become variables' words.
 #[inline(always)]
-pub(crate) fn variables(moments: &mut [Moment], to: u32, var: u32)
-    ensures { AllMove (λ seen. does seen (v.Var to var)) moments.old moments.new }
+pub(crate) fn variables(batch: &mut Batch, columns: Columns, to: u32, var: u32)
+    ensures { AllMove (λ seen. does seen (v.Var to var)) columns.first columns.end batch.old batch.new }
 {
-    for k in 0..moments.len() {
-        let moment = &mut moments[k];
-        moment.variable(to, var);
+    if batch.has_regs(to, to, to) && batch.has_var(var) {
+        copy(
+            batch.regs.as_mut_slice(),
+            columns,
+            to,
+            batch.vars.as_slice(),
+            var,
+        );
     }
 }
 
 /// Variables become registers' words.
 #[inline(always)]
-pub(crate) fn assigns(moments: &mut [Moment], var: u32, from: u32)
-    ensures { AllMove (λ seen. does seen (v.Set var from)) moments.old moments.new }
+pub(crate) fn assigns(batch: &mut Batch, columns: Columns, var: u32, from: u32)
+    ensures { AllMove (λ seen. does seen (v.Set var from)) columns.first columns.end batch.old batch.new }
 {
-    for k in 0..moments.len() {
-        let moment = &mut moments[k];
-        moment.assign(var, from);
+    if batch.has_regs(from, from, from) && batch.has_var(var) {
+        copy(
+            batch.vars.as_mut_slice(),
+            columns,
+            var,
+            batch.regs.as_slice(),
+            from,
+        );
     }
 }
 
 /// An operator on two words.
 #[inline(always)]
-pub(crate) fn binaries(moments: &mut [Moment], to: u32, op: BinOp, ty: Ty, a: u32, b: u32)
-    ensures { AllMove (λ seen. does seen (v.Bin to op ty a b)) moments.old moments.new }
+pub(crate) fn binaries(
+    batch: &mut Batch,
+    columns: Columns,
+    to: u32,
+    op: BinOp,
+    ty: Ty,
+    a: u32,
+    b: u32,
+)
+    ensures { AllMove (λ seen. does seen (v.Bin to op ty a b)) columns.first columns.end batch.old batch.new }
 {
-    for k in 0..moments.len() {
-        let moment = &mut moments[k];
-        moment.binary(to, op, ty, a, b);
+    if batch.has_regs(to, a, b) {
+        combine(batch.regs.as_mut_slice(), columns, to, op, ty, a, b);
     }
 }
 
 /// An operator on one word.
 #[inline(always)]
-pub(crate) fn unaries(moments: &mut [Moment], to: u32, op: UnOp, ty: Ty, a: u32)
-    ensures { AllMove (λ seen. does seen (v.Un to op ty a)) moments.old moments.new }
+pub(crate) fn unaries(batch: &mut Batch, columns: Columns, to: u32, op: UnOp, ty: Ty, a: u32)
+    ensures { AllMove (λ seen. does seen (v.Un to op ty a)) columns.first columns.end batch.old batch.new }
 {
-    for k in 0..moments.len() {
-        let moment = &mut moments[k];
-        moment.unary(to, op, ty, a);
+    let _ty = ty;
+    if batch.has_regs(to, a, a) {
+        alter(batch.regs.as_mut_slice(), columns, to, op, a);
     }
 }
 
 /// A product, shifted down.
 #[inline(always)]
-pub(crate) fn products(moments: &mut [Moment], to: u32, a: u32, b: u32, s: u32)
-    ensures { AllMove (λ seen. does seen (v.Mulq to a b s)) moments.old moments.new }
+pub(crate) fn products(batch: &mut Batch, columns: Columns, to: u32, a: u32, b: u32, s: u32)
+    ensures { AllMove (λ seen. does seen (v.Mulq to a b s)) columns.first columns.end batch.old batch.new }
 {
-    for k in 0..moments.len() {
-        let moment = &mut moments[k];
-        moment.product(to, a, b, s);
-    }
-}
-
-/// A layout's root.
-#[inline(always)]
-pub(crate) fn roots(moments: &mut [Moment], to: u32, layout: u32)
-    ensures { AllMove (λ seen. does seen (v.Root to layout)) moments.old moments.new }
-{
-    for k in 0..moments.len() {
-        let moment = &mut moments[k];
-        moment.root(to, layout);
-    }
-}
-
-/// A place, or none where a register's word isn't on an axis.
-#[inline(always)]
-pub(crate) fn checks(
-    moments: &mut [Moment],
-    to: u32,
-    place: u32,
-    axis: u32,
-    extent: u32,
-    index: u32,
-)
-    ensures { AllMove (λ seen. does seen (v.Check to place axis extent index)) moments.old moments.new }
-{
-    for k in 0..moments.len() {
-        let moment = &mut moments[k];
-        moment.check(to, place, axis, extent, index);
+    if batch.has_four_regs(to, a, b, s) {
+        multiply(batch.regs.as_mut_slice(), columns, to, a, b, s);
     }
 }
 
 /// A word's digit.
 #[inline(always)]
-pub(crate) fn extracts(moments: &mut [Moment], to: u32, div: u32, size: u32, from: u32)
-    ensures { AllMove (λ seen. does seen (v.Extract to div size from)) moments.old moments.new }
+pub(crate) fn extracts(batch: &mut Batch, columns: Columns, to: u32, div: u32, size: u32, from: u32)
+    ensures { AllMove (λ seen. does seen (v.Extract to div size from)) columns.first columns.end batch.old batch.new }
 {
-    for k in 0..moments.len() {
-        let moment = &mut moments[k];
-        moment.extract(to, div, size, from);
+    if batch.has_regs(to, from, from) {
+        take_digits(batch.regs.as_mut_slice(), columns, to, div, size, from);
     }
 }
 
 /// A word times a size, and another.
 #[inline(always)]
-pub(crate) fn offsets(moments: &mut [Moment], to: u32, high: u32, size: u32, low: u32)
-    ensures { AllMove (λ seen. does seen (v.Offset to high size low)) moments.old moments.new }
+pub(crate) fn offsets(batch: &mut Batch, columns: Columns, to: u32, high: u32, size: u32, low: u32)
+    ensures { AllMove (λ seen. does seen (v.Offset to high size low)) columns.first columns.end batch.old batch.new }
 {
-    for k in 0..moments.len() {
-        let moment = &mut moments[k];
-        moment.offset(to, high, size, low);
-    }
-}
-
-/// One step down.
-#[inline(always)]
-pub(crate) fn steps(moments: &mut [Moment], to: u32, place: u32, node: u32, offset: u32)
-    ensures { AllMove (λ seen now. set_place to (down seen.shapes node (now.regs offset) (now.places place)) now) moments.old moments.new }
-{
-    for k in 0..moments.len() {
-        let moment = &mut moments[k];
-        moment.step(to, place, node, offset);
-    }
-}
-
-/// Registers become the value of a field at a place.
-#[inline(always)]
-pub(crate) fn reads(
-    moments: &mut [Moment],
-    to: u32,
-    place: u32,
-    layout: u32,
-    field: u32,
-    index: &[u32],
-)
-    ensures { AllMove (λ seen. does seen (v.ReadCell to place layout field index.now)) moments.old moments.new }
-{
-    for k in 0..moments.len() {
-        let moment = &mut moments[k];
-        moment.read(to, place, layout, field, index);
-    }
-}
-
-/// Registers become the value of a field in the iteration's own cell.
-#[inline(always)]
-pub(crate) fn own_reads(moments: &mut [Moment], to: u32, layout: u32, field: u32)
-    ensures { AllMove (λ seen. does seen (v.OwnRead to layout field)) moments.old moments.new }
-{
-    for k in 0..moments.len() {
-        let moment = &mut moments[k];
-        moment.own_read(to, layout, field);
-    }
-}
-
-/// An own write.
-#[inline(always)]
-pub(crate) fn own_writes(moments: &mut [Moment], layout: u32, field: u32, from: u32, stmt: u32)
-    ensures { AllMove (λ seen. does seen (v.OwnWrite layout field from stmt)) moments.old moments.new }
-{
-    for k in 0..moments.len() {
-        let moment = &mut moments[k];
-        moment.own_write(layout, field, from, stmt);
-    }
-}
-
-/// A contribution.
-#[inline(always)]
-pub(crate) fn contributions(
-    moments: &mut [Moment],
-    op: AccOp,
-    layout: u32,
-    field: u32,
-    place: u32,
-    from: u32,
-    index: &[u32],
-    stmt: u32,
-)
-    ensures { AllMove (λ seen. does seen (v.Acc op layout field place from index.now stmt)) moments.old moments.new }
-{
-    for k in 0..moments.len() {
-        let moment = &mut moments[k];
-        moment.contribute(op, layout, field, place, from, index, stmt);
-    }
-}
-
-/// A wanted coordinate.
-#[inline(always)]
-pub(crate) fn wants(moments: &mut [Moment], layout: u32, index: &[u32], stmt: u32)
-    ensures { AllMove (λ seen. does seen (v.Want layout index.now stmt)) moments.old moments.new }
-{
-    for k in 0..moments.len() {
-        let moment = &mut moments[k];
-        moment.want(layout, index, stmt);
+    if batch.has_regs(to, high, low) {
+        join(batch.regs.as_mut_slice(), columns, to, high, size, low);
     }
 }
 
 /// Variables become a word.
 #[inline(always)]
-pub(crate) fn set_vars(moments: &mut [Moment], var: u32, word: u32)
-    ensures { AllMove (λ seen. set_var_word var word) moments.old moments.new }
+pub(crate) fn set_vars(batch: &mut Batch, columns: Columns, var: u32, word: u32)
+    ensures { AllMove (λ seen. set_var_word var word) columns.first columns.end batch.old batch.new }
 {
-    for k in 0..moments.len() {
-        let moment = &mut moments[k];
-        moment.set_var(var, word);
+    if batch.has_var(var) {
+        fill(batch.vars.as_mut_slice(), columns, var, word);
     }
 }

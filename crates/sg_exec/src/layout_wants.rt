@@ -5,8 +5,8 @@ ghost use Rattle.sg_coord.specs.Bounds.{bounds_of};
 ghost use Rattle.sg_coord.specs.Coord.{Inside};
 ghost use Rattle.sg_exec.specs.steps.Turning.{turn_count, wanted_of};
 
-use crate::batch::{iterate_all, rows_for};
-use crate::moment::Moment;
+use crate::ahead::{Ahead, column_of};
+use crate::batch::batch_for;
 use crate::turns::Turns;
 use crate::values::ONE_POINT;
 use sg_activate::Wanted;
@@ -16,7 +16,8 @@ use sg_store::Stores;
 use sg_words::Memory;
 use std::alloc::Global;
 
-/// What turns want in a layout with these extents; each turn is a piece. A worker runs the slice on one row of its own.
+/// What turns want in a layout with these extents; each turn is a piece. A worker runs the slice at several points side by side, ahead of their
+/// pieces.
 #[derive(Drop)]
 pub struct LayoutWants<'a> {
     pub stores: &'a Stores,
@@ -28,7 +29,7 @@ pub struct LayoutWants<'a> {
 }
 
 impl<'a> Wanted for LayoutWants<'a> {
-    type Hand = Vec<Moment<'a>>;
+    type Hand = Ahead<'a>;
 
     ghost use Rattle.sg_coord.specs.Bounds.{bounds_of};
     ghost use Rattle.sg_exec.specs.steps.Turning.{Means, MayRun};
@@ -39,28 +40,36 @@ impl<'a> Wanted for LayoutWants<'a> {
 
     ghost Means = { λ want list. Means want.stores.now.list want.turns (bounds_of want.extents) want.layout list };
 
-    ghost IsHand = { λ want hand. MayRun want.stores.now.list hand.items };
+    ghost IsHand = { λ want hand. MayRun want.stores.now.list want.turns hand };
 
     fn pieces(&self) -> u32 {
         self.count
     }
 
-    fn hand(&self, alloc: Global) -> Result<Vec<Moment<'a>>, Memory> {
-        rows_for(alloc, self.stores, &[], 1)
+    fn hand(&self, alloc: Global) -> Result<Ahead<'a>, Memory> {
+        let batch = batch_for(alloc, self.stores, &[])?;
+        Ok(Ahead {
+            batch,
+            first: 0,
+            count: 0,
+        })
     }
 
     fn wanted(
         &self,
-        hand: &mut Vec<Moment<'a>>,
+        hand: &mut Ahead<'a>,
         piece: u32,
         into: &mut Vec<Coord>,
     ) -> Result<(), Memory> {
         match self.turns {
             Turns::Slice { points, block } => {
-                let rows = hand.as_mut_slice();
-                iterate_all(self.stores, &[], rows, &[points[piece as usize]], block)?;
-                let ran = &*rows;
-                add_wants(ran[0].wants.as_slice(), self.layout, &self.extents, into)
+                let column = column_of(self.stores, points, block, hand, piece)?;
+                add_wants(
+                    hand.batch.moments[column].wants.as_slice(),
+                    self.layout,
+                    &self.extents,
+                    into,
+                )
             }
             Turns::Rows(rows) => {
                 let row = rows[piece as usize];

@@ -3,17 +3,23 @@
 
 mod accesses;
 mod activated;
+mod ahead;
 mod batch;
 mod cell_write;
+mod cells;
+mod columns;
 mod contributions;
 mod fields;
 pub mod hand;
 mod held;
+mod in_place;
 mod instructions;
 mod iteration;
+mod known;
 mod landing;
 mod lanes;
 mod layout_wants;
+pub mod made;
 mod moment;
 mod outside;
 mod own;
@@ -23,6 +29,7 @@ mod points;
 mod row;
 pub mod run;
 pub mod shared;
+mod spots;
 pub mod sums;
 #[cfg(test)]
 mod tests;

@@ -5,11 +5,10 @@ ghost use Rattle.std.specs.Thread.{IsSync};
 ghost use Rattle.sg_flat.specs.Kernel.{is_inside_of, outside_among, first_outside};
 ghost use Rattle.sg_exec.specs.Running.{turn_of};
 ghost use Rattle.sg_exec.specs.Standing.{shapes_of};
-ghost use Rattle.sg_exec.specs.steps.Moments.{AreOver};
+ghost use Rattle.sg_exec.specs.steps.Moments.{IsOver};
 ghost use Rattle.sg_exec.specs.steps.Turning.{SliceTells, IsActive, IsActiveAt, in_both};
 
-use crate::batch::{SIDE_BY_SIDE, iterate_all, rows_for};
-use crate::moment::Moment;
+use crate::batch::{Batch, SIDE_BY_SIDE, batch_for, iterate_all};
 use crate::turns::block_seeks;
 use sg_coord::{Coord, inside};
 use sg_flat::{RunFault, Write};
@@ -92,43 +91,40 @@ fn no_want_outside_here(
 ) -> Result<bool, Stop<RunFault>>
     ensures { SliceTells stores.now.list block.now points.now result }
 {
-    let mut list = rows_for(alloc, stores, &[], points.len().min(SIDE_BY_SIDE))?;
-    let rows = list.as_mut_slice();
+    let mut batch = batch_for(alloc, stores, &[])?;
     let mut active = true;
     let mut last = None;
     for number in 0..points.len() / SIDE_BY_SIDE + 1 {
         let first = number * SIDE_BY_SIDE;
         let count = (points.len() - first).min(SIDE_BY_SIDE);
-        let these = &mut rows[..count];
         let some = &points[first..first + count];
-        active = no_want_outside_among(stores, these, some, block, active, &mut last)?;
+        active = no_want_outside_among(stores, &mut batch, some, block, active, &mut last)?;
     }
     Ok(active)
 }
 
-/// What the first pass tells of as many points as there are rows, where it is known whether all was active so far.
+/// What the first pass tells of up to 32 points, where it is known whether all was active so far.
 fn no_want_outside_among(
     stores: &Stores,
-    rows: &mut [Moment],
+    batch: &mut Batch,
     points: &[Coord],
     block: &[Inst],
     active: bool,
     last: &mut Option<(u32, Coord)>,
 ) -> Result<bool, Stop<RunFault>>
-    requires room { length points.now ≡ length rows.old }
-    requires over { AreOver stores.now.list rows.old }
+    requires few { length points.now ≤ 32 }
+    requires over { IsOver stores.now.list batch.old }
     requires last { IfSome last.old (λ it. IsActiveAt stores.now.list it.0 it.1) }
-    ensures over { AreOver stores.now.list rows.new }
-    ensures long { length rows.new ≡ length rows.old }
+    ensures over { IsOver stores.now.list batch.new }
     ensures last { IfSome last.new (λ it. IsActiveAt stores.now.list it.0 it.1) }
     ensures so_far { IfOk result (λ all. IsTrue all → IsTrue active) }
     ensures told { SliceTells stores.now.list block.now points.now result }
 {
-    iterate_all(stores, &[], rows, points, block)?;
+    iterate_all(stores, &[], batch, points, block)?;
     let mut all = active;
     for k in 0..points.len() {
-        let wants = rows[k].wants.as_slice();
-        if let Some(fault) = outside_among(stores, points[k], wants) {
+        let wants = batch.moments[k].wants.as_slice();
+        if let Some(fault) = outside_among(stores, points[k], wants, last) {
             return Err(Stop::Refused(fault));
         }
         all = are_active(stores, wants, all, last);
@@ -205,7 +201,7 @@ pub(crate) fn first_outside(stores: &Stores, rows: &[Write]) -> Option<RunFault>
     ensures { result ≡ first_outside (shapes_of stores.now.list) (map turn_of rows.now) }
 {
     for row in rows {
-        if let Some(fault) = outside_among(stores, row.at, &[*row]) {
+        if let Some(fault) = outside_among(stores, row.at, &[*row], &None) {
             return Some(fault);
         }
     }
@@ -214,11 +210,17 @@ pub(crate) fn first_outside(stores: &Stores, rows: &[Write]) -> Option<RunFault>
 
 /// The fault of the first write outside of one turn.
 #[inline(always)]
-fn outside_among(stores: &Stores, at: Coord, writes: &[Write]) -> Option<RunFault>
+fn outside_among(
+    stores: &Stores,
+    at: Coord,
+    writes: &[Write],
+    last: &Option<(u32, Coord)>,
+) -> Option<RunFault>
+    requires last { IfSome last.now (λ it. IsActiveAt stores.now.list it.0 it.1) }
     ensures { result ≡ outside_among (shapes_of stores.now.list) at writes.now }
 {
     for write in writes {
-        if !is_inside(stores, write.layout, write.at) {
+        if !is_within(stores, write.layout, write.at, last) {
             return Some(RunFault::WriteOutside {
                 stmt: write.stmt,
                 at,
@@ -226,6 +228,18 @@ fn outside_among(stores: &Stores, at: Coord, writes: &[Write]) -> Option<RunFaul
         }
     }
     None
+}
+
+/// Whether a coordinate is inside the extents of a layout. The one that was found active last is.
+#[inline(always)]
+fn is_within(stores: &Stores, layout: u32, at: Coord, last: &Option<(u32, Coord)>) -> bool
+    requires last { IfSome last.now (λ it. IsActiveAt stores.now.list it.0 it.1) }
+    ensures { result ≡ is_inside_of (slice_get (shapes_of stores.now.list) layout) at }
+{
+    if is_last(last, layout, at) {
+        return true;
+    }
+    is_inside(stores, layout, at)
 }
 
 /// Whether a coordinate is inside the extents of a layout.

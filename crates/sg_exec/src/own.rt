@@ -6,8 +6,9 @@ ghost use Rattle.sg_flat.specs.State.{value_of};
 ghost use Rattle.sg_store.specs.StandsFor.{StandsFor};
 ghost use Rattle.sg_store.specs.StoreWords.{StoreWords};
 ghost use Rattle.sg_exec.specs.Standing.{shapes_of};
-ghost use Rattle.sg_exec.specs.steps.Machines.{cell_there, IsCellOf, IsOwnCell, AreOwnCells};
+ghost use Rattle.sg_exec.specs.steps.Machines.{cell_there, IsCellOf, IsOwnCell, AreOwnCells, IsStoreOf};
 
+use crate::known::{Known, store_of};
 use crate::own_cell::OwnCell;
 use crate::values::value_in;
 use crate::view::View;
@@ -51,14 +52,21 @@ pub(crate) fn cell_of(view: &View, layout: u32, at: Coord) -> Option<u32>
     }
 }
 
-/// The value of a field in a cell of a layout's store, and 0 where there is none.
+/// The value of a field in a cell of a layout's store, and 0 where there is none. Where that store is the known one, it isn't looked for.
 #[inline(always)]
-pub(crate) fn value_of(view: &View, layout: u32, place: u32, cell: Option<u32>) -> u32
+pub(crate) fn value_of(
+    view: &View,
+    known: Option<Known>,
+    layout: u32,
+    place: u32,
+    cell: Option<u32>,
+) -> u32
+    requires known { IfSome known (λ known. IsStoreOf view.now known.layout known.store.now) }
     requires cell { IfSome cell (IsCellOf view.now layout) }
     ensures { (state : FlatState) → AllZip StandsFor view.now state.layouts → (at : Coord) → cell_there view.now layout (Some at) ≡ cell →
         result ≡ value_of (shapes_of view.now) state layout place at }
 {
-    match view.get(layout) {
+    match store_of(view, known, layout) {
         Some(store) => value_in(store, place, cell),
         None => 0,
     }

@@ -1,4 +1,4 @@
-ghost use Rattle.std.specs.Prelude.{◌≡◌, ◌++◌, ℕ, Some, slice_get, IfOk, OnOk};
+ghost use Rattle.std.specs.Prelude.{◌≡◌, ◌≤◌, ◌++◌, ℕ, Some, slice_get, IfOk, OnOk};
 ghost use Rattle.std.specs.List.{AllZip};
 ghost use Rattle.sg_coord.specs.Bounds.{IsBounds};
 ghost use Rattle.sg_layout.specs.Axes.{bounds_of_shape};
@@ -10,14 +10,22 @@ ghost use Rattle.sg_store.specs.StandsFor.{StandsFor};
 ghost use Rattle.sg_exec.specs.steps.Boxes.{line_points, plane_points};
 
 use sg_coord::Coord;
-use sg_elements::elements;
+use sg_elements::elements_by_workers;
 use sg_flat::Domain;
 use sg_store::Stores;
 use sg_words::{Items, Memory};
 use std::alloc::Global;
+use std::thread::Threads;
 
-/// The points that a loop visits, in row order.
-pub fn domain_points(alloc: Global, stores: &Stores, domain: Domain) -> Result<Items<Coord>, Memory>
+/// The points that a loop visits, in row order. Those of a walk are listed by so many workers.
+pub fn domain_points<R: Threads + Sync>(
+    rt: &R,
+    alloc: Global,
+    stores: &Stores,
+    domain: Domain,
+    workers: u32,
+) -> Result<Items<Coord>, Memory>
+    requires some { 1 ≤ workers }
     ensures points { IfOk result (λ points. (state : FlatState) → AllZip StandsFor stores.now.list state.layouts →
         points ≡ domain_points state domain) }
     ensures bounds { IfOk result (λ _. (layout : ℕ) (store : StoreWords) → domain ≡ Walk layout →
@@ -28,7 +36,7 @@ pub fn domain_points(alloc: Global, stores: &Stores, domain: Domain) -> Result<I
             Some(store) => {
                 // for the bounds that they ensure
                 let _extents = store.layout().extents();
-                elements(alloc, store)
+                elements_by_workers(rt, alloc, store, workers)
             }
             None => Ok(Items::new(alloc)),
         },

@@ -1,50 +1,55 @@
-ghost use Rattle.std.specs.Prelude.{◌≡◌, ◌<◌, ℕ, length, get_or, OnOk, OnErr};
-ghost use Rattle.sg_ir.specs.Runs.{put};
+//! Rows of items, each with an item in each of 32 columns. The item of a row in a column stands in a list at 32 times the row's number plus
+//! the column's.
+
+ghost use Rattle.std.specs.Prelude.{◌≡◌, ◌≤◌, ◌+◌, ◌*◌, ℕ, length, get_or, OnOk, IsTrue};
 
 use sg_words::Memory;
 
-/// Gives an item of a row another value. A row that ends before it is made longer, by items `none`.
+/// Makes a list long enough for a row, by items `none`. False where memory is wanting.
 #[inline(always)]
-pub(crate) fn put<T: Copy>(row: &mut Vec<T>, to: u32, value: T, none: T) -> Result<(), Memory>
-    ensures ok { OnOk result ((number : ℕ) → get_or row.new.items number none ≡ put to value (λ other. get_or row.old.items other none) number) }
-    ensures err { OnErr result ((number : ℕ) → get_or row.new.items number none ≡ get_or row.old.items number none) }
+pub(crate) fn reaches<T: Copy>(items: &mut Vec<T>, number: u32, none: T) -> bool
+    ensures long { IsTrue result → number * 32 + 32 ≤ length items.new.items }
+    ensures longer { length items.old.items ≤ length items.new.items }
+    ensures same { (place : ℕ) → get_or items.new.items place none ≡ get_or items.old.items place none }
 {
-    if let Some(item) = row.get_mut(to as usize) {
-        *item = value;
-        return Ok(());
+    let count = number as usize * 32 + 32;
+    if count <= items.len() {
+        return true;
     }
-    lengthen(row, to, none)?;
-    row[to as usize] = value;
-    Ok(())
+    match lengthen(items, count, none) {
+        Ok(()) => true,
+        Err(_) => false,
+    }
 }
 
-/// Makes a row longer, by items `none`, so that it has an item with a number. The items aren't passed to it, so that they can stay in
-/// registers.
+/// Makes a list so long, by items `none`. The items aren't passed to it, so that they can stay in registers.
 #[cold]
 #[inline(never)]
-fn lengthen<T: Copy>(row: &mut Vec<T>, to: u32, none: T) -> Result<(), Memory>
-    ensures ok { OnOk result (to < length row.new.items) }
-    ensures same { (number : ℕ) → get_or row.new.items number none ≡ get_or row.old.items number none }
+fn lengthen<T: Copy>(items: &mut Vec<T>, count: usize, none: T) -> Result<(), Memory>
+    ensures ok { OnOk result (count ≤ length items.new.items) }
+    ensures longer { length items.old.items ≤ length items.new.items }
+    ensures same { (place : ℕ) → get_or items.new.items place none ≡ get_or items.old.items place none }
 {
-    let place = to as usize;
-    for _size in row.len()..place + 1 {
-        row.push(none)?;
+    for _size in items.len()..count {
+        items.push(none)?;
     }
     Ok(())
 }
 
-/// Makes all items of a row `none`.
+/// Makes all items of a list `none`.
 #[inline(always)]
-pub(crate) fn reset<T: Copy>(row: &mut Vec<T>, none: T)
-    ensures { (number : ℕ) → get_or row.new.items number none ≡ none }
+pub(crate) fn reset<T: Copy>(items: &mut Vec<T>, none: T)
+    ensures none { (place : ℕ) → get_or items.new.items place none ≡ none }
+    ensures long { length items.new.items ≡ length items.old.items }
 {
-    reset_all(row.as_mut_slice(), none);
+    reset_all(items.as_mut_slice(), none);
 }
 
 /// Makes all items of a slice `none`.
 #[inline(always)]
 fn reset_all<T: Copy>(items: &mut [T], none: T)
-    ensures { (number : ℕ) → get_or items.new number none ≡ none }
+    ensures none { (place : ℕ) → get_or items.new place none ≡ none }
+    ensures long { length items.new ≡ length items.old }
 {
     for place in 0..items.len() {
         items[place] = none;

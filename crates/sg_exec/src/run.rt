@@ -1,14 +1,16 @@
-ghost use Rattle.std.specs.Prelude.{◌≡◌, ◌<◌, ◌≤◌, List, length, IfOk, OnErr};
+ghost use Rattle.std.specs.Prelude.{◌≡◌, ◌<◌, ◌≤◌, [], length, IfOk, OnErr, vec_capacity};
 ghost use Rattle.std.specs.List.{AllZip};
 ghost use Rattle.sg_flat.specs.declared.state.FlatState.{FlatState};
-ghost use Rattle.sg_store.specs.StoreWords.{StoreWords};
 ghost use Rattle.sg_store.specs.StandsFor.{StandsFor};
 ghost use Rattle.sg_exec.specs.Standing.{shapes_of, StandForState};
 ghost use Rattle.sg_exec.specs.Running.{IsRunnable, Ran, run_meaning, load_meaning};
-ghost use Rattle.sg_exec.specs.steps.Landing.{current, with_copied_store, with_copy, CopiesRan};
+ghost use Rattle.sg_exec.specs.steps.Landing.{current, with_copied_store, CopiesRan};
+ghost use Rattle.sg_exec.specs.steps.Made.{CanLand, MadeRan};
 
 use crate::activated::{activated_for_rows, activated_for_slice};
+use crate::in_place::land;
 use crate::landing::land_all;
+use crate::made::Made;
 use crate::points::domain_points;
 use crate::sums::raced_points;
 use crate::values::ONE_POINT;
@@ -18,7 +20,7 @@ use sg_ir::KernelCode;
 use sg_layout::{Layouts, closure_closes, closure_members};
 use sg_outside::Gate;
 use sg_store::{Store, Stores};
-use sg_words::Stop;
+use sg_words::{Memory, Stop};
 use std::alloc::Global;
 use std::thread::Threads;
 
@@ -41,8 +43,8 @@ pub fn run_kernel<R: Threads + Sync, G: Gate + Sync>(
     ensures stays { OnErr result (stores.new ≡ stores.old) }
 {
     let _layouts = layouts;
-    let copies = kernel_copies(rt, alloc, stores, kernel, workers, gate)?;
-    settle(stores, copies);
+    let made = kernel_made(rt, alloc, stores, kernel, workers, gate)?;
+    land(alloc, stores, made);
     Ok(())
 }
 
@@ -66,66 +68,45 @@ pub fn load_rows<R: Threads + Sync>(
     Ok(())
 }
 
-/// Copies of the stores that a kernel writes, as they are after it.
-pub(crate) fn kernel_copies<R: Threads + Sync, G: Gate + Sync>(
+/// What a kernel makes of the stores, and room to land it.
+pub(crate) fn kernel_made<R: Threads + Sync, G: Gate + Sync>(
     rt: &R,
     alloc: Global,
     stores: &Stores,
     kernel: &KernelCode,
     workers: u32,
     gate: &G,
-) -> Result<Vec<Option<Store>>, Stop<RunFault>>
+) -> Result<Made, Stop<RunFault>>
     requires some { 1 ≤ workers }
     requires few { workers ≤ 16 }
     ensures ran { IsRunnable (shapes_of stores.now.list) kernel.now → (state : FlatState) → AllZip StandsFor stores.now.list state.layouts →
-        CopiesRan (λ copies. current copies.items stores.now.list) (shapes_of stores.now.list) result
-        (run_meaning (shapes_of stores.now.list) state kernel.now) }
-    ensures room { IfOk result (λ copies. length copies.items ≡ length stores.now.list) }
+        MadeRan stores.now.list result (run_meaning (shapes_of stores.now.list) state kernel.now) }
+    ensures lands { IfOk result (CanLand stores.now.list) }
 {
     // for the laws that they ensure
     numbering(&ONE_POINT);
     closure_members();
     closure_closes();
-    let points = domain_points(alloc, stores, kernel.domain)?;
+    let points = domain_points(rt, alloc, stores, kernel.domain, workers)?;
     let points = points.as_slice();
     let slice = kernel.slice.body.as_slice();
-    let mut copies = activated_for_slice(rt, alloc, stores, points, slice, workers, gate)?;
-    let landed = raced_points(
-        rt,
-        alloc,
-        stores,
-        &copies,
-        points,
-        kernel.code.body.as_slice(),
-        workers,
-        gate,
-    )?;
-    take_copies(&mut copies, landed);
-    Ok(copies)
+    let copies = activated_for_slice(rt, alloc, stores, points, slice, workers, gate)?;
+    let code = kernel.code.body.as_slice();
+    let ended = raced_points(rt, alloc, stores, &copies, points, code, workers, gate)?;
+    let room = room_for(alloc, stores)?;
+    Ok(Made {
+        copies,
+        ended,
+        room,
+    })
 }
 
-/// Puts copies in the places of others, where there are some.
-fn take_copies(copies: &mut Vec<Option<Store>>, landed: Vec<Option<Store>>)
-    requires room { length landed.items ≡ length copies.old.items }
-    ensures copies { (stores : List StoreWords) → length stores ≡ length copies.old.items →
-        current copies.new.items stores ≡ current landed.items (current copies.old.items stores) }
-    ensures room { length copies.new.items ≡ length copies.old.items }
+/// Room for as many stores.
+fn room_for(alloc: Global, stores: &Stores) -> Result<Vec<Store>, Memory>
+    ensures none { IfOk result (λ room. room.items ≡ []) }
+    ensures space { IfOk result (λ room. length stores.now.list ≤ vec_capacity room) }
 {
-    let mut landed = landed;
-    for number in 0..landed.len() {
-        let slot = &mut landed[number];
-        let copy = slot.take();
-        put_copy(copies, number, copy);
-    }
-}
-
-fn put_copy(copies: &mut Vec<Option<Store>>, number: usize, copy: Option<Store>)
-    requires { number < length copies.old.items }
-    ensures { copies.new.items ≡ with_copy copies.old.items number copy }
-{
-    if let Some(store) = copy {
-        copies[number] = Some(store);
-    }
+    Ok(Vec::with_capacity(alloc, stores.list.len())?)
 }
 
 /// Copies of the stores that have a row, as they are after the load.

@@ -1,7 +1,8 @@
 //! Loads and kernels over a small store, and what they leave.
 
+use crate::in_place::land;
 use crate::load_rows;
-use crate::run::{kernel_copies, settle};
+use crate::run::kernel_made;
 use sg_coord::Coord;
 use sg_flat::{Domain, RunFault, Way, Write};
 use sg_ir::{Code, Inst, KernelCode};
@@ -333,9 +334,9 @@ fn ran<R: Threads + Sync>(
     stores: &mut Stores,
     kernel: &KernelCode,
 ) -> Result<Option<RunFault>, Memory> {
-    match kernel_copies(rt, alloc, stores, kernel, 2, &FreeGate) {
-        Ok(copies) => {
-            settle(stores, copies);
+    match kernel_made(rt, alloc, stores, kernel, 2, &FreeGate) {
+        Ok(made) => {
+            land(alloc, stores, made);
             Ok(None)
         }
         Err(Stop::Refused(fault)) => Ok(Some(fault)),

@@ -1,7 +1,7 @@
 ghost use Rattle.std.specs.Prelude.{◌≡◌, ◌++◌, ◌+◌, ◌-◌, ◌/◌, ◌≤◌, ◌<◌, ℕ, length, take, Contains, IfOk, OnOk, Some, slice_get};
 ghost use Rattle.sg_coord.specs.declared.coord.Coord.{Coord};
 ghost use Rattle.sg_exec.specs.declared.hand.Hand.{Hand};
-ghost use Rattle.sg_exec.specs.steps.Moments.{AreOver};
+ghost use Rattle.sg_exec.specs.steps.Moments.{IsOver};
 ghost use Rattle.std.specs.Thread.{IsSync};
 ghost use Rattle.sg_coord.specs.Slices.{slice_start};
 ghost use Rattle.sg_words.specs.RaceMachine.{after_split, other_half, after_join};
@@ -16,10 +16,9 @@ ghost use Rattle.sg_exec.specs.steps.Landing.{current};
 ghost use Rattle.sg_exec.specs.steps.Racing.{wrote, between, ArePasses, AreSeats, HaveShares, AreSplit, AreJoined, IsDivided, IsOfBoth};
 ghost use Rattle.sg_exec.specs.steps.Working.{HasRunAt};
 
-use crate::batch::{SIDE_BY_SIDE, iterate_all, rows_for};
+use crate::batch::{Batch, SIDE_BY_SIDE, batch_for, iterate_all};
 use crate::contributions::{give_all, put_all};
 use crate::hand::Hand;
-use crate::moment::Moment;
 use crate::shared::{Accumulated, Owned};
 use sg_accum::AccSeat;
 use sg_coord::{Coord, slice_of};
@@ -181,8 +180,7 @@ fn work<G: Gate>(
 {
     let (from, to) = slice_of(points.len(), all, worker);
     let mine = &points[from..to];
-    let mut moments = rows_for(alloc, stores, reached, mine.len().min(SIDE_BY_SIDE))?;
-    let rows = moments.as_mut_slice();
+    let mut batch = batch_for(alloc, stores, reached)?;
     work_all(
         stores,
         reached,
@@ -193,12 +191,12 @@ fn work<G: Gate>(
         gate,
         worker,
         mine,
-        rows,
+        &mut batch,
         hand,
     )
 }
 
-/// The iterations at all these points, as many side by side as there are rows.
+/// The iterations at all these points, up to 32 side by side.
 fn work_all<G: Gate>(
     stores: &Stores,
     reached: &[Option<Store>],
@@ -209,12 +207,11 @@ fn work_all<G: Gate>(
     gate: &G,
     worker: u32,
     mine: &[Coord],
-    moments: &mut [Moment],
+    batch: &mut Batch,
     hand: Hand,
 ) -> Result<Hand, Memory>
-    requires rows { (count : ℕ) → count ≤ length mine.now → count ≤ 16 → count ≤ length moments.old }
     requires among { (at : Coord) → Contains mine.now at → Contains points.now at }
-    requires over { AreOver (current reached.now stores.now.list) moments.old }
+    requires over { IsOver (current reached.now stores.now.list) batch.old }
     requires passes { ArePasses (current reached.now stores.now.list) accumulated.now }
     requires seats { AreSeats accumulated.now hand.seats.items }
     requires cells { AreCells (current reached.now stores.now.list) hand.puts.items }
@@ -237,15 +234,15 @@ fn work_all<G: Gate>(
             worker,
             mine,
             first,
-            &mut moments[..count],
+            count,
+            batch,
             &mut hand,
         )?;
     }
     Ok(hand)
 }
 
-/// The iterations at the points from one number on, side by side, as many as there are rows. Before each one's contributions the worker
-/// passes the gate.
+/// So many iterations at the points from one number on, side by side. Before each one's contributions the worker passes the gate.
 fn work_some<G: Gate>(
     stores: &Stores,
     reached: &[Option<Store>],
@@ -257,31 +254,33 @@ fn work_some<G: Gate>(
     worker: u32,
     mine: &[Coord],
     first: usize,
-    moments: &mut [Moment],
+    count: usize,
+    batch: &mut Batch,
     hand: &mut Hand,
 ) -> Result<(), Memory>
-    requires room { first + length moments.old ≤ length mine.now }
+    requires few { count ≤ 32 }
+    requires room { first + count ≤ length mine.now }
     requires among { (at : Coord) → Contains mine.now at → Contains points.now at }
-    requires over { AreOver (current reached.now stores.now.list) moments.old }
+    requires over { IsOver (current reached.now stores.now.list) batch.old }
     requires passes { ArePasses (current reached.now stores.now.list) accumulated.now }
     requires seats { AreSeats accumulated.now hand.old.seats.items }
     requires cells { AreCells (current reached.now stores.now.list) hand.old.puts.items }
-    ensures over { AreOver (current reached.now stores.now.list) moments.new }
+    ensures over { IsOver (current reached.now stores.now.list) batch.new }
     ensures seats { OnOk result (AreSeats accumulated.now hand.new.seats.items) }
     ensures cells { OnOk result (AreCells (current reached.now stores.now.list) hand.new.puts.items) }
     ensures ran { OnOk result ((start : Hand) →
         HasRunAt (current reached.now stores.now.list) code.now points.now (take first mine.now) accumulated.now owned.now start hand.old →
-        HasRunAt (current reached.now stores.now.list) code.now points.now (take (first + length moments.old) mine.now) accumulated.now owned.now start hand.new) }
+        HasRunAt (current reached.now stores.now.list) code.now points.now (take (first + count) mine.now) accumulated.now owned.now start hand.new) }
 {
-    let (_points, count) = (points, moments.len());
-    iterate_all(stores, reached, moments, &mine[first..first + count], code)?;
+    let _points = points;
+    iterate_all(stores, reached, batch, &mine[first..first + count], code)?;
     for k in 0..count {
         let turn = u32::try_from(first + k).unwrap_or(u32::MAX);
         gate.before(Phase::Values, worker, turn);
-        let moment = &moments[k];
-        let writes = moment.places.writes();
+        let moment = &batch.moments[k];
+        let writes = moment.cells.writes();
         give_all(stores, reached, accumulated, writes, &mut hand.seats);
-        put_all(owned, &moment.places, &mut hand.puts)?;
+        put_all(owned, &moment.cells, &mut hand.puts)?;
     }
     Ok(())
 }

@@ -1,5 +1,5 @@
 -- Copies in the places of stores, and the writes that land in them.
-use Rattle.std.specs.Prelude.{◌≡◌, ℕ, suc, true, List, [], ◌∷◌, map, All, Contains, IfSome, Option, Some, None, Result, Ok, Err, unwrap_or, slice_get, slice_set, if◌then◌else◌}
+use Rattle.std.specs.Prelude.{◌≡◌, ℕ, suc, true, List, [], ◌∷◌, map, All, Contains, Option, Some, None, Result, Ok, Err, unwrap_or, slice_get, slice_set, if◌then◌else◌}
 use Rattle.std.specs.List.{AllZip}
 use Rattle.std.specs.Result.{IsOkAnd}
 use Rattle.sg_words.specs.declared.memory.Stop.{Stop}
@@ -35,11 +35,6 @@ current (copy ∷ copies) (store ∷ stores) = unwrap_or copy store ∷ current 
 abbrev pub with_copied_store : List StoreWords → ℕ → Option StoreWords → List StoreWords
 with_copied_store stores number None = stores
 with_copied_store stores number (Some store) = slice_set stores number store
-
--- the copies with another one, where there is one
-abbrev pub with_copy : List (Option StoreWords) → ℕ → Option StoreWords → List (Option StoreWords)
-with_copy copies number None = copies
-with_copy copies number (Some store) = slice_set copies number (Some store)
 
 -- the fields of a layout, from the given place on, after writes
 abbrev pub fields_landed : Bounds → ℕ → ℕ → List Ty → List (List (ℕ × ℕ)) → List Write → List (List (ℕ × ℕ))
@@ -110,7 +105,3 @@ pub record IsLanding (store : StoreWords) (write : CellWrite) (made : Write) : T
   pub way : write.way ≡ made.way
   pub value : write.value ≡ made.value
   pub cell : is_inside (bounds_of_shape store.shape) made.at ≡ true → write.cell ≡ cell_in store made.at
-
--- there is room for a copy of each store, and each copy has the tree of its store
-abbrev pub AreCopies : List StoreWords → List (Option StoreWords) → Type 0
-AreCopies stores copies = AllZip (λ store copy. IfSome copy (HasTree store)) stores copies

@@ -14,7 +14,7 @@ use Rattle.sg_store.specs.StandsFor.{StandsFor}
 use Rattle.sg_store.specs.Spots.{LeadsAlong}
 use Rattle.sg_store.specs.Walks.{cell_in}
 use Rattle.sg_store.specs.WellFormed.{IsReached}
-use Rattle.sg_ir.specs.Runs.{Seen, Place, CodeWrite, CodeWant, is_own}
+use Rattle.sg_ir.specs.Runs.{Seen, Place, CodeWrite, CodeWant, is_own, down}
 use Rattle.sg_exec.specs.declared.held.Held.{Held}
 use Rattle.sg_exec.specs.declared.own_cell.OwnCell.{OwnCell}
 use Rattle.sg_exec.specs.declared.cell_write.CellWrite.{CellWrite}
@@ -63,9 +63,14 @@ pub record IsHeld (stores : List StoreWords) (held : Held) : Type 0 where
   pub there : slice_get stores held.layout ≡ Some store
   pub leads : LeadsAlong store held.spot path
 
--- each spot in a row is one of a store
+-- each spot in a list is one of a store
 abbrev pub AreHeld : List StoreWords → List (Option Held) → Type 0
-AreHeld stores list = (p : ℕ) (held : Held) → get_or list p None ≡ Some held → IsHeld stores held
+AreHeld stores list = (place : ℕ) → IfSome (get_or list place None) (IsHeld stores)
+
+-- a step down leads from what a register holds, for each place that this may be, to what holds the place below
+pub record StepsDown (stores : List StoreWords) (node offset : ℕ) (held below : Option Held) : Type 0 where
+  pub held_below : IfSome below (IsHeld stores)
+  pub holds : (there : Option Place) → HoldsPlace stores held there → HoldsPlace stores below (down (shapes_of stores) node offset there)
 
 -- ---- cells and writes
 
@@ -107,25 +112,33 @@ IsAtLoop at write = is_own write.way ≡ true → write.at ≡ Some at
 abbrev pub AreCells : List StoreWords → List CellWrite → Type 0
 AreCells stores writes = All (λ (write : CellWrite). IfSome write.cell (IsCellOf stores write.layout)) writes
 
--- ---- the places of an iteration
+-- the store of a layout
+abbrev pub IsStoreOf : List StoreWords → ℕ → StoreWords → Type 0
+IsStoreOf stores layout store = slice_get stores layout ≡ Some store
 
--- the stores, the iteration's coordinate, what each place register holds, and what was written
-pub record PlaceRow : Type 0 where
+-- ---- the places of iterations side by side
+
+-- the stores, and what place registers hold, in rows
+pub record PlaceRows : Type 0 where
+  pub stores : List StoreWords
+  pub list : List (Option Held)
+
+-- this is what place registers hold, for these places
+abbrev pub ArePlaces : List StoreWords → (ℕ → Option Held) → (ℕ → Option Place) → Type 0
+ArePlaces stores held places = (p : ℕ) → HoldsPlace stores (held p) (places p)
+
+-- ---- the cells of an iteration
+
+-- the stores, the iteration's coordinate, and what was written
+pub record CellsMade : Type 0 where
   pub stores : List StoreWords
   pub at : Coord
-  pub list : List (Option Held)
   pub writes : List CellWrite
 
--- each spot is one of a store, each cell that was found is the coordinate's, and each that was written is one of its layout's store
-pub record IsPlaceRow (row : PlaceRow) (found : List OwnCell) : Type 0 where
-  pub held : AreHeld row.stores row.list
-  pub own : AreOwnCells row.stores row.at found
-  pub cells : AreCells row.stores row.writes
-
--- the row is that of these places, over these stores
-pub record ArePlaces (stores : List StoreWords) (row : PlaceRow) (places : ℕ → Option Place) : Type 0 where
-  pub same_stores : row.stores ≡ stores
-  pub hold : (p : ℕ) → HoldsPlace stores (get_or row.list p None) (places p)
+-- each cell that was found is the coordinate's, and each that was written is one of its layout's store
+pub record AreCellsMade (made : CellsMade) (found : List OwnCell) : Type 0 where
+  pub own : AreOwnCells made.stores made.at found
+  pub cells : AreCells made.stores made.writes
 
 -- ---- wants
 
@@ -134,10 +147,6 @@ abbrev pub want_write : CodeWant → Write
 want_write want = record { layout = want.layout; place = 0; stmt = want.stmt; at = want.at; way = Own; value = 0 }
 
 -- ---- words
-
--- each register and each variable has its word, and 0 where the row ends before it
-abbrev pub AreWords : List ℕ → (ℕ → ℕ) → Type 0
-AreWords row words = (number : ℕ) → get_or row number 0 ≡ words number
 
 -- the coordinate of these words, each read as I32
 abbrev pub coord_from : ℕ → ℕ → ℕ → ℕ → Coord

@@ -1,42 +1,134 @@
--- How the executor's rows are those of how far a run of code has come.
-use Rattle.std.specs.Prelude.{◌≡◌, ℕ, ℤ, false, List, map, fold, length, slice_get, Some, All, Contains}
+-- How the executor's rows are those of how far runs of code have come, side by side.
+use Rattle.std.specs.Prelude.{◌≡◌, ℕ, ◌<◌, ◌≤◌, Bool, ℤ, false, List, [], get_or, map, fold, length, slice_get, Option, None, Some, All, Contains}
 use Rattle.sg_words.specs.Words.{word_of}
 use Rattle.sg_coord.specs.declared.coord.Coord.{Coord}
 use Rattle.sg_flat.specs.declared.effects.Turn.{Turn}
+use Rattle.sg_flat.specs.declared.effects.Write.{Write}
 use Rattle.sg_flat.specs.declared.state.FlatState.{FlatState}
 use Rattle.sg_store.specs.StoreWords.{StoreWords}
 use Rattle.sg_ir.specs.declared.code.Inst.{Inst}
 use Rattle.sg_ir.specs.Runs.{Seen, Moved, set_var_word, runs, iteration, iteration_start}
 use Rattle.sg_ir.specs.Named.{AreNamed}
+use Rattle.sg_exec.specs.declared.batch.Batch.{Batch}
+use Rattle.sg_exec.specs.declared.held.Held.{Held}
 use Rattle.sg_exec.specs.declared.moment.Moment.{Moment}
 use Rattle.sg_exec.specs.Standing.{shapes_of}
-use Rattle.sg_exec.specs.steps.Machines.{seen_in, Sees, ArePlaces, AreWords, cell_write, IsAtLoop, want_write}
+use Rattle.sg_exec.specs.steps.Machines.{seen_in, Sees, CellsMade, ArePlaces, cell_write, IsAtLoop, want_write}
+use Rattle.sg_exec.specs.steps.Rows.{item_in, IsAmong}
 
--- a moment's rows are those of a run of code at a coordinate that has come so far, and each own write of the run is at the coordinate
-pub record IsMoved (stores : List StoreWords) (at : Coord) (moment : Moment) (now : Moved) : Type 0 where
-  pub regs_are : AreWords moment.regs.items now.regs
-  pub vars_are : AreWords moment.vars.items now.vars
-  pub places_are : ArePlaces stores moment.places now.places
-  pub at_is : moment.places.at ≡ at
-  pub writes_are : moment.places.writes ≡ map (cell_write stores) now.writes
+-- ---- one iteration
+
+-- what is in a column: the words of registers and variables and what place registers hold, by their numbers, and the moment
+pub record Column : Type 0 where
+  pub lacks : Bool
+  pub stores : List StoreWords
+  pub regs : ℕ → ℕ
+  pub vars : ℕ → ℕ
+  pub held : ℕ → Option Held
+  pub cells : CellsMade
+  pub wants : List Write
+
+-- a column of a batch, with its moment
+abbrev pub column : Batch → ℕ → Moment → Column
+column batch k moment = record {
+  lacks = batch.lacks;
+  stores = batch.places.stores;
+  regs = item_in batch.regs.items 0 k;
+  vars = item_in batch.vars.items 0 k;
+  held = item_in batch.places.list None k;
+  cells = moment.cells;
+  wants = moment.wants.items;
+}
+
+-- a column is that of a run of code at a coordinate that has come so far, and each own write of the run is at the coordinate
+pub record IsMoved (stores : List StoreWords) (at : Coord) (it : Column) (now : Moved) : Type 0 where
+  pub stores_are : it.stores ≡ stores
+  pub regs_are : (number : ℕ) → it.regs number ≡ now.regs number
+  pub vars_are : (number : ℕ) → it.vars number ≡ now.vars number
+  pub places_are : ArePlaces stores it.held now.places
+  pub cells_over : it.cells.stores ≡ stores
+  pub at_is : it.cells.at ≡ at
+  pub writes_are : it.cells.writes ≡ map (cell_write stores) now.writes
   pub own_at : All (IsAtLoop at) now.writes
-  pub wants_are : moment.wants.items ≡ map want_write now.wants
+  pub wants_are : it.wants ≡ map want_write now.wants
 
 -- the same where memory wasn't wanting, and what was read and contributed to so far went where its index registers said
-abbrev pub Follows : List StoreWords → Coord → Moment → Moved → Type 0
-Follows stores at moment now = moment.lacks ≡ false → AreNamed (shapes_of stores) now.accesses → IsMoved stores at moment now
+abbrev pub Follows : List StoreWords → Coord → Column → Moved → Type 0
+Follows stores at it now = it.lacks ≡ false → AreNamed (shapes_of stores) now.accesses → IsMoved stores at it now
 
--- a moment has become another as an action says, over any stores that have the state's values
-pub record Moves (act : Seen → Moved → Moved) (old new : Moment) : Type 0 where
-  pub stores : new.places.stores ≡ old.places.stores
+-- a column has become another as an action says, over any stores that have the state's values
+pub record Moves (act : Seen → Moved → Moved) (old new : Column) : Type 0 where
   pub kept : new.lacks ≡ false → old.lacks ≡ false
   pub follows : (stores : List StoreWords) (state : FlatState) (at : Coord) → Sees stores state → (now : Moved) →
       Follows stores at old now → Follows stores at new (act (seen_in stores state at) now)
 
--- the moment is that of a whole iteration of a block
-abbrev pub Iterated : List StoreWords → FlatState → Coord → List Inst → Moment → Type 0
-Iterated stores state at block moment = AreNamed (shapes_of stores) (iteration (seen_in stores state at) block).accesses →
-    IsMoved stores at moment (iteration (seen_in stores state at) block)
+-- ---- a batch
+
+-- all goes over these stores, in 32 columns
+pub record IsOver (stores : List StoreWords) (batch : Batch) : Type 0 where
+  pub places : batch.places.stores ≡ stores
+  pub whole : length batch.moments.items ≡ 32
+  pub moments : (k : ℕ) (moment : Moment) → slice_get batch.moments.items k ≡ Some moment → moment.cells.stores ≡ stores
+
+-- the moments of a column
+pub record AreAt (k : ℕ) (old new : Batch) (before after : Moment) : Type 0 where
+  pub before_is : slice_get old.moments.items k ≡ Some before
+  pub after_is : slice_get new.moments.items k ≡ Some after
+
+-- The columns from one number up to below another have become others as one relation says, and the rest as another.
+pub record AllBecome (Among Others : Column → Column → Type 0) (first end : ℕ) (old new : Batch) : Type 0 where
+  pub over : (stores : List StoreWords) → IsOver stores old → IsOver stores new
+  pub long : length new.moments.items ≡ length old.moments.items
+  pub among : (k : ℕ) (before after : Moment) → AreAt k old new before after → k < 32 → IsAmong first end k →
+      Among (column old k before) (column new k after)
+  pub others : (k : ℕ) (before after : Moment) → AreAt k old new before after → k < 32 → (IsAmong first end k → ⊥) →
+      Others (column old k before) (column new k after)
+
+-- a column is as it was
+abbrev pub Stays : Column → Column → Type 0
+Stays = Moves (λ seen now. now)
+
+-- In these columns a batch has moved as an action says, and the rest is as it was.
+abbrev pub AllMove : (Seen → Moved → Moved) → ℕ → ℕ → Batch → Batch → Type 0
+AllMove act = AllBecome (Moves act) Stays
+
+-- rows have at most become longer, and memory may be wanting
+pub record KeepsRows (old new : Batch) : Type 0 where
+  pub moments : new.moments ≡ old.moments
+  pub stores : new.places.stores ≡ old.places.stores
+  pub kept : new.lacks ≡ false → old.lacks ≡ false
+  pub regs : (place : ℕ) → get_or new.regs.items place 0 ≡ get_or old.regs.items place 0
+  pub vars : (place : ℕ) → get_or new.vars.items place 0 ≡ get_or old.vars.items place 0
+  pub held : (place : ℕ) → get_or new.places.list place None ≡ get_or old.places.list place None
+
+-- a column is that of a whole iteration of a block
+abbrev pub Iterated : List StoreWords → FlatState → Coord → List Inst → Batch → ℕ → Type 0
+Iterated stores state at block batch k = (moment : Moment) → slice_get batch.moments.items k ≡ Some moment →
+    AreNamed (shapes_of stores) (iteration (seen_in stores state at) block).accesses →
+    IsMoved stores at (column batch k moment) (iteration (seen_in stores state at) block)
+
+-- nothing is made at a coordinate, over the same stores
+pub record IsFresh (at : Coord) (old new : Moment) : Type 0 where
+  pub stores : new.cells.stores ≡ old.cells.stores
+  pub at_is : new.cells.at ≡ at
+  pub writes : new.cells.writes ≡ []
+  pub wants : new.wants.items ≡ []
+
+-- so it is at each of the points, and the rest are as they were
+pub record AreFresh (points : List Coord) (old new : List Moment) : Type 0 where
+  pub long : length new ≡ length old
+  pub each : (k : ℕ) (at : Coord) (before after : Moment) → slice_get points k ≡ Some at → slice_get old k ≡ Some before → slice_get new k ≡ Some after →
+      IsFresh at before after
+  pub rest : (k : ℕ) → length points ≤ k → slice_get new k ≡ slice_get old k
+
+-- each column of a point is that of the start of the iteration there
+pub record AreStarted (points : List Coord) (old new : Batch) : Type 0 where
+  pub over : (stores : List StoreWords) → IsOver stores old → IsOver stores new
+  pub start : (stores : List StoreWords) (state : FlatState) → IsOver stores old → (k : ℕ) (at : Coord) (moment : Moment) →
+      slice_get points k ≡ Some at → slice_get new.moments.items k ≡ Some moment →
+      Follows stores at (column new k moment) (iteration_start (seen_in stores state at))
+
+-- ---- points and turns
 
 -- at each of these points what a block reads and contributes to goes where its index registers say
 abbrev pub AreNamedAt : List StoreWords → FlatState → List Inst → List Coord → Type 0
@@ -51,28 +143,3 @@ slice_turn stores state block at =
 -- the turns of an inner loop, one after the other: its variable gets the turn's number, and the body runs
 abbrev pub run_turns : Seen → ℕ → List Inst → Moved → List ℤ → Moved
 run_turns seen var body now turns = fold (λ reached turn. runs seen body (set_var_word var (word_of turn) reached)) now turns
-
--- ---- several moments side by side
-
--- each of the moments before has become the one with its number afterwards
-pub record EachOf (Becomes : Moment → Moment → Type 0) (old new : List Moment) : Type 0 where
-  pub long : length new ≡ length old
-  pub each : (k : ℕ) (before after : Moment) → slice_get old k ≡ Some before → slice_get new k ≡ Some after → Becomes before after
-
--- each has moved as an action says
-abbrev pub AllMove : (Seen → Moved → Moved) → List Moment → List Moment → Type 0
-AllMove act = EachOf (Moves act)
-
--- all go over these stores
-abbrev pub AreOver : List StoreWords → List Moment → Type 0
-AreOver stores moments = All (λ (moment : Moment). moment.places.stores ≡ stores) moments
-
--- a moment is that of the start of the iteration at a coordinate
-pub record IsStarted (at : Coord) (old new : Moment) : Type 0 where
-  pub stores : new.places.stores ≡ old.places.stores
-  pub start : (stores : List StoreWords) (state : FlatState) → old.places.stores ≡ stores → Follows stores at new (iteration_start (seen_in stores state at))
-
--- each is, at the point with its number
-pub record AreStarted (points : List Coord) (old new : List Moment) : Type 0 where
-  pub long : length new ≡ length old
-  pub each : (k : ℕ) (at : Coord) (before after : Moment) → slice_get points k ≡ Some at → slice_get old k ≡ Some before → slice_get new k ≡ Some after → IsStarted at before after

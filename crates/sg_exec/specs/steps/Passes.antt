@@ -1,5 +1,5 @@
 -- The fields that code writes: passes into the accumulated ones, and a list of the own-written ones.
-use Rattle.std.specs.Prelude.{◌≡◌, ℕ, ◌<◌, Bool, ◌&&◌, ◌==◌, List, [], ◌∷◌, ◌++◌, map, length, filter, Option, Some, Contains, slice_get, slice_set}
+use Rattle.std.specs.Prelude.{◌≡◌, ℕ, ◌<◌, Bool, ◌&&◌, ◌==◌, List, [], ◌∷◌, ◌++◌, map, length, filter, Some, Contains, slice_get, slice_set}
 use Rattle.sg_words.specs.declared.operators.AccOp.{AccOp}
 use Rattle.sg_coord.specs.declared.coord.Coord.{Coord}
 use Rattle.sg_words.specs.RaceMachine.{newcomer}
@@ -10,7 +10,7 @@ use Rattle.sg_flat.specs.declared.effects.Way.{Way}
 use Rattle.sg_flat.specs.declared.effects.Way.TheVariants.{Own, Acc}
 use Rattle.sg_flat.specs.declared.effects.Write.{Write}
 use Rattle.sg_flat.specs.declared.state.FlatLayout.{FlatLayout}
-use Rattle.sg_store.specs.StoreWords.{StoreWords, word_in}
+use Rattle.sg_store.specs.StoreWords.{StoreWords}
 use Rattle.sg_store.specs.StandsFor.{StandsFor}
 use Rattle.sg_ir.specs.declared.code.Inst.{Inst, fold-Inst}
 use Rattle.sg_ir.specs.Apt.{Use, Writes, uses_step}
@@ -18,7 +18,7 @@ use Rattle.sg_exec.specs.declared.shared.Accumulated.{Accumulated}
 use Rattle.sg_exec.specs.declared.shared.Owned.{Owned}
 use Rattle.sg_exec.specs.declared.written_fields.WrittenFields.{WrittenFields}
 use Rattle.sg_exec.specs.steps.Machines.{IsCellOf}
-use Rattle.sg_exec.specs.steps.Landing.{current, landing}
+use Rattle.sg_exec.specs.steps.Landing.{landing}
 use Rattle.sg_exec.specs.steps.Racing.{contributions, IsPassOf, ArePasses, AreSeats}
 
 -- the uses in an instruction
@@ -118,12 +118,6 @@ pub record IsSumOf (stores : List StoreWords) (layout field : ℕ) (words : List
   pub pass : IsPassOf stores it
   pub is_given : IsGiven stores it given writes
   pub folds : AreFolded (operator_of it.pass) (type_of it.pass) (old_values it.pass) given words
-
--- a field's values are as before in the copy of its layout's store
-abbrev pub IsAsBefore : List StoreWords → List (Option StoreWords) → ℕ → ℕ → Type 0
-IsAsBefore stores copies layout field =
-    (store copy : StoreWords) → slice_get stores layout ≡ Some store → slice_get (current copies stores) layout ≡ Some copy →
-    (cell : ℕ) → word_in copy field cell ≡ word_in store field cell
 
 -- each write to a field is at an active coordinate
 abbrev pub AreActiveTo : FlatLayout → ℕ → ℕ → List Write → Type 0

@@ -1,5 +1,5 @@
 -- The turns of a run, and what they want in each layout.
-use Rattle.std.specs.Prelude.{◌≡◌, ◌⊎◌, ℕ, suc, ◌<◌, Bool, ◌&&◌, List, [], ◌∷◌, map, filter, ◌==◌, length, All, Some, Option, None, IsSome, IsTrue, Result, Ok, Err, slice_get}
+use Rattle.std.specs.Prelude.{◌≡◌, ◌⊎◌, ℕ, suc, ◌+◌, ◌<◌, Bool, ◌&&◌, List, [], ◌∷◌, map, filter, ◌==◌, length, All, Some, Option, None, IsSome, IsTrue, Result, Ok, Err, slice_get}
 use Rattle.std.specs.List.{AllZip}
 use Rattle.sg_words.specs.declared.memory.Stop.{Stop}
 use Rattle.sg_words.specs.declared.memory.Stop.TheVariants as stop
@@ -21,13 +21,14 @@ use Rattle.sg_activate.specs.declared.fault.ActFault.{ActFault}
 use Rattle.sg_activate.specs.declared.fault.ActFault.TheVariants as full
 use Rattle.sg_ir.specs.declared.code.Inst.{Inst}
 use Rattle.sg_ir.specs.Runs.{Seen, Moved, CodeWant, does, runs}
-use Rattle.sg_exec.specs.declared.moment.Moment.{Moment}
+use Rattle.sg_exec.specs.declared.ahead.Ahead.{Ahead}
+use Rattle.sg_exec.specs.declared.batch.Batch.{Batch}
 use Rattle.sg_exec.specs.declared.turns.Turns.{Turns}
 use Rattle.sg_exec.specs.declared.turns.Turns.TheVariants.{Slice, Rows}
 use Rattle.sg_exec.specs.Running.{turn_of}
 use Rattle.sg_exec.specs.Standing.{shapes_of}
 use Rattle.sg_exec.specs.steps.Machines.{Sees, cell_there}
-use Rattle.sg_exec.specs.steps.Moments.{AreNamedAt, AreOver, slice_turn}
+use Rattle.sg_exec.specs.steps.Moments.{AreNamedAt, IsOver, Iterated, slice_turn}
 use Rattle.sg_exec.specs.steps.Wants.{AreWants, AllReached}
 
 -- how many turns there are
@@ -91,9 +92,20 @@ pub record Means (stores : List StoreWords) (turns : Turns) (bounds : Bounds) (l
   pub named : AreNamedIn stores state turns
   pub lists : (number : ℕ) → number < turn_count turns → list number ≡ wanted_of bounds layout (writes_of_turn (turns_in stores state turns) number)
 
--- one row, on which turns may be run
-abbrev pub MayRun : List StoreWords → List Moment → Type 0
-MayRun stores rows = (length rows ≡ 1) × AreOver stores rows
+-- a block has run in a column at the point with a number
+pub record IsColumnOf (stores : List StoreWords) (points : List Coord) (block : List Inst) (batch : Batch) (number column : ℕ) : Type 0 where
+  pub few : column < 32
+  pub ran : (state : FlatState) → Sees stores state → (at : Coord) → slice_get points number ≡ Some at → Iterated stores state at block batch column
+
+-- it has at each of the points that count, from one number on
+pub record HaveRun (stores : List StoreWords) (points : List Coord) (block : List Inst) (ahead : Ahead) : Type 0 where
+  pub over : IsOver stores ahead.batch
+  pub each : (k : ℕ) → k < ahead.count → IsColumnOf stores points block ahead.batch (ahead.first + k) k
+
+-- iterations of turns that ran ahead
+abbrev pub MayRun : List StoreWords → Turns → Ahead → Type 0
+MayRun stores (Slice points block) ahead = HaveRun stores points.now block.now ahead
+MayRun stores (Rows rows) ahead = Unit {0}
 
 -- these are the coordinates that the turns want in the layout of a store, by its number
 pub record IsMeant (stores : List StoreWords) (turns : Turns) (number : ℕ) (store : StoreWords) (wanted : List Coord) : Type 0 where

@@ -1,14 +1,20 @@
+use Rattle.std.proofs.Common.{List, sym, subst, arith}
+use Rattle.sg_store.specs.StoreWords.{StoreWords}
 use Rattle.sg_exec.specs.steps.Landing.{current}
-use Rattle.sg_exec.proofs.Going.{on_ok}
-use Rattle.sg_exec.proofs.Starting.{over_all, ran_all}
+use Rattle.sg_exec.specs.steps.Moments.{IsOver}
+use Rattle.sg_exec.proofs.Starting.{ran_all}
 use Rattle.sg_exec.proofs.batch.iterate_all.Goals as goal
 
-pub returns-clause-over : goal.returns-clause-over
-returns-clause-over c =
-    over_all (current c.args.reached.now c.args.stores.now.list) c.args.block.now c.args.points.now c.args.moments.now c.start_all.new.moments c.run_all.new.moments c.requires.over c.start_all.ensures c.requires.room c.run_all.ensures
+pub run_all-requires-clause-room : goal.run_all-requires-clause-room
+run_all-requires-clause-room c =
+    let over : IsOver (current c.args.reached.now c.args.stores.now.list) c.start_all.new.batch = c.start_all.ensures.over (current c.args.reached.now c.args.stores.now.list) c.requires.over in
+    omega (arith, over.whole, c.requires.few)
 
-pub returns-clause-ran : goal.returns-clause-ran
-returns-clause-ran c =
-    on_ok _ _ c.none_lacks.result
-    (λ none. ran_all (current c.args.reached.now c.args.stores.now.list) c.args.block.now c.args.points.now c.args.moments.now c.start_all.new.moments c.run_all.new.moments c.requires.over c.start_all.ensures c.run_all.ensures none)
-    c.none_lacks.ensures
+pub run_all-requires-clause-over : goal.run_all-requires-clause-over
+run_all-requires-clause-over c =
+    let over : IsOver (current c.args.reached.now c.args.stores.now.list) c.start_all.new.batch = c.start_all.ensures.over (current c.args.reached.now c.args.stores.now.list) c.requires.over in
+    subst (λ (stores : List StoreWords). IsOver stores c.start_all.new.batch) (sym over.places) over
+
+pub returns-else-batch-clause-ran : goal.returns-else-batch-clause-ran
+returns-else-batch-clause-ran c =
+    ran_all (current c.args.reached.now c.args.stores.now.list) c.args.block.now c.args.points.now c.args.batch.now c.start_all.new.batch c.run_all.new.batch c.requires.few c.requires.over c.start_all.ensures c.run_all.ensures c.if-batch.false

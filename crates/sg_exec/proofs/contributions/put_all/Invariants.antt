@@ -5,6 +5,6 @@ use Rattle.sg_exec.proofs.contributions.put_all.Given as goal
 
 abbrev pub invariant-loop-own : goal.invariant-loop-own
 invariant-loop-own l = record {
-  puts : l.puts.items ≡ l.fn.puts.items ++ last_own (take l.own-index l.owned) l.places.writes;
-  cells : AreCells l.places.stores l.fn.puts.items → AreCells l.places.stores l.puts.items;
+  puts : l.puts.items ≡ l.fn.puts.items ++ last_own (take l.own-index l.owned) l.cells.writes;
+  cells : AreCells l.cells.stores l.fn.puts.items → AreCells l.cells.stores l.puts.items;
 }

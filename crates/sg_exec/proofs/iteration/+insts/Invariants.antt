@@ -1,16 +1,16 @@
 use Rattle.std.proofs.Common.{drop}
 use Rattle.sg_flat.specs.Domain.{numbers}
 use Rattle.sg_ir.specs.Runs.{does, runs}
-use Rattle.sg_exec.specs.steps.Moments.{run_turns, Moves, EachOf}
-use Rattle.sg_exec.proofs.SideBySide.{Upto, Comes}
+use Rattle.sg_exec.specs.steps.Moments.{run_turns, AllBecome, AllMove, Stays}
+use Rattle.sg_exec.proofs.SideBySide.{Comes}
 use Rattle.sg_exec.proofs.iteration.+insts.Given as goal
 
 abbrev pub invariant-run_all-loop-inst : goal.invariant-run_all-loop-inst
-invariant-run_all-loop-inst l = EachOf (Comes (λ seen. runs seen (drop l.inst-index l.block)) (λ seen. runs seen l.block)) l.fn.moments l.moments
+invariant-run_all-loop-inst l = AllBecome (Comes (λ seen. runs seen (drop l.inst-index l.block)) (λ seen. runs seen l.block)) Stays l.columns.first l.columns.end l.fn.batch l.batch
 
 abbrev pub invariant-run_turns-loop-k : goal.invariant-run_turns-loop-k
 invariant-run_turns-loop-k l =
-    EachOf (Comes (λ seen mid. run_turns seen l.var l.body mid (drop l.k (numbers l.lo l.hi))) (λ seen now. run_turns seen l.var l.body now (numbers l.lo l.hi))) l.fn.moments l.moments
+    AllBecome (Comes (λ seen mid. run_turns seen l.var l.body mid (drop l.k (numbers l.lo l.hi))) (λ seen now. run_turns seen l.var l.body now (numbers l.lo l.hi))) Stays l.columns.first l.columns.end l.fn.batch l.batch
 
 abbrev pub invariant-run-loop-k : goal.invariant-run-loop-k
-invariant-run-loop-k l = Upto (Moves (λ seen. does seen l.inst)) l.k l.fn.moments l.moments
+invariant-run-loop-k l = AllMove (λ seen. does seen l.inst) l.fn.columns.first l.k l.fn.batch l.batch

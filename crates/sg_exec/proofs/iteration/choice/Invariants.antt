@@ -1,7 +1,7 @@
-use Rattle.std.proofs.Common.{◌≡◌, ℕ, ◌<◌, get_or, Some}
-use Rattle.std.specs.Prelude.{slice_get, ◌==◌}
-use Rattle.sg_exec.specs.declared.moment.Moment.{Moment}
+use Rattle.std.proofs.Common.{◌≡◌, ℕ}
+use Rattle.std.specs.Prelude.{◌==◌}
+use Rattle.sg_exec.specs.steps.Rows.{item_in, IsAmong}
 use Rattle.sg_exec.proofs.iteration.choice.Given as goal
 
-abbrev pub invariant-loop-moment : goal.invariant-loop-moment
-invariant-loop-moment l = (k : ℕ) (moment : Moment) → k < l.moment-index → slice_get l.moments k ≡ Some moment → (get_or moment.regs.items l.cond 0 == 0) ≡ l.zero
+abbrev pub invariant-loop-k : goal.invariant-loop-k
+invariant-loop-k l = (k : ℕ) → IsAmong l.fn.columns.first l.k k → (item_in l.batch.regs.items 0 k l.cond == 0) ≡ l.zero

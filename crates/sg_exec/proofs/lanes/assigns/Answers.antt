@@ -1,12 +1,15 @@
-use Rattle.std.proofs.Common.{arith}
-use Rattle.std.proofs.lemmas.Option.{slice_get-get_or}
-use Rattle.sg_exec.proofs.SideBySide.{upto_more, upto_all}
+use Rattle.std.proofs.Common.{◌≡◌, ℕ, refl, ap, ◌∙◌, length, arith}
+use Rattle.std.specs.Prelude.{List}
+use Rattle.std.specs.Vec.{with_items}
+use Rattle.sg_ir.proofs.Uses.{does-Set}
+use Rattle.sg_exec.specs.steps.Rows.{item_in}
+use Rattle.sg_exec.proofs.RowsMoved.{vars_done, whole_items}
+use Rattle.sg_exec.proofs.SideBySide.{keeps_both}
 use Rattle.sg_exec.proofs.lanes.assigns.Goals as goal
 
-pub loop-k-preserved : goal.loop-k-preserved
-loop-k-preserved c =
-    upto_more _ c.loop-k.k c.args.moments.now c.loop-k.moments _ c.assign.new.self c.loop-k.invariant
-    (slice_get-get_or c.loop-k.moments c.loop-k.k c.index-moments-k.result (omega arith)) c.assign.ensures
-
-pub returns : goal.returns
-returns c = upto_all _ c.loop-k.k c.args.moments.now c.loop-k.moments (omega arith) c.loop-k.invariant
+pub returns-then-has_var : goal.returns-then-has_var
+returns-then-has_var c =
+    let wrote : (with_items c.has_var.new.self.vars c.copy.new.items).items ≡ c.copy.new.items = whole_items c.has_var.new.self.vars.len c.copy.new.items c.has_var.new.self.vars.items (omega (arith, c.copy.ensures.long, ap length c.as_mut_slice.ensures.value, c.has_var.new.self.vars.ok.0)) (omega (arith, c.has_var.new.self.vars.ok.0)) in
+    vars_done c.args.batch.now c.has_var.new.self (record c.has_var.new.self { vars = with_items c.has_var.new.self.vars c.copy.new.items }) c.as_mut_slice.result.now c.copy.new.items c.args.columns.first c.args.columns.end c.args.var (λ k word. word ≡ item_in c.as_slice.result.now 0 k c.args.from) (λ seen now. now.regs c.args.from) _ (λ seen now. does-Set seen c.args.var c.args.from now) c.args.columns.few
+    (keeps_both c.args.batch.now c.has_regs.new.self c.has_var.new.self c.has_regs.ensures.keeps c.has_var.ensures.keeps) (record { lacks = refl; regs = refl; places = refl; moments = refl }) c.as_mut_slice.ensures.value wrote c.copy.ensures
+    (λ k word stores state at moment now small is sees moved. is ∙ ap (λ (items : List ℕ). item_in items 0 k c.args.from) c.as_slice.ensures.value ∙ moved.regs_are c.args.from)

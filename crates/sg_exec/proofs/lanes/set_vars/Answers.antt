@@ -1,12 +1,12 @@
-use Rattle.std.proofs.Common.{arith}
-use Rattle.std.proofs.lemmas.Option.{slice_get-get_or}
-use Rattle.sg_exec.proofs.SideBySide.{upto_more, upto_all}
+use Rattle.std.proofs.Common.{◌≡◌, refl, ap, length, arith}
+use Rattle.std.specs.Vec.{with_items}
+use Rattle.sg_ir.specs.Runs.{set_var_word}
+use Rattle.sg_exec.proofs.RowsMoved.{vars_done, whole_items}
 use Rattle.sg_exec.proofs.lanes.set_vars.Goals as goal
 
-pub loop-k-preserved : goal.loop-k-preserved
-loop-k-preserved c =
-    upto_more _ c.loop-k.k c.args.moments.now c.loop-k.moments _ c.set_var.new.self c.loop-k.invariant
-    (slice_get-get_or c.loop-k.moments c.loop-k.k c.index-moments-k.result (omega arith)) c.set_var.ensures
-
-pub returns : goal.returns
-returns c = upto_all _ c.loop-k.k c.args.moments.now c.loop-k.moments (omega arith) c.loop-k.invariant
+pub returns-then-has_var : goal.returns-then-has_var
+returns-then-has_var c =
+    let wrote : (with_items c.has_var.new.self.vars c.fill.new.items).items ≡ c.fill.new.items = whole_items c.has_var.new.self.vars.len c.fill.new.items c.has_var.new.self.vars.items (omega (arith, c.fill.ensures.long, ap length c.as_mut_slice.ensures.value, c.has_var.new.self.vars.ok.0)) (omega (arith, c.has_var.new.self.vars.ok.0)) in
+    vars_done c.args.batch.now c.has_var.new.self (record c.has_var.new.self { vars = with_items c.has_var.new.self.vars c.fill.new.items }) c.as_mut_slice.result.now c.fill.new.items c.args.columns.first c.args.columns.end c.args.var (λ k word. word ≡ c.args.word) (λ seen now. c.args.word) (λ seen. set_var_word c.args.var c.args.word) (λ seen now. refl) c.args.columns.few
+    c.has_var.ensures.keeps (record { lacks = refl; regs = refl; places = refl; moments = refl }) c.as_mut_slice.ensures.value wrote c.fill.ensures
+    (λ k word stores state at moment now small is sees moved. is)

@@ -1,12 +1,15 @@
-use Rattle.std.proofs.Common.{arith}
-use Rattle.std.proofs.lemmas.Option.{slice_get-get_or}
-use Rattle.sg_exec.proofs.SideBySide.{upto_more, upto_all}
+use Rattle.std.proofs.Common.{◌≡◌, ℕ, refl, ap, ◌∙◌, length, arith}
+use Rattle.std.specs.Prelude.{List}
+use Rattle.std.specs.Vec.{with_items}
+use Rattle.sg_ir.proofs.Uses.{does-Var}
+use Rattle.sg_exec.specs.steps.Rows.{item_in}
+use Rattle.sg_exec.proofs.RowsMoved.{regs_done, whole_items}
+use Rattle.sg_exec.proofs.SideBySide.{keeps_both}
 use Rattle.sg_exec.proofs.lanes.variables.Goals as goal
 
-pub loop-k-preserved : goal.loop-k-preserved
-loop-k-preserved c =
-    upto_more _ c.loop-k.k c.args.moments.now c.loop-k.moments _ c.variable.new.self c.loop-k.invariant
-    (slice_get-get_or c.loop-k.moments c.loop-k.k c.index-moments-k.result (omega arith)) c.variable.ensures
-
-pub returns : goal.returns
-returns c = upto_all _ c.loop-k.k c.args.moments.now c.loop-k.moments (omega arith) c.loop-k.invariant
+pub returns-then-has_var : goal.returns-then-has_var
+returns-then-has_var c =
+    let wrote : (with_items c.has_var.new.self.regs c.copy.new.items).items ≡ c.copy.new.items = whole_items c.has_var.new.self.regs.len c.copy.new.items c.has_var.new.self.regs.items (omega (arith, c.copy.ensures.long, ap length c.as_mut_slice.ensures.value, c.has_var.new.self.regs.ok.0)) (omega (arith, c.has_var.new.self.regs.ok.0)) in
+    regs_done c.args.batch.now c.has_var.new.self (record c.has_var.new.self { regs = with_items c.has_var.new.self.regs c.copy.new.items }) c.as_mut_slice.result.now c.copy.new.items c.args.columns.first c.args.columns.end c.args.to (λ k word. word ≡ item_in c.as_slice.result.now 0 k c.args.var) (λ seen now. now.vars c.args.var) _ (λ seen now. does-Var seen c.args.to c.args.var now) c.args.columns.few
+    (keeps_both c.args.batch.now c.has_regs.new.self c.has_var.new.self c.has_regs.ensures.keeps c.has_var.ensures.keeps) (record { lacks = refl; vars = refl; places = refl; moments = refl }) c.as_mut_slice.ensures.value wrote c.copy.ensures
+    (λ k word stores state at moment now small is sees moved. is ∙ ap (λ (items : List ℕ). item_in items 0 k c.args.var) c.as_slice.ensures.value ∙ moved.vars_are c.args.var)

@@ -1,6 +1,6 @@
 use Rattle.std.proofs.Common.{pos, sym, ◌∙◌, refl, arith}
 use Rattle.std.proofs.lemmas.List.Elements.{Contains-get_or}
-use Rattle.std.proofs.lemmas.Option.{slice_get-get_or}
+use Rattle.std.proofs.lemmas.Option.{slice_get-get_or, slice_get_read}
 use Rattle.sg_coord.specs.declared.coord.Coord.{Coord}
 use Rattle.sg_exec.specs.Standing.{shapes_of}
 use Rattle.sg_exec.specs.steps.Moments.{slice_turn}
@@ -17,14 +17,14 @@ loop-k-preserved c =
       none = λ state sees named.
           none_next (slice_turn view state c.args.block.now) (shapes_of view) points c.loop-k.k _ c.as_slice-wants.result.now _ _ (omega arith) (c.loop-k.invariant.none state sees named)
           (sym c.outside_among.ensures ∙ c.in_default.is) refl
-          (c.as_slice-wants.ensures.value ∙ (c.in_ok-iterate_all.ensures.ran state sees c.loop-k.k _ _ (slice_get-get_or points c.loop-k.k _ (omega arith)) (slice_get-get_or _ c.loop-k.k _ (omega arith))
+          (c.as_slice-wants.ensures.value ∙ (c.in_ok-iterate_all.ensures.ran state sees c.loop-k.k _ (slice_get-get_or points c.loop-k.k _ (omega arith)) c.index.result.now (slice_get_read _ _ c.loop-k.k c.index.result.now refl (omega (arith, c.iterate_all.ensures.over.whole)) c.index.ensures)
           (named _ (Contains-get_or points c.loop-k.k _ (omega arith)))).wants_are);
       found = c.are_active-all.ensures.last;
       so_far = λ all. c.loop-k.invariant.so_far (c.are_active-all.ensures.so_far all);
       active = λ all state sees named.
           active_next (slice_turn view state c.args.block.now) view points c.loop-k.k no_point c.as_slice-wants.result.now (omega arith)
           (c.loop-k.invariant.active (c.are_active-all.ensures.so_far all) state sees named) (c.are_active-all.ensures.active all)
-          (c.as_slice-wants.ensures.value ∙ (c.in_ok-iterate_all.ensures.ran state sees c.loop-k.k _ _ (slice_get-get_or points c.loop-k.k no_point (omega arith)) (slice_get-get_or _ c.loop-k.k _ (omega arith))
+          (c.as_slice-wants.ensures.value ∙ (c.in_ok-iterate_all.ensures.ran state sees c.loop-k.k _ (slice_get-get_or points c.loop-k.k no_point (omega arith)) c.index.result.now (slice_get_read _ _ c.loop-k.k c.index.result.now refl (omega (arith, c.iterate_all.ensures.over.whole)) c.index.ensures)
           (named _ (Contains-get_or points c.loop-k.k no_point (omega arith)))).wants_are);
     }
 
@@ -40,5 +40,5 @@ returns-in-Some-clause-told c = λ state sees named.
     let points = c.args.points.now in
     fault_here (slice_turn view state c.args.block.now) (shapes_of view) points c.loop-k.k _ c.as_slice-wants.result.now _ _ c.in-Some.fault (omega arith) (c.loop-k.invariant.none state sees named)
     (sym c.in-Some.ensures) refl
-    (c.as_slice-wants.ensures.value ∙ (c.in_ok-iterate_all.ensures.ran state sees c.loop-k.k _ _ (slice_get-get_or points c.loop-k.k _ (omega arith)) (slice_get-get_or _ c.loop-k.k _ (omega arith))
+    (c.as_slice-wants.ensures.value ∙ (c.in_ok-iterate_all.ensures.ran state sees c.loop-k.k _ (slice_get-get_or points c.loop-k.k _ (omega arith)) c.index.result.now (slice_get_read _ _ c.loop-k.k c.index.result.now refl (omega (arith, c.iterate_all.ensures.over.whole)) c.index.ensures)
     (named _ (Contains-get_or points c.loop-k.k _ (omega arith)))).wants_are)

@@ -1,15 +1,14 @@
-use Rattle.std.specs.Prelude.{◌≡◌, ◌*◌, IfSome, map, take, length, Ok}
+use Rattle.std.specs.Prelude.{◌*◌, IfSome, map, take, Ok}
 use Rattle.sg_flat.specs.declared.state.FlatState.{FlatState}
 use Rattle.sg_exec.specs.steps.Machines.{Sees}
-use Rattle.sg_exec.specs.steps.Moments.{AreOver, AreNamedAt, slice_turn}
+use Rattle.sg_exec.specs.steps.Moments.{IsOver, AreNamedAt, slice_turn}
 use Rattle.sg_exec.specs.steps.Turning.{IsActiveAt, TellsOutside}
 use Rattle.sg_exec.proofs.outside.no_want_outside_here.Given as goal
 
 abbrev pub invariant-loop-number : goal.invariant-loop-number
 invariant-loop-number l = record {
-  over : AreOver l.stores.list l.rows;
-  long : length l.rows ≡ length l.initial.rows;
+  over : IsOver l.stores.list l.batch;
   found : IfSome l.last (λ it. IsActiveAt l.stores.list it.0 it.1);
   told : (state : FlatState) → Sees l.stores.list state → AreNamedAt l.stores.list state l.block l.points
-      → TellsOutside l.stores.list (map (slice_turn l.stores.list state l.block) (take (l.number * 16) l.points)) (Ok l.active);
+      → TellsOutside l.stores.list (map (slice_turn l.stores.list state l.block) (take (l.number * 32) l.points)) (Ok l.active);
 }

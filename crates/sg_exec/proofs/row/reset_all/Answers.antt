@@ -9,5 +9,5 @@ loop-place-preserved g c = record {
   done = reset_next c.loop-place.items c.args.none c.loop-place.place (omega arith) c.loop-place.invariant.done;
 }
 
-pub returns : goal.returns
-returns g c = reset_done c.loop-place.items c.args.none c.loop-place.place (omega arith) c.loop-place.invariant.done
+pub returns-clause-none : goal.returns-clause-none
+returns-clause-none g c = reset_done c.loop-place.items c.args.none c.loop-place.place (omega arith) c.loop-place.invariant.done

@@ -1,5 +1,4 @@
-use Rattle.std.proofs.Common.{List, map, sym, subst}
-use Rattle.sg_flat.specs.Effects.{writes_of}
+use Rattle.std.proofs.Common.{List, sym, subst}
 use Rattle.sg_ir.specs.Apt.{uses_in}
 use Rattle.sg_exec.specs.declared.shared.Accumulated.{Accumulated}
 use Rattle.sg_exec.specs.declared.shared.Owned.{Owned}
@@ -7,7 +6,7 @@ use Rattle.sg_exec.specs.steps.Landing.{current}
 use Rattle.sg_exec.specs.steps.Racing.{AreSeats}
 use Rattle.sg_exec.specs.steps.Passes.{HaveFields, GaveReached}
 use Rattle.sg_exec.specs.steps.Working.{HasTurns}
-use Rattle.sg_exec.proofs.RacedHand.{if_ok}
+use Rattle.sg_exec.proofs.MadeLands.{if_rows, if_cells, if_lands}
 use Rattle.sg_exec.proofs.sums.raced_points.Goals as goal
 
 pub raced-requires-clause-fields : goal.raced-requires-clause-fields
@@ -19,22 +18,26 @@ raced-requires-clause-fields g c κs within =
 
 pub landed-requires : goal.landed-requires
 landed-requires g c =
-    let mids = current c.args.reached.now c.args.stores.now.list in
     let after = c.in_ok-after.after in
     record {
-      passes = c.in_ok-fields.ensures.passes;
       seats = subst (λ (list : List Accumulated). AreSeats list after.seats.items) c.as_slice-list.ensures.value c.in_ok-after.ensures.seats;
       whole = c.in_ok-after.ensures.whole;
-      given = subst (λ (list : List Accumulated). GaveReached mids list after.seats.items) c.as_slice-list.ensures.value c.in_ok-after.ensures.reached;
-      cells = c.in_ok-after.ensures.cells;
     }
+
+pub returns-clause-rows : goal.returns-clause-rows
+returns-clause-rows g c =
+    let mids = current c.args.reached.now c.args.stores.now.list in
+    let after = c.in_ok-after.after in
+    if_rows mids c.in_ok-fields.fields.accumulated.items after c.landed.result c.in_ok-fields.ensures.passes
+    (subst (λ (list : List Accumulated). GaveReached mids list after.seats.items) c.as_slice-list.ensures.value c.in_ok-after.ensures.reached) c.landed.ensures.sums
+
+pub returns-clause-cells : goal.returns-clause-cells
+returns-clause-cells g c = if_cells (current c.args.reached.now c.args.stores.now.list) c.in_ok-fields.fields.accumulated.items c.in_ok-after.after c.landed.result c.in_ok-after.ensures.cells c.landed.ensures.puts
 
 pub returns-clause-lands : goal.returns-clause-lands
 returns-clause-lands g c =
     let mids = current c.args.reached.now c.args.stores.now.list in
     let after = c.in_ok-after.after in
-    if_ok _ _ c.landed.result
-    (λ copies lands. λ one_way state sees named turn are.
-    let turns = subst (λ (list : List Accumulated). HasTurns mids list turn c.args.points.now after) c.as_slice-list.ensures.value (c.in_ok-after.ensures.turns one_way state sees named turn are) in
-    lands (writes_of (map turn c.args.points.now)) (writes_of (map turn c.args.points.now)) turns.given (λ steps first second. turns.lands steps (current copies.items mids) first second))
-    c.landed.ensures.lands
+    if_lands mids c.in_ok-fields.fields.accumulated.items after c.args.code.now c.args.points.now c.landed.result c.in_ok-fields.ensures.passes
+    (λ one_way state sees named turn are. subst (λ (list : List Accumulated). HasTurns mids list turn c.args.points.now after) c.as_slice-list.ensures.value (c.in_ok-after.ensures.turns one_way state sees named turn are))
+    c.landed.ensures.sums c.landed.ensures.puts

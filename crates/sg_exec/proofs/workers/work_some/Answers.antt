@@ -1,28 +1,26 @@
-use Rattle.std.proofs.Common.{◌≡◌, ◌∙◌, ℕ, ◌+◌, ◌-◌, ◌<◌, ◌++◌, List, length, take, get_or, pos, sym, ap, subst, arith}
-use Rattle.std.proofs.lemmas.Option.{slice_get-get_or}
+use Rattle.std.proofs.Common.{◌≡◌, ◌∙◌, ℕ, ◌+◌, ◌<◌, ◌++◌, List, length, take, get_or, pos, refl, sym, ap, subst, arith}
+use Rattle.std.proofs.lemmas.Option.{slice_get_read}
 use Rattle.std.proofs.lemmas.List.Elements.{Contains-get_or}
 use Rattle.sg_coord.specs.declared.coord.Coord.{Coord}
 use Rattle.sg_store.specs.StoreWords.{StoreWords}
 use Rattle.sg_exec.specs.declared.cell_write.CellWrite.{CellWrite}
-use Rattle.sg_exec.specs.declared.moment.Moment.{Moment}
 use Rattle.sg_exec.specs.steps.Machines.{AreCells}
 use Rattle.sg_exec.specs.steps.Landing.{current}
 use Rattle.sg_exec.specs.steps.Racing.{wrote, last_own}
 use Rattle.sg_exec.specs.steps.Working.{RunsAt, HasRunAt}
 use Rattle.sg_exec.proofs.Iterations.{run_turn, point_in}
-use Rattle.sg_exec.proofs.Starting.{at_all}
 use Rattle.sg_exec.proofs.workers.work_some.Goals as goal
 
 pub loop-k-preserved : goal.loop-k-preserved
 loop-k-preserved g c =
     let stores = current c.args.reached.now c.args.stores.now.list in
     let d : Coord = record { n = 0; a = pos 0; b = pos 0; c = pos 0 } in
-    let long : length c.iterate_all.new.moments ≡ length c.args.moments.now = c.iterate_all.ensures.long in
-    let within : c.loop-k.k < length c.iterate_all.new.moments = omega arith in
+    let moments = c.iterate_all.new.batch.moments.items in
+    let within : c.loop-k.k < length moments = omega (arith, c.iterate_all.ensures.over.whole, c.requires.few) in
     let below : c.args.first + c.loop-k.k < length c.args.mine.now = omega (arith, c.requires.room) in
-    let moment = get_or c.iterate_all.new.moments c.loop-k.k c.index-moments-k.result in
-    let here = slice_get-get_or c.iterate_all.new.moments c.loop-k.k c.index-moments-k.result within in
-    let over : moment.places.stores ≡ stores = at_all (λ (m : Moment). m.places.stores ≡ stores) c.iterate_all.new.moments c.iterate_all.ensures.over c.loop-k.k moment here in
+    let moment = c.index-moment.result.now in
+    let here = slice_get_read moments _ c.loop-k.k moment refl within c.index-moment.ensures in
+    let over : moment.cells.stores ≡ stores = c.iterate_all.ensures.over.moments c.loop-k.k moment here in
     record {
       seats = c.give_all.ensures.seats;
       cells = subst (λ (list : List StoreWords). AreCells list c.put_all.new.puts.items) over
@@ -34,7 +32,7 @@ loop-k-preserved g c =
           c.writes-writes.result.now start c.loop-k.hand (record { seats = c.give_all.new.seats; puts = c.put_all.new.puts }) below c.loop-k.invariant.seats.long (c.loop-k.invariant.ran start run)
           c.give_all.ensures.gave (c.in_ok-put_all.ensures.puts ∙ ap (λ (ws : List CellWrite). c.loop-k.hand.puts.items ++ last_own c.args.owned.now ws) (sym c.writes-writes.ensures.value))
           (subst (λ (list : List StoreWords). AreCells list c.writes-writes.result.now) over c.writes-writes.ensures.cells)
-          (λ state runs. c.writes-writes.ensures.value ∙ (c.in_ok-iterate_all.ensures.ran state runs.0 c.loop-k.k (get_or c.args.mine.now (c.args.first + c.loop-k.k) d) moment
-          (point_in c.args.mine.now c.args.first _ c.loop-k.k d (omega arith) below) here
+          (λ state runs. c.writes-writes.ensures.value ∙ (c.in_ok-iterate_all.ensures.ran state runs.0 c.loop-k.k (get_or c.args.mine.now (c.args.first + c.loop-k.k) d)
+          (point_in c.args.mine.now c.args.first _ c.loop-k.k d (omega arith) below) moment here
           (runs.1 _ (c.requires.among _ (Contains-get_or c.args.mine.now (c.args.first + c.loop-k.k) d below)))).writes_are));
     }

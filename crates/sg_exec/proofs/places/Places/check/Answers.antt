@@ -1,13 +1,35 @@
-use Rattle.std.proofs.Common.{ℕ, sym, refl, subst}
-use Rattle.std.specs.Prelude.{Bool, get_or, if◌then◌else◌, List, None}
-use Rattle.sg_store.specs.StoreWords.{StoreWords}
-use Rattle.sg_ir.specs.Runs.{check}
-use Rattle.sg_exec.specs.steps.Machines.{HoldsPlace, ArePlaces}
-use Rattle.sg_exec.proofs.Going.{on_ok}
+use Rattle.std.proofs.Common.{◌≡◌, ℕ, ◌+◌, ◌*◌, sym, ap, ◌∙◌, length, subst, arith}
+use Rattle.std.specs.Prelude.{List, Option, None, IfSome, if◌then◌else◌}
+use Rattle.std.specs.Vec.{with_items}
+use Rattle.sg_words.specs.declared.operators.Ty.TheVariants as ty
+use Rattle.sg_words.specs.Words.{number}
+use Rattle.sg_coord.specs.Coord.{is_on_axis}
+use Rattle.sg_exec.specs.declared.held.Held.{Held}
+use Rattle.sg_exec.specs.steps.Machines.{PlaceRows, IsHeld}
+use Rattle.sg_exec.specs.steps.Rows.{item_in}
+use Rattle.sg_exec.proofs.PlacesHeld.{held_put, held_check, put_lent}
+use Rattle.sg_exec.proofs.RowsMoved.{whole_items}
 use Rattle.sg_exec.proofs.places.Places.check.Goals as goal
 
-pub returns-clause-ok : goal.returns-clause-ok
-returns-clause-ok c = on_ok _ _ c.put.result (λ step. λ stores places are.
-    let here : ArePlaces c.args.self.now.stores c.args.self.now places = record { same_stores = refl; hold = subst (λ (ss : List StoreWords). (p : ℕ) → HoldsPlace ss (get_or c.args.self.now.list p None) (places p)) (sym are.same_stores) are.hold } in
-    let holds : HoldsPlace c.args.self.now.stores c.checked-held.result (check c.args.extent c.args.word (places c.args.place)) = subst (λ (b : Bool). HoldsPlace c.args.self.now.stores c.checked-held.result (if b then places c.args.place else None)) c.on_axis.ensures (c.checked-held.ensures.holds places here) in
-    step stores places (check c.args.extent c.args.word (places c.args.place)) are (subst (λ (ss : List StoreWords). HoldsPlace ss c.checked-held.result (check c.args.extent c.args.word (places c.args.place))) are.same_stores holds)) c.put.ensures.ok
+pub invariant_of-self : goal.invariant_of-self
+invariant_of-self c =
+    let wrote : (with_items c.self.inside.list c.put_checked.new.list).items ≡ c.put_checked.new.list =
+    whole_items c.self.inside.list.len c.put_checked.new.list c.self.inside.list.items (omega (arith, c.put_checked.ensures.long, ap length c.as_mut_slice.ensures.value, c.self.inside.list.ok.0)) (omega (arith, c.self.inside.list.ok.0)) in
+    let Made : List (Option Held) → ℕ → Option Held → Type 0 =
+    λ items k held. held ≡ (if is_on_axis c.args.extent (number ty.I32 (item_in c.args.regs.now 0 k c.args.index)) then item_in items None k c.args.place else None) in
+    held_put c.self.inside.view (Made c.self.inside.list.items) c.args.columns.first c.args.columns.end c.args.to c.self.inside.list.items (with_items c.self.inside.list c.put_checked.new.list).items
+    (put_lent (Made c.as_mut_slice.result.now) (Made c.self.inside.list.items) c.args.columns.first c.args.columns.end c.args.to c.as_mut_slice.result.now c.put_checked.new.list c.self.inside.list.items _ c.as_mut_slice.ensures.value wrote
+    (λ k held is. subst (λ (items : List (Option Held)). Made items k held) c.as_mut_slice.ensures.value is) c.put_checked.ensures)
+    (λ k held is. subst (λ (found : Option Held). IfSome found (IsHeld c.self.inside.view)) (sym is)
+    (held_check c.self.inside.view (item_in c.self.inside.list.items None k c.args.place) (is_on_axis c.args.extent (number ty.I32 (item_in c.args.regs.now 0 k c.args.index))) (c.self.invariant (c.args.place * 32 + k))))
+    c.self.invariant
+
+pub returns-clause-put : goal.returns-clause-put
+returns-clause-put c =
+    let wrote : (with_items c.self.inside.list c.put_checked.new.list).items ≡ c.put_checked.new.list =
+    whole_items c.self.inside.list.len c.put_checked.new.list c.self.inside.list.items (omega (arith, c.put_checked.ensures.long, ap length c.as_mut_slice.ensures.value, c.self.inside.list.ok.0)) (omega (arith, c.self.inside.list.ok.0)) in
+    let was : c.as_mut_slice.result.now ≡ c.args.self.now.list = c.as_mut_slice.ensures.value ∙ ap (λ (rows : PlaceRows). rows.list) c.self.view_is in
+    let Made : List (Option Held) → ℕ → Option Held → Type 0 =
+    λ items k held. held ≡ (if is_on_axis c.args.extent (number ty.I32 (item_in c.args.regs.now 0 k c.args.index)) then item_in items None k c.args.place else None) in
+    put_lent (Made c.as_mut_slice.result.now) (Made c.args.self.now.list) c.args.columns.first c.args.columns.end c.args.to c.as_mut_slice.result.now c.put_checked.new.list c.args.self.now.list
+    (with_items c.self.inside.list c.put_checked.new.list).items was wrote (λ k held is. subst (λ (items : List (Option Held)). Made items k held) was is) c.put_checked.ensures

@@ -1,0 +1,54 @@
+-- What the workers of a run left lands as the run's turns do.
+use Rattle.std.proofs.Common.{◌≡◌, List, [], map, Result, Ok, Err, sym, ◌∙◌, subst}
+use Rattle.std.specs.Prelude.{All, IfOk}
+use Rattle.sg_words.specs.declared.memory.Memory.{Memory}
+use Rattle.sg_coord.specs.declared.coord.Coord.{Coord}
+use Rattle.sg_flat.specs.declared.effects.Turn.{Turn}
+use Rattle.sg_flat.specs.declared.effects.Write.{Write}
+use Rattle.sg_flat.specs.declared.state.FlatState.{FlatState}
+use Rattle.sg_flat.specs.Effects.{writes_of}
+use Rattle.sg_store.specs.StoreWords.{StoreWords}
+use Rattle.sg_ir.specs.declared.code.Inst.{Inst}
+use Rattle.sg_ir.specs.Apt.{uses_in}
+use Rattle.sg_exec.specs.declared.cell_write.CellWrite.{CellWrite}
+use Rattle.sg_exec.specs.declared.hand.Hand.{Hand}
+use Rattle.sg_exec.specs.declared.made.Ended.{Ended}
+use Rattle.sg_exec.specs.declared.shared.Accumulated.{Accumulated}
+use Rattle.sg_exec.specs.declared.sums.Sum.{Sum}
+use Rattle.sg_exec.specs.steps.Machines.{Sees, AreCells}
+use Rattle.sg_exec.specs.steps.Moments.{AreNamedAt}
+use Rattle.sg_exec.specs.steps.Landing.{AreTurnsOf, Lands}
+use Rattle.sg_exec.specs.steps.Racing.{ArePasses}
+use Rattle.sg_exec.specs.steps.Passes.{WritesOneWay, GaveReached}
+use Rattle.sg_exec.specs.steps.Working.{HasTurns}
+use Rattle.sg_exec.specs.steps.Made.{AddsSums, AreSums, HasLanded, HasRow, summed}
+
+module _ (stores : List StoreWords) (accumulated : List Accumulated) (after : Hand) where
+  pub if_rows : (result : Result Ended Memory) → ArePasses stores accumulated → GaveReached stores accumulated after.seats.items
+      → IfOk result (λ ended. AddsSums accumulated after.seats.items [] ended.sums.items) → IfOk result (λ ended. All (HasRow stores) ended.sums.items)
+  if_rows (Ok ended) are reached sums = subst (λ (list : List Sum). All (HasRow stores) list) (sym sums.added) (sums.rows stores are reached)
+  if_rows (Err e) are reached sums = tt
+
+  pub if_cells : (result : Result Ended Memory) → AreCells stores after.puts.items → IfOk result (λ ended. ended.puts.items ≡ after.puts.items) → IfOk result (λ ended. AreCells stores ended.puts.items)
+  if_cells (Ok ended) cells puts = subst (λ (list : List CellWrite). AreCells stores list) (sym puts) cells
+  if_cells (Err e) cells puts = tt
+
+  module _ (code : List Inst) (points : List Coord) where
+    made_lands : (ended : Ended) → ArePasses stores accumulated → AddsSums accumulated after.seats.items [] ended.sums.items → ended.puts.items ≡ after.puts.items
+        → (turn : Coord → Turn) → HasTurns stores accumulated turn points after → (news : List StoreWords) → HasLanded stores ended news → Lands stores news (writes_of (map turn points))
+    made_lands ended are sums puts turn turns news landed =
+        let writes = writes_of (map turn points) in
+        let both = sums.sums stores (writes_of (map turn points)) are turns.given in
+        let first : Lands stores landed.mids (summed sums.more (writes_of (map turn points))) =
+        subst (λ (list : List Sum). Lands stores landed.mids (summed list writes)) sums.added
+        (landed.sums_land writes (subst (λ (list : List Sum). AreSums stores list writes) (sym sums.added) both.0)) in
+        turns.lands landed.mids news (subst (λ (ws : List Write). Lands stores landed.mids ws) both.1 first) (λ made is. landed.puts_land made (puts ∙ is))
+
+    pub if_lands : (result : Result Ended Memory) → ArePasses stores accumulated
+        → (WritesOneWay (uses_in code) → (state : FlatState) → Sees stores state → AreNamedAt stores state code points → (turn : Coord → Turn) → AreTurnsOf stores state code points turn → HasTurns stores accumulated turn points after)
+        → IfOk result (λ ended. AddsSums accumulated after.seats.items [] ended.sums.items) → IfOk result (λ ended. ended.puts.items ≡ after.puts.items)
+        → IfOk result (λ ended. WritesOneWay (uses_in code) → (state : FlatState) → Sees stores state → AreNamedAt stores state code points → (turn : Coord → Turn) → AreTurnsOf stores state code points turn
+        → (news : List StoreWords) → HasLanded stores ended news → Lands stores news (writes_of (map turn points)))
+    if_lands (Ok ended) are turns sums puts = λ one_way state sees named turn of news landed.
+        made_lands ended are sums puts turn (turns one_way state sees named turn of) news landed
+    if_lands (Err e) are turns sums puts = tt

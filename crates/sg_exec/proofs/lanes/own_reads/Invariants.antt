@@ -1,8 +1,0 @@
-use Rattle.sg_ir.specs.declared.code.Inst.TheVariants as v
-use Rattle.sg_ir.specs.Runs.{does}
-use Rattle.sg_exec.specs.steps.Moments.{Moves}
-use Rattle.sg_exec.proofs.SideBySide.{Upto}
-use Rattle.sg_exec.proofs.lanes.own_reads.Given as goal
-
-abbrev pub invariant-loop-k : goal.invariant-loop-k
-invariant-loop-k l = Upto (Moves (λ seen. does seen (v.OwnRead l.to l.layout l.field))) l.k l.fn.moments l.moments

@@ -1,0 +1,18 @@
+use Rattle.std.proofs.Common.{◌≡◌, ℕ, refl, subst, arith}
+use Rattle.std.specs.Prelude.{None}
+use Rattle.sg_exec.specs.steps.Rows.{IsPut}
+use Rattle.sg_exec.proofs.Rows.{put_none, put_more}
+use Rattle.sg_exec.proofs.places.put_held.Goals as goal
+
+pub loop-k-init : goal.loop-k-init
+loop-k-init c = put_none _ c.args.columns.first c.args.to None c.args.list.now
+
+pub loop-k-preserved : goal.loop-k-preserved
+loop-k-preserved c =
+    put_more (λ k item. item ≡ c.args.held) c.args.columns.first c.loop-k.k c.args.to None c.args.list.now c.loop-k.list _ (omega arith) (omega (arith, c.args.columns.few))
+    (omega (arith, c.loop-k.invariant.long, c.requires.to)) c.loop-k.invariant refl
+
+pub returns : goal.returns
+returns c =
+    let all : c.loop-k.k ≡ c.args.columns.end = omega (arith, c.args.columns.order) in
+    subst (λ (end : ℕ). IsPut (λ k item. item ≡ c.args.held) c.args.columns.first end c.args.to None c.args.list.now c.loop-k.list) all c.loop-k.invariant
