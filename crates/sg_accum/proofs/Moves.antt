@@ -104,12 +104,12 @@ all-one into c a (w ∷ ws) (suc id) v at e =
     part f (x ∷ xs) (suc id) v at = let r = part f xs id v at in omega arith
 
 pub are_folded : (key start : Start) (words : List ℕ) (views : List Worker) (id : ℕ) (v : Worker) (values : List ℕ) → key ≡ start → Racing key words views → get_elem? views id ≡ some v
-    → handed_share v ≡ 16 → values ≡ map (cell_of start.op start.ty) words → AreFolded start.op start.ty start.values v.given values
+    → handed_share v ≡ 16 → values ≡ map (cell_of start.op start.ty) words → AreFolded start.op start.ty start.values (λ c. given_to c v.given) values
 are_folded key start words views id v values told racing at all is =
     let r : Racing start words views = subst (λ k. Racing k words views) told racing in
     let into = folded start.op start.ty in
     let cells = r.kept.cells in
-    subst (λ l. AreFolded start.op start.ty start.values v.given l) (sym is) (record {
+    subst (λ l. AreFolded start.op start.ty start.values (λ c. given_to c v.given) l) (sym is) (record {
       long = cells.0;
       folds = λ c below.
           (let under : c < length (map (cell_of start.op start.ty) words) = subst (λ n. c < n) (sym cells.0) below in

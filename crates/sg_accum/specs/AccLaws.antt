@@ -1,4 +1,5 @@
--- Laws of a pass into cells: each atomic step of a seat is one event of the race machine, whose needs are met.
+-- Laws of a part of a pass: each atomic step of a seat in the table of the part is one event of the race machine over the cells of that
+-- part, whose needs are met.
 use Rattle.std.specs.Prelude.{◌≡◌, ◌≢◌, ℕ, ◌+◌, ◌%◌, ◌^◌, ◌<◌, ◌≤◌, min, max, List, [], ◌∷◌, ◌++◌, map, length, slice_index, slice_set}
 use Rattle.sg_words.specs.declared.operators.AccOp.TheVariants as acc
 use Rattle.sg_words.specs.declared.race.Worker.{Worker}
@@ -25,15 +26,15 @@ abbrev pub GivesWord : Start → List ℕ → List Worker → (id c x n : ℕ) �
 GivesWord start words views id c x n = 0 < (at start views id).share → c < length words → AreEntries start.op words
     → IsEvent start words views (add id c x) (slice_set words c n) (slice_set views id (after_add c x (at start views id)))
 
--- in a pass that adds, an add to the word; in one that lowers or raises, the lesser or greater of the word and the rank
+-- where the part adds, a contribution is an event that adds to the word
 abbrev pub AddIsEvent : Start → List ℕ → List Worker → (id c x : ℕ) → Type 0
 AddIsEvent start words views id c x = start.op ≡ acc.Add → GivesWord start words views id c x ((slice_index words c + x) % 2 ^ 64)
 
--- in a pass for the least, a contribution of 32 bits is an event that leaves the lesser of the word and the contribution's rank
+-- where the part keeps the least, a contribution of 32 bits is an event that leaves the lesser of the word and the contribution's rank
 abbrev pub LeastIsEvent : Start → List ℕ → List Worker → (id c x : ℕ) → Type 0
 LeastIsEvent start words views id c x = start.op ≡ acc.Min → x < 2 ^ 32 → GivesWord start words views id c x (min (slice_index words c) (rank_of start.ty x))
 
--- in a pass for the greatest, a contribution of 32 bits is an event that leaves the greater of the word and the contribution's rank
+-- where the part keeps the greatest, a contribution of 32 bits is an event that leaves the greater of the word and the contribution's rank
 abbrev pub MostIsEvent : Start → List ℕ → List Worker → (id c x : ℕ) → Type 0
 MostIsEvent start words views id c x = start.op ≡ acc.Max → x < 2 ^ 32 → GivesWord start words views id c x (max (slice_index words c) (rank_of start.ty x))
 

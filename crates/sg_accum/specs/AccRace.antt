@@ -1,4 +1,4 @@
--- A pass into cells as a race: each word of its table stands for one cell. Every container counts as live.
+-- A part of a pass as a race: each word of its table stands for one cell of the part. Every container counts as live.
 use Rattle.std.specs.Prelude.{◌≡◌, refl, ℕ, ◌%◌, ◌^◌, ◌<◌, true, List, [], map, slice_index}
 use Rattle.atomic_table.specs.Table.{Step, Me}
 use Rattle.sg_words.specs.declared.operators.Ty.{Ty}
@@ -27,7 +27,7 @@ IsEntry acc.Max n = n < 2 ^ 32
 abbrev pub AreEntries : AccOp → List ℕ → Type 0
 AreEntries op words = (c : ℕ) → IsEntry op (slice_index words c)
 
--- the setting of a race for cells alone: the values at the start, into which contributions go by the pass's operator and type
+-- the setting of a race for cells alone: the values at the start, into which contributions go by the part's operator and type
 abbrev pub setting_of : Start → Setting
 setting_of start = record {
   slots = [];

@@ -1,3 +1,4 @@
+pub mod Parts
 pub mod Folding
 pub mod AccRace
 pub mod AccLaws

@@ -1,10 +1,10 @@
-//! Laws of passes. The function does nothing: what it ensures is the law, for whoever reasons about passes.
+//! Laws of parts of passes. The function does nothing: what it ensures is the law, for whoever reasons about passes.
 ghost use Rattle.std.specs.Prelude.{ℕ, List};
 ghost use Rattle.sg_words.specs.declared.race.Worker.{Worker};
 ghost use Rattle.sg_accum.specs.declared.begin.Start.{Start};
 ghost use Rattle.sg_accum.specs.AccLaws.{StartIsEvent, AddIsEvent, LeastIsEvent, MostIsEvent, SplitIsEvent, JoinIsEvent};
 
-/// Each step of a seat, as the rule of the table sees it, is one event of the race machine.
+/// Each step of a seat in a part, as the rule of the table of that part sees it, is one event of the race machine.
 pub fn steps_are_events()
     ensures start { (start : Start) (words : List ℕ) → StartIsEvent start words }
     ensures add { (start : Start) (words : List ℕ) (views : List Worker) (id c x : ℕ) → AddIsEvent start words views id c x }

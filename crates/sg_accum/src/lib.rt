@@ -2,10 +2,14 @@
 #![tactic(auto)]
 
 pub mod begin;
+mod halves;
 pub mod laws;
+mod part;
 pub mod pass;
 pub mod rule;
 pub mod seat;
+mod steps;
+mod teams;
 
 pub use begin::Start;
 pub use seat::{AccPass, AccSeat};

@@ -1,105 +1,91 @@
 //! The calls of a pass: start, add, least, most, split, join and finish.
-ghost use Rattle.std.specs.Prelude.{◌≡◌, ℕ, ◌^◌, ◌<◌, ◌≤◌, [], map, length, IfOk};
-ghost use Rattle.std.specs.Mem.Slots.{slots_items, slots_len, IsFull};
+ghost use Rattle.std.specs.Prelude.{◌≡◌, ◌<◌, ◌≤◌, length, IfOk};
+ghost use Rattle.std.specs.List.{concat};
 ghost use Rattle.sg_words.specs.declared.operators.AccOp.TheVariants as acc;
-ghost use Rattle.sg_words.specs.RaceMachine.{newcomer, after_split, other_half, after_join, after_add};
-ghost use Rattle.sg_words.specs.RaceInvariant.{handed_share};
-ghost use Rattle.sg_accum.specs.AccRace.{cell_of, IsEntry, AreEntries};
-ghost use Rattle.sg_accum.specs.Folding.{old_values, operator_of, type_of, worker_of, IsSeatOf, AreFolded};
-ghost use Rattle.sg_accum.specs.steps.Signs.{is_signed};
+ghost use Rattle.sg_accum.specs.Folding.{old_values, operator_of, type_of, given_of, share_of, handed_of, IsSeatOf, IsNew, HasGivenWord, IsCut, IsMerged, AreFolded};
 
-use crate::begin::Start;
-use crate::rule::{Half, Plain, Signed};
+use crate::halves::{Begun, begin_all, end_all};
 use crate::seat::{AccPass, AccSeat};
-use atomic_table::{Closed, Table};
-use sg_words::{AccOp, Items, Memory, Ty, rank, unrank};
+use crate::teams::{join_each, split_each};
+use sg_words::{AccOp, Items, Memory, Ty};
 use std::alloc::Global;
+use std::thread::Threads;
+
+/// So many cells are a part.
+pub(crate) const PART: usize = 65_536;
 
 impl AccPass {
-    /// A pass into these cells, by an operator in a type (`Bool` has the order of `U32`), and its first seat.
-    pub fn start(
+    /// A pass into these cells, by an operator in a type (`Bool` has the order of `U32`), and its first seat, which has the whole
+    /// share of 16. So many workers, from 1 to 16, make it side by side; it waits for them.
+    pub fn start<R: Threads + Sync>(
+        rt: &R,
         alloc: Global,
-        values: Items<u32>,
+        values: &[u32],
         op: AccOp,
         ty: Ty,
+        workers: u32,
     ) -> Result<(AccPass, AccSeat), Memory>
-        requires cells { 0 < length values }
+        requires cells { 0 < length values.now }
         ensures seat { IfOk result (λ r. IsSeatOf r.0 r.1) }
-        ensures values { IfOk result (λ r. old_values r.0 ≡ values) }
+        ensures values { IfOk result (λ r. old_values r.0 ≡ values.now) }
         ensures operator { IfOk result (λ r. operator_of r.0 ≡ op) }
         ensures order { IfOk result (λ r. type_of r.0 ≡ ty) }
-        ensures worker { IfOk result (λ r. worker_of r.1 ≡ newcomer [] 16) }
+        ensures new { IfOk result (λ r. IsNew 16 r.1) }
     {
-        let words = entries(alloc, op, ty, values.as_slice())?;
-        let start = Start { values, op, ty };
-        let (table, seat) = Table::of_words(alloc, words.as_slice(), &start)?;
-        Ok((AccPass { table, start }, AccSeat { seat }))
+        let Begun { parts, seats } = begin_all(rt, alloc, values, op, ty, workers)?;
+        Ok((AccPass { parts, op, ty }, AccSeat { seats }))
     }
 
     /// Adds a word to a cell, modulo 2^32. No refusal, no memory, and no waiting.
+    #[inline(always)]
     pub fn add(&self, seat: &mut AccSeat, cell: usize, word: u32)
         requires own { IsSeatOf self.now seat.old }
         requires inside { cell < length (old_values self.now) }
         requires operator { operator_of self.now ≡ acc.Add }
         ensures own { IsSeatOf self.now seat.new }
-        ensures worker { worker_of seat.new ≡ after_add cell word (worker_of seat.old) }
+        ensures gave { HasGivenWord cell word seat.old seat.new }
     {
-        self.table
-            .shared
-            .fetch_add::<Plain>(&mut seat.seat, cell, word as u64);
+        let place = cell / PART;
+        self.parts[place].add(&mut seat.seats[place], cell % PART, word);
     }
 
     /// Lowers a cell to a word where that is less in the pass's type. No refusal, no memory, and no waiting.
+    #[inline(always)]
     pub fn least(&self, seat: &mut AccSeat, cell: usize, word: u32)
         requires own { IsSeatOf self.now seat.old }
         requires inside { cell < length (old_values self.now) }
         requires operator { operator_of self.now ≡ acc.Min }
         ensures own { IsSeatOf self.now seat.new }
-        ensures worker { worker_of seat.new ≡ after_add cell word (worker_of seat.old) }
+        ensures gave { HasGivenWord cell word seat.old seat.new }
     {
-        let place = rank(self.start.ty, word);
-        if signed(self.start.ty) {
-            self.table
-                .shared
-                .fetch_min::<Signed>(&mut seat.seat, cell, place);
-        } else {
-            self.table
-                .shared
-                .fetch_min::<Plain>(&mut seat.seat, cell, place);
-        }
+        let place = cell / PART;
+        self.parts[place].least(&mut seat.seats[place], cell % PART, word);
     }
 
     /// Raises a cell to a word where that is more in the pass's type. No refusal, no memory, and no waiting.
+    #[inline(always)]
     pub fn most(&self, seat: &mut AccSeat, cell: usize, word: u32)
         requires own { IsSeatOf self.now seat.old }
         requires inside { cell < length (old_values self.now) }
         requires operator { operator_of self.now ≡ acc.Max }
         ensures own { IsSeatOf self.now seat.new }
-        ensures worker { worker_of seat.new ≡ after_add cell word (worker_of seat.old) }
+        ensures gave { HasGivenWord cell word seat.old seat.new }
     {
-        let place = rank(self.start.ty, word);
-        if signed(self.start.ty) {
-            self.table
-                .shared
-                .fetch_max::<Signed>(&mut seat.seat, cell, place);
-        } else {
-            self.table
-                .shared
-                .fetch_max::<Plain>(&mut seat.seat, cell, place);
-        }
+        let place = cell / PART;
+        self.parts[place].most(&mut seat.seats[place], cell % PART, word);
     }
 
     /// A new seat, which takes half of the share, rounded down.
-    pub fn split(&self, seat: &mut AccSeat) -> AccSeat
+    pub fn split(&self, alloc: Global, seat: &mut AccSeat) -> Result<AccSeat, Memory>
         requires own { IsSeatOf self.now seat.old }
-        requires share { 2 ≤ (worker_of seat.old).share }
+        requires share { 2 ≤ share_of seat.old }
         ensures own { IsSeatOf self.now seat.new }
-        ensures other { IsSeatOf self.now result }
-        ensures worker { worker_of seat.new ≡ after_split (worker_of seat.old) }
-        ensures new_worker { worker_of result ≡ other_half (worker_of seat.old) }
+        ensures other { IfOk result (IsSeatOf self.now) }
+        ensures cut { IfOk result (IsCut seat.old seat.new) }
     {
-        let other = self.table.shared.split_seat::<Half>(&mut seat.seat);
-        AccSeat { seat: other }
+        let mut others = Vec::with_capacity(alloc, self.parts.len())?;
+        split_each(self.parts.as_slice(), &mut seat.seats, &mut others);
+        Ok(AccSeat { seats: others })
     }
 
     /// Joins another seat into this one: what it has given, its share and what came back to it.
@@ -107,83 +93,27 @@ impl AccPass {
         requires own { IsSeatOf self.now seat.old }
         requires other { IsSeatOf self.now other }
         ensures own { IsSeatOf self.now seat.new }
-        ensures worker { worker_of seat.new ≡ after_join (worker_of seat.old) (worker_of other) }
+        ensures merged { IsMerged seat.old other seat.new }
     {
-        let AccSeat { seat: joined } = other;
-        self.table.shared.join_seat::<Half>(&mut seat.seat, joined);
+        let AccSeat { seats } = other;
+        join_each(self.parts.as_slice(), &mut seat.seats, seats);
     }
 
-    /// Ends the pass by a seat into which all others were joined: each cell's old value and all contributions to it, folded.
-    pub fn finish(self, seat: AccSeat) -> Result<Items<u32>, Memory>
+    /// Ends the pass by a seat into which all others were joined: each cell's old value and all contributions to it, folded; the
+    /// cells of one part after those of another. So many workers, from 1 to 16, end it side by side; it waits for them.
+    pub fn finish<R: Threads + Sync>(
+        self,
+        rt: &R,
+        alloc: Global,
+        seat: AccSeat,
+        workers: u32,
+    ) -> Result<Vec<Items<u32>>, Memory>
         requires own { IsSeatOf self seat }
-        requires all { handed_share (worker_of seat) ≡ 16 }
-        ensures { IfOk result (λ values. AreFolded (operator_of self) (type_of self) (old_values self) (worker_of seat).given values) }
+        requires all { handed_of seat ≡ 16 }
+        ensures { IfOk result (λ parts. AreFolded (operator_of self) (type_of self) (old_values self) (given_of seat) (concat parts.items)) }
     {
-        let AccPass { table, start } = self;
-        let Start { mut values, op, ty } = start;
-        let AccSeat { seat } = seat;
-        let closed = table.close_with(seat);
-        copy_cells(op, ty, &closed, &mut values);
-        closed.free();
-        Ok(values)
-    }
-}
-
-// The table's words at the start.
-fn entries(alloc: Global, op: AccOp, ty: Ty, values: &[u32]) -> Result<Items<u64>, Memory>
-    ensures cells { IfOk result (λ words. map (cell_of op ty) words ≡ values.now) }
-    ensures low { IfOk result (λ words. AreEntries op words) }
-{
-    let mut words = Items::new(alloc);
-    for value in values {
-        words.push(entry(op, ty, *value))?;
-    }
-    Ok(words)
-}
-
-// A cell as a word of the table: a sum is itself, and of least and greatest the rank stands there.
-fn entry(op: AccOp, ty: Ty, value: u32) -> u64
-    ensures cell { cell_of op ty result ≡ value }
-    ensures low { IsEntry op result }
-{
-    match op {
-        AccOp::Add => value as u64,
-        AccOp::Min => rank(ty, value),
-        AccOp::Max => rank(ty, value),
-    }
-}
-
-// The cell for which a word of the table stands.
-fn cell(op: AccOp, ty: Ty, word: u64) -> u32
-    requires low { IsEntry op word }
-    ensures { result ≡ cell_of op ty word }
-{
-    match op {
-        AccOp::Add => (word % 0x1_0000_0000) as u32,
-        AccOp::Min => unrank(ty, word),
-        AccOp::Max => unrank(ty, word),
-    }
-}
-
-fn signed(ty: Ty) -> bool
-    ensures { result ≡ is_signed ty }
-{
-    match ty {
-        Ty::I32 => true,
-        Ty::U32 => false,
-        Ty::Bool => false,
-    }
-}
-
-// The cells of a closed table.
-fn copy_cells(op: AccOp, ty: Ty, closed: &Closed<(), Global>, values: &mut Items<u32>)
-    requires full { IsFull closed.now.words }
-    requires within { length values.old ≡ slots_len closed.now.words }
-    requires items { length (slots_items closed.now.words) ≡ slots_len closed.now.words }
-    requires low { AreEntries op (slots_items closed.now.words) }
-    ensures { values.new ≡ map (cell_of op ty) (slots_items closed.now.words) }
-{
-    for i in 0..values.len() {
-        values.set(i, cell(op, ty, closed.word(i)));
+        let AccPass { parts, op, ty } = self;
+        let AccSeat { seats } = seat;
+        end_all(rt, alloc, op, ty, parts, seats, workers)
     }
 }

@@ -1,4 +1,4 @@
-//! What a table of cells is ruled by: the race invariant, and what an atomic step tells its seat.
+//! What the table of a part is ruled by: the race invariant, and what an atomic step tells its seat.
 use crate::begin::Start;
 use atomic_table::{Join, Play, Split, TableRule};
 use sg_words::Worker;

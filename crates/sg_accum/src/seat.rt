@@ -1,27 +1,24 @@
 //! The pass and its seats: the two values that callers hold.
-ghost use Rattle.std.specs.Prelude.{◌≡◌, ◌<◌, [], length};
+ghost use Rattle.std.specs.Prelude.{◌<◌, length};
+ghost use Rattle.sg_accum.specs.Parts.{part_values, seat_workers, AreCut, AreBy, HaveEqualShares};
 
-use crate::begin::Start;
-use crate::rule::AccRule;
-use atomic_table::{Seat, Table};
-use sg_words::Worker;
-use std::alloc::Global;
+use crate::part::{Part, PartSeat};
+use sg_words::{AccOp, Ty};
 
-/// A race into cells. Threads share it by reference, each with a seat of its own.
+/// A race into cells, in parts of 65,536 cells. Threads share it by reference, each with a seat of its own.
 #[derive(Drop)]
 pub struct AccPass {
-    pub(crate) table: Table<(), Worker, Start, AccRule, Global>,
-    pub(crate) start: Start,
-    ghost sized: { table.shared.table_id.words ≡ length start.values },
-    ghost told: { table.shared.key ≡ start },
-    ghost some_cell: { 0 < length start.values },
-    ghost no_values: { table.shared.table_id.slots ≡ 0 },
+    pub(crate) parts: Vec<Part>,
+    pub(crate) op: AccOp,
+    pub(crate) ty: Ty,
+    ghost cut: { AreCut (part_values parts.items) },
+    ghost by: { AreBy op ty parts.items },
 }
 
-/// One worker's seat in a pass.
+/// One worker's seat in a pass: a seat in each part.
 #[derive(Drop)]
 pub struct AccSeat {
-    pub(crate) seat: Seat<(), Worker>,
-    ghost empty_handed: { seat.me.1 ≡ [] },
-    ghost working: { 0 < seat.me.0.share },
+    pub(crate) seats: Vec<PartSeat>,
+    ghost some: { 0 < length seats.items },
+    ghost alike: { HaveEqualShares (seat_workers seats.items) },
 }

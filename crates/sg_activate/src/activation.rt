@@ -99,7 +99,7 @@ pub fn activated<R: Threads + Sync, W: Wanted + Sync, G: Gate + Sync>(
         pass_gate(rt, want.pieces(), workers, gate);
         return Ok(None);
     }
-    let mut next = store.copy(alloc)?;
+    let mut next = store.copy_by_workers(rt, alloc, workers)?;
     let mut gated = true;
     for index in 0..store.layout().nodes() {
         let work = Work {

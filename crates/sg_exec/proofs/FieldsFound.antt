@@ -6,10 +6,9 @@ use Rattle.std.proofs.lemmas.List.{append-nil, take_more, length-append}
 use Rattle.std.proofs.lemmas.List.Elements.{Contains-append_left, Contains-append_right, Contains-append_cases}
 use Rattle.std.proofs.lemmas.Option.{same_Some, slice_get_within}
 use Rattle.sg_words.specs.declared.operators.AccOp.{AccOp}
-use Rattle.sg_words.specs.RaceMachine.{newcomer}
 use Rattle.sg_words.proofs.Uses.{contains_none, contains_head, contains_cases}
 use Rattle.sg_accum.specs.declared.seat.AccSeat.{AccSeat}
-use Rattle.sg_accum.specs.Folding.{worker_of, IsSeatOf}
+use Rattle.sg_accum.specs.Folding.{IsSeatOf, IsNew}
 use Rattle.sg_flat.specs.declared.effects.Way.{Way}
 use Rattle.sg_flat.specs.declared.effects.Way.TheVariants.{Own, Acc}
 use Rattle.sg_coord.specs.declared.coord.Coord.{Coord}
@@ -156,10 +155,10 @@ module _ (stores : List StoreWords) where
 
   -- another pass
   pub have_pass : (uses : List Use) (accumulated : List Accumulated) (seats : List AccSeat) (owned : List Owned) (it : Accumulated) (seat : AccSeat) → HaveFields stores uses accumulated seats owned
-      → IsPassOf stores it → IsSeatOf it.pass seat → worker_of seat ≡ newcomer [] 16
+      → IsPassOf stores it → IsSeatOf it.pass seat → IsNew 16 seat
       → ((k : ℕ) (other : Accumulated) → slice_get accumulated k ≡ Some other → other.layout ≡ it.layout → other.field ≡ it.field → ⊥)
       → HaveFields stores (uses ++ Writes it.layout it.field (Acc it.op) ∷ []) (accumulated ++ it ∷ []) (seats ++ seat ∷ []) owned
-  have_pass uses accumulated seats owned it seat have pass is_seat worker none = record {
+  have_pass uses accumulated seats owned it seat have pass is_seat new_seat none = record {
     passes = record {
       each = λ k one at. elim (snoc_cases accumulated it one k at) [
         | inl before ↦ have.passes.each k one before
@@ -191,7 +190,7 @@ module _ (stores : List StoreWords) where
     };
     new = λ k s also. elim (snoc_cases seats seat s k also) [
       | inl before' ↦ have.new k s before'
-      | inr (here', same') ↦ subst (λ (x : AccSeat). worker_of x ≡ newcomer [] 16) same' worker
+      | inr (here', same') ↦ subst (λ (x : AccSeat). IsNew 16 x) same' new_seat
     ];
     used = λ k one at. elim (snoc_cases accumulated it one k at) [
       | inl before ↦ Contains-append_left uses (Writes it.layout it.field (Acc it.op) ∷ []) _ (have.used k one before)

@@ -1,15 +1,13 @@
 -- What seats gave, write after write.
-use Rattle.std.proofs.Common.{◌≡◌, ℕ, zero, suc, ◌+◌, ◌<◌, Bool, true, false, not, ◌&&◌, ◌==◌, cond, inl, inr, List, [], ◌∷◌, ◌++◌, length, take, get_or, Option, Some, None, refl, sym, ap, ◌∙◌, subst, arith, append_assoc}
-use Rattle.std.specs.Prelude.{slice_get, slice_set, IfSome}
+use Rattle.std.proofs.Common.{◌≡◌, ℕ, zero, suc, ◌+◌, ◌<◌, Bool, true, false, not, ◌&&◌, ◌==◌, cond, inl, inr, List, [], ◌∷◌, ◌++◌, length, take, get_or, Option, Some, None, refl, sym, ap, ◌∙◌, subst, arith, append_assoc, map}
+use Rattle.std.specs.Prelude.{slice_get, slice_set, IfSome, filter}
 use Rattle.std.proofs.lemmas.Bool.{cases_eq, cond-true, cond-false, eqb-true, eq-eqb, and_from}
 use Rattle.std.proofs.lemmas.List.{append-nil, take_more}
 use Rattle.std.proofs.lemmas.Option.{same_Some, slice_get_within}
-use Rattle.sg_words.specs.RaceMachine.{after_add}
-use Rattle.sg_words.specs.RaceInvariant.{handed_share}
 use Rattle.sg_flat.specs.declared.effects.Way.{Way}
 use Rattle.sg_flat.specs.declared.effects.Way.TheVariants.{Own, Acc}
 use Rattle.sg_accum.specs.declared.seat.AccSeat.{AccSeat}
-use Rattle.sg_accum.specs.Folding.{old_values, worker_of, IsSeatOf}
+use Rattle.sg_accum.specs.Folding.{old_values, given_to, given_of, IsSeatOf, HasGivenWord}
 use Rattle.sg_store.specs.StoreWords.{StoreWords}
 use Rattle.sg_store.specs.WellFormed.{IsReached}
 use Rattle.sg_ir.specs.Runs.{is_own}
@@ -44,11 +42,24 @@ set_long (y ∷ ys) (suc k) x = ap suc (set_long ys k x)
 
 -- ---- what writes give
 
+pub given_to-append : (c : ℕ) (xs ys : List (ℕ × ℕ)) → given_to c (xs ++ ys) ≡ given_to c xs ++ given_to c ys
+given_to-append c [] ys = refl
+given_to-append c (x ∷ xs) ys = by_test (x.0 == c) x (filter (λ (y : ℕ × ℕ). y.0 == c) (xs ++ ys)) (filter (λ (y : ℕ × ℕ). y.0 == c) xs) (filter (λ (y : ℕ × ℕ). y.0 == c) ys) (given_to-append c xs ys)
+  where
+    by_test : (b : Bool) (x : ℕ × ℕ) (whole left right : List (ℕ × ℕ)) → map (λ (y : ℕ × ℕ). y.1) whole ≡ map (λ (y : ℕ × ℕ). y.1) left ++ map (λ (y : ℕ × ℕ). y.1) right
+        → map (λ (y : ℕ × ℕ). y.1) (cond b (x ∷ whole) whole) ≡ map (λ (y : ℕ × ℕ). y.1) (cond b (x ∷ left) left) ++ map (λ (y : ℕ × ℕ). y.1) right
+    by_test true x whole left right e = ap (λ (zs : List ℕ). x.1 ∷ zs) e
+    by_test false x whole left right e = e
+
 pub contributions-append : (layout place : ℕ) (xs ys : List CellWrite) → contributions layout place (xs ++ ys) ≡ contributions layout place xs ++ contributions layout place ys
 contributions-append layout place [] ys = refl
 contributions-append layout place (x ∷ xs) ys =
     ap (λ (zs : List (ℕ × ℕ)). given_by layout place x ++ zs) (contributions-append layout place xs ys)
     ∙ sym (append_assoc (given_by layout place x) (contributions layout place xs) (contributions layout place ys))
+
+-- what writes and then others give to a cell
+pub given_both : (c layout place : ℕ) (xs ys : List CellWrite) → given_to c (contributions layout place (xs ++ ys)) ≡ given_to c (contributions layout place xs) ++ given_to c (contributions layout place ys)
+given_both c layout place xs ys = ap (given_to c) (contributions-append layout place xs ys) ∙ given_to-append c (contributions layout place xs) (contributions layout place ys)
 
 given_own : (layout place : ℕ) (write : CellWrite) → write.way ≡ Own → given_by layout place write ≡ []
 given_own layout place write own = ap (λ (way : Way). cond (not (is_own way) && is_into layout place write) (given_at write.cell write.value) []) own
@@ -93,15 +104,15 @@ given_here layout place cell op write way same there is =
 
 pub has_given_more : (it : Accumulated) (xs ys : List CellWrite) (old mid now : AccSeat) → HasGiven it xs old mid → HasGiven it ys mid now → HasGiven it (xs ++ ys) old now
 has_given_more it xs ys old mid now first second = record {
-  given = second.given ∙ ap (λ (g : List (ℕ × ℕ)). g ++ contributions it.layout it.field ys) first.given
-      ∙ append_assoc (worker_of old).given (contributions it.layout it.field xs) (contributions it.layout it.field ys)
-      ∙ ap (λ (g : List (ℕ × ℕ)). (worker_of old).given ++ g) (sym (contributions-append it.layout it.field xs ys));
+  given = λ c. second.given c ∙ ap (λ (g : List ℕ). g ++ given_to c (contributions it.layout it.field ys)) (first.given c)
+      ∙ append_assoc (given_of old c) (given_to c (contributions it.layout it.field xs)) (given_to c (contributions it.layout it.field ys))
+      ∙ ap (λ (g : List ℕ). given_of old c ++ g) (sym (given_both c it.layout it.field xs ys));
   weight_is = second.weight_is ∙ first.weight_is;
 }
 
 has_given_none : (it : Accumulated) (xs : List CellWrite) (seat : AccSeat) → contributions it.layout it.field xs ≡ [] → HasGiven it xs seat seat
 has_given_none it xs seat none = record {
-  given = sym (ap (λ (g : List (ℕ × ℕ)). (worker_of seat).given ++ g) none ∙ append-nil (worker_of seat).given);
+  given = λ c. sym (ap (λ (g : List (ℕ × ℕ)). given_of seat c ++ given_to c g) none ∙ append-nil (given_of seat c));
   weight_is = refl;
 }
 
@@ -142,7 +153,7 @@ gave_unknown accumulated write seats none =
 pub gave_one : (accumulated : List Accumulated) (write : CellWrite) (olds : List AccSeat) (number cell : ℕ) (op : _) (it : Accumulated) (old now : AccSeat)
     → ((j k : ℕ) (one other : Accumulated) → slice_get accumulated j ≡ Some one → slice_get accumulated k ≡ Some other → one.layout ≡ other.layout → one.field ≡ other.field → j ≡ k)
     → slice_get accumulated number ≡ Some it → slice_get olds number ≡ Some old → write.way ≡ Acc op → it.layout ≡ write.layout → it.field ≡ write.place → write.cell ≡ Some cell
-    → worker_of now ≡ after_add cell write.value (worker_of old) → HaveGiven accumulated (write ∷ []) olds (slice_set olds number now)
+    → HasGivenWord cell write.value old now → HaveGiven accumulated (write ∷ []) olds (slice_set olds number now)
 gave_one accumulated write olds number cell op it old now apart is was way same there at added = λ k other before after is_other was_other after_is.
     elim (cases_eq k number) [
       | inl here ↦ (
@@ -162,9 +173,9 @@ gave_one accumulated write olds number cell op it old now apart is was way same 
   where
     here_gave : HasGiven it (write ∷ []) old now
     here_gave = record {
-      given = ap (λ w. w.given) added
-          ∙ ap (λ (g : List (ℕ × ℕ)). (worker_of old).given ++ (g ++ [])) (sym (given_here it.layout it.field cell op write way (sym same) (sym there) at));
-      weight_is = ap handed_share added;
+      given = λ c. added.given_is c
+          ∙ ap (λ (g : List (ℕ × ℕ)). given_of old c ++ given_to c (g ++ [])) (sym (given_here it.layout it.field cell op write way (sym same) (sym there) at));
+      weight_is = added.handed_stays;
     }
 
 -- ---- seats stay seats

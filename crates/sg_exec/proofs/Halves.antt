@@ -12,17 +12,14 @@ use Rattle.sg_store.specs.StoreWords.{StoreWords}
 use Rattle.sg_flat.specs.declared.state.FlatState.{FlatState}
 use Rattle.sg_exec.specs.steps.Machines.{AreCells, IsCellOf}
 use Rattle.sg_coord.specs.declared.coord.Coord.{Coord}
-use Rattle.sg_words.specs.declared.race.Worker.{Worker}
-use Rattle.sg_words.specs.RaceMachine.{after_split, other_half, after_join}
-use Rattle.sg_words.specs.RaceInvariant.{handed_share}
 use Rattle.sg_accum.specs.declared.seat.AccSeat.{AccSeat}
-use Rattle.sg_accum.specs.Folding.{worker_of}
+use Rattle.sg_accum.specs.Folding.{given_to, given_of, share_of, handed_of}
 use Rattle.sg_exec.specs.declared.cell_write.CellWrite.{CellWrite}
 use Rattle.sg_exec.specs.declared.shared.Accumulated.{Accumulated}
 use Rattle.sg_exec.specs.declared.shared.Owned.{Owned}
 use Rattle.sg_exec.specs.declared.hand.Hand.{Hand}
 use Rattle.sg_exec.specs.steps.Racing.{contributions, last_own, between, AreSeats, HaveGiven, HaveShares, HasWorked, HasRun, AreSplit, AreJoined, IsDivided, IsOfBoth}
-use Rattle.sg_exec.proofs.Giving.{at_below, contributions-append}
+use Rattle.sg_exec.proofs.Giving.{at_below, given_both}
 
 abbrev pub Writes : Type 0
 Writes = List CellWrite
@@ -50,8 +47,8 @@ shares_left accumulated olds nows others workers half is was are also split shar
     let old = at_below olds k (omega arith) in
     let other = at_below others k (omega arith) in
     let one = split k old.0 now other.0 old.1 at other.1 in
-    subst (λ (h : ℕ). workers - h ≤ (worker_of now).share) (sym is)
-    (subst (λ (w : Worker). workers - workers / 2 ≤ w.share) (sym one.now_is) (half_left (worker_of old.0).share workers (shares k old.0 old.1)))
+    subst (λ (h : ℕ). workers - h ≤ share_of now) (sym is)
+    (subst (λ (n : ℕ). workers - workers / 2 ≤ n) (sym one.share_left) (half_left (share_of old.0) workers (shares k old.0 old.1)))
 
 pub shares_right : (accumulated : List Accumulated) (olds nows others : List AccSeat) (workers half : ℕ) → half ≡ workers / 2 → AreSeats accumulated olds → AreSeats accumulated nows → AreSeats accumulated others → AreSplit olds nows others
     → HaveShares workers olds → HaveShares half others
@@ -61,21 +58,17 @@ shares_right accumulated olds nows others workers half is was are also split sha
     let old = at_below olds k (omega arith) in
     let now = at_below nows k (omega arith) in
     let one = split k old.0 now.0 other old.1 now.1 at in
-    subst (λ (h : ℕ). h ≤ (worker_of other).share) (sym is)
-    (subst (λ (w : Worker). workers / 2 ≤ w.share) (sym one.other_is) (half_right (worker_of old.0).share workers (shares k old.0 old.1)))
+    subst (λ (h : ℕ). h ≤ share_of other) (sym is)
+    (subst (λ (n : ℕ). workers / 2 ≤ n) (sym one.other_new.share_is) (half_right (share_of old.0) workers (shares k old.0 old.1)))
 
 pub two_shares : (workers : ℕ) (seats : List AccSeat) → 2 ≤ workers → HaveShares workers seats → HaveShares 2 seats
 two_shares workers seats more shares = λ k seat at. let h = shares k seat at in omega arith
 
 -- ---- what two halves gave
 
--- the shares of a split come back at the join
-weight_back : (old left right : Worker) → handed_share left ≡ handed_share (after_split old) → handed_share right ≡ handed_share (other_half old) → handed_share (after_join left right) ≡ handed_share old
-weight_back old left right l r =
-    let first : left.share + left.back ≡ (old.share - old.share / 2) + old.back = l in
-    let second : right.share + right.back ≡ old.share / 2 + 0 = r in
-    let whole : left.share + (left.back + (right.share + right.back)) ≡ old.share + old.back = omega arith in
-    whole
+-- what a cut took away comes back at the join
+weight_back : (half old now left right after : ℕ) → now + half ≡ old → left ≡ now → right ≡ half → after ≡ left + right → after ≡ old
+weight_back half old now left right after cut l r join = omega arith
 
 module _ (accumulated : List Accumulated) (olds nows others lefts rights afters : List AccSeat) (split : AreSplit olds nows others) (join : AreJoined lefts rights afters)
     (was : AreSeats accumulated olds) (are : AreSeats accumulated nows) (also : AreSeats accumulated others) (left_are : AreSeats accumulated lefts) (right_are : AreSeats accumulated rights) where
@@ -92,12 +85,15 @@ module _ (accumulated : List Accumulated) (olds nows others lefts rights afters 
       let r = second k it other.0 right.0 is other.1 right.1 in
       let j = join k left.0 right.0 after left.1 right.1 after_at in
       record {
-        given = ap (λ (w : Worker). w.given) j
-            ∙ ap (λ (g : List (ℕ × ℕ)). g ++ (worker_of right.0).given) (l.given ∙ ap (λ (w : Worker). w.given ++ contributions it.layout it.field xs) one.now_is)
-            ∙ ap (λ (g : List (ℕ × ℕ)). ((worker_of old).given ++ contributions it.layout it.field xs) ++ g) (r.given ∙ ap (λ (w : Worker). w.given ++ contributions it.layout it.field ys) one.other_is)
-            ∙ append_assoc (worker_of old).given (contributions it.layout it.field xs) (contributions it.layout it.field ys)
-            ∙ ap (λ (g : List (ℕ × ℕ)). (worker_of old).given ++ g) (sym (contributions-append it.layout it.field xs ys));
-        weight_is = ap handed_share j ∙ weight_back (worker_of old) (worker_of left.0) (worker_of right.0) (l.weight_is ∙ ap handed_share one.now_is) (r.weight_is ∙ ap handed_share one.other_is);
+        given = λ c.
+            let gx = given_to c (contributions it.layout it.field xs) in
+            let gy = given_to c (contributions it.layout it.field ys) in
+            j.given_is c
+            ∙ ap (λ (g : List ℕ). g ++ given_of right.0 c) (l.given c ∙ ap (λ (g : List ℕ). g ++ gx) (one.given_stays c))
+            ∙ ap (λ (g : List ℕ). (given_of old c ++ gx) ++ g) (r.given c ∙ ap (λ (g : List ℕ). g ++ gy) (one.other_new.nothing c))
+            ∙ append_assoc (given_of old c) gx gy
+            ∙ ap (λ (g : List ℕ). given_of old c ++ g) (sym (given_both c it.layout it.field xs ys));
+        weight_is = weight_back (share_of old / 2) (handed_of old) (handed_of now.0) (handed_of left.0) (handed_of right.0) (handed_of after) one.handed_left l.weight_is (r.weight_is ∙ one.other_new.handed_is) j.handed_is;
       }
 
 -- ---- pieces of a list

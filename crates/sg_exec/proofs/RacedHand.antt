@@ -3,7 +3,6 @@ use Rattle.std.proofs.Common.{◌≡◌, ℕ, ◌+◌, ◌-◌, ◌≤◌, List,
 use Rattle.std.specs.Prelude.{IfOk}
 use Rattle.std.proofs.lemmas.List.{take_all}
 use Rattle.sg_words.specs.declared.memory.Memory.{Memory}
-use Rattle.sg_words.specs.declared.race.Worker.{Worker}
 use Rattle.sg_coord.specs.declared.coord.Coord.{Coord}
 use Rattle.sg_coord.specs.Slices.{slice_start, IsPartition}
 use Rattle.sg_flat.specs.declared.effects.Write.{Write}
@@ -25,7 +24,7 @@ use Rattle.sg_exec.proofs.RacedRun.{are_whole, gave_reached, are_given, puts_are
 
 -- the first seats have all shares
 pub all_shares : (stores : List StoreWords) (code : List Inst) (accumulated : List Accumulated) (seats : List AccSeat) (owned : List Owned) (workers : ℕ) → HaveFields stores (uses_in code) accumulated seats owned → workers ≤ 16 → HaveShares workers seats
-all_shares stores code accumulated seats owned workers have few = λ k seat at. subst (λ (w : Worker). workers ≤ w.share) (sym (have.new k seat at)) few
+all_shares stores code accumulated seats owned workers have few = λ k seat at. subst (λ (share : ℕ). workers ≤ share) (sym (have.new k seat at).share_is) few
 
 -- the points of all workers
 all_points : (points : List Coord) (workers : ℕ) → IsPartition (length points) workers → between (slice_start (length points) workers 0) (slice_start (length points) workers (0 + workers)) points ≡ points

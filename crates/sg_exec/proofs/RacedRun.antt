@@ -1,21 +1,19 @@
 -- What the workers of a run give and put, by the turns of the run.
 use Rattle.std.proofs.Common.{◌≡◌, ℕ, Bool, true, false, not, ◌&&◌, ◌==◌, cond, inl, inr, ◌⊎◌, List, [], ◌∷◌, ◌++◌, map, Option, Some, None, refl, sym, ap, ◌∙◌, subst, arith}
-use Rattle.std.specs.Prelude.{slice_get, Contains, IfSome, All}
+use Rattle.std.specs.Prelude.{◌≢◌, slice_get, filter, Contains, IfSome, All}
 use Rattle.std.specs.List.{flat_map}
-use Rattle.std.proofs.lemmas.Bool.{and_parts, cond-true, eqb-true}
+use Rattle.std.proofs.lemmas.Bool.{cases_Bool, and_parts, cond-true, cond-false, eqb-true}
 use Rattle.std.proofs.lemmas.List.{map-append}
 use Rattle.std.proofs.lemmas.List.Elements.{All-contains, All-cons, All-nil}
 use Rattle.std.proofs.lemmas.Option.{same_Some, slice_get_within}
 use Rattle.sg_words.proofs.Uses.{contains_none, contains_head, contains_rest, contains_cases, into_map}
-use Rattle.sg_words.specs.declared.race.Worker.{Worker}
-use Rattle.sg_words.specs.RaceInvariant.{handed_share}
 use Rattle.sg_coord.specs.declared.coord.Coord.{Coord}
 use Rattle.sg_flat.specs.declared.effects.Turn.{Turn}
 use Rattle.sg_flat.specs.declared.effects.Write.{Write}
 use Rattle.sg_flat.specs.declared.state.FlatState.{FlatState}
 use Rattle.sg_flat.specs.Kernel.{is_inside_of}
 use Rattle.sg_accum.specs.declared.seat.AccSeat.{AccSeat}
-use Rattle.sg_accum.specs.Folding.{worker_of}
+use Rattle.sg_accum.specs.Folding.{given_to, given_of}
 use Rattle.sg_store.specs.StoreWords.{StoreWords}
 use Rattle.sg_ir.specs.declared.code.Inst.{Inst}
 use Rattle.sg_ir.specs.Runs.{CodeWrite, is_own, iteration}
@@ -59,6 +57,18 @@ contributions_reached stores layout field writes cells one has =
     let into = (and_parts (not (is_own turn.0.way)) (is_into layout field turn.0) both.0).1 in
     subst (λ (l : ℕ). IsCellOf stores l one.0) (eqb-true turn.0.layout layout (and_parts (turn.0.layout == layout) (turn.0.place == field) into).0) both.1
 
+-- a cell to which something was given stands in the list of what was given
+given_some : (c : ℕ) (pairs : List (ℕ × ℕ)) → given_to c pairs ≢ [] → (one : ℕ × ℕ) × (Contains pairs one × (one.0 ≡ c))
+given_some c [] some = absurd (some refl)
+given_some c (x ∷ xs) some = elim (cases_Bool (x.0 == c)) [
+  | inl here ↦ (x, (contains_head x x xs refl, eqb-true x.0 c here))
+  | inr elsewhere ↦ (
+      let rest = filter (λ (y : ℕ × ℕ). y.0 == c) xs in
+      let later = given_some c xs (λ none. some (ap (map (λ (y : ℕ × ℕ). y.1)) (cond-false (x.0 == c) (x ∷ rest) rest elsewhere) ∙ none)) in
+      (later.0, (contains_rest later.0 x xs later.1.0, later.1.1))
+      )
+]
+
 -- ---- seats at the end
 
 module _ (stores : List StoreWords) (uses : List Use) (accumulated : List Accumulated) (owned : List Owned) (P : FlatState → Type 0) (at_turns : FlatState → List (List CellWrite)) (old after : Hand)
@@ -73,22 +83,22 @@ module _ (stores : List StoreWords) (uses : List Use) (accumulated : List Accumu
   pass_at : (k : ℕ) (seat : AccSeat) → slice_get after.seats.items k ≡ Some seat → (it : Accumulated) × (slice_get accumulated k ≡ Some it)
   pass_at k seat at = at_below accumulated k (let below = slice_get_within after.seats.items k seat at in let long = seats.long in omega (arith, below, long))
 
-  given_by_seat : (k : ℕ) (it : Accumulated) (seat : AccSeat) → slice_get accumulated k ≡ Some it → slice_get after.seats.items k ≡ Some seat → (worker_of seat).given ≡ contributions it.layout it.field writes_given
-  given_by_seat k it seat at also =
+  given_by_seat : (k : ℕ) (it : Accumulated) (seat : AccSeat) → slice_get accumulated k ≡ Some it → slice_get after.seats.items k ≡ Some seat → (c : ℕ) → given_of seat c ≡ given_to c (contributions it.layout it.field writes_given)
+  given_by_seat k it seat at also c =
       let was = old_at k seat also in
       let gave = ran.worked.gave k it was.0 seat at was.1 also in
-      gave.given ∙ ap (λ (w : Worker). w.given ++ contributions it.layout it.field writes_given) (have.new k was.0 was.1)
+      gave.given c ∙ ap (λ (g : List ℕ). g ++ given_to c (contributions it.layout it.field writes_given)) ((have.new k was.0 was.1).nothing c)
 
   pub are_whole : AreWhole after.seats.items
   are_whole = λ k seat also.
       let it = pass_at k seat also in
       let was = old_at k seat also in
-      (ran.worked.gave k it.0 was.0 seat it.1 was.1 also).weight_is ∙ ap handed_share (have.new k was.0 was.1)
+      (ran.worked.gave k it.0 was.0 seat it.1 was.1 also).weight_is ∙ (have.new k was.0 was.1).handed_is
 
   pub gave_reached : GaveReached stores accumulated after.seats.items
-  gave_reached = λ k it seat at also one has.
-      contributions_reached stores it.layout it.field writes_given ran.cells one
-      (subst (λ (pairs : List (ℕ × ℕ)). Contains pairs one) (given_by_seat k it seat at also) has)
+  gave_reached = λ k it seat at also cell some.
+      let one = given_some cell (contributions it.layout it.field writes_given) (λ none. some (given_by_seat k it seat at also cell ∙ none)) in
+      subst (λ (c : ℕ). IsCellOf stores it.layout c) one.1.1 (contributions_reached stores it.layout it.field writes_given ran.cells one.0 one.1.0)
 
   -- ---- at a state, with the turns of the run
 
@@ -113,7 +123,8 @@ module _ (stores : List StoreWords) (uses : List Use) (accumulated : List Accumu
     pub are_given : AreGiven stores accumulated after.seats.items (flat_map f points)
     are_given = λ k it seat at also. record {
       ways = acc_ways stores uses accumulated old.seats.items owned f points have writes_way is_used own_at k it at;
-      given_is = given_by_seat k it seat at also ∙ ap (contributions it.layout it.field) (ap (flat_map (λ (ws : List CellWrite). ws)) turns_are ∙ joined points each);
+      given_is = λ cell. given_by_seat k it seat at also cell
+          ∙ ap (λ (ws : List CellWrite). given_to cell (contributions it.layout it.field ws)) (ap (flat_map (λ (ws : List CellWrite). ws)) turns_are ∙ joined points each);
     }
 
     pub puts_are : old.puts.items ≡ [] → after.puts.items ≡ map (landing stores) (flat_map (λ (at : Coord). kept_own owned (f at)) points)

@@ -4,9 +4,8 @@ use Rattle.std.specs.Prelude.{slice_get, slice_set, slice_index_or}
 use Rattle.std.proofs.lemmas.Bool.{cases_eq}
 use Rattle.std.proofs.lemmas.Option.{same_Some, slice_get_within, slice_get_read}
 use Rattle.std.proofs.lemmas.List.{length-append, length-take-le, take_all, take-take, get_or-take}
-use Rattle.sg_words.specs.RaceMachine.{after_split, other_half, after_join}
 use Rattle.sg_accum.specs.declared.seat.AccSeat.{AccSeat}
-use Rattle.sg_accum.specs.Folding.{worker_of, IsSeatOf}
+use Rattle.sg_accum.specs.Folding.{IsSeatOf, IsCut, IsMerged}
 use Rattle.sg_exec.specs.declared.shared.Accumulated.{Accumulated}
 use Rattle.sg_exec.specs.steps.Racing.{AreSeats, AreSplit, AreJoined}
 use Rattle.sg_exec.proofs.Giving.{set_same, set_other, seats_set}
@@ -40,9 +39,9 @@ splitting_none accumulated seats are = record {
 }
 
 pub splitting_more : (accumulated : List Accumulated) (number : ℕ) (olds nows others : List AccSeat) (it : Accumulated) (old now other : AccSeat) → Splitting accumulated number olds nows others
-    → slice_get accumulated number ≡ Some it → slice_get nows number ≡ Some old → IsSeatOf it.pass now → IsSeatOf it.pass other → worker_of now ≡ after_split (worker_of old) → worker_of other ≡ other_half (worker_of old)
+    → slice_get accumulated number ≡ Some it → slice_get nows number ≡ Some old → IsSeatOf it.pass now → IsSeatOf it.pass other → IsCut old now other
     → Splitting accumulated (number + 1) olds (slice_set nows number now) (others ++ other ∷ [])
-splitting_more accumulated number olds nows others it old now other so is at own other_own now_is other_is =
+splitting_more accumulated number olds nows others it old now other so is at own other_own cut =
     let below : number < length accumulated = slice_get_within accumulated number it is in
     let within : number < length nows = slice_get_within nows number old at in
     let long = so.long in
@@ -69,10 +68,7 @@ splitting_more accumulated number olds nows others it old now other so is at own
             let was : old ≡ before = same_Some _ _ (sym at ∙ so.later number (omega arith) ∙ sym (ap (slice_get olds) here) ∙ is_before) in
             let seat_is : now ≡ after = same_Some _ _ (sym (set_same nows number now within) ∙ sym (ap (slice_get (slice_set nows number now)) here) ∙ is_after) in
             let half_is : other ≡ half = same_Some _ _ (sym (at_push others other) ∙ sym (ap (slice_get (others ++ other ∷ [])) here') ∙ is_half) in
-            record {
-              now_is = ap worker_of (sym seat_is) ∙ now_is ∙ ap (λ (s : AccSeat). after_split (worker_of s)) was;
-              other_is = ap worker_of (sym half_is) ∙ other_is ∙ ap (λ (s : AccSeat). other_half (worker_of s)) was;
-            }
+            subst (λ (s : AccSeat). IsCut before after s) half_is (subst (λ (s : AccSeat). IsCut before s other) seat_is (subst (λ (s : AccSeat). IsCut s now other) was cut))
             )
         | inr elsewhere ↦ (
             let short : k < length (others ++ other ∷ []) = slice_get_within (others ++ other ∷ []) k half is_half in
@@ -95,7 +91,7 @@ pub record Joining (accumulated : List Accumulated) (number : ℕ) (olds others 
   pub seats : AreSeats accumulated nows
   pub left : lefts ≡ take number others
   pub within : number ≤ length accumulated
-  pub joined : (k : ℕ) (old other now : AccSeat) → number ≤ k → slice_get olds k ≡ Some old → slice_get others k ≡ Some other → slice_get nows k ≡ Some now → worker_of now ≡ after_join (worker_of old) (worker_of other)
+  pub joined : (k : ℕ) (old other now : AccSeat) → number ≤ k → slice_get olds k ≡ Some old → slice_get others k ≡ Some other → slice_get nows k ≡ Some now → IsMerged old other now
   pub earlier : (k : ℕ) → k < number → slice_get nows k ≡ slice_get olds k
 
 pub joining_none : (accumulated : List Accumulated) (number : ℕ) (olds others : List AccSeat) → number ≡ length accumulated → AreSeats accumulated olds → AreSeats accumulated others → Joining accumulated number olds others olds others
@@ -121,9 +117,9 @@ last_left others lefts number last is within are =
     )
 
 pub joining_more : (accumulated : List Accumulated) (number last : ℕ) (olds others nows lefts rest : List AccSeat) (it : Accumulated) (old other now : AccSeat) → number ≡ last + 1 → Joining accumulated number olds others nows lefts
-    → AreSeats accumulated others → slice_get accumulated last ≡ Some it → slice_get nows last ≡ Some old → other ≡ get_or others last other → rest ≡ take last others → IsSeatOf it.pass now → worker_of now ≡ after_join (worker_of old) (worker_of other)
+    → AreSeats accumulated others → slice_get accumulated last ≡ Some it → slice_get nows last ≡ Some old → other ≡ get_or others last other → rest ≡ take last others → IsSeatOf it.pass now → IsMerged old other now
     → Joining accumulated last olds others (slice_set nows last now) rest
-joining_more accumulated number last olds others nows lefts rest it old other now next so also is at is_other is_rest own now_is =
+joining_more accumulated number last olds others nows lefts rest it old other now next so also is at is_other is_rest own merged =
     let within : last < length nows = slice_get_within nows last old at in
     let inside : last < length accumulated = slice_get_within accumulated last it is in
     let other_long = also.long in
@@ -137,7 +133,7 @@ joining_more accumulated number last olds others nows lefts rest it old other no
             let was : old ≡ before = same_Some _ _ (sym at ∙ so.earlier last (omega arith) ∙ sym (ap (slice_get olds) here) ∙ is_before) in
             let seat_is : now ≡ after = same_Some _ _ (sym (set_same nows last now within) ∙ sym (ap (slice_get (slice_set nows last now)) here) ∙ is_after) in
             let other_is : other ≡ that = same_Some _ _ (sym there ∙ sym (ap (slice_get others) here) ∙ is_that) in
-            ap worker_of (sym seat_is) ∙ now_is ∙ ap (λ (s : AccSeat). after_join (worker_of s) (worker_of other)) was ∙ ap (λ (s : AccSeat). after_join (worker_of before) (worker_of s)) other_is
+            subst (λ (s : AccSeat). IsMerged before s after) other_is (subst (λ (s : AccSeat). IsMerged before other s) seat_is (subst (λ (s : AccSeat). IsMerged s other now) was merged))
             )
         | inr elsewhere ↦ so.joined k before that after (omega arith) is_before is_that (sym (set_other nows last k now elsewhere) ∙ is_after)
       ];

@@ -20,7 +20,7 @@ use Rattle.sg_flat.specs.Effects.{landed, writes_to}
 use Rattle.sg_flat.specs.Kernel.{is_inside_of}
 use Rattle.sg_flat.specs.State.{value_at, words_or_none}
 use Rattle.sg_flat.proofs.Uses.{RunLaws}
-use Rattle.sg_accum.specs.Folding.{old_values, operator_of, type_of, AreFolded}
+use Rattle.sg_accum.specs.Folding.{old_values, operator_of, type_of, given_to, AreFolded}
 use Rattle.sg_store.specs.StoreWords.{StoreWords, word_in}
 use Rattle.sg_store.specs.Walks.{cell_in}
 use Rattle.sg_store.specs.WellFormed.{IsReached, IsWellFormed}
@@ -55,16 +55,16 @@ is_some : (found : Option ℕ) (cell : ℕ) → found ≡ Some cell → IsSome f
 is_some found cell is = subst (λ (o : Option ℕ). IsSome o) (sym is) refl
 
 -- what holds of a store of the run, where a pass into a field of it has ended
-pub record EndedPass (stores : List StoreWords) (it : Accumulated) (copy : StoreWords) (words : List ℕ) (given : List (ℕ × ℕ)) (writes : List Write) : Type 0 where
+pub record EndedPass (stores : List StoreWords) (it : Accumulated) (copy : StoreWords) (words : List ℕ) (given : ℕ → List ℕ) (writes : List Write) : Type 0 where
   pub pass : IsPassOf stores it
   pub tree : HasTree pass.store copy
   pub fresh : (cell : ℕ) → word_in copy it.field cell ≡ word_in pass.store it.field cell
   pub ways : (write : Write) → Contains writes write → write.layout ≡ it.layout → write.place ≡ it.field → write.way ≡ Acc it.op
-  pub given_is : given ≡ contributions it.layout it.field (map (landing stores) writes)
+  pub given_is : (cell : ℕ) → given cell ≡ given_to cell (contributions it.layout it.field (map (landing stores) writes))
   pub folds : AreFolded (operator_of it.pass) (type_of it.pass) (old_values it.pass) given words
   pub small : (cell : ℕ) → slice_index words cell < 2 ^ 32
 
-module _ (stores : List StoreWords) (it : Accumulated) (copy : StoreWords) (words : List ℕ) (given : List (ℕ × ℕ)) (writes : List Write) (ended : EndedPass stores it copy words given writes)
+module _ (stores : List StoreWords) (it : Accumulated) (copy : StoreWords) (words : List ℕ) (given : ℕ → List ℕ) (writes : List Write) (ended : EndedPass stores it copy words given writes)
     (laws : RunLaws copy.shape) (below : RowBelow) (of_members : ClosureIsOfMembers copy.shape) (is_inside_law : ClosureIsInside copy.shape) (active_law : CellsAreActive copy) (differ_law : CellsDiffer copy) (well : IsWellFormed copy)
     (flat : FlatLayout) (stands : StandsFor copy flat) (active : (write : Write) → Contains writes write → write.layout ≡ it.layout → write.place ≡ it.field → Contains flat.active write.at) where
   abbrev bounds : Bounds
@@ -107,7 +107,7 @@ module _ (stores : List StoreWords) (it : Accumulated) (copy : StoreWords) (word
       let differ : (x y : Coord) (c : ℕ) → cell_in copy x ≡ Some c → cell_in copy y ≡ Some c → x ≡ y = λ x y c a b. differ_law well x y c a b in
       let field_there : it.field < length copy.shape.fields = slice_get_within copy.shape.fields it.field (type_of it.pass) is_ty in
       summed stores it.layout it.field it.op copy bounds at cell is differ laws.point_of_row (inside at has) (type_of it.pass) (old_values it.pass) words given writes
-      (subst (λ (op : AccOp). AreFolded op (type_of it.pass) (old_values it.pass) given words) ended.pass.operator ended.folds) within_old ended.given_is (known at cell is differ (inside at has))
+      (subst (λ (op : AccOp). AreFolded op (type_of it.pass) (old_values it.pass) given words) ended.pass.operator ended.folds) within_old (ended.given_is cell) (known at cell is differ (inside at has))
       ∙ ap (λ (w : ℕ). landed (type_of it.pass) w (writes_to bounds it.layout it.field (row_of bounds at) writes))
       (ended.pass.words cell ∙ sym (ended.fresh cell) ∙ stands.values at cell is it.field field_there)
 

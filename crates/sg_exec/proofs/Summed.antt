@@ -26,9 +26,7 @@ use Rattle.sg_exec.specs.Standing.{shapes_of}
 use Rattle.sg_exec.specs.steps.Machines.{cell_there}
 use Rattle.sg_exec.specs.steps.Landing.{code_write, landing}
 use Rattle.sg_exec.specs.steps.Racing.{given_at, given_by, contributions}
-
-abbrev Pairs : Type 0
-Pairs = List (ℕ × ℕ)
+use Rattle.sg_exec.proofs.Giving.{given_to-append}
 
 -- ---- the cell of a write
 
@@ -47,15 +45,6 @@ cell_landed stores store write there inside =
     ∙ ap (λ (s : Option StoreWords). option_and_then (λ (it : StoreWords). cell_in it write.at) s) there
 
 -- ---- what is given to a cell
-
-given_split : (c : ℕ) (xs ys : Pairs) → given_to c (xs ++ ys) ≡ given_to c xs ++ given_to c ys
-given_split c [] ys = refl
-given_split c (x ∷ xs) ys = by_test (x.0 == c) x (filter (λ (y : ℕ × ℕ). y.0 == c) (xs ++ ys)) (filter (λ (y : ℕ × ℕ). y.0 == c) xs) (filter (λ (y : ℕ × ℕ). y.0 == c) ys) (given_split c xs ys)
-  where
-    by_test : (b : Bool) (x : ℕ × ℕ) (whole left right : Pairs) → map (λ (y : ℕ × ℕ). y.1) whole ≡ map (λ (y : ℕ × ℕ). y.1) left ++ map (λ (y : ℕ × ℕ). y.1) right
-        → map (λ (y : ℕ × ℕ). y.1) (cond b (x ∷ whole) whole) ≡ map (λ (y : ℕ × ℕ). y.1) (cond b (x ∷ left) left) ++ map (λ (y : ℕ × ℕ). y.1) right
-    by_test true x whole left right e = ap (λ (zs : List ℕ). x.1 ∷ zs) e
-    by_test false x whole left right e = e
 
 values_split : (t : Write → Bool) (write : Write) (writes : List Write)
     → map (λ (w : Write). w.value) (filter t (write ∷ writes)) ≡ map (λ (w : Write). w.value) (filter t (write ∷ [])) ++ map (λ (w : Write). w.value) (filter t writes)
@@ -136,7 +125,7 @@ module _ (stores : List StoreWords) (layout place : ℕ) (op : AccOp) (store : S
       → given_to cell (contributions layout place (map (landing stores) writes)) ≡ map (λ (w : Write). w.value) (writes_to bounds layout place (row_of bounds at) writes)
   all_given [] known = refl
   all_given (write ∷ writes) known =
-      given_split cell (given_by layout place (landing stores write)) (contributions layout place (map (landing stores) writes))
+      given_to-append cell (given_by layout place (landing stores write)) (contributions layout place (map (landing stores) writes))
       ∙ ap (λ (xs : List ℕ). xs ++ given_to cell (contributions layout place (map (landing stores) writes))) (one_given write (known write (contains_head write write writes refl)))
       ∙ ap (λ (xs : List ℕ). map (λ (w : Write). w.value) (writes_to bounds layout place (row_of bounds at) (write ∷ [])) ++ xs) (all_given writes (λ w has. known w (contains_rest w write writes has)))
       ∙ sym (values_split (is_to bounds layout place (row_of bounds at)) write writes)
@@ -157,12 +146,12 @@ into_of_to false b r h = absurd (cc)
 module _ (stores : List StoreWords) (layout place : ℕ) (op : AccOp) (store : StoreWords) (bounds : Bounds) (at : Coord) (cell : ℕ) (is_cell : cell_in store at ≡ Some cell)
     (differ : (x y : Coord) (c : ℕ) → cell_in store x ≡ Some c → cell_in store y ≡ Some c → x ≡ y) (point_of_row : PointOfRow) (inside : Inside bounds at) where
   -- the cell's word at the end of the pass is what the flat meaning makes of its word
-  pub summed : (ty : Ty) (old new : List ℕ) (given : Pairs) (writes : List Write) → AreFolded op ty old given new → cell < length old → given ≡ contributions layout place (map (landing stores) writes)
+  pub summed : (ty : Ty) (old new : List ℕ) (given : ℕ → List ℕ) (writes : List Write) → AreFolded op ty old given new → cell < length old → given cell ≡ given_to cell (contributions layout place (map (landing stores) writes))
       → ((write : Write) → Contains writes write → ((write.layout == layout) && (write.place == place)) ≡ true → IsContribution stores layout place op store bounds at cell is_cell differ point_of_row inside write)
       → slice_index new cell ≡ landed ty (slice_index old cell) (writes_to bounds layout place (row_of bounds at) writes)
   summed ty old new given writes folds below is known =
       folds.folds cell below
-      ∙ ap (λ (g : Pairs). fold (folded op ty) (slice_index old cell) (given_to cell g)) is
+      ∙ ap (fold (folded op ty) (slice_index old cell)) is
       ∙ ap (fold (folded op ty) (slice_index old cell)) (all_given stores layout place op store bounds at cell is_cell differ point_of_row inside writes known)
       ∙ fold_landed ty op (slice_index old cell) (writes_to bounds layout place (row_of bounds at) writes)
       (λ w has. let both = from_filter (is_to bounds layout place (row_of bounds at)) writes w has in

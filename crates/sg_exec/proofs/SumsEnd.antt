@@ -5,17 +5,16 @@ use Rattle.std.proofs.lemmas.List.{append-nil, length-append}
 use Rattle.std.proofs.lemmas.List.Elements.{All-nil, All-cons}
 use Rattle.std.proofs.lemmas.List.Kept.{AllPairs-cons}
 use Rattle.std.proofs.lemmas.Option.{same_Some, slice_get_within}
-use Rattle.sg_words.specs.RaceInvariant.{handed_share}
 use Rattle.sg_flat.specs.declared.effects.Write.{Write}
 use Rattle.sg_accum.specs.declared.seat.AccSeat.{AccSeat}
-use Rattle.sg_accum.specs.Folding.{worker_of, old_values, operator_of, type_of, IsSeatOf, AreFolded}
+use Rattle.sg_accum.specs.Folding.{old_values, operator_of, type_of, given_of, handed_of, IsSeatOf, AreFolded}
 use Rattle.sg_store.specs.StoreWords.{StoreWords}
 use Rattle.sg_store.specs.WellFormed.{IsFieldRow}
 use Rattle.sg_exec.specs.declared.shared.Accumulated.{Accumulated}
 use Rattle.sg_exec.specs.declared.sums.Sum.{Sum}
 use Rattle.sg_exec.specs.steps.Racing.{ArePasses, AreSeats}
 use Rattle.sg_exec.specs.steps.Passes.{HasPass, AreWhole, GaveReached, AreGiven, IsSumOf, into_field, passed}
-use Rattle.sg_exec.specs.steps.Made.{AddsSums, HasRow, summed}
+use Rattle.sg_exec.specs.steps.Made.{AddsSums, HasRow, summed, words_of}
 use Rattle.sg_exec.proofs.FieldsFound.{snoc_old, snoc_new}
 use Rattle.sg_exec.proofs.SumsPut.{sum_row}
 
@@ -77,7 +76,7 @@ module _ (all list : List Accumulated) (last : Accumulated) (is : all ≡ list +
     pub whole_front : AreWhole all_seats → AreWhole seats
     whole_front whole = λ k one also. whole k one (seat_front k one also)
 
-    pub whole_last : AreSeats all all_seats → AreWhole all_seats → handed_share (worker_of seat) ≡ 16
+    pub whole_last : AreSeats all all_seats → AreWhole all_seats → handed_of seat ≡ 16
     whole_last are whole = whole (length list) seat (seat_last are)
 
     reached_front : (stores : List StoreWords) → GaveReached stores all all_seats → GaveReached stores list seats
@@ -87,7 +86,7 @@ module _ (all list : List Accumulated) (last : Accumulated) (is : all ≡ list +
     given_front stores writes given = λ k it one at also. given k it one (at_front k it at) (seat_front k one also)
 
     module _ (own : AreSeats all all_seats) (sum : Sum) (layouts : sum.layout ≡ last.layout) (fields : sum.field ≡ last.field)
-        (folds : AreFolded (operator_of last.pass) (type_of last.pass) (old_values last.pass) (worker_of seat).given sum.words) where
+        (folds : AreFolded (operator_of last.pass) (type_of last.pass) (old_values last.pass) (given_of seat) (words_of sum)) where
       -- the row of the last
       row_last : (stores : List StoreWords) → ArePasses stores all → GaveReached stores all all_seats → HasRow stores sum
       row_last stores are reached = λ store there.
@@ -95,14 +94,14 @@ module _ (all list : List Accumulated) (last : Accumulated) (is : all ≡ list +
           let same : pass.store ≡ store = same_Some _ _ (sym pass.there ∙ ap (slice_get stores) (sym layouts) ∙ there) in (
             subst (λ (f : ℕ). f < length store.shape.fields) (sym fields)
                 (subst (λ (s : StoreWords). last.field < length s.shape.fields) same (slice_get_within pass.store.shape.fields last.field (type_of last.pass) pass.field)),
-            subst (λ (s : StoreWords). IsFieldRow s sum.words) same
-                (sum_row stores last pass (worker_of seat).given sum.words folds (reached (length list) last seat at_last (seat_last own))),
+            subst (λ (s : StoreWords). IsFieldRow s (words_of sum)) same
+                (sum_row stores last pass (given_of seat) (words_of sum) folds (reached (length list) last seat at_last (seat_last own))),
           )
 
-      sum_last : (stores : List StoreWords) (writes : List Write) → ArePasses stores all → AreGiven stores all all_seats writes → IsSumOf stores sum.layout sum.field sum.words writes
+      sum_last : (stores : List StoreWords) (writes : List Write) → ArePasses stores all → AreGiven stores all all_seats writes → IsSumOf stores sum.layout sum.field (words_of sum) writes
       sum_last stores writes are given = record {
         it = last;
-        given = (worker_of seat).given;
+        given = given_of seat;
         layout_is = sym layouts;
         field_is = sym fields;
         pass = are.each (length list) last at_last;
@@ -122,7 +121,7 @@ module _ (all list : List Accumulated) (last : Accumulated) (is : all ≡ list +
         sums = λ stores writes are given.
             let rest = later.sums stores writes (passes_front stores are) (given_front stores writes given) in (
               record {
-                each = All-cons (λ (it : Sum). IsSumOf stores it.layout it.field it.words writes) sum later.more (sum_last stores writes are given) rest.0.each;
+                each = All-cons (λ (it : Sum). IsSumOf stores it.layout it.field (words_of it) writes) sum later.more (sum_last stores writes are given) rest.0.each;
                 apart = AllPairs-cons (λ (one other : Sum). one.layout ≡ other.layout → one.field ≡ other.field → ⊥) sum later.more
                     (λ k d below same there. apart_last stores are (get_or later.more k d).layout (get_or later.more k d).field (later.of_passes k d below) (sym layouts ∙ same) (sym fields ∙ there))
                     rest.0.apart;
@@ -144,7 +143,7 @@ adds_nothing list seats olds none = record {
   rows = λ stores are reached. All-nil (HasRow stores);
   sums = λ stores writes are given. (
     record {
-      each = All-nil (λ (it : Sum). IsSumOf stores it.layout it.field it.words writes);
+      each = All-nil (λ (it : Sum). IsSumOf stores it.layout it.field (words_of it) writes);
       apart = λ i j d less below. absurd (omega (arith, below));
     },
     ap (λ (xs : List Accumulated). passed xs writes) (sym (empty_list list none)),

@@ -1,9 +1,10 @@
 -- What a pass has made of a field, put into a store.
-use Rattle.std.proofs.Common.{◌≡◌, ◌≢◌, ℕ, zero, suc, ◌<◌, ◌^◌, ◌==◌, List, [], ◌∷◌, length, Some, refl, sym, ap, ◌∙◌, subst, arith}
-use Rattle.std.specs.Prelude.{filter, fold, slice_get, slice_set, slice_index, slice_index_or, Contains}
-use Rattle.std.proofs.lemmas.Bool.{eqb-true}
+use Rattle.std.proofs.Common.{◌≡◌, ◌≢◌, ℕ, zero, suc, ◌+◌, ◌<◌, ◌^◌, List, [], ◌∷◌, ◌++◌, length, take, get_or, Some, refl, sym, ap, ◌∙◌, subst, arith}
+use Rattle.std.specs.Prelude.{fold, slice_get, slice_set, slice_index, slice_index_or}
+use Rattle.std.specs.List.{concat}
+use Rattle.std.proofs.lemmas.List.{append-nil, take_more}
+use Rattle.std.proofs.lemmas.List.Folds.{concat-append}
 use Rattle.std.proofs.lemmas.Option.{same_Some}
-use Rattle.sg_words.proofs.Uses.{contains_head, from_filter, from_map}
 use Rattle.sg_words.specs.Words.{folded}
 use Rattle.sg_coord.specs.declared.coord.Coord.{Coord}
 use Rattle.sg_coord.specs.Laws.{RowBelow}
@@ -11,7 +12,7 @@ use Rattle.sg_layout.specs.ClosureLaws.{ClosureIsOfMembers, ClosureIsInside}
 use Rattle.sg_flat.specs.declared.effects.Write.{Write}
 use Rattle.sg_flat.specs.declared.state.FlatLayout.{FlatLayout}
 use Rattle.sg_flat.proofs.Uses.{RunLaws}
-use Rattle.sg_accum.specs.Folding.{old_values, operator_of, type_of, given_to, AreFolded}
+use Rattle.sg_accum.specs.Folding.{old_values, operator_of, type_of, AreFolded}
 use Rattle.sg_store.specs.StoreWords.{StoreWords, word_in}
 use Rattle.sg_store.specs.Walks.{cell_in}
 use Rattle.sg_store.specs.WellFormed.{IsReached, IsFieldRow, IsWellFormed}
@@ -36,26 +37,39 @@ reached_of : (stores : List StoreWords) (it : Accumulated) (pass : IsPassOf stor
 reached_of stores it pass cell is = subst (λ (s : StoreWords). IsReached s cell) (same_Some _ _ (sym is.there ∙ pass.there)) is.reached
 
 -- what a pass has made of a field is a row of its store
-pub sum_row : (stores : List StoreWords) (it : Accumulated) (pass : IsPassOf stores it) (given : List (ℕ × ℕ)) (words : List ℕ) → AreFolded (operator_of it.pass) (type_of it.pass) (old_values it.pass) given words
-    → ((one : ℕ × ℕ) → Contains given one → IsCellOf stores it.layout one.0) → IsFieldRow pass.store words
+pub sum_row : (stores : List StoreWords) (it : Accumulated) (pass : IsPassOf stores it) (given : ℕ → List ℕ) (words : List ℕ) → AreFolded (operator_of it.pass) (type_of it.pass) (old_values it.pass) given words
+    → ((cell : ℕ) → given cell ≢ [] → IsCellOf stores it.layout cell) → IsFieldRow pass.store words
 sum_row stores it pass given words folds reached = record {
   cells = folds.long ∙ pass.is_row.cells;
-  only_reached = λ cell some. by cell some (given_to cell given) refl;
+  only_reached = λ cell some. by cell some (given cell) refl;
 }
   where
-    from_given : (cell value : ℕ) (more : List ℕ) → given_to cell given ≡ value ∷ more → IsReached pass.store cell
-    from_given cell value more is =
-        let has : Contains (given_to cell given) value = subst (λ (values : List ℕ). Contains values value) (sym is) (contains_head value value more refl) in
-        let one = from_map (λ (x : ℕ × ℕ). x.1) (filter (λ (x : ℕ × ℕ). x.0 == cell) given) value has in
-        let both = from_filter (λ (x : ℕ × ℕ). x.0 == cell) given one.0 one.1 in
-        subst (λ (c : ℕ). IsReached pass.store c) (eqb-true one.0.0 cell both.1) (reached_of stores it pass one.0.0 (reached one.0 both.0))
-
-    by : (cell : ℕ) → slice_index words cell ≢ 0 → (values : List ℕ) → given_to cell given ≡ values → IsReached pass.store cell
-    by cell some (value ∷ more) is = from_given cell value more is
+    by : (cell : ℕ) → slice_index words cell ≢ 0 → (values : List ℕ) → given cell ≡ values → IsReached pass.store cell
+    by cell some (value ∷ more) is = reached_of stores it pass cell (reached cell (λ none. let no : value ∷ more ≡ [] = sym is ∙ none in absurd (cc (no))))
     by cell some [] is =
         let low : cell < length (old_values it.pass) = (let within = index_low words cell some in let long = folds.long in omega (arith, within, long)) in
         let same : slice_index words cell ≡ slice_index (old_values it.pass) cell = folds.folds cell low ∙ ap (fold (folded (operator_of it.pass) (type_of it.pass)) (slice_index (old_values it.pass) cell)) is in
         pass.is_row.only_reached cell (λ zero_is. some (same ∙ zero_is))
+
+-- ---- words below 2^32
+
+abbrev AreLow : List ℕ → Type 0
+AreLow words = (k : ℕ) → slice_index words k < 2 ^ 32
+
+low_both : (words more : List ℕ) → AreLow words → AreLow more → (k : ℕ) → slice_index (words ++ more) k < 2 ^ 32
+low_both [] more front back k = back k
+low_both (word ∷ words) more front back zero = front zero
+low_both (word ∷ words) more front back (suc k) = low_both words more (λ j. front (suc j)) back k
+
+pub no_low : AreLow (concat [])
+no_low = λ k. omega arith
+
+-- one part more
+pub low_more : (parts : List (List ℕ)) (i : ℕ) (part d : List ℕ) → i < length parts → part ≡ get_or parts i d → AreLow (concat (take i parts)) → AreLow part → AreLow (concat (take (i + 1) parts))
+low_more parts i part d below is front low =
+    let more : concat (take (i + 1) parts) ≡ concat (take i parts) ++ part =
+    ap concat (take_more parts i d below) ∙ concat-append (take i parts) (get_or parts i d ∷ []) ∙ ap (λ (words : List ℕ). concat (take i parts) ++ words) (append-nil (get_or parts i d) ∙ sym is) in
+    subst (λ (words : List ℕ). AreLow words) (sym more) (low_both (concat (take i parts)) part front low)
 
 -- ---- trees
 

@@ -8,7 +8,7 @@ use Rattle.sg_exec.specs.declared.cell_write.CellWrite.{CellWrite}
 use Rattle.sg_exec.specs.declared.sums.Sum.{Sum}
 use Rattle.sg_exec.specs.steps.Machines.{IsCellOf, AreCells}
 use Rattle.sg_exec.specs.steps.Landing.{current, HasTree}
-use Rattle.sg_exec.specs.steps.Made.{HaveTrees, KeepsField, HasRow}
+use Rattle.sg_exec.specs.steps.Made.{HaveTrees, KeepsField, HasRow, words_of}
 use Rattle.sg_exec.proofs.CellsLanded.{tree_then, tree_shape, reached_tree}
 use Rattle.sg_exec.proofs.SumsPut.{row_tree}
 
@@ -55,7 +55,7 @@ pub row_over : (olds nows : List StoreWords) (sum : Sum) → HaveTrees olds nows
 row_over olds nows sum trees row = λ now at.
     let found = tree_there olds nows sum.layout now trees at in
     let both = row found.0 found.1.0 in
-    (subst (λ (s : Shape). sum.field < length s.fields) (sym (tree_shape found.0 now found.1.1)) both.0, row_tree found.0 now sum.words found.1.1 both.1)
+    (subst (λ (s : Shape). sum.field < length s.fields) (sym (tree_shape found.0 now found.1.1)) both.0, row_tree found.0 now (words_of sum) found.1.1 both.1)
 
 pub cell_over : (olds nows : List StoreWords) (layout : ℕ) (cell : Option ℕ) → HaveTrees olds nows → IfSome cell (IsCellOf olds layout) → IfSome cell (IsCellOf nows layout)
 cell_over olds nows layout None trees of = tt

@@ -1,6 +1,5 @@
 ghost use Rattle.std.specs.Prelude.{◌≡◌, ◌++◌, ◌∷◌, ◌<◌, ◌≤◌, [], ℕ, length, OnOk, IfSome, Some, None, slice_get, MatchOption};
-ghost use Rattle.sg_words.specs.RaceMachine.{after_add};
-ghost use Rattle.sg_accum.specs.Folding.{old_values, operator_of, worker_of, IsSeatOf};
+ghost use Rattle.sg_accum.specs.Folding.{old_values, operator_of, IsSeatOf, HasGivenWord};
 ghost use Rattle.sg_exec.specs.declared.shared.Accumulated.{Accumulated};
 ghost use Rattle.sg_exec.specs.steps.Machines.{AreCells, IsCellOf};
 ghost use Rattle.sg_exec.specs.steps.Landing.{current};
@@ -75,7 +74,7 @@ fn give(to: &Accumulated, seat: &mut AccSeat, cell: u32, word: u32)
     requires operator { operator_of to.now.pass ≡ to.now.op }
     requires inside { cell < length (old_values to.now.pass) }
     ensures own { IsSeatOf to.now.pass seat.new }
-    ensures worker { worker_of seat.new ≡ after_add cell word (worker_of seat.old) }
+    ensures gave { HasGivenWord cell word seat.old seat.new }
 {
     match to.op {
         AccOp::Add => to.pass.add(seat, cell as usize, word),

@@ -15,13 +15,16 @@ use sg_store::laws::cells_are_active;
 use sg_store::{Store, Stores};
 use sg_words::{AccOp, Memory};
 use std::alloc::Global;
+use std::thread::Threads;
 
 /// The fields that code writes, in the stores with what was reached in their places.
-pub(crate) fn written_fields(
+pub(crate) fn written_fields<R: Threads + Sync>(
+    rt: &R,
     alloc: Global,
     stores: &Stores,
     reached: &[Option<Store>],
     code: &[Inst],
+    workers: u32,
 ) -> Result<WrittenFields, Memory>
     ensures { IfOk result (HaveWritten (current reached.now stores.now.list) (uses_in code.now)) }
 {
@@ -33,34 +36,38 @@ pub(crate) fn written_fields(
         seats,
         owned,
     };
-    add_all(alloc, stores, reached, code, &mut fields)?;
+    add_all(rt, alloc, stores, reached, code, workers, &mut fields)?;
     Ok(fields)
 }
 
 /// Adds the fields that instructions write.
 #[cycle(adding)]
-fn add_all(
+fn add_all<R: Threads + Sync>(
+    rt: &R,
     alloc: Global,
     stores: &Stores,
     reached: &[Option<Store>],
     code: &[Inst],
+    workers: u32,
     fields: &mut WrittenFields,
 ) -> Result<(), Memory>
     ensures { OnOk result (AddsUses (current reached.now stores.now.list) (uses_in code.now) fields.old fields.new) }
 {
     for inst in code {
-        add(alloc, stores, reached, inst, fields)?;
+        add(rt, alloc, stores, reached, inst, workers, fields)?;
     }
     Ok(())
 }
 
 /// Adds the fields that an instruction writes.
 #[cycle(adding)]
-fn add(
+fn add<R: Threads + Sync>(
+    rt: &R,
     alloc: Global,
     stores: &Stores,
     reached: &[Option<Store>],
     inst: &Inst,
+    workers: u32,
     fields: &mut WrittenFields,
 ) -> Result<(), Memory>
     ensures { OnOk result (AddsUses (current reached.now stores.now.list) (uses_of inst.now) fields.old fields.new) }
@@ -74,7 +81,9 @@ fn add(
             from: _from,
             index: _index,
             stmt: _stmt,
-        } => add_pass(alloc, stores, reached, *op, *layout, *field, fields),
+        } => add_pass(
+            rt, alloc, stores, reached, *op, *layout, *field, workers, fields,
+        ),
         Inst::OwnWrite {
             layout,
             field,
@@ -86,15 +95,15 @@ fn add(
             yes,
             no,
         } => {
-            add_all(alloc, stores, reached, yes.as_slice(), fields)?;
-            add_all(alloc, stores, reached, no.as_slice(), fields)
+            add_all(rt, alloc, stores, reached, yes.as_slice(), workers, fields)?;
+            add_all(rt, alloc, stores, reached, no.as_slice(), workers, fields)
         }
         Inst::For {
             var: _var,
             lo: _lo,
             hi: _hi,
             body,
-        } => add_all(alloc, stores, reached, body.as_slice(), fields),
+        } => add_all(rt, alloc, stores, reached, body.as_slice(), workers, fields),
         _ => Ok(()),
     }
 }
@@ -130,13 +139,15 @@ fn is_owned(owned: &[Owned], layout: u32, field: u32) -> bool
 }
 
 /// Adds a pass into a field that has none yet, if there is the field and it has cells.
-fn add_pass(
+fn add_pass<R: Threads + Sync>(
+    rt: &R,
     alloc: Global,
     stores: &Stores,
     reached: &[Option<Store>],
     op: AccOp,
     layout: u32,
     field: u32,
+    workers: u32,
     fields: &mut WrittenFields,
 ) -> Result<(), Memory>
     ensures { OnOk result (AddsUses (current reached.now stores.now.list) (Writes layout field (Acc op) ∷ []) fields.old fields.new) }
@@ -154,11 +165,11 @@ fn add_pass(
     // for the laws that they ensure
     cells_are_active();
     paths_tell();
-    let values = store.field_row(alloc, field)?;
+    let values = store.field_row(field);
     if values.len() == 0 {
         return Ok(());
     }
-    let (pass, seat) = AccPass::start(alloc, values, op, ty)?;
+    let (pass, seat) = AccPass::start(rt, alloc, values, op, ty, workers)?;
     fields.accumulated.push(Accumulated {
         layout,
         field,

@@ -6,7 +6,7 @@ ghost use Rattle.sg_store.specs.StoreWords.{StoreWords};
 ghost use Rattle.sg_exec.specs.steps.Machines.{IsCellOf, AreCells};
 ghost use Rattle.sg_exec.specs.steps.Landing.{current, landing, Lands};
 ghost use Rattle.sg_exec.specs.steps.Passes.{IsSumOf, into_field};
-ghost use Rattle.sg_exec.specs.steps.Made.{AreSums, CanLand, HasLanded, HasRow, HaveTrees, KeepsField, summed};
+ghost use Rattle.sg_exec.specs.steps.Made.{AreSums, CanLand, HasLanded, HasRow, HaveTrees, KeepsField, summed, words_of};
 
 use crate::cell_write::CellWrite;
 use crate::landing::put_cell;
@@ -81,7 +81,7 @@ fn land_sum(stores: &mut Vec<Store>, sum: &Sum)
     ensures fresh { (base : List StoreWords) (layout field : ℕ) → (layout ≡ sum.now.layout → field ≡ sum.now.field → ⊥) →
         KeepsField base stores.old.items layout field → KeepsField base stores.new.items layout field }
     ensures lands { (base : List StoreWords) (writes : List Write) → HaveTrees base stores.old.items →
-        IsSumOf base sum.now.layout sum.now.field sum.now.words writes → KeepsField base stores.old.items sum.now.layout sum.now.field →
+        IsSumOf base sum.now.layout sum.now.field (words_of sum.now) writes → KeepsField base stores.old.items sum.now.layout sum.now.field →
         Lands stores.old.items stores.new.items (into_field sum.now.layout sum.now.field writes) }
 {
     let number = sum.layout as usize;

@@ -24,6 +24,8 @@ mod moment;
 mod outside;
 mod own;
 mod own_cell;
+#[cfg(test)]
+mod part_tests;
 mod places;
 mod points;
 mod row;

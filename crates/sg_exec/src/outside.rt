@@ -94,7 +94,7 @@ fn no_want_outside_here(
     let mut batch = batch_for(alloc, stores, &[])?;
     let mut active = true;
     let mut last = None;
-    for number in 0..points.len() / SIDE_BY_SIDE + 1 {
+    for number in 0..points.len().div_ceil(SIDE_BY_SIDE) {
         let first = number * SIDE_BY_SIDE;
         let count = (points.len() - first).min(SIDE_BY_SIDE);
         let some = &points[first..first + count];

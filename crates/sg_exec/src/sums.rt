@@ -1,6 +1,6 @@
 ghost use Rattle.std.specs.Prelude.{◌≡◌, ◌<◌, ◌≤◌, ◌^◌, ℕ, All, List, [], map, length, IfOk, OnOk, Some, slice_get, slice_index};
-ghost use Rattle.sg_words.specs.RaceInvariant.{handed_share};
-ghost use Rattle.sg_accum.specs.Folding.{old_values, operator_of, type_of, worker_of, IsSeatOf, AreFolded};
+ghost use Rattle.std.specs.List.{concat};
+ghost use Rattle.sg_accum.specs.Folding.{old_values, operator_of, type_of, given_of, handed_of, IsSeatOf, AreFolded};
 ghost use Rattle.sg_coord.specs.declared.coord.Coord.{Coord};
 ghost use Rattle.sg_flat.specs.declared.effects.Turn.{Turn};
 ghost use Rattle.sg_flat.specs.declared.effects.Write.{Write};
@@ -18,7 +18,7 @@ ghost use Rattle.sg_exec.specs.steps.Landing.{current, landed_layout, AreTurnsOf
 ghost use Rattle.sg_exec.specs.steps.Racing.{AreSeats};
 ghost use Rattle.sg_exec.specs.steps.Working.{HasRaced};
 ghost use Rattle.sg_exec.specs.steps.Passes.{WritesOneWay, HaveFields, AreWhole, IsSumOf, AreActiveTo, into_field, with_row};
-ghost use Rattle.sg_exec.specs.steps.Made.{AddsSums, HasLanded, HasRow};
+ghost use Rattle.sg_exec.specs.steps.Made.{AddsSums, HasLanded, HasRow, words_of};
 
 use crate::fields::written_fields;
 use crate::hand::Hand;
@@ -38,12 +38,12 @@ use sg_words::{Items, Memory};
 use std::alloc::Global;
 use std::thread::Threads;
 
-/// The values of all cells of an accumulated field, at the end of its pass.
+/// The values of all cells of an accumulated field, at the end of its pass; in parts, one after the other.
 #[derive(Drop)]
 pub struct Sum {
     pub layout: u32,
     pub field: u32,
-    pub words: Items<u32>,
+    pub words: Vec<Items<u32>>,
 }
 
 /// What code writes at these points, over the stores with what was reached in their places. The workers run the iterations side by
@@ -68,7 +68,7 @@ pub(crate) fn raced_points<R: Threads + Sync, G: Gate + Sync>(
         (news : List StoreWords) → HasLanded (current reached.now stores.now.list) ended news →
         Lands (current reached.now stores.now.list) news (writes_of (map turn points.now))) }
 {
-    let fields = written_fields(alloc, stores, reached, code)?;
+    let fields = written_fields(rt, alloc, stores, reached, code, workers)?;
     let WrittenFields {
         accumulated,
         seats,
@@ -79,7 +79,7 @@ pub(crate) fn raced_points<R: Threads + Sync, G: Gate + Sync>(
     let after = raced(
         rt, alloc, stores, reached, points, code, list, seats, own, workers, gate,
     )?;
-    landed(alloc, accumulated, after)
+    landed(rt, alloc, accumulated, after, workers)
 }
 
 /// The hand of all workers, after all iterations.
@@ -123,7 +123,13 @@ fn raced<R: Threads + Sync, G: Gate + Sync>(
 }
 
 /// What the passes made of their fields, the last first, and what the hand has put.
-fn landed(alloc: Global, accumulated: Vec<Accumulated>, after: Hand) -> Result<Ended, Memory>
+fn landed<R: Threads + Sync>(
+    rt: &R,
+    alloc: Global,
+    accumulated: Vec<Accumulated>,
+    after: Hand,
+    workers: u32,
+) -> Result<Ended, Memory>
     requires seats { AreSeats accumulated.items after.seats.items }
     requires whole { AreWhole after.seats.items }
     ensures sums { IfOk result (λ ended. AddsSums accumulated.items after.seats.items [] ended.sums.items) }
@@ -131,15 +137,18 @@ fn landed(alloc: Global, accumulated: Vec<Accumulated>, after: Hand) -> Result<E
 {
     let Hand { seats, puts } = after;
     let mut sums = Vec::new(alloc);
-    finish_all(accumulated, seats, &mut sums)?;
+    finish_all(rt, alloc, accumulated, seats, &mut sums, workers)?;
     Ok(Ended { sums, puts })
 }
 
 /// Adds what the passes made of their fields, the last first.
-fn finish_all(
+fn finish_all<R: Threads + Sync>(
+    rt: &R,
+    alloc: Global,
     accumulated: Vec<Accumulated>,
     seats: Vec<AccSeat>,
     sums: &mut Vec<Sum>,
+    workers: u32,
 ) -> Result<(), Memory>
     requires seats { AreSeats accumulated.items seats.items }
     requires whole { AreWhole seats.items }
@@ -153,18 +162,24 @@ fn finish_all(
     let Some(seat) = seats.pop() else {
         return Ok(());
     };
-    let sum = finish(last, seat)?;
+    let sum = finish(rt, alloc, last, seat, workers)?;
     sums.push(sum)?;
-    finish_all(accumulated, seats, sums)
+    finish_all(rt, alloc, accumulated, seats, sums, workers)
 }
 
 /// The end of a pass.
-fn finish(it: Accumulated, seat: AccSeat) -> Result<Sum, Memory>
+fn finish<R: Threads + Sync>(
+    rt: &R,
+    alloc: Global,
+    it: Accumulated,
+    seat: AccSeat,
+    workers: u32,
+) -> Result<Sum, Memory>
     requires own { IsSeatOf it.pass seat }
-    requires whole { handed_share (worker_of seat) ≡ 16 }
+    requires whole { handed_of seat ≡ 16 }
     ensures layout { IfOk result (λ sum. sum.layout ≡ it.layout) }
     ensures field { IfOk result (λ sum. sum.field ≡ it.field) }
-    ensures folds { IfOk result (λ sum. AreFolded (operator_of it.pass) (type_of it.pass) (old_values it.pass) (worker_of seat).given sum.words) }
+    ensures folds { IfOk result (λ sum. AreFolded (operator_of it.pass) (type_of it.pass) (old_values it.pass) (given_of seat) (concat sum.words.items)) }
 {
     let Accumulated {
         layout,
@@ -172,7 +187,7 @@ fn finish(it: Accumulated, seat: AccSeat) -> Result<Sum, Memory>
         op: _op,
         pass,
     } = it;
-    let words = pass.finish(seat)?;
+    let words = pass.finish(rt, alloc, seat, workers)?;
     Ok(Sum {
         layout,
         field,
@@ -183,10 +198,10 @@ fn finish(it: Accumulated, seat: AccSeat) -> Result<Sum, Memory>
 /// Gives a field of a store its values.
 pub(crate) fn put_sum(store: &mut Store, sum: &Sum)
     requires field { sum.now.field < length store.old.shape.fields }
-    requires row { IsFieldRow store.old sum.now.words }
-    ensures set { store.new ≡ with_row store.old sum.now.field sum.now.words }
+    requires row { IsFieldRow store.old (words_of sum.now) }
+    ensures set { store.new ≡ with_row store.old sum.now.field (words_of sum.now) }
     ensures lands { (stores : List StoreWords) (base : StoreWords) (writes : List Write) →
-        IsSumOf stores sum.now.layout sum.now.field sum.now.words writes → slice_get stores sum.now.layout ≡ Some base → HasTree base store.old →
+        IsSumOf stores sum.now.layout sum.now.field (words_of sum.now) writes → slice_get stores sum.now.layout ≡ Some base → HasTree base store.old →
         ((cell : ℕ) → word_in store.old sum.now.field cell ≡ word_in base sum.now.field cell) →
         (flat : FlatLayout) → StandsFor store.old flat → AreActiveTo flat sum.now.layout sum.now.field writes →
         StandsFor store.new (landed_layout sum.now.layout store.old.shape flat (into_field sum.now.layout sum.now.field writes)) }
@@ -198,13 +213,22 @@ pub(crate) fn put_sum(store: &mut Store, sum: &Sum)
     cells_are_active();
     paths_tell();
     store.layout();
-    let words = sum.words.as_slice();
-    are_low(words);
-    store.set_field_row(sum.field, words);
+    let parts = sum.words.as_slice();
+    are_low(parts);
+    store.set_field_row(sum.field, parts);
+}
+
+/// The words of parts are below 2^32. It changes nothing.
+fn are_low(parts: &[Items<u32>])
+    ensures { (k : ℕ) → slice_index (concat parts.now) k < 2 ^ 32 }
+{
+    for part in parts {
+        is_low(part.as_slice());
+    }
 }
 
 /// Words are below 2^32. It does nothing.
-fn are_low(words: &[u32])
+fn is_low(words: &[u32])
     ensures { (k : ℕ) → slice_index words.now k < 2 ^ 32 }
 {
     let _words = words;

@@ -4,13 +4,11 @@ ghost use Rattle.sg_exec.specs.declared.hand.Hand.{Hand};
 ghost use Rattle.sg_exec.specs.steps.Moments.{IsOver};
 ghost use Rattle.std.specs.Thread.{IsSync};
 ghost use Rattle.sg_coord.specs.Slices.{slice_start};
-ghost use Rattle.sg_words.specs.RaceMachine.{after_split, other_half, after_join};
 ghost use Rattle.sg_flat.specs.declared.state.FlatState.{FlatState};
 ghost use Rattle.sg_ir.specs.Named.{AreNamed};
 ghost use Rattle.sg_ir.specs.Runs.{iteration};
 ghost use Rattle.sg_exec.specs.Standing.{shapes_of};
 ghost use Rattle.sg_accum.specs.declared.seat.AccSeat.{AccSeat};
-ghost use Rattle.sg_accum.specs.Folding.{worker_of};
 ghost use Rattle.sg_exec.specs.steps.Machines.{seen_in, Sees, AreCells};
 ghost use Rattle.sg_exec.specs.steps.Landing.{current};
 ghost use Rattle.sg_exec.specs.steps.Racing.{wrote, between, ArePasses, AreSeats, HaveShares, AreSplit, AreJoined, IsDivided, IsOfBoth};
@@ -220,7 +218,7 @@ fn work_all<G: Gate>(
     ensures ran { IfOk result (HasRunAt (current reached.now stores.now.list) code.now points.now mine.now accumulated.now owned.now hand) }
 {
     let mut hand = hand;
-    for number in 0..mine.len() / SIDE_BY_SIDE + 1 {
+    for number in 0..mine.len().div_ceil(SIDE_BY_SIDE) {
         let first = number * SIDE_BY_SIDE;
         let count = (mine.len() - first).min(SIDE_BY_SIDE);
         work_some(
@@ -300,7 +298,7 @@ fn split_all(
     let mut others = Vec::new(alloc);
     for number in 0..accumulated.len() {
         let seat = &mut seats[number];
-        let other = accumulated[number].pass.split(seat);
+        let other = accumulated[number].pass.split(alloc, seat)?;
         others.push(other)?;
     }
     Ok(others)

@@ -59,3 +59,4 @@ pub mod NodeKinds
 pub mod NodeSteps
 pub mod Moved
 pub mod Pruned
+pub mod RowsMade

@@ -10,3 +10,4 @@ pub mod Widths
 pub mod Raising
 pub mod Moving
 pub mod Sorting
+pub mod RowsMade

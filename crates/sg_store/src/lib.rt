@@ -2,6 +2,7 @@
 #![tactic(auto)]
 
 pub mod bits;
+mod by_workers;
 pub mod cells;
 mod dynamic;
 mod frame;
@@ -34,3 +35,5 @@ mod pruning_tests;
 mod slot_tests;
 #[cfg(test)]
 mod tests;
+#[cfg(test)]
+mod worker_tests;

@@ -1,4 +1,5 @@
-ghost use Rattle.std.specs.Prelude.{◌≡◌, ◌≢◌, ℕ, ◌<◌, List, length, IfOk, Some, slice_index, slice_set};
+ghost use Rattle.std.specs.Prelude.{◌≡◌, ◌≢◌, ℕ, ◌+◌, ◌<◌, ◌≤◌, ◌++◌, List, length, Some, slice_index, slice_set, take, drop};
+ghost use Rattle.std.specs.List.{concat};
 ghost use Rattle.sg_coord.specs.declared.coord.Coord.{Coord};
 ghost use Rattle.sg_flat.specs.declared.state.FlatLayout.{FlatLayout};
 ghost use Rattle.sg_flat.specs.State.{value_at};
@@ -11,46 +12,61 @@ ghost use Rattle.sg_store.specs.Rows.{SetsRow};
 use crate::store::Store;
 use sg_coord::numbering;
 use sg_layout::paths_tell;
-use sg_words::{Items, Memory};
-use std::alloc::Global;
+use sg_words::Items;
 
 impl Store {
     /// The values of a field, from 0: a word for each cell, which is 0 where the cell is that of no coordinate.
-    pub fn field_row(&self, alloc: Global, place: u32) -> Result<Items<u32>, Memory>
+    pub fn field_row(&self, place: u32) -> &[u32]
         requires field { place < length self.now.shape.fields }
-        ensures row { IfOk result (IsFieldRow self.now) }
-        ensures words { IfOk result (λ row. (cell : ℕ) → slice_index row cell ≡ word_in self.now place cell) }
-        ensures idle { IfOk result (λ row. (cell : ℕ) → ((at : Coord) → cell_in self.now at ≢ Some cell) →
-            slice_index row cell ≡ 0) }
-        ensures stands { IfOk result (λ row. (flat : FlatLayout) → StandsFor self.now flat → (at : Coord) (cell : ℕ) →
-            cell_in self.now at ≡ Some cell → slice_index row cell ≡ value_at self.now.shape flat place at) }
+        ensures row { IsFieldRow self.now result.now }
+        ensures words { (cell : ℕ) → slice_index result.now cell ≡ word_in self.now place cell }
+        ensures idle { (cell : ℕ) → ((at : Coord) → cell_in self.now at ≢ Some cell) → slice_index result.now cell ≡ 0 }
+        ensures stands { (flat : FlatLayout) → StandsFor self.now flat → (at : Coord) (cell : ℕ) →
+            cell_in self.now at ≡ Some cell → slice_index result.now cell ≡ value_at self.now.shape flat place at }
     {
         // for the laws that they ensure
         paths_tell();
         numbering(&self.layout.extents());
-        let row = &self.fields.as_slice()[place as usize];
-        Ok(Items::from_slice(alloc, row.as_slice())?)
+        self.fields.as_slice()[place as usize].as_slice()
     }
 
-    /// Gives a field, from 0, these values: a word for each cell, which is 0 where the cell is that of no coordinate.
-    pub fn set_field_row(&mut self, place: u32, words: &[u32])
+    /// Gives a field, from 0, the values that stand in these parts, one after the other: a word for each cell, which is 0 where the
+    /// cell is that of no coordinate.
+    pub fn set_field_row(&mut self, place: u32, parts: &[Items<u32>])
         requires field { place < length self.old.shape.fields }
-        requires row { IsFieldRow self.old words.now }
-        ensures set { self.new ≡ record self.old { fields = slice_set self.old.fields place words.now } }
+        requires row { IsFieldRow self.old (concat parts.now) }
+        ensures set { self.new ≡ record self.old { fields = slice_set self.old.fields place (concat parts.now) } }
         ensures stands { (flat now : FlatLayout) → StandsFor self.old flat →
-            SetsRow self.old flat now place words.now → StandsFor self.new now }
+            SetsRow self.old flat now place (concat parts.now) → StandsFor self.new now }
     {
         let row = &mut self.fields[place as usize];
-        rewrite(row, words);
+        rewrite(row, parts);
     }
 }
 
-/// Gives the words of a row other values, as many.
-fn rewrite(row: &mut Items<u32>, words: &[u32])
-    requires { length words.now ≡ length row.old }
-    ensures { row.new ≡ words.now }
+/// Gives a row the words of these parts, as many.
+fn rewrite(row: &mut Items<u32>, parts: &[Items<u32>])
+    requires { length (concat parts.now) ≡ length row.old }
+    ensures { row.new ≡ concat parts.now }
 {
-    for (index, word) in words.iter().enumerate() {
-        row.set(index, *word);
+    let mut cell = 0;
+    for part in parts {
+        cell = write(row, cell, part.as_slice());
     }
+}
+
+/// Gives a row these words from a cell on, and says at which cell they end.
+fn write(row: &mut Items<u32>, from: usize, words: &[u32]) -> usize
+    requires { from + length words.now ≤ length row.old }
+    ensures written { row.new ≡ take from row.old ++ (words.now ++ drop (from + length words.now) row.old) }
+    ensures end { result ≡ from + length words.now }
+{
+    // for the bound that it ensures
+    let _cells = row.len();
+    let mut cell = from;
+    for word in words {
+        row.set(cell, *word);
+        cell += 1;
+    }
+    cell
 }

@@ -4,6 +4,7 @@ use crate::tests::{
 };
 use sg_coord::Coord;
 use sg_layout::Kind::{Bitmasked, Dynamic, Hash, Pointer};
+use sg_words::Items;
 use std::alloc::Global;
 use std::test::Fail;
 
@@ -201,14 +202,20 @@ fn length_words_are_read(rt: HostRuntime) -> Result<(), Fail> {
     Ok(())
 }
 
-/// Makes the values of the first field those of the second.
+/// Makes the values of the first field those of the second, which it gives in two parts.
 fn copy_row(store: &mut Store, alloc: Global) -> Result<usize, Fail> {
     if store.layout().shape().fields.len() < 2 {
         return Err(Fail::from("no field"));
     }
-    let row = store.field_row(alloc, 1)?;
-    store.set_field_row(0, row.as_slice());
-    Ok(row.len())
+    let row = store.field_row(1);
+    let cells = row.len();
+    let (front, back) = row.split_at(cells / 3);
+    let parts = [
+        Items::from_slice(alloc, front)?,
+        Items::from_slice(alloc, back)?,
+    ];
+    store.set_field_row(0, &parts);
+    Ok(cells)
 }
 
 /// A field's values are read and written as one row, with a word for each cell of each container.

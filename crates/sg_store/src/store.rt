@@ -64,10 +64,7 @@ impl Store {
     pub fn copy(&self, alloc: Global) -> Result<Store, Memory>
         ensures { IfOk result (λ copy. copy ≡ self.now) }
     {
-        let mut nodes = Vec::new(alloc);
-        for kept in &self.nodes {
-            nodes.push(kept.copy(alloc)?)?;
-        }
+        let nodes = copied_nodes(alloc, self.nodes.as_slice())?;
         let mut fields = Vec::new(alloc);
         for row in &self.fields {
             fields.push(Items::from_slice(alloc, row.as_slice())?)?;
@@ -86,4 +83,15 @@ impl Store {
     {
         self.layout.layout()
     }
+}
+
+/// Copies of the words of nodes.
+pub(crate) fn copied_nodes(alloc: Global, nodes: &[NodeWords]) -> Result<Vec<NodeWords>, Memory>
+    ensures { IfOk result (λ copy. copy.items ≡ nodes.now) }
+{
+    let mut copy = Vec::new(alloc);
+    for kept in nodes {
+        copy.push(kept.copy(alloc)?)?;
+    }
+    Ok(copy)
 }

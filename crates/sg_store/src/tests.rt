@@ -41,7 +41,7 @@ fn chunk_of(kind: Kind) -> i32 {
 }
 
 /// The shape of these nodes with two fields.
-fn shape_of(alloc: Global, axes: u32, nodes: &[Node]) -> Result<Shape, AllocError> {
+pub(crate) fn shape_of(alloc: Global, axes: u32, nodes: &[Node]) -> Result<Shape, AllocError> {
     let mut shapes = Items::new(alloc);
     for (kind, extents, cap) in nodes {
         shapes.push(NodeShape {

@@ -22,7 +22,8 @@ use std::alloc::Global;
 use std::thread::Threads;
 
 /// Writes for each kernel whether it is neutral.
-pub(crate) fn check<S: Sink>(
+pub(crate) fn check<R: Threads + Sync, S: Sink>(
+    rt: &R,
     alloc: Global,
     compiled: Compiled,
     out: &mut S,
@@ -34,13 +35,14 @@ pub(crate) fn check<S: Sink>(
     ensures status { IfOk result (λ done. done.status ≡ 0) }
 {
     match check_text(alloc, &compiled) {
-        Ok(text) => leave_open(alloc, compiled, text.bytes.as_slice(), out),
+        Ok(text) => leave_open(rt, alloc, compiled, text.bytes.as_slice(), out),
         Err(Memory) => Err(Stop::Memory),
     }
 }
 
 /// Writes a text and leaves the stores of a program as they are opened.
-pub(crate) fn leave_open<S: Sink>(
+pub(crate) fn leave_open<R: Threads + Sync, S: Sink>(
+    rt: &R,
     alloc: Global,
     compiled: Compiled,
     text: &[u8],
@@ -52,7 +54,7 @@ pub(crate) fn leave_open<S: Sink>(
     ensures program { LeavesProgram compiled result }
     ensures status { IfOk result (λ done. done.status ≡ 0) }
 {
-    match Session::open(alloc, compiled) {
+    match Session::open(rt, alloc, compiled, 1) {
         Ok(session) => match send(out, text) {
             Ok(()) => Ok(Done {
                 status: 0,
@@ -130,7 +132,7 @@ fn perform_tasks<R: Threads + Sync, F: Files, S: Sink, G: Gate + Sync>(
     ensures end { IfOk result IsEnd }
     ensures program { LeavesProgram compiled result }
 {
-    match Session::open(alloc, compiled) {
+    match Session::open(rt, alloc, compiled, workers) {
         Ok(opened) => {
             let mut session = opened;
             match drive(

@@ -330,8 +330,8 @@ fn run_compiled<R: Threads + Sync, F: Files, S: Sink, G: Gate + Sync>(
             asked.workers,
             gate,
         ),
-        Mode::Check => check(alloc, compiled, out),
-        Mode::Lower => leave_open(alloc, compiled, b"", out),
+        Mode::Check => check(rt, alloc, compiled, out),
+        Mode::Lower => leave_open(rt, alloc, compiled, b"", out),
         Mode::Gen => {
             let binds = no_binds(alloc);
             perform(rt, alloc, compiled, &binds, files, out, asked.workers, gate)

@@ -1,6 +1,6 @@
 -- What a run made, and what it leaves once it has landed in the stores.
 use Rattle.std.specs.Prelude.{◌≡◌, ◌≤◌, ◌<◌, ◌++◌, ◌∷◌, ℕ, List, [], All, length, map, Result, Ok, Err, Some, slice_get, vec_capacity}
-use Rattle.std.specs.List.{AllPairs, AllZip}
+use Rattle.std.specs.List.{concat, AllPairs, AllZip}
 use Rattle.std.specs.Result.{IsOkAnd}
 use Rattle.sg_words.specs.declared.memory.Stop.{Stop}
 use Rattle.sg_words.specs.declared.memory.Stop.TheVariants as stop
@@ -32,6 +32,10 @@ KeepsField olds nows layout field =
 
 -- ---- what passes made of their fields
 
+-- the values of a sum's field: those of its parts, one after the other
+abbrev pub words_of : Sum → List ℕ
+words_of sum = concat sum.words.items
+
 -- the writes into the fields of some sums, in the order of the sums
 abbrev pub summed : List Sum → List Write → List Write
 summed [] writes = []
@@ -40,11 +44,11 @@ summed (sum ∷ sums) writes = into_field sum.layout sum.field writes ++ summed 
 -- a sum is of a field of its layout's store, and has a word for each cell
 abbrev pub HasRow : List StoreWords → Sum → Type 0
 HasRow stores sum =
-    (store : StoreWords) → slice_get stores sum.layout ≡ Some store → (sum.field < length store.shape.fields) × IsFieldRow store sum.words
+    (store : StoreWords) → slice_get stores sum.layout ≡ Some store → (sum.field < length store.shape.fields) × IsFieldRow store (words_of sum)
 
 -- each sum is what a pass made of its field by these writes, and no two are of one field
 pub record AreSums (stores : List StoreWords) (sums : List Sum) (writes : List Write) : Type 0 where
-  pub each : All (λ (sum : Sum). IsSumOf stores sum.layout sum.field sum.words writes) sums
+  pub each : All (λ (sum : Sum). IsSumOf stores sum.layout sum.field (words_of sum) writes) sums
   pub apart : AllPairs (λ (one other : Sum). one.layout ≡ other.layout → one.field ≡ other.field → ⊥) sums
 
 -- what these seats have given to these passes was added to some sums, the last pass first

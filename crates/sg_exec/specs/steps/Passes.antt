@@ -1,11 +1,9 @@
 -- The fields that code writes: passes into the accumulated ones, and a list of the own-written ones.
-use Rattle.std.specs.Prelude.{◌≡◌, ℕ, ◌<◌, Bool, ◌&&◌, ◌==◌, List, [], ◌∷◌, ◌++◌, map, length, filter, Some, Contains, slice_get, slice_set}
+use Rattle.std.specs.Prelude.{◌≡◌, ◌≢◌, ℕ, ◌<◌, Bool, ◌&&◌, ◌==◌, List, [], ◌∷◌, ◌++◌, map, length, filter, Some, Contains, slice_get, slice_set}
 use Rattle.sg_words.specs.declared.operators.AccOp.{AccOp}
 use Rattle.sg_coord.specs.declared.coord.Coord.{Coord}
-use Rattle.sg_words.specs.RaceMachine.{newcomer}
-use Rattle.sg_words.specs.RaceInvariant.{handed_share}
 use Rattle.sg_accum.specs.declared.seat.AccSeat.{AccSeat}
-use Rattle.sg_accum.specs.Folding.{worker_of, old_values, operator_of, type_of, AreFolded}
+use Rattle.sg_accum.specs.Folding.{old_values, operator_of, type_of, given_to, given_of, handed_of, IsNew, AreFolded}
 use Rattle.sg_flat.specs.declared.effects.Way.{Way}
 use Rattle.sg_flat.specs.declared.effects.Way.TheVariants.{Own, Acc}
 use Rattle.sg_flat.specs.declared.effects.Write.{Write}
@@ -52,7 +50,7 @@ IsAmong layout place owned = (own : Owned) × (Contains owned own × ((own.layou
 pub record HaveFields (stores : List StoreWords) (uses : List Use) (accumulated : List Accumulated) (seats : List AccSeat) (owned : List Owned) : Type 0 where
   pub passes : ArePasses stores accumulated
   pub are_seats : AreSeats accumulated seats
-  pub new : (k : ℕ) (seat : AccSeat) → slice_get seats k ≡ Some seat → worker_of seat ≡ newcomer [] 16
+  pub new : (k : ℕ) (seat : AccSeat) → slice_get seats k ≡ Some seat → IsNew 16 seat
   pub used : (k : ℕ) (it : Accumulated) → slice_get accumulated k ≡ Some it → Contains uses (Writes it.layout it.field (Acc it.op))
   pub each : (layout field : ℕ) (op : AccOp) → Contains uses (Writes layout field (Acc op)) → HasActive stores layout field → HasPass accumulated layout field
   pub own : (layout field : ℕ) → Contains uses (Writes layout field Own) → IsAmong layout field owned
@@ -90,29 +88,29 @@ with_row store field words = record store { fields = slice_set store.fields fiel
 
 -- all shares came back to each seat
 abbrev pub AreWhole : List AccSeat → Type 0
-AreWhole seats = (k : ℕ) (seat : AccSeat) → slice_get seats k ≡ Some seat → handed_share (worker_of seat) ≡ 16
+AreWhole seats = (k : ℕ) (seat : AccSeat) → slice_get seats k ≡ Some seat → handed_of seat ≡ 16
 
 -- what each seat has given went into cells of its layout's store
 abbrev pub GaveReached : List StoreWords → List Accumulated → List AccSeat → Type 0
 GaveReached stores accumulated seats =
     (k : ℕ) (it : Accumulated) (seat : AccSeat) → slice_get accumulated k ≡ Some it → slice_get seats k ≡ Some seat →
-    (one : ℕ × ℕ) → Contains (worker_of seat).given one → IsCellOf stores it.layout one.0
+    (cell : ℕ) → given_of seat cell ≢ [] → IsCellOf stores it.layout cell
 
--- all writes to a pass's field are contributions by its operator, and these were given
-pub record IsGiven (stores : List StoreWords) (it : Accumulated) (given : List (ℕ × ℕ)) (writes : List Write) : Type 0 where
+-- all writes to a pass's field are contributions by its operator, and these were given, to each cell in their order
+pub record IsGiven (stores : List StoreWords) (it : Accumulated) (given : ℕ → List ℕ) (writes : List Write) : Type 0 where
   pub ways : (write : Write) → Contains writes write → write.layout ≡ it.layout → write.place ≡ it.field → write.way ≡ Acc it.op
-  pub given_is : given ≡ contributions it.layout it.field (map (landing stores) writes)
+  pub given_is : (cell : ℕ) → given cell ≡ given_to cell (contributions it.layout it.field (map (landing stores) writes))
 
 -- all writes to each pass's field are contributions by its operator, and these are what its seat has given
 abbrev pub AreGiven : List StoreWords → List Accumulated → List AccSeat → List Write → Type 0
 AreGiven stores accumulated seats writes =
     (k : ℕ) (it : Accumulated) (seat : AccSeat) → slice_get accumulated k ≡ Some it → slice_get seats k ≡ Some seat →
-    IsGiven stores it (worker_of seat).given writes
+    IsGiven stores it (given_of seat) writes
 
 -- words are what a pass into a field has made of it
 pub record IsSumOf (stores : List StoreWords) (layout field : ℕ) (words : List ℕ) (writes : List Write) : Type 0 where
   pub it : Accumulated
-  pub given : List (ℕ × ℕ)
+  pub given : ℕ → List ℕ
   pub layout_is : it.layout ≡ layout
   pub field_is : it.field ≡ field
   pub pass : IsPassOf stores it

@@ -3,10 +3,8 @@ use Rattle.std.specs.Prelude.{◌≡◌, ℕ, ◌-◌, ◌<◌, ◌≤◌, Bool,
 use Rattle.std.specs.List.{flat_map}
 use Rattle.sg_coord.specs.declared.coord.Coord.{Coord}
 use Rattle.sg_words.specs.declared.memory.Memory.{Memory}
-use Rattle.sg_words.specs.RaceMachine.{after_split, other_half, after_join}
-use Rattle.sg_words.specs.RaceInvariant.{handed_share}
 use Rattle.sg_accum.specs.declared.seat.AccSeat.{AccSeat}
-use Rattle.sg_accum.specs.Folding.{old_values, operator_of, type_of, worker_of, IsSeatOf}
+use Rattle.sg_accum.specs.Folding.{old_values, operator_of, type_of, given_to, given_of, share_of, handed_of, IsSeatOf, IsCut, IsMerged}
 use Rattle.sg_flat.specs.declared.state.FlatState.{FlatState}
 use Rattle.sg_store.specs.StoreWords.{StoreWords, word_in}
 use Rattle.sg_store.specs.WellFormed.{IsFieldRow, IsReached}
@@ -85,12 +83,12 @@ pub record AreSeats (accumulated : List Accumulated) (seats : List AccSeat) : Ty
 
 -- each seat has at least so many shares
 abbrev pub HaveShares : ℕ → List AccSeat → Type 0
-HaveShares shares seats = (k : ℕ) (seat : AccSeat) → slice_get seats k ≡ Some seat → shares ≤ (worker_of seat).share
+HaveShares shares seats = (k : ℕ) (seat : AccSeat) → slice_get seats k ≡ Some seat → shares ≤ share_of seat
 
 -- a seat has given a field's contributions among writes, and has as many shares
 pub record HasGiven (it : Accumulated) (writes : List CellWrite) (old now : AccSeat) : Type 0 where
-  pub given : (worker_of now).given ≡ (worker_of old).given ++ contributions it.layout it.field writes
-  pub weight_is : handed_share (worker_of now) ≡ handed_share (worker_of old)
+  pub given : (c : ℕ) → given_of now c ≡ given_of old c ++ given_to c (contributions it.layout it.field writes)
+  pub weight_is : handed_of now ≡ handed_of old
 
 -- each seat has
 abbrev pub HaveGiven : List Accumulated → List CellWrite → List AccSeat → List AccSeat → Type 0
@@ -110,22 +108,17 @@ pub record HasRun (stores : List StoreWords) (accumulated : List Accumulated) (o
   pub cells : AreCells stores (flat_map (λ writes. writes) turns)
   pub are : (state : FlatState) → P state → turns ≡ at state
 
--- each seat was split
-pub record IsSplit (old now other : AccSeat) : Type 0 where
-  pub now_is : worker_of now ≡ after_split (worker_of old)
-  pub other_is : worker_of other ≡ other_half (worker_of old)
-
 -- each seat was split into one that keeps half of the share, rounded up, and a new one that has the other half
 abbrev pub AreSplit : List AccSeat → List AccSeat → List AccSeat → Type 0
 AreSplit olds nows others =
     (k : ℕ) (old now other : AccSeat) → slice_get olds k ≡ Some old → slice_get nows k ≡ Some now → slice_get others k ≡ Some other →
-    IsSplit old now other
+    IsCut old now other
 
 -- each seat was joined by the other
 abbrev pub AreJoined : List AccSeat → List AccSeat → List AccSeat → Type 0
 AreJoined olds others nows =
     (k : ℕ) (old other now : AccSeat) → slice_get olds k ≡ Some old → slice_get others k ≡ Some other → slice_get nows k ≡ Some now →
-    worker_of now ≡ after_join (worker_of old) (worker_of other)
+    IsMerged old other now
 
 -- a hand was divided: its seats were split, and the other has no own values yet
 pub record IsDivided (old now other : Hand) : Type 0 where

@@ -89,7 +89,7 @@ fn leaves<R: Threads + Sync>(
         return Err(Memory);
     }
     match compile(alloc, text.as_bytes()) {
-        Ok(compiled) => match Session::open(alloc, compiled) {
+        Ok(compiled) => match Session::open(rt, alloc, compiled, 2) {
             Ok(mut session) => runs_to(rt, alloc, &mut session, values),
             Err(Memory) => Err(Memory),
         },
@@ -154,7 +154,7 @@ fn refuses<R: Threads + Sync>(
         return Err(Memory);
     }
     match compile(alloc, text.as_bytes()) {
-        Ok(compiled) => match Session::open(alloc, compiled) {
+        Ok(compiled) => match Session::open(rt, alloc, compiled, 2) {
             Ok(mut session) => stays(rt, alloc, &mut session, why, want),
             Err(Memory) => Err(Memory),
         },

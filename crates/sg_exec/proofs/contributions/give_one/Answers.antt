@@ -31,4 +31,4 @@ returns-clause-gave c =
     let long = c.requires.seats.long in
     gave_one c.args.accumulated.now c.args.write.now c.args.seats.now.items c.in-Some-number_of.number c.in-Some.cell c.in-Acc._op found.0 c.index_mut-seat.result.now c.give.new.seat
     c.requires.passes.apart found.1 (slice_get_read c.args.seats.now.items (length c.args.seats.now.items) c.in-Some-number_of.number c.index_mut-seat.result.now refl (omega arith) c.index_mut-seat.ensures.value)
-    c.in-Acc.is found.2 found.3 c.in-Some.is c.give.ensures.worker
+    c.in-Acc.is found.2 found.3 c.in-Some.is c.give.ensures.gave

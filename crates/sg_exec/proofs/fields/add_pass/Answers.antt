@@ -19,7 +19,7 @@ use Rattle.sg_exec.proofs.FieldsFound.{have_acc, have_pass, no_cell}
 use Rattle.sg_exec.proofs.fields.add_pass.Goals as goal
 
 pub returns-in-Some : goal.returns-in-Some
-returns-in-Some c = λ uses have.
+returns-in-Some g c = λ uses have.
     let mids = current c.args.reached.now c.args.stores.now.list in
     let fields = c.args.fields.now in
     let found = c.in-Some.ensures in
@@ -33,7 +33,7 @@ returns-in-Some c = λ uses have.
     })
 
 pub returns-in_default-get : goal.returns-in_default-get
-returns-in_default-get c = λ uses have.
+returns-in_default-get g c = λ uses have.
     let mids = current c.args.reached.now c.args.stores.now.list in
     let fields = c.args.fields.now in
     let none : slice_get mids c.args.layout ≡ None = ap (λ (stores : List StoreWords). slice_get stores c.args.layout) (sym c.of-view.ensures) ∙ sym c.in_default-get.ensures.value in
@@ -41,7 +41,7 @@ returns-in_default-get c = λ uses have.
     (λ active. let no : Some active.store ≡ None = sym active.there ∙ none in absurd (cc (no)))
 
 pub returns-in_default-copied : goal.returns-in_default-copied
-returns-in_default-copied c = λ uses have.
+returns-in_default-copied g c = λ uses have.
     let mids = current c.args.reached.now c.args.stores.now.list in
     let fields = c.args.fields.now in
     let store = c.in-Some-get.store.now in
@@ -57,13 +57,13 @@ returns-in_default-copied c = λ uses have.
     let no : Some some.0 ≡ None = sym some.1 ∙ none in
     absurd (cc (no)))
 
-pub returns-then-len-eq0 : goal.returns-then-len-eq0
-returns-then-len-eq0 c = λ uses have.
+pub returns-then-values-eq0 : goal.returns-then-values-eq0
+returns-then-values-eq0 g c = λ uses have.
     let mids = current c.args.reached.now c.args.stores.now.list in
     let fields = c.args.fields.now in
     let store = c.in-Some-get.store.now in
     let there : slice_get mids c.args.layout ≡ Some store = ap (λ (stores : List StoreWords). slice_get stores c.args.layout) (sym c.of-view.ensures) ∙ sym c.in-Some-get.ensures.value in
-    let none = sym c.in_ok-values.ensures.row.cells ∙ sym c.len.ensures ∙ c.if-len-eq0.true in
+    let none = sym c.field_row-values.ensures.row.cells ∙ c.if-values-eq0.true in
     have_acc mids c.args.layout c.args.field c.args.op uses fields.accumulated.items fields.seats.items fields.owned.items have
     (λ active.
     let same : active.store ≡ store = same_Some _ _ (sym active.there ∙ there) in
@@ -71,7 +71,7 @@ returns-then-len-eq0 c = λ uses have.
     (subst (λ (s : StoreWords). StandsFor s active.flat) same active.stands) active.at active.active))
 
 pub returns : goal.returns
-returns c = λ uses have.
+returns g c = λ uses have.
     let mids = current c.args.reached.now c.args.stores.now.list in
     let fields = c.args.fields.now in
     let store = c.in-Some-get.store.now in
@@ -82,7 +82,7 @@ returns c = λ uses have.
     let is_ty : slice_get store.shape.fields field ≡ Some c.in-Some-copied.ty =
     ap (λ (s : Shape). slice_get s.fields field) (sym c.layout.ensures.layout) ∙ ap (λ (s : Shape). slice_get s.fields field) (sym c.shape.ensures.value)
     ∙ sym c.get-2.ensures.value ∙ sym c.copied.ensures ∙ c.in-Some-copied.is in
-    let row = c.in_ok-values.ensures.row in
+    let row = c.field_row-values.ensures.row in
     let values = c.in_ok-pass.ensures.values in
     let made : IsPassOf mids it = record {
       store = store;
@@ -90,13 +90,13 @@ returns c = λ uses have.
       field = is_ty ∙ ap (λ (ty : Ty). Some ty) (sym c.in_ok-pass.ensures.order);
       operator = c.in_ok-pass.ensures.operator;
       is_row = subst (λ (list : List ℕ). IsFieldRow store list) (sym values) row;
-      words = λ cell. ap (λ (list : List ℕ). slice_index list cell) values ∙ c.in_ok-values.ensures.words cell;
+      words = λ cell. ap (λ (list : List ℕ). slice_index list cell) values ∙ c.field_row-values.ensures.words cell;
       within = λ cell reached.
           let below = reached_within store c.layout.ensures.well_formed cell reached in
           let long = row.cells in
           subst (λ (list : List ℕ). cell < length list) (sym values) (omega (arith, below, long));
     } in
-    subst (λ (list : List Accumulated). HaveFields mids (uses ++ Writes c.args.layout c.args.field (Acc c.args.op) ∷ []) list c.push-2.new.self.items fields.owned.items) (sym c.in_ok-push.ensures.items)
-    (subst (λ (seats : List AccSeat). HaveFields mids (uses ++ Writes c.args.layout c.args.field (Acc c.args.op) ∷ []) (fields.accumulated.items ++ it ∷ []) seats fields.owned.items) (sym c.in_ok-push-2.ensures.items)
-    (have_pass mids uses fields.accumulated.items fields.seats.items fields.owned.items it c.in_ok-pass.seat have made c.in_ok-pass.ensures.seat c.in_ok-pass.ensures.worker
+    subst (λ (list : List Accumulated). HaveFields mids (uses ++ Writes c.args.layout c.args.field (Acc c.args.op) ∷ []) list c.push-2.new.self.items fields.owned.items) (sym {A = List Accumulated} c.in_ok-push.ensures.items)
+    (subst (λ (seats : List AccSeat). HaveFields mids (uses ++ Writes c.args.layout c.args.field (Acc c.args.op) ∷ []) (fields.accumulated.items ++ it ∷ []) seats fields.owned.items) (sym {A = List AccSeat} c.in_ok-push-2.ensures.items)
+    (have_pass mids uses fields.accumulated.items fields.seats.items fields.owned.items it c.in_ok-pass.seat have made c.in_ok-pass.ensures.seat c.in_ok-pass.ensures.new
     (subst (λ (list : List Accumulated). (k : ℕ) (other : Accumulated) → slice_get list k ≡ Some other → other.layout ≡ c.args.layout → other.field ≡ c.args.field → ⊥) c.as_slice.ensures.value c.in_default.ensures)))

@@ -3,6 +3,7 @@ use Rattle.std.specs.Prelude.{Some, slice_get}
 use Rattle.std.proofs.lemmas.Option.{slice_get_read, slice_get_within}
 use Rattle.sg_store.specs.StoreWords.{StoreWords}
 use Rattle.sg_exec.specs.steps.Landing.{HasTree}
+use Rattle.sg_exec.specs.steps.Made.{words_of}
 use Rattle.sg_exec.proofs.SumsStand.{lands_field}
 use Rattle.sg_exec.proofs.SumsPut.{tree_row}
 use Rattle.sg_exec.proofs.TreesKept.{trees_itself, trees_long, tree_there, trees_set}
@@ -34,7 +35,7 @@ returns-clause-trees c =
     let layout = c.args.sum.now.layout in
     let old = c.index_mut-store.result.now in
     let at : slice_get olds layout ≡ Some old = slice_get_read olds (length olds) layout old refl (omega arith) c.index_mut-store.ensures.value in
-    trees_set olds layout old c.put_sum.new.store at (subst (λ (s : StoreWords). HasTree old s) (sym c.put_sum.ensures.set) (tree_row old old c.args.sum.now.field c.args.sum.now.words refl))
+    trees_set olds layout old c.put_sum.new.store at (subst (λ (s : StoreWords). HasTree old s) (sym c.put_sum.ensures.set) (tree_row old old c.args.sum.now.field (words_of c.args.sum.now) refl))
 
 pub returns-clause-fresh : goal.returns-clause-fresh
 returns-clause-fresh c = λ base layout field apart fresh.
@@ -42,7 +43,7 @@ returns-clause-fresh c = λ base layout field apart fresh.
     let sum = c.args.sum.now in
     let old = c.index_mut-store.result.now in
     let at : slice_get olds sum.layout ≡ Some old = slice_get_read olds (length olds) sum.layout old refl (omega arith) c.index_mut-store.ensures.value in
-    fresh_put base olds sum.layout sum.field layout field old c.put_sum.new.store sum.words c.put_sum.ensures.set at apart fresh
+    fresh_put base olds sum.layout sum.field layout field old c.put_sum.new.store (words_of sum) c.put_sum.ensures.set at apart fresh
 
 pub returns-clause-lands : goal.returns-clause-lands
 returns-clause-lands c = λ base writes trees is fresh.

@@ -5,7 +5,7 @@ use Rattle.sg_flat.specs.declared.effects.Write.{Write}
 use Rattle.sg_exec.specs.declared.sums.Sum.{Sum}
 use Rattle.sg_exec.specs.steps.Landing.{Lands}
 use Rattle.sg_exec.specs.steps.Passes.{IsSumOf, into_field}
-use Rattle.sg_exec.specs.steps.Made.{HasRow, summed}
+use Rattle.sg_exec.specs.steps.Made.{HasRow, summed, words_of}
 use Rattle.sg_exec.proofs.StoresLanded.{lands_nothing, lands_more}
 use Rattle.sg_exec.proofs.TreesKept.{trees_itself, trees_then, row_over, keeps_itself}
 use Rattle.sg_exec.proofs.SumsLanded.{summed_next, all_next, pairs_before}
@@ -41,7 +41,7 @@ loop-sum-preserved c =
           c.land_sum.ensures.fresh olds layout field (subst (λ (it : Sum). layout ≡ it.layout → field ≡ it.field → ⊥) (sym same) both.1) (c.loop-sum.invariant.fresh layout field both.0);
       lands = λ writes are.
           let next = summed_next sums i sum writes (omega arith) in
-          let here = subst (λ (it : Sum). IsSumOf c.args.stores.now.items it.layout it.field it.words writes) (sym same) (are.each i sum (omega arith)) in
+          let here = subst (λ (it : Sum). IsSumOf c.args.stores.now.items it.layout it.field (words_of it) writes) (sym same) (are.each i sum (omega arith)) in
           let apart = pairs_before (λ (one other : Sum). one.layout ≡ other.layout → one.field ≡ other.field → ⊥) sums i sum (omega arith) are.apart in
           let before : All (λ (it : Sum). c.sum-item.result.layout ≡ it.layout → c.sum-item.result.field ≡ it.field → ⊥) (take c.loop-sum.sum-index c.args.sums.now) =
           λ k d below. λ layouts fields. apart k d below (sym layouts ∙ ap (λ (it : Sum). it.layout) same) (sym fields ∙ ap (λ (it : Sum). it.field) same) in

@@ -16,13 +16,9 @@ raced-requires-clause-fields g c κs within =
     subst (λ (list : List Accumulated). HaveFields mids (uses_in c.args.code.now) list fields.seats.items c.as_slice-own.result.now) (sym c.as_slice-list.ensures.value)
     (subst (λ (own : List Owned). HaveFields mids (uses_in c.args.code.now) fields.accumulated.items fields.seats.items own) (sym c.as_slice-own.ensures.value) c.in_ok-fields.ensures)
 
-pub landed-requires : goal.landed-requires
-landed-requires g c =
-    let after = c.in_ok-after.after in
-    record {
-      seats = subst (λ (list : List Accumulated). AreSeats list after.seats.items) c.as_slice-list.ensures.value c.in_ok-after.ensures.seats;
-      whole = c.in_ok-after.ensures.whole;
-    }
+pub landed-requires-clause-seats : goal.landed-requires-clause-seats
+landed-requires-clause-seats g c κs within =
+    subst (λ (list : List Accumulated). AreSeats list c.in_ok-after.after.seats.items) c.as_slice-list.ensures.value c.in_ok-after.ensures.seats
 
 pub returns-clause-rows : goal.returns-clause-rows
 returns-clause-rows g c =

@@ -8,8 +8,8 @@ use Rattle.sg_exec.proofs.workers.split_all.Goals as goal
 pub loop-number-preserved : goal.loop-number-preserved
 loop-number-preserved c =
     let long = c.loop-number.invariant.seats.long in
-    subst (λ (others : List AccSeat). Splitting c.args.accumulated.now (c.loop-number.number + 1) c.args.seats.now.items (slice_set c.loop-number.seats.items c.loop-number.number c.split-other.new.seat) others) (sym c.in_ok-push.ensures.items)
-    (splitting_more c.args.accumulated.now c.loop-number.number c.args.seats.now.items c.loop-number.seats.items c.loop-number.others.items _ c.index_mut-seat.result.now c.split-other.new.seat c.split-other.result
+    subst (λ (others : List AccSeat). Splitting c.args.accumulated.now (c.loop-number.number + 1) c.args.seats.now.items (slice_set c.loop-number.seats.items c.loop-number.number c.split.new.seat) others) (sym c.in_ok-push.ensures.items)
+    (splitting_more c.args.accumulated.now c.loop-number.number c.args.seats.now.items c.loop-number.seats.items c.loop-number.others.items _ c.index_mut-seat.result.now c.split.new.seat c.in_ok-other.other
     c.loop-number.invariant (slice_get-get_or c.args.accumulated.now c.loop-number.number c.index-accumulated-number.result (omega arith))
     (slice_get_read c.loop-number.seats.items (length c.loop-number.seats.items) c.loop-number.number c.index_mut-seat.result.now refl (omega arith) c.index_mut-seat.ensures.value)
-    c.split-other.ensures.own c.split-other.ensures.other c.split-other.ensures.worker c.split-other.ensures.new_worker)
+    c.split.ensures.own c.in_ok-other.ensures.other c.in_ok-other.ensures.cut)

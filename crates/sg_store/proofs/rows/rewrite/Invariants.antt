@@ -1,5 +1,5 @@
-use Rattle.std.proofs.Common.{◌≡◌, ◌++◌, take, drop}
+use Rattle.sg_store.proofs.FieldRows.{IsWritten}
 use Rattle.sg_store.proofs.rows.rewrite.Given as goal
 
-abbrev pub invariant-loop-index : goal.invariant-loop-index
-invariant-loop-index l = l.row ≡ take l.index l.words ++ drop l.index l.fn.row
+abbrev pub invariant-loop-part : goal.invariant-loop-part
+invariant-loop-part l = IsWritten l.parts l.part-index l.cell l.row l.fn.row

@@ -1,11 +1,16 @@
-use Rattle.std.proofs.Common.{sym, ap, ◌∙◌, map}
-use Rattle.sg_accum.specs.AccRace.{cell_of}
-use Rattle.sg_accum.proofs.Moves.{are_folded}
+use Rattle.std.proofs.Common.{List, ℕ, Vec, Global}
+use Rattle.std.specs.List.{concat}
+use Rattle.std.proofs.lemmas.Result.{IfOk-weaker}
+use Rattle.sg_accum.specs.Parts.{part_values, seat_workers}
+use Rattle.sg_accum.specs.Folding.{given_in_parts, AreFolded}
+use Rattle.sg_accum.specs.steps.Teams.{AreEnded}
+use Rattle.sg_accum.proofs.Halving.{whole-ended}
 use Rattle.sg_accum.proofs.seat.AccPass.finish.Goals as goal
 
 pub returns : goal.returns
-returns c =
-    let last = c.close_with-closed.ensures.values.2 in
-    let start = c.args.self.start in
-    are_folded c.args.self.table.shared.key start last.0.words last.0.views c.args.seat.seat.id c.args.seat.seat.me.0 c.copy_cells.new.values c.args.self.told last.1.0 last.1.1 c.requires.all
-    (c.copy_cells.ensures ∙ ap (map (cell_of start.op start.ty)) (sym last.2))
+returns g c =
+    let pass = c.args.self in
+    let old = part_values pass.parts.items in
+    let ws = seat_workers c.args.seat.seats.items in
+    IfOk-weaker c.end_all.result (λ (done : Vec (List ℕ) Global). AreEnded pass.op pass.ty old ws done.items) (λ (done : Vec (List ℕ) Global). AreFolded pass.op pass.ty (concat old) (given_in_parts ws) (concat done.items))
+    (λ done ended. whole-ended pass.op pass.ty old done.items ws pass.cut ended) c.end_all.ensures

@@ -1,7 +1,7 @@
 use Rattle.std.proofs.Common.{◌≡◌, length, map, take}
 use Rattle.std.specs.Mem.Slots.{slots_items}
 use Rattle.sg_accum.specs.AccRace.{cell_of}
-use Rattle.sg_accum.proofs.pass.copy_cells.Given as goal
+use Rattle.sg_accum.proofs.steps.copy_cells.Given as goal
 
 abbrev pub invariant-loop-i : goal.invariant-loop-i
 invariant-loop-i l = record {

@@ -3,7 +3,7 @@ use Rattle.std.proofs.lemmas.List.{length-set}
 use Rattle.std.specs.Mem.Slots.{slots_items}
 use Rattle.sg_accum.specs.AccRace.{cell_of}
 use Rattle.sg_accum.proofs.Words.{copied, mapped-at, entry-at}
-use Rattle.sg_accum.proofs.pass.copy_cells.Goals as goal
+use Rattle.sg_accum.proofs.steps.copy_cells.Goals as goal
 
 pub cell-requires : goal.cell-requires
 cell-requires c = record { low = entry-at c.args.op (slots_items c.args.closed.now.words) c.loop-i.i c.word.result c.word.ensures c.requires.low }

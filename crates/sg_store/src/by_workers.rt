@@ -1,0 +1,174 @@
+//! Stores copied and made by several workers, which make the rows of the fields side by side.
+
+ghost use Rattle.std.specs.Prelude.{◌≡◌, ◌-◌, ◌<◌, ◌≤◌, [], length, replicate, slice_index_or, All, IfOk};
+ghost use Rattle.std.specs.Thread.{IsSync};
+ghost use Rattle.sg_layout.specs.StorageWords.{words_of_shape, most_words};
+ghost use Rattle.sg_flat.specs.State.{opening_layout};
+ghost use Rattle.sg_store.specs.WellFormed.{IsWellFormed};
+ghost use Rattle.sg_store.specs.StandsFor.{StandsFor};
+ghost use Rattle.sg_store.specs.steps.Fresh.{IsZeroRow};
+ghost use Rattle.sg_store.specs.steps.RowsMade.{rows_from};
+
+use crate::frame::Frame;
+use crate::fresh::{FreshNodes, fresh_nodes};
+use crate::store::{Store, copied_nodes};
+use sg_layout::{Layout, laws as layouts};
+use sg_words::{Items, Memory};
+use std::alloc::Global;
+use std::thread::{Threads, join};
+
+/// A row with fewer cells than these is made sooner than a thread for it.
+const FEW_CELLS: usize = 16_384;
+
+impl Store {
+    /// As `make`, by so many workers, for which it waits: the rows of the fields are made side by side.
+    pub fn make_by_workers<R: Threads + Sync>(
+        rt: &R,
+        alloc: Global,
+        layout: &Layout,
+        workers: u32,
+    ) -> Result<Store, Memory>
+        requires few_words { words_of_shape layout.now ≤ most_words }
+        ensures shape { IfOk result (λ store. store.shape ≡ layout.now) }
+        ensures opening { IfOk result (λ store. StandsFor store (opening_layout layout.now)) }
+        ensures well_formed { IfOk result IsWellFormed }
+    {
+        // for the laws that they ensure
+        layouts::rules_decide();
+        layouts::paths_tell();
+        layouts::closure_closes();
+        layouts::live_absorbs();
+        let _extents = layout.extents();
+        let shape = layout.shape();
+        let FreshNodes { words, cells } = fresh_nodes(alloc, layout)?;
+        Ok(Store {
+            layout: Frame::make(alloc, layout)?,
+            nodes: words,
+            fields: zero_rows_by(rt, alloc, shape.fields.len(), cells, workers)?,
+        })
+    }
+
+    /// A copy of the store, by so many workers, for which it waits: the rows of the fields are copied side by side.
+    pub fn copy_by_workers<R: Threads + Sync>(
+        &self,
+        rt: &R,
+        alloc: Global,
+        workers: u32,
+    ) -> Result<Store, Memory>
+        ensures { IfOk result (λ copy. copy ≡ self.now) }
+    {
+        let nodes = copied_nodes(alloc, self.nodes.as_slice())?;
+        let rows = self.fields.as_slice();
+        let cells = cells_of(rows);
+        let threads = workers_for(cells, workers);
+        let fields = rows_among(rt, alloc, rows, cells, 0, rows.len(), threads)?;
+        Ok(Store {
+            layout: self.layout.copy(alloc)?,
+            nodes,
+            fields,
+        })
+    }
+}
+
+/// A row of zeros for each of so many fields, with a word for each of so many cells.
+fn zero_rows_by<R: Threads + Sync>(
+    rt: &R,
+    alloc: Global,
+    fields: usize,
+    cells: usize,
+    workers: u32,
+) -> Result<Vec<Items<u32>>, Memory>
+    ensures many { IfOk result (λ rows. length rows.items ≡ fields) }
+    ensures zeros { IfOk result (λ rows. All (IsZeroRow cells) rows.items) }
+{
+    let none = Items::new(alloc);
+    let threads = workers_for(cells, workers);
+    let rows = rows_among(rt, alloc, none.as_slice(), cells, 0, fields, threads)?;
+    Ok(rows)
+}
+
+/// How many cells the first of these rows has; all rows of a store have as many.
+fn cells_of(rows: &[Items<u32>]) -> usize
+    ensures { result ≡ length (slice_index_or rows.now 0 []) }
+{
+    match rows.get(0) {
+        Some(row) => row.len(),
+        None => 0,
+    }
+}
+
+/// How many workers make rows with so many cells: one where they are few.
+fn workers_for(cells: usize, workers: u32) -> u32
+    ensures few { cells < 16384 → result ≡ 1 }
+    ensures many { 16384 ≤ cells → result ≡ workers }
+{
+    if cells < FEW_CELLS { 1 } else { workers }
+}
+
+/// The rows at the places from one up to below another, by fork and join over halves of them: a copy of each of these rows, and past
+/// them rows of zeros with a word for each of so many cells.
+fn rows_among<R: Threads + Sync>(
+    rt: &R,
+    alloc: Global,
+    rows: &[Items<u32>],
+    cells: usize,
+    from: usize,
+    to: usize,
+    workers: u32,
+) -> Result<Vec<Items<u32>>, Memory>
+    requires order { from ≤ to }
+    ensures { IfOk result (λ made. made.items ≡ rows_from rows.now cells from (to - from)) }
+{
+    if workers < 2 || to - from < 2 {
+        return rows_in_order(alloc, rows, cells, from, to);
+    }
+    let half = workers / 2;
+    let middle = from + (to - from) / 2;
+    let (left, right) = join(
+        rt,
+        move || -> Result<Vec<Items<u32>>, Memory>
+            requires { IsSync R.row × (half ≤ workers) × (from ≤ middle) }
+            ensures { IfOk result (λ made. made.items ≡ rows_from rows.entry.now cells from (middle - from)) }
+        { rows_among(rt, alloc, rows, cells, from, middle, workers - half) },
+        move || -> Result<Vec<Items<u32>>, Memory>
+            requires { IsSync R.row × (middle ≤ to) }
+            ensures { IfOk result (λ made. made.items ≡ rows_from rows.entry.now cells middle (to - middle)) }
+        { rows_among(rt, alloc, rows, cells, middle, to, half) },
+    );
+    let (mut made, mut others) = (left?, right?);
+    made.append(&mut others)?;
+    Ok(made)
+}
+
+/// The same by one worker.
+fn rows_in_order(
+    alloc: Global,
+    rows: &[Items<u32>],
+    cells: usize,
+    from: usize,
+    to: usize,
+) -> Result<Vec<Items<u32>>, Memory>
+    requires order { from ≤ to }
+    ensures { IfOk result (λ made. made.items ≡ rows_from rows.now cells from (to - from)) }
+{
+    let mut made = Vec::new(alloc);
+    for place in from..to {
+        made.push(row_at(alloc, rows, cells, place)?)?;
+    }
+    Ok(made)
+}
+
+/// One of these rows.
+fn row_at(
+    alloc: Global,
+    rows: &[Items<u32>],
+    cells: usize,
+    place: usize,
+) -> Result<Items<u32>, Memory>
+    ensures { IfOk result (λ row. row ≡ slice_index_or rows.now place (replicate cells 0)) }
+{
+    match rows.get(place) {
+        Some(row) => Ok(Items::from_slice(alloc, row.as_slice())?),
+        None => Ok(Items::from_vec(vec![in alloc; 0; cells]?)),
+    }
+}
