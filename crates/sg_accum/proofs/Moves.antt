@@ -1,5 +1,5 @@
 -- Each move of a seat keeps the rule: it is one event of the race machine.
-use Rattle.std.proofs.Common.{◌≡◌, ℕ, zero, suc, ◌<◌, ◌≤◌, true, false, cond, ◌==◌, List, [], ◌∷◌, map, length, set, fold, refl, sym, ap, ◌∙◌, subst, arith}
+use Rattle.std.proofs.Common.{◌≡◌, ℕ, zero, suc, ◌+◌, ◌%◌, ◌^◌, ◌<◌, ◌≤◌, min, max, true, false, cond, ◌==◌, List, [], ◌∷◌, map, length, set, fold, refl, sym, ap, ◌∙◌, subst, arith}
 use Rattle.std.specs.Prelude.{slice_index}
 use Rattle.std.specs.List.{filter}
 use Rattle.std.proofs.lemmas.List.{map-set, length-map, get_or-map}
@@ -7,16 +7,20 @@ use mathlib.Core.Option.{some, none, some-injective, some-ne-none}
 use lib.ListN.{get_elem?}
 use Rattle.atomic_table.specs.Table.{State, Me, step, keeps, Allows, Splits, Joins}
 use Rattle.sg_words.specs.declared.operators.Ty.{Ty}
+use Rattle.sg_words.specs.declared.operators.Ty.TheVariants as ty
+use Rattle.sg_words.specs.declared.operators.AccOp.TheVariants as acc
 use Rattle.sg_words.specs.declared.race.Worker.{Worker}
-use Rattle.sg_words.specs.Words.{unrank_of, folded}
+use Rattle.sg_words.specs.Words.{rank_of, unrank_of, folded}
 use Rattle.sg_words.specs.Counts.{total}
 use Rattle.sg_words.specs.RaceMachine.{nobody, after_split, other_half, after_join, after_add}
 use Rattle.sg_words.specs.RaceInvariant.{handed_share, fold_in, fold_all, MeetsRaceInvariant}
 use Rattle.sg_words.proofs.Uses.{kept-add, kept-enrol, kept-join, stands, set_other_at, alone}
 use Rattle.sg_accum.specs.declared.begin.Start.{Start}
+use Rattle.sg_accum.specs.declared.part.Part.{Part}
+use Rattle.sg_accum.specs.declared.part.PartSeat.{PartSeat}
 use Rattle.sg_accum.specs.AccRace.{cell_of, IsEntry, setting_of, race_of, Racing, gives}
 use Rattle.sg_accum.specs.Folding.{given_to, AreFolded}
-use Rattle.sg_accum.proofs.Words.{exchanged, Follows, all-set}
+use Rattle.sg_accum.proofs.Words.{exchanged, Follows, follows-add, follows-min, follows-max, all-set}
 
 abbrev pub Holds : Start → State (Unit {0}) Worker → Type 0
 Holds start s = Racing start s.words s.views
@@ -39,7 +43,7 @@ step-kept start words views id v i m x at live inside follows r =
       low = all-set (IsEntry start.op) words i m follows.1 r.low;
     }
 
-pub step-allowed : (start key : Start) (t : Ty) (slots id : ℕ) (me : Me (Unit {0}) Worker) (i p x : ℕ) (f : ℕ → ℕ) → key ≡ start → 0 < me.0.share → i < length start.values → unrank_of t p ≡ x
+step-allowed : (start key : Start) (t : Ty) (slots id : ℕ) (me : Me (Unit {0}) Worker) (i p x : ℕ) (f : ℕ → ℕ) → key ≡ start → 0 < me.0.share → i < length start.values → unrank_of t p ≡ x
     → ((n : ℕ) → IsEntry start.op n → Follows start.op start.ty n x (f n)) → Allows (Holds key) slots id me i f (gives t (step slots i p 0 none) me)
 step-allowed start key t slots id me i p x f told live inside is follows =
     subst (λ k. Allows (Holds k) slots id me i f (gives t (step slots i p 0 none) me)) (sym told)
@@ -51,6 +55,37 @@ step-allowed start key t slots id me i p x f told live inside is follows =
           (step-kept start s.words s.views id me.0 i (f (slice_index s.words i)) x at live inside (follows (slice_index s.words i) (r.low i)) r),
       refl,
     ))
+
+-- an atomic step of a part's table is allowed to a seat in it: it plays a word into a cell, as the seat is told in a type
+abbrev pub Asks : Part → PartSeat → Ty → ℕ → ℕ → (ℕ → ℕ) → Type 0
+Asks part seat t cell p f = (seat.seat.table_id ≡ part.table.shared.table_id) × (cell < part.table.shared.table_id.words)
+    × Allows (Holds part.table.shared.key) part.table.shared.table_id.slots seat.seat.id seat.seat.me cell f (gives t (step part.table.shared.table_id.slots cell p 0 none) seat.seat.me)
+
+-- it is, where the word stands for a contribution and the cell's word follows it
+asks : (part : Part) (seat : PartSeat) (t : Ty) (cell p x : ℕ) (f : ℕ → ℕ) → seat.seat.table_id ≡ part.table.shared.table_id → cell < length part.start.values → unrank_of t p ≡ x
+    → ((n : ℕ) → IsEntry part.start.op n → Follows part.start.op part.start.ty n x (f n)) → Asks part seat t cell p f
+asks part seat t cell p x f own inside is follows = (
+  own,
+  subst (λ n. cell < n) (sym part.sized) inside,
+  step-allowed part.start part.table.shared.key t part.table.shared.table_id.slots seat.seat.id seat.seat.me cell p x f part.told seat.working inside is follows,
+)
+
+-- a contribution is added
+pub asks-add : (part : Part) (seat : PartSeat) (cell x : ℕ) → seat.seat.table_id ≡ part.table.shared.table_id → cell < length part.start.values → part.start.op ≡ acc.Add
+    → Asks part seat ty.U32 cell x (λ n. (n + x) % 2 ^ 64)
+asks-add part seat cell x own inside by = asks part seat ty.U32 cell x x (λ n. (n + x) % 2 ^ 64) own inside refl (λ n low. follows-add part.start.op part.start.ty n x by)
+
+-- a word is lowered to the rank of a contribution
+pub asks-least : (part : Part) (seat : PartSeat) (t : Ty) (cell p x : ℕ) → seat.seat.table_id ≡ part.table.shared.table_id → cell < length part.start.values → part.start.op ≡ acc.Min → x < 2 ^ 32
+    → p ≡ rank_of part.start.ty x → unrank_of t p ≡ x → Asks part seat t cell p (λ n. min n p)
+asks-least part seat t cell p x own inside by fits ranked is =
+    asks part seat t cell p x (λ n. min n p) own inside is (λ n low. follows-min part.start.op part.start.ty n x p by fits ranked low)
+
+-- a word is raised to the rank of a contribution
+pub asks-most : (part : Part) (seat : PartSeat) (t : Ty) (cell p x : ℕ) → seat.seat.table_id ≡ part.table.shared.table_id → cell < length part.start.values → part.start.op ≡ acc.Max → x < 2 ^ 32
+    → p ≡ rank_of part.start.ty x → unrank_of t p ≡ x → Asks part seat t cell p (λ n. max n p)
+asks-most part seat t cell p x own inside by fits ranked is =
+    asks part seat t cell p x (λ n. max n p) own inside is (λ n low. follows-max part.start.op part.start.ty n x p by fits ranked low)
 
 pub split-allowed : (start : Start) (id : ℕ) (v : Worker) → 2 ≤ v.share → Splits (Holds start) id v (after_split v) (other_half v)
 split-allowed start id v share s r at =

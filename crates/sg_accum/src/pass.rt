@@ -32,7 +32,7 @@ impl AccPass {
         ensures order { IfOk result (λ r. type_of r.0 ≡ ty) }
         ensures new { IfOk result (λ r. IsNew 16 r.1) }
     {
-        let Begun { parts, seats } = begin_all(rt, alloc, values, op, ty, workers)?;
+        let Begun { parts, seats } = begin_all(rt, alloc, values, op, ty, workers, false)?;
         Ok((AccPass { parts, op, ty }, AccSeat { seats }))
     }
 
@@ -114,6 +114,6 @@ impl AccPass {
     {
         let AccPass { parts, op, ty } = self;
         let AccSeat { seats } = seat;
-        end_all(rt, alloc, op, ty, parts, seats, workers)
+        end_all(rt, alloc, op, ty, parts, seats, workers, false)
     }
 }

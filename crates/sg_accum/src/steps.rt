@@ -1,5 +1,5 @@
 //! The calls of a part: begin, add, least, most, split, join and end.
-ghost use Rattle.std.specs.Prelude.{◌≡◌, ◌<◌, ◌≤◌, map, length, IfOk};
+ghost use Rattle.std.specs.Prelude.{◌≡◌, ◌<◌, ◌≤◌, map, length, IfOk, OnOk};
 ghost use Rattle.std.specs.Mem.Slots.{slots_items, slots_len, IsFull};
 ghost use Rattle.sg_words.specs.declared.operators.AccOp.TheVariants as acc;
 ghost use Rattle.sg_words.specs.RaceMachine.{after_split, other_half, after_join, after_add};
@@ -16,12 +16,13 @@ use sg_words::{AccOp, Items, Memory, Ty, rank, unrank};
 use std::alloc::Global;
 
 impl Part {
-    /// A part with these cells, by an operator in a type, and its first seat.
+    /// A part with these cells, by an operator in a type, and its first seat. The table's words are made in a list that may serve again.
     pub(crate) fn begin(
         alloc: Global,
         values: &[u32],
         op: AccOp,
         ty: Ty,
+        words: &mut Vec<u64>,
     ) -> Result<(Part, PartSeat), Memory>
         requires cells { 0 < length values.now }
         ensures own { IfOk result (λ r. r.1.seat.table_id ≡ r.0.table.shared.table_id) }
@@ -30,7 +31,7 @@ impl Part {
         ensures order { IfOk result (λ r. r.0.start.ty ≡ ty) }
         ensures worker { IfOk result (λ r. r.1.seat.me.0 ≡ first_worker) }
     {
-        let words = entries(alloc, op, ty, values)?;
+        entries(op, ty, values, words)?;
         let start = Start {
             values: Items::from_slice(alloc, values)?,
             op,
@@ -136,16 +137,17 @@ impl Part {
     }
 }
 
-// The table's words at the start.
-fn entries(alloc: Global, op: AccOp, ty: Ty, values: &[u32]) -> Result<Vec<u64>, Memory>
-    ensures cells { IfOk result (λ words. map (cell_of op ty) words.items ≡ values.now) }
-    ensures low { IfOk result (λ words. AreEntries op words.items) }
+// The table's words at the start, in place of those that stood in the list.
+fn entries(op: AccOp, ty: Ty, values: &[u32], words: &mut Vec<u64>) -> Result<(), Memory>
+    ensures cells { OnOk result (map (cell_of op ty) words.new.items ≡ values.now) }
+    ensures low { OnOk result (AreEntries op words.new.items) }
 {
-    let mut words = Vec::with_capacity(alloc, values.len())?;
+    words.clear();
+    words.reserve(values.len())?;
     for value in values {
         words.push_reserved(entry(op, ty, *value));
     }
-    Ok(words)
+    Ok(())
 }
 
 // A cell as a word of the table: a sum is itself, and of least and greatest the rank stands there.

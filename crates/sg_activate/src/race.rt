@@ -1,4 +1,4 @@
-ghost use Rattle.std.specs.Prelude.{◌≡◌, ℕ, ◌+◌, ◌-◌, ◌*◌, ◌<◌, ◌≤◌, All, List, Contains, OnOk};
+ghost use Rattle.std.specs.Prelude.{◌≡◌, ℕ, ◌+◌, ◌-◌, ◌*◌, ◌/◌, ◌<◌, ◌≤◌, All, List, Contains, OnOk};
 ghost use Rattle.std.specs.Thread.{IsSync, IsSend};
 ghost use Rattle.sg_coord.specs.declared.coord.Coord.{Coord};
 ghost use Rattle.sg_coord.specs.Coord.{Inside};
@@ -63,11 +63,17 @@ pub(crate) fn race_all<R: Threads + Sync, W: Wanted + Sync, G: Gate + Sync, P: P
 {
     // for the law that it ensures
     slices_partition(work.want.pieces() as usize, work.workers);
-    race(rt, alloc, work, pass, seat, 0, work.workers)
+    race(rt, alloc, work, pass, seat, 0, work.workers, SHARE, false)
 }
 
-/// Workers from one number on ask for what their pieces want, each in its slice; halves of them in threads, where both have pieces: with
-/// fewer pieces than workers the last workers have none.
+/// The share of a pass's first seat.
+const SHARE: u32 = 16;
+
+/// With fewer pieces than these for each worker one more thread takes longer than a wait for the thread that has forked.
+const MANY_PIECES: u32 = 32;
+
+/// Workers from one number on ask for what their pieces want, each in its slice: some in a thread of their own and then the rest,
+/// where both have pieces: with fewer pieces than workers the last workers have none. With many pieces a thread that has forked `waits`: it asks for nothing itself.
 fn race<R: Threads + Sync, W: Wanted + Sync, G: Gate + Sync, P: Pass + Sync>(
     rt: &R,
     alloc: Global,
@@ -76,11 +82,14 @@ fn race<R: Threads + Sync, W: Wanted + Sync, G: Gate + Sync, P: Pass + Sync>(
     mut seat: P::Seat,
     from: u32,
     count: u32,
+    share: u32,
+    waits: bool,
 ) -> Raced<P::Seat>
     requires own { P.IsSeatOf pass.now seat }
     requires some { 1 ≤ count }
     requires within { from + count ≤ work.now.workers }
-    requires share { count ≤ P.share seat }
+    requires few { count ≤ share }
+    requires share { share ≤ P.share seat }
     requires inside { W.bounds work.now.want.now ≡ P.bounds pass.now }
     ensures own { P.IsSeatOf pass.now result.seat }
     ensures asked { HasAsked P.weight (P.IsMet pass.now) (P.IsMadeFor pass.now)
@@ -90,25 +99,75 @@ fn race<R: Threads + Sync, W: Wanted + Sync, G: Gate + Sync, P: Pass + Sync>(
         (slice_start (W.count work.now.want.now) work.now.workers (from + count)) result.seat) }
 {
     if count < 2 {
+        if waits {
+            return ask_apart(rt, alloc, work, pass, seat, from);
+        }
         return ask_slice(alloc, work, pass, seat, from);
     }
-    let half = count / 2;
-    if work.want.pieces() <= from + (count - half) {
-        return race(rt, alloc, work, pass, seat, from, count - half);
+    let rest = rest_of(count, share);
+    if work.want.pieces() <= from + (count - rest) {
+        return race(
+            rt,
+            alloc,
+            work,
+            pass,
+            seat,
+            from,
+            count - rest,
+            share,
+            waits,
+        );
     }
     let other = pass.split(&mut seat);
     let (mine, theirs) = join(
         rt,
         move || -> Raced<P::Seat>
-            requires { IsSync R.row × IsSync W.row × IsSync G.row × IsSync P.row × IsSend W.Hand.row × IsSend P.Seat.row × P.IsSeatOf pass.now seat × (half ≤ count) × (2 ≤ count) × (1 ≤ count - half) × (from + count ≤ work.now.workers) × (count - half ≤ P.share seat) × W.bounds work.now.want.now ≡ P.bounds pass.now }
-            ensures { P.IsSeatOf pass.entry.now result.seat × HasAsked P.weight (P.IsMet pass.entry.now) (P.IsMadeFor pass.entry.now) (W.Means work.entry.now.want.now) (W.count work.entry.now.want.now) seat result.seat × OnOk result.done (HasMetAll (P.IsMet pass.entry.now) (W.Means work.entry.now.want.now) (slice_start (W.count work.entry.now.want.now) work.entry.now.workers from) (slice_start (W.count work.entry.now.want.now) work.entry.now.workers (from + (count - half))) result.seat) }
-        { race(rt, alloc, work, pass, seat, from, count - half) },
+            requires { IsSync R.row × IsSync W.row × IsSync G.row × IsSync P.row × IsSend W.Hand.row × IsSend P.Seat.row × P.IsSeatOf pass.now seat × (rest ≤ count) × (1 ≤ count - rest) × (from + count ≤ work.now.workers) × (count - rest ≤ share - share / 2) × (share - share / 2 ≤ P.share seat) × W.bounds work.now.want.now ≡ P.bounds pass.now }
+            ensures { P.IsSeatOf pass.entry.now result.seat × HasAsked P.weight (P.IsMet pass.entry.now) (P.IsMadeFor pass.entry.now) (W.Means work.entry.now.want.now) (W.count work.entry.now.want.now) seat result.seat × OnOk result.done (HasMetAll (P.IsMet pass.entry.now) (W.Means work.entry.now.want.now) (slice_start (W.count work.entry.now.want.now) work.entry.now.workers from) (slice_start (W.count work.entry.now.want.now) work.entry.now.workers (from + (count - rest))) result.seat) }
+        {
+            race(
+                rt,
+                alloc,
+                work,
+                pass,
+                seat,
+                from,
+                count - rest,
+                share - share / 2,
+                false,
+            )
+        },
         move || -> Raced<P::Seat>
-            requires { IsSync R.row × IsSync W.row × IsSync G.row × IsSync P.row × IsSend W.Hand.row × IsSend P.Seat.row × P.IsSeatOf pass.now other × (1 ≤ half) × (half ≤ count) × (from + count ≤ work.now.workers) × (half ≤ P.share other) × W.bounds work.now.want.now ≡ P.bounds pass.now }
-            ensures { P.IsSeatOf pass.entry.now result.seat × HasAsked P.weight (P.IsMet pass.entry.now) (P.IsMadeFor pass.entry.now) (W.Means work.entry.now.want.now) (W.count work.entry.now.want.now) other result.seat × OnOk result.done (HasMetAll (P.IsMet pass.entry.now) (W.Means work.entry.now.want.now) (slice_start (W.count work.entry.now.want.now) work.entry.now.workers (from + (count - half))) (slice_start (W.count work.entry.now.want.now) work.entry.now.workers (from + (count - half) + half)) result.seat) }
-        { race(rt, alloc, work, pass, other, from + (count - half), half) },
+            requires { IsSync R.row × IsSync W.row × IsSync G.row × IsSync P.row × IsSend W.Hand.row × IsSend P.Seat.row × P.IsSeatOf pass.now other × (1 ≤ rest) × (rest ≤ count) × (from + count ≤ work.now.workers) × (rest ≤ share / 2) × (share / 2 ≤ P.share other) × W.bounds work.now.want.now ≡ P.bounds pass.now }
+            ensures { P.IsSeatOf pass.entry.now result.seat × HasAsked P.weight (P.IsMet pass.entry.now) (P.IsMadeFor pass.entry.now) (W.Means work.entry.now.want.now) (W.count work.entry.now.want.now) other result.seat × OnOk result.done (HasMetAll (P.IsMet pass.entry.now) (W.Means work.entry.now.want.now) (slice_start (W.count work.entry.now.want.now) work.entry.now.workers (from + (count - rest))) (slice_start (W.count work.entry.now.want.now) work.entry.now.workers (from + (count - rest) + rest)) result.seat) }
+        {
+            race(
+                rt,
+                alloc,
+                work,
+                pass,
+                other,
+                from + (count - rest),
+                rest,
+                share / 2,
+                work.want.pieces() >= MANY_PIECES.saturating_mul(work.workers),
+            )
+        },
     );
     joined(pass, mine, theirs)
+}
+
+/// How many of so many workers a thread that forks keeps for itself and for threads that it starts later: all but one, where half of the
+/// share is enough for them, and else half of the share.
+fn rest_of(count: u32, share: u32) -> u32
+    requires two { 2 ≤ count }
+    requires few { count ≤ share }
+    ensures some { 1 ≤ result }
+    ensures less { result < count }
+    ensures rest { result ≤ share / 2 }
+    ensures first { count - result ≤ share - share / 2 }
+{
+    (count - 1).min(share / 2)
 }
 
 /// The seats of two halves joined. Want of memory of either is that of both.
@@ -133,6 +192,36 @@ fn joined<P: Pass>(pass: &P, mine: Raced<P::Seat>, theirs: Raced<P::Seat>) -> Ra
         seat,
         done: done.and(others),
     }
+}
+
+/// One worker asks so, in a thread of its own.
+fn ask_apart<R: Threads + Sync, W: Wanted + Sync, G: Gate + Sync, P: Pass + Sync>(
+    rt: &R,
+    alloc: Global,
+    work: &Work<W, G>,
+    pass: &P,
+    seat: P::Seat,
+    worker: u32,
+) -> Raced<P::Seat>
+    requires own { P.IsSeatOf pass.now seat }
+    requires within { worker < work.now.workers }
+    requires inside { W.bounds work.now.want.now ≡ P.bounds pass.now }
+    ensures own { P.IsSeatOf pass.now result.seat }
+    ensures asked { HasAsked P.weight (P.IsMet pass.now) (P.IsMadeFor pass.now)
+        (W.Means work.now.want.now) (W.count work.now.want.now) seat result.seat }
+    ensures met { OnOk result.done (HasMetAll (P.IsMet pass.now) (W.Means work.now.want.now)
+        (slice_start (W.count work.now.want.now) work.now.workers worker)
+        (slice_start (W.count work.now.want.now) work.now.workers (worker + 1)) result.seat) }
+{
+    let (raced, ()) = join(
+        rt,
+        move || -> Raced<P::Seat>
+            requires { IsSync W.row × IsSync G.row × IsSync P.row × IsSend W.Hand.row × IsSend P.Seat.row × P.IsSeatOf pass.now seat × (worker < work.now.workers) × W.bounds work.now.want.now ≡ P.bounds pass.now }
+            ensures { P.IsSeatOf pass.entry.now result.seat × HasAsked P.weight (P.IsMet pass.entry.now) (P.IsMadeFor pass.entry.now) (W.Means work.entry.now.want.now) (W.count work.entry.now.want.now) seat result.seat × OnOk result.done (HasMetAll (P.IsMet pass.entry.now) (W.Means work.entry.now.want.now) (slice_start (W.count work.entry.now.want.now) work.entry.now.workers worker) (slice_start (W.count work.entry.now.want.now) work.entry.now.workers (worker + 1)) result.seat) }
+        { ask_slice(alloc, work, pass, seat, worker) },
+        || (),
+    );
+    raced
 }
 
 /// One worker asks for what the pieces of its slice want, in order, and passes the gate before each piece.

@@ -18,6 +18,9 @@ use sg_words::Stop;
 use std::alloc::Global;
 use std::thread::{Threads, join};
 
+/// At fewer points than these a slice is run sooner than a thread is started for a part of them.
+const FEW_POINTS: usize = 1_024;
+
 /// Refuses where a slice wants a coordinate outside at one of these points, with the fault of the first. Else it tells whether all that the
 /// slice wants there is active. A slice in which no instruction wants isn't run; any other by so many workers.
 pub(crate) fn first_pass<R: Threads + Sync>(
@@ -32,13 +35,13 @@ pub(crate) fn first_pass<R: Threads + Sync>(
     ensures { SliceTells stores.now.list block.now points.now result }
 {
     if block_seeks(block) {
-        return no_want_outside(rt, alloc, stores, points, block, workers);
+        return no_want_outside(rt, alloc, stores, points, block, workers, false);
     }
     Ok(true)
 }
 
 /// What the first pass tells of any slice. The workers run it each at a part of the points; what the left half finds stands before what
-/// the right half finds.
+/// the right half finds. A thread that has forked `waits`: it runs the slice at no point itself.
 fn no_want_outside<R: Threads + Sync>(
     rt: &R,
     alloc: Global,
@@ -46,11 +49,15 @@ fn no_want_outside<R: Threads + Sync>(
     points: &[Coord],
     block: &[Inst],
     workers: u32,
+    waits: bool,
 ) -> Result<bool, Stop<RunFault>>
     requires some { 1 ≤ workers }
     ensures { SliceTells stores.now.list block.now points.now result }
 {
-    if workers < 2 || points.len() < 2 {
+    if workers < 2 || points.len() < FEW_POINTS {
+        if waits {
+            return no_want_outside_apart(rt, alloc, stores, points, block);
+        }
         return no_want_outside_here(alloc, stores, points, block);
     }
     let half = workers / 2;
@@ -60,11 +67,11 @@ fn no_want_outside<R: Threads + Sync>(
         move || -> Result<bool, Stop<RunFault>>
             requires { IsSync R.row × (1 ≤ workers - half) }
             ensures { SliceTells stores.entry.now.list block.entry.now left.entry.now result }
-        { no_want_outside(rt, alloc, stores, left, block, workers - half) },
+        { no_want_outside(rt, alloc, stores, left, block, workers - half, false) },
         move || -> Result<bool, Stop<RunFault>>
             requires { IsSync R.row × (1 ≤ half) }
             ensures { SliceTells stores.entry.now.list block.entry.now right.entry.now result }
-        { no_want_outside(rt, alloc, stores, right, block, half) },
+        { no_want_outside(rt, alloc, stores, right, block, half, true) },
     );
     match first {
         Ok(active) => in_both(active, second),
@@ -80,6 +87,26 @@ fn in_both(active: bool, second: Result<bool, Stop<RunFault>>) -> Result<bool, S
         Ok(others) => Ok(active && others),
         Err(why) => Err(why),
     }
+}
+
+/// What the first pass tells, by one worker in a thread of its own.
+fn no_want_outside_apart<R: Threads + Sync>(
+    rt: &R,
+    alloc: Global,
+    stores: &Stores,
+    points: &[Coord],
+    block: &[Inst],
+) -> Result<bool, Stop<RunFault>>
+    ensures { SliceTells stores.now.list block.now points.now result }
+{
+    let (tells, ()) = join(
+        rt,
+        move || -> Result<bool, Stop<RunFault>>
+            ensures { SliceTells stores.entry.now.list block.entry.now points.entry.now result }
+        { no_want_outside_here(alloc, stores, points, block) },
+        || (),
+    );
+    tells
 }
 
 /// What the first pass tells, by one worker, which runs the slice at several points side by side.

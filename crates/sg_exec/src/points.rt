@@ -48,18 +48,20 @@ pub fn domain_points<R: Threads + Sync>(
 fn box_points(alloc: Global, lo: Coord, hi: Coord) -> Result<Items<Coord>, Memory>
     ensures { IfOk result (λ points. points ≡ box_points lo hi) }
 {
-    let mut points = Items::new(alloc);
     let (planes, lines, cells) = (
         Side::first(lo, hi),
         Side::second(lo, hi),
         Side::third(lo, hi),
     );
     if lines.count() == 0 {
-        return Ok(points);
+        return Ok(Items::new(alloc));
     }
     if cells.count() == 0 {
-        return Ok(points);
+        return Ok(Items::new(alloc));
     }
+    let few = (planes.count() as usize).saturating_mul(lines.count() as usize);
+    let all = few.saturating_mul(cells.count() as usize);
+    let mut points = Items::from_vec(Vec::with_capacity(alloc, all)?);
     for k in 0..planes.count() {
         let plane = Coord {
             n: lo.n,

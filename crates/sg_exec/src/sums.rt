@@ -38,6 +38,9 @@ use sg_words::{Items, Memory};
 use std::alloc::Global;
 use std::thread::Threads;
 
+/// The share of a pass's first seat.
+const SHARE: u32 = 16;
+
 /// The values of all cells of an accumulated field, at the end of its pass; in parts, one after the other.
 #[derive(Drop)]
 pub struct Sum {
@@ -118,6 +121,8 @@ fn raced<R: Threads + Sync, G: Gate + Sync>(
         gate,
         0,
         workers,
+        SHARE,
+        false,
         hand,
     )
 }

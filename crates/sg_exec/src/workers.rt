@@ -11,14 +11,13 @@ ghost use Rattle.sg_exec.specs.Standing.{shapes_of};
 ghost use Rattle.sg_accum.specs.declared.seat.AccSeat.{AccSeat};
 ghost use Rattle.sg_exec.specs.steps.Machines.{seen_in, Sees, AreCells};
 ghost use Rattle.sg_exec.specs.steps.Landing.{current};
-ghost use Rattle.sg_exec.specs.steps.Racing.{wrote, between, ArePasses, AreSeats, HaveShares, AreSplit, AreJoined, IsDivided, IsOfBoth};
+ghost use Rattle.sg_exec.specs.steps.Racing.{wrote, between, ArePasses, AreSeats, HaveShares};
 ghost use Rattle.sg_exec.specs.steps.Working.{HasRunAt};
 
 use crate::batch::{Batch, SIDE_BY_SIDE, batch_for, iterate_all};
 use crate::contributions::{give_all, put_all};
-use crate::hand::Hand;
+use crate::hand::{Hand, both, divided, rest_of};
 use crate::shared::{Accumulated, Owned};
-use sg_accum::AccSeat;
 use sg_coord::{Coord, slice_of};
 use sg_ir::Inst;
 use sg_outside::{Gate, Phase};
@@ -27,8 +26,11 @@ use sg_words::Memory;
 use std::alloc::Global;
 use std::thread::{Threads, join};
 
+/// With fewer points than these for each worker one more thread takes longer than a wait for the thread that has forked.
+const MANY_POINTS: usize = 1_024;
+
 /// Runs the iterations of workers, from this one on, each worker in a thread of its own, side by side. With fewer points than workers the
-/// last workers have none, and no thread.
+/// last workers have none, and no thread. With many points a thread that has forked `waits`: it runs no iteration itself.
 #[cycle(racing)]
 pub(crate) fn race<R: Threads + Sync, G: Gate + Sync>(
     rt: &R,
@@ -43,6 +45,8 @@ pub(crate) fn race<R: Threads + Sync, G: Gate + Sync>(
     gate: &G,
     first: u32,
     workers: u32,
+    share: u32,
+    waits: bool,
     hand: Hand,
 ) -> Result<Hand, Memory>
     requires some { 1 ≤ workers }
@@ -50,7 +54,8 @@ pub(crate) fn race<R: Threads + Sync, G: Gate + Sync>(
     requires few { all ≤ 16 }
     requires passes { ArePasses (current reached.now stores.now.list) accumulated.now }
     requires seats { AreSeats accumulated.now hand.seats.items }
-    requires shares { HaveShares workers hand.seats.items }
+    requires enough { workers ≤ share }
+    requires shares { HaveShares share hand.seats.items }
     requires cells { AreCells (current reached.now stores.now.list) hand.puts.items }
     ensures seats { IfOk result (λ after. AreSeats accumulated.now after.seats.items) }
     ensures cells { IfOk result (λ after. AreCells (current reached.now stores.now.list) after.puts.items) }
@@ -59,6 +64,22 @@ pub(crate) fn race<R: Threads + Sync, G: Gate + Sync>(
         accumulated.now owned.now hand) }
 {
     if workers < 2 {
+        if waits {
+            return work_apart(
+                rt,
+                alloc,
+                stores,
+                reached,
+                points,
+                code,
+                accumulated,
+                owned,
+                all,
+                gate,
+                first,
+                hand,
+            );
+        }
         return work(
             alloc,
             stores,
@@ -73,8 +94,8 @@ pub(crate) fn race<R: Threads + Sync, G: Gate + Sync>(
             hand,
         );
     }
-    let half = workers / 2;
-    if points.len() <= (first + (workers - half)) as usize {
+    let rest = rest_of(workers, share);
+    if points.len() <= (first + (workers - rest)) as usize {
         return race(
             rt,
             alloc,
@@ -87,21 +108,23 @@ pub(crate) fn race<R: Threads + Sync, G: Gate + Sync>(
             all,
             gate,
             first,
-            workers - half,
+            workers - rest,
+            share,
+            waits,
             hand,
         );
     }
-    let (hand, other) = divided(alloc, stores, reached, accumulated, workers, hand)?;
+    let (hand, other) = divided(alloc, stores, reached, accumulated, share, hand)?;
     let (left, right) = join(
         rt,
         move || -> Result<Hand, Memory>
-            requires { IsSync R.row × IsSync G.row × (half < workers) × (first + workers ≤ all) × (all ≤ 16)
+            requires { IsSync R.row × IsSync G.row × (rest < workers) × (workers - rest ≤ share - share / 2) × (first + workers ≤ all) × (all ≤ 16)
                 × ArePasses (current reached.now stores.now.list) accumulated.now × AreSeats accumulated.now hand.seats.items
-                × HaveShares (workers - half) hand.seats.items × AreCells (current reached.now stores.now.list) hand.puts.items }
+                × HaveShares (share - share / 2) hand.seats.items × AreCells (current reached.now stores.now.list) hand.puts.items }
             ensures { IfOk result (λ after. AreSeats accumulated.entry.now after.seats.items
                 × AreCells (current reached.entry.now stores.entry.now.list) after.puts.items
                 × HasRunAt (current reached.entry.now stores.entry.now.list) code.entry.now points.entry.now (between
-                (slice_start (length points.entry.now) all first) (slice_start (length points.entry.now) all (first + (workers - half)))
+                (slice_start (length points.entry.now) all first) (slice_start (length points.entry.now) all (first + (workers - rest)))
                 points.entry.now) accumulated.entry.now owned.entry.now hand after) }
         {
             race(
@@ -116,19 +139,21 @@ pub(crate) fn race<R: Threads + Sync, G: Gate + Sync>(
                 all,
                 gate,
                 first,
-                workers - half,
+                workers - rest,
+                share - share / 2,
+                false,
                 hand,
             )
         },
         move || -> Result<Hand, Memory>
-            requires { IsSync R.row × IsSync G.row × (1 ≤ half) × (half < workers) × (first + workers ≤ all) × (all ≤ 16)
+            requires { IsSync R.row × IsSync G.row × (1 ≤ rest) × (rest < workers) × (rest ≤ share / 2) × (first + workers ≤ all) × (all ≤ 16)
                 × ArePasses (current reached.now stores.now.list) accumulated.now × AreSeats accumulated.now other.seats.items
-                × HaveShares half other.seats.items × AreCells (current reached.now stores.now.list) other.puts.items }
+                × HaveShares (share / 2) other.seats.items × AreCells (current reached.now stores.now.list) other.puts.items }
             ensures { IfOk result (λ after. AreSeats accumulated.entry.now after.seats.items
                 × AreCells (current reached.entry.now stores.entry.now.list) after.puts.items
                 × HasRunAt (current reached.entry.now stores.entry.now.list) code.entry.now points.entry.now (between
-                (slice_start (length points.entry.now) all (first + (workers - half)))
-                (slice_start (length points.entry.now) all (first + (workers - half) + half)) points.entry.now)
+                (slice_start (length points.entry.now) all (first + (workers - rest)))
+                (slice_start (length points.entry.now) all (first + (workers - rest) + rest)) points.entry.now)
                 accumulated.entry.now owned.entry.now other after) }
         {
             race(
@@ -142,13 +167,71 @@ pub(crate) fn race<R: Threads + Sync, G: Gate + Sync>(
                 owned,
                 all,
                 gate,
-                first + (workers - half),
-                half,
+                first + (workers - rest),
+                rest,
+                share / 2,
+                points.len() >= MANY_POINTS.saturating_mul(all as usize),
                 other,
             )
         },
     );
     both(stores, reached, accumulated, left, right)
+}
+
+/// One worker's iterations, in a thread of its own.
+fn work_apart<R: Threads + Sync, G: Gate + Sync>(
+    rt: &R,
+    alloc: Global,
+    stores: &Stores,
+    reached: &[Option<Store>],
+    points: &[Coord],
+    code: &[Inst],
+    accumulated: &[Accumulated],
+    owned: &[Owned],
+    all: u32,
+    gate: &G,
+    worker: u32,
+    hand: Hand,
+) -> Result<Hand, Memory>
+    requires within { worker < all }
+    requires few { all ≤ 16 }
+    requires passes { ArePasses (current reached.now stores.now.list) accumulated.now }
+    requires seats { AreSeats accumulated.now hand.seats.items }
+    requires cells { AreCells (current reached.now stores.now.list) hand.puts.items }
+    ensures seats { IfOk result (λ after. AreSeats accumulated.now after.seats.items) }
+    ensures cells { IfOk result (λ after. AreCells (current reached.now stores.now.list) after.puts.items) }
+    ensures ran { IfOk result (HasRunAt (current reached.now stores.now.list) code.now points.now (between
+        (slice_start (length points.now) all worker) (slice_start (length points.now) all (worker + 1)) points.now)
+        accumulated.now owned.now hand) }
+{
+    let (after, ()) = join(
+        rt,
+        move || -> Result<Hand, Memory>
+            requires { IsSync G.row × (worker < all) × (all ≤ 16) × ArePasses (current reached.now stores.now.list) accumulated.now
+                × AreSeats accumulated.now hand.seats.items × AreCells (current reached.now stores.now.list) hand.puts.items }
+            ensures { IfOk result (λ after. AreSeats accumulated.entry.now after.seats.items
+                × AreCells (current reached.entry.now stores.entry.now.list) after.puts.items
+                × HasRunAt (current reached.entry.now stores.entry.now.list) code.entry.now points.entry.now (between
+                (slice_start (length points.entry.now) all worker) (slice_start (length points.entry.now) all (worker + 1))
+                points.entry.now) accumulated.entry.now owned.entry.now hand after) }
+        {
+            work(
+                alloc,
+                stores,
+                reached,
+                points,
+                code,
+                accumulated,
+                owned,
+                all,
+                gate,
+                worker,
+                hand,
+            )
+        },
+        || (),
+    );
+    after
 }
 
 /// One worker's iterations, in row order.
@@ -281,120 +364,4 @@ fn work_some<G: Gate>(
         put_all(owned, &moment.cells, &mut hand.puts)?;
     }
     Ok(())
-}
-
-/// For each seat another one, with half of its share.
-fn split_all(
-    alloc: Global,
-    accumulated: &[Accumulated],
-    seats: &mut Vec<AccSeat>,
-) -> Result<Vec<AccSeat>, Memory>
-    requires seats { AreSeats accumulated.now seats.old.items }
-    requires shares { HaveShares 2 seats.old.items }
-    ensures seats { AreSeats accumulated.now seats.new.items }
-    ensures others { IfOk result (λ others. AreSeats accumulated.now others.items) }
-    ensures split { IfOk result (λ others. AreSplit seats.old.items seats.new.items others.items) }
-{
-    let mut others = Vec::new(alloc);
-    for number in 0..accumulated.len() {
-        let seat = &mut seats[number];
-        let other = accumulated[number].pass.split(alloc, seat)?;
-        others.push(other)?;
-    }
-    Ok(others)
-}
-
-/// Two hands for the halves of so many workers: one with what is there, and one that has nothing yet.
-fn divided(
-    alloc: Global,
-    stores: &Stores,
-    reached: &[Option<Store>],
-    accumulated: &[Accumulated],
-    workers: u32,
-    hand: Hand,
-) -> Result<(Hand, Hand), Memory>
-    requires two { 2 ≤ workers }
-    requires seats { AreSeats accumulated.now hand.seats.items }
-    requires shares { HaveShares workers hand.seats.items }
-    requires cells { AreCells (current reached.now stores.now.list) hand.puts.items }
-    ensures seats { IfOk result (λ r. AreSeats accumulated.now r.0.seats.items × AreSeats accumulated.now r.1.seats.items) }
-    ensures shares { IfOk result (λ r. HaveShares (workers - workers / 2) r.0.seats.items × HaveShares (workers / 2) r.1.seats.items) }
-    ensures cells { IfOk result (λ r. AreCells (current reached.now stores.now.list) r.0.puts.items × AreCells (current reached.now stores.now.list) r.1.puts.items) }
-    ensures divided { IfOk result (λ r. IsDivided hand r.0 r.1) }
-{
-    let (_stores, _reached) = (stores, reached);
-    let Hand { mut seats, puts } = hand;
-    let others = split_all(alloc, accumulated, &mut seats)?;
-    let hand = Hand { seats, puts };
-    let other = Hand {
-        seats: others,
-        puts: Vec::new(alloc),
-    };
-    Ok((hand, other))
-}
-
-/// What two hands have, the second behind the first. The first want of memory is the answer.
-fn both(
-    stores: &Stores,
-    reached: &[Option<Store>],
-    accumulated: &[Accumulated],
-    left: Result<Hand, Memory>,
-    right: Result<Hand, Memory>,
-) -> Result<Hand, Memory>
-    requires left { IfOk left (λ hand. AreSeats accumulated.now hand.seats.items × AreCells (current reached.now stores.now.list) hand.puts.items) }
-    requires right { IfOk right (λ hand. AreSeats accumulated.now hand.seats.items × AreCells (current reached.now stores.now.list) hand.puts.items) }
-    ensures seats { IfOk result (λ after. AreSeats accumulated.now after.seats.items) }
-    ensures cells { IfOk result (λ after. AreCells (current reached.now stores.now.list) after.puts.items) }
-    ensures joined { IfOk result (IsOfBoth left right) }
-{
-    let hand = left?;
-    let other = right?;
-    joined(stores, reached, accumulated, hand, other)
-}
-
-/// What two hands that are there have, the second behind the first.
-fn joined(
-    stores: &Stores,
-    reached: &[Option<Store>],
-    accumulated: &[Accumulated],
-    hand: Hand,
-    other: Hand,
-) -> Result<Hand, Memory>
-    requires seats { AreSeats accumulated.now hand.seats.items }
-    requires others { AreSeats accumulated.now other.seats.items }
-    requires cells { AreCells (current reached.now stores.now.list) hand.puts.items × AreCells (current reached.now stores.now.list) other.puts.items }
-    ensures seats { IfOk result (λ after. AreSeats accumulated.now after.seats.items) }
-    ensures cells { IfOk result (λ after. AreCells (current reached.now stores.now.list) after.puts.items) }
-    ensures joined { IfOk result (λ after. AreJoined hand.seats.items other.seats.items after.seats.items) }
-    ensures puts { IfOk result (λ after. after.puts.items ≡ hand.puts.items ++ other.puts.items) }
-{
-    let (_stores, _reached) = (stores, reached);
-    let Hand {
-        mut seats,
-        mut puts,
-    } = hand;
-    let Hand {
-        seats: mut others,
-        puts: later,
-    } = other;
-    join_all(accumulated, &mut seats, &mut others);
-    puts.extend_from_slice(later.as_slice())?;
-    Ok(Hand { seats, puts })
-}
-
-/// Joins each of the others into its seat, the last first.
-fn join_all(accumulated: &[Accumulated], seats: &mut Vec<AccSeat>, others: &mut Vec<AccSeat>)
-    requires seats { AreSeats accumulated.now seats.old.items }
-    requires others { AreSeats accumulated.now others.old.items }
-    ensures seats { AreSeats accumulated.now seats.new.items }
-    ensures joined { AreJoined seats.old.items others.old.items seats.new.items }
-{
-    for number in 0..accumulated.len() {
-        let last = accumulated.len() - 1 - number;
-        let Some(other) = others.pop() else {
-            return;
-        };
-        let seat = &mut seats[last];
-        accumulated[last].pass.join(seat, other);
-    }
 }

@@ -61,7 +61,7 @@ impl Store {
         let rows = self.fields.as_slice();
         let cells = cells_of(rows);
         let threads = workers_for(cells, workers);
-        let fields = rows_among(rt, alloc, rows, cells, 0, rows.len(), threads)?;
+        let fields = rows_among(rt, alloc, rows, cells, 0, rows.len(), threads, false)?;
         Ok(Store {
             layout: self.layout.copy(alloc)?,
             nodes,
@@ -83,7 +83,7 @@ fn zero_rows_by<R: Threads + Sync>(
 {
     let none = Items::new(alloc);
     let threads = workers_for(cells, workers);
-    let rows = rows_among(rt, alloc, none.as_slice(), cells, 0, fields, threads)?;
+    let rows = rows_among(rt, alloc, none.as_slice(), cells, 0, fields, threads, false)?;
     Ok(rows)
 }
 
@@ -106,7 +106,7 @@ fn workers_for(cells: usize, workers: u32) -> u32
 }
 
 /// The rows at the places from one up to below another, by fork and join over halves of them: a copy of each of these rows, and past
-/// them rows of zeros with a word for each of so many cells.
+/// them rows of zeros with a word for each of so many cells. A thread that has forked `waits`: it makes no row itself.
 fn rows_among<R: Threads + Sync>(
     rt: &R,
     alloc: Global,
@@ -115,11 +115,15 @@ fn rows_among<R: Threads + Sync>(
     from: usize,
     to: usize,
     workers: u32,
+    waits: bool,
 ) -> Result<Vec<Items<u32>>, Memory>
     requires order { from ≤ to }
     ensures { IfOk result (λ made. made.items ≡ rows_from rows.now cells from (to - from)) }
 {
     if workers < 2 || to - from < 2 {
+        if waits {
+            return rows_apart(rt, alloc, rows, cells, from, to);
+        }
         return rows_in_order(alloc, rows, cells, from, to);
     }
     let half = workers / 2;
@@ -129,15 +133,38 @@ fn rows_among<R: Threads + Sync>(
         move || -> Result<Vec<Items<u32>>, Memory>
             requires { IsSync R.row × (half ≤ workers) × (from ≤ middle) }
             ensures { IfOk result (λ made. made.items ≡ rows_from rows.entry.now cells from (middle - from)) }
-        { rows_among(rt, alloc, rows, cells, from, middle, workers - half) },
+        { rows_among(rt, alloc, rows, cells, from, middle, workers - half, false) },
         move || -> Result<Vec<Items<u32>>, Memory>
             requires { IsSync R.row × (middle ≤ to) }
             ensures { IfOk result (λ made. made.items ≡ rows_from rows.entry.now cells middle (to - middle)) }
-        { rows_among(rt, alloc, rows, cells, middle, to, half) },
+        { rows_among(rt, alloc, rows, cells, middle, to, half, true) },
     );
     let (mut made, mut others) = (left?, right?);
     made.append(&mut others)?;
     Ok(made)
+}
+
+/// The same by one worker, in a thread of its own.
+fn rows_apart<R: Threads + Sync>(
+    rt: &R,
+    alloc: Global,
+    rows: &[Items<u32>],
+    cells: usize,
+    from: usize,
+    to: usize,
+) -> Result<Vec<Items<u32>>, Memory>
+    requires order { from ≤ to }
+    ensures { IfOk result (λ made. made.items ≡ rows_from rows.now cells from (to - from)) }
+{
+    let (made, ()) = join(
+        rt,
+        move || -> Result<Vec<Items<u32>>, Memory>
+            requires { from ≤ to }
+            ensures { IfOk result (λ made. made.items ≡ rows_from rows.entry.now cells from (to - from)) }
+        { rows_in_order(alloc, rows, cells, from, to) },
+        || (),
+    );
+    made
 }
 
 /// The same by one worker.

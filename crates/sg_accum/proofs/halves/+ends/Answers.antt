@@ -1,38 +1,8 @@
-use Rattle.std.proofs.Common.{rules, ◌≡◌, ◌<◌, ◌≤◌, ◌/◌, length, length-take-le, length-drop, sym, ap, ◌∙◌, subst₂, arith}
+use Rattle.std.proofs.Common.{rules, ◌≡◌, ◌≤◌, ◌/◌, length, sym, ◌∙◌, subst₂, arith}
 use Rattle.sg_accum.specs.Parts.{part_values, seat_workers}
 use Rattle.sg_accum.specs.steps.Teams.{CanEnd, AreEnded}
 use Rattle.sg_accum.proofs.Halving.{can-front, can-back, ended-both, if_ok_ended}
 use Rattle.sg_accum.proofs.halves.+ends.Goals as goal
-
-pub end_all-requires-after_bounds : goal.end_all-requires-after_bounds
-end_all-requires-after_bounds g t c κs within =
-    let parts = c.args.parts in
-    let many : c.len-middle.result ≡ length parts.items = c.len-middle.ensures ∙ parts.ok.0 in
-    let two : 2 ≤ length parts.items = omega (arith, c.if-len-lt2.false, c.len.ensures, parts.ok.0) in
-    let m = c.len-middle.result / 2 in
-    subst₂ (CanEnd c.args.op c.args.ty) (sym c.in_ok-last_parts.ensures.items) (sym c.in_ok-last_seats.ensures.items)
-    (can-front c.args.op c.args.ty m parts.items c.args.seats.items (omega arith) (omega arith) c.requires)
-
-pub end_all-requires-then-workers-lt2-after_bounds : goal.end_all-requires-then-workers-lt2-after_bounds
-end_all-requires-then-workers-lt2-after_bounds g t c κs within =
-    let parts = c.args.parts in
-    let many : c.len-middle.result ≡ length parts.items = c.len-middle.ensures ∙ parts.ok.0 in
-    let two : 2 ≤ length parts.items = omega (arith, c.if-len-lt2.false, c.len.ensures, parts.ok.0) in
-    let m = c.len-middle.result / 2 in
-    subst₂ (CanEnd c.args.op c.args.ty) (sym c.in_ok-last_parts.ensures.tail) (sym c.in_ok-last_seats.ensures.tail)
-    (can-back c.args.op c.args.ty m parts.items c.args.seats.items (omega arith) c.requires)
-
-pub returns-then-workers-lt2 : goal.returns-then-workers-lt2
-returns-then-workers-lt2 g t c =
-    let parts = c.args.parts in
-    let many : c.len-middle.result ≡ length parts.items = c.len-middle.ensures ∙ parts.ok.0 in
-    let m = c.len-middle.result / 2 in
-    let front = subst₂ (λ ps ss. AreEnded c.args.op c.args.ty (part_values ps) (seat_workers ss) c.in_ok-front.front.items) c.in_ok-last_parts.ensures.items c.in_ok-last_seats.ensures.items
-    c.in_ok-front.ensures in
-    let back = subst₂ (λ ps ss. AreEnded c.args.op c.args.ty (part_values ps) (seat_workers ss) c.in_ok-back.back.items) c.in_ok-last_parts.ensures.tail c.in_ok-last_seats.ensures.tail
-    c.in_ok-back.ensures in
-    if_ok_ended c.args.op c.args.ty (part_values parts.items) (seat_workers c.args.seats.items) c.in_ok-front.front.items c.in_ok-back.back.items c.both_ended.result
-    (ended-both c.args.op c.args.ty m parts.items c.args.seats.items c.in_ok-front.front.items c.in_ok-back.back.items (omega arith) front back) c.both_ended.ensures
 
 pub join-front-requires-after_bounds : goal.join-front-requires-after_bounds
 join-front-requires-after_bounds g t c κs within =
@@ -44,8 +14,6 @@ join-front-requires-after_bounds g t c κs within =
     (can-front c.args.op c.args.ty m parts.items c.args.seats.items (omega arith) (omega arith) c.requires) in
     let back = subst₂ (CanEnd c.args.op c.args.ty) (sym c.in_ok-last_parts.ensures.tail) (sym c.in_ok-last_seats.ensures.tail)
     (can-back c.args.op c.args.ty m parts.items c.args.seats.items (omega arith) c.requires) in
-    let small : length c.split_off.new.self.items < length parts.items = omega (arith, ap length c.in_ok-last_parts.ensures.items, length-take-le m parts.items (omega arith), many, two) in
-    let less : length c.in_ok-last_parts.last_parts.items < length parts.items = omega (arith, ap length c.in_ok-last_parts.ensures.tail, length-drop m parts.items, many, two) in
     ((search rules, ((λ a has. has), ((search rules, omega arith, front), search rules))), (search rules, ((λ a has. has), ((search rules, back), search rules))))
 
 pub returns : goal.returns
@@ -53,11 +21,11 @@ returns g t c =
     let parts = c.args.parts in
     let many : c.len-middle.result ≡ length parts.items = c.len-middle.ensures ∙ parts.ok.0 in
     let m = c.len-middle.result / 2 in
-    let done = c.in_ok-front-2.field-0.items in
-    let rest = c.in_ok-back-2.field-0.items in
+    let done = c.in_ok-front.field-0.items in
+    let rest = c.in_ok-back.field-0.items in
     let front = subst₂ (λ ps ss. AreEnded c.args.op c.args.ty (part_values ps) (seat_workers ss) done) c.in_ok-last_parts.ensures.items c.in_ok-last_seats.ensures.items
-    (rw c.in_ok-front-2.was at c.join-front.ensures.first) in
+    (rw c.in_ok-front.was at c.join-front.ensures.first) in
     let back = subst₂ (λ ps ss. AreEnded c.args.op c.args.ty (part_values ps) (seat_workers ss) rest) c.in_ok-last_parts.ensures.tail c.in_ok-last_seats.ensures.tail
-    (rw c.in_ok-back-2.was at c.join-front.ensures.second) in
-    if_ok_ended c.args.op c.args.ty (part_values parts.items) (seat_workers c.args.seats.items) done rest c.both_ended-2.result
-    (ended-both c.args.op c.args.ty m parts.items c.args.seats.items done rest (omega arith) front back) c.both_ended-2.ensures
+    (rw c.in_ok-back.was at c.join-front.ensures.second) in
+    if_ok_ended c.args.op c.args.ty (part_values parts.items) (seat_workers c.args.seats.items) done rest c.both_ended.result
+    (ended-both c.args.op c.args.ty m parts.items c.args.seats.items done rest (omega arith) front back) c.both_ended.ensures

@@ -2,10 +2,10 @@ use Rattle.std.proofs.Common.{◌+◌, ◌-◌, ◌*◌}
 use Rattle.sg_activate.proofs.race.+fn-race-join+arg2+fn-race-join+arg3+race.Given as goal
 
 abbrev pub decreases-join+arg2 : goal.decreases-join+arg2
-decreases-join+arg2 g l = 2 * (l.count - l.half) + 1
+decreases-join+arg2 g l = 2 * (l.count - l.rest) + 1
 
 abbrev pub decreases-join+arg3 : goal.decreases-join+arg3
-decreases-join+arg3 g l = 2 * l.half + 1
+decreases-join+arg3 g l = 2 * l.rest + 1
 
 abbrev pub decreases-race : goal.decreases-race
 decreases-race g l = 2 * l.count

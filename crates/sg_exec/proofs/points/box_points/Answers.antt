@@ -22,8 +22,8 @@ returns c =
 
 pub returns-then-count-eq0 : goal.returns-then-count-eq0
 returns-then-count-eq0 c =
-    c.new-points.ensures ∙ sym (no_lines c.args.lo c.first-planes.result c.second-lines.result c.third-cells.result (sym c.count.ensures ∙ c.if-count-eq0.true)) ∙ box_is c.args.lo c.args.hi c.first-planes.result c.second-lines.result c.third-cells.result c.first-planes.ensures c.second-lines.ensures c.third-cells.ensures
+    c.new.ensures ∙ sym (no_lines c.args.lo c.first-planes.result c.second-lines.result c.third-cells.result (sym c.count.ensures ∙ c.if-count-eq0.true)) ∙ box_is c.args.lo c.args.hi c.first-planes.result c.second-lines.result c.third-cells.result c.first-planes.ensures c.second-lines.ensures c.third-cells.ensures
 
 pub returns-then-count-eq0-2 : goal.returns-then-count-eq0-2
 returns-then-count-eq0-2 c =
-    c.new-points.ensures ∙ sym (no_cells c.args.lo c.first-planes.result c.second-lines.result c.third-cells.result (sym c.count-2.ensures ∙ c.if-count-eq0-2.true)) ∙ box_is c.args.lo c.args.hi c.first-planes.result c.second-lines.result c.third-cells.result c.first-planes.ensures c.second-lines.ensures c.third-cells.ensures
+    c.new-then-count-eq0-2.ensures ∙ sym (no_cells c.args.lo c.first-planes.result c.second-lines.result c.third-cells.result (sym c.count-2.ensures ∙ c.if-count-eq0-2.true)) ∙ box_is c.args.lo c.args.hi c.first-planes.result c.second-lines.result c.third-cells.result c.first-planes.ensures c.second-lines.ensures c.third-cells.ensures

@@ -1,3 +1,4 @@
+use Rattle.std.proofs.Common.{arith}
 use Rattle.sg_exec.specs.steps.Landing.{current}
 use Rattle.sg_exec.proofs.RacedHand.{all_shares, if_raced}
 use Rattle.sg_exec.proofs.sums.raced.Goals as goal
@@ -10,7 +11,7 @@ race-requires-clause-seats g c κs within = c.requires.fields.are_seats
 
 pub race-requires-clause-shares : goal.race-requires-clause-shares
 race-requires-clause-shares g c κs within =
-    all_shares (current c.args.reached.now c.args.stores.now.list) c.args.code.now c.args.accumulated.now c.args.seats.items c.args.owned.now c.args.workers c.requires.fields c.requires.few
+    all_shares (current c.args.reached.now c.args.stores.now.list) c.args.code.now c.args.accumulated.now c.args.seats.items c.args.owned.now 16 c.requires.fields (omega arith)
 
 pub returns : goal.returns
 returns g c =

@@ -1,33 +1,12 @@
-use Rattle.std.proofs.Common.{rules, arith, min}
 use Rattle.sg_words.specs.declared.operators.Ty.TheVariants as ty
-use Rattle.sg_accum.proofs.Words.{follows-min, ranked-signed, ranked-plain}
-use Rattle.sg_accum.proofs.Moves.{step-allowed}
+use Rattle.sg_accum.proofs.Words.{ranked-signed, ranked-plain}
+use Rattle.sg_accum.proofs.Moves.{asks-least}
 use Rattle.sg_accum.proofs.part.Part.least.Goals as goal
 
 pub fetch_min-requires : goal.fetch_min-requires
 fetch_min-requires c =
-    let sized = c.args.self.now.sized in
-    let inside = c.requires.inside in
-    let start = c.args.self.now.start in
-    let x = c.args.word in
-    let p = c.rank-place.result in
-    let is = c.rank-place.ensures.value in (
-      search rules,
-      omega arith,
-      step-allowed start _ ty.I32 _ _ _ c.args.cell p x (λ n. min n p) c.args.self.now.told (search rules) inside
-          (ranked-signed start.ty x p c.if-signed.ensures c.ranges.word.fits is) (λ n low. follows-min start.op start.ty n x p c.requires.operator c.ranges.word.fits is low),
-    )
+    asks-least c.args.self.now c.args.seat.now ty.I32 c.args.cell _ c.args.word c.requires.own c.requires.inside c.requires.operator c.ranges.word.fits c.rank-place.ensures.value (ranked-signed c.args.self.now.start.ty _ _ c.if-signed.ensures c.ranges.word.fits c.rank-place.ensures.value)
 
 pub fetch_min-requires-else-signed : goal.fetch_min-requires-else-signed
 fetch_min-requires-else-signed c =
-    let sized = c.args.self.now.sized in
-    let inside = c.requires.inside in
-    let start = c.args.self.now.start in
-    let x = c.args.word in
-    let p = c.rank-place.result in
-    let is = c.rank-place.ensures.value in (
-      search rules,
-      omega arith,
-      step-allowed start _ ty.U32 _ _ _ c.args.cell p x (λ n. min n p) c.args.self.now.told (search rules) inside
-          (ranked-plain start.ty x p c.if-signed.ensures is) (λ n low. follows-min start.op start.ty n x p c.requires.operator c.ranges.word.fits is low),
-    )
+    asks-least c.args.self.now c.args.seat.now ty.U32 c.args.cell _ c.args.word c.requires.own c.requires.inside c.requires.operator c.ranges.word.fits c.rank-place.ensures.value (ranked-plain c.args.self.now.start.ty _ _ c.if-signed.ensures c.rank-place.ensures.value)

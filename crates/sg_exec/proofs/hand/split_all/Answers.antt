@@ -3,7 +3,7 @@ use Rattle.std.specs.Prelude.{slice_set}
 use Rattle.std.proofs.lemmas.Option.{slice_get_read, slice_get-get_or}
 use Rattle.sg_accum.specs.declared.seat.AccSeat.{AccSeat}
 use Rattle.sg_exec.proofs.Splitting.{Splitting, splitting_more}
-use Rattle.sg_exec.proofs.workers.split_all.Goals as goal
+use Rattle.sg_exec.proofs.hand.split_all.Goals as goal
 
 pub loop-number-preserved : goal.loop-number-preserved
 loop-number-preserved c =

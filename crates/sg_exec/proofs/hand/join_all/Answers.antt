@@ -2,7 +2,7 @@ use Rattle.std.proofs.Common.{◌≡◌, ℕ, ◌+◌, ◌-◌, length, take, ge
 use Rattle.std.specs.Prelude.{slice_set}
 use Rattle.std.proofs.lemmas.Option.{same_Some, slice_get_read, slice_get-get_or}
 use Rattle.sg_exec.proofs.Splitting.{Joining, last_left, joining_more, all_joined}
-use Rattle.sg_exec.proofs.workers.join_all.Goals as goal
+use Rattle.sg_exec.proofs.hand.join_all.Goals as goal
 
 pub loop-number-preserved : goal.loop-number-preserved
 loop-number-preserved c =
