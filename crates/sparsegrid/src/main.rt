@@ -27,15 +27,26 @@ pub mod words;
 
 pub use session::{Done, run};
 use sg_outside::{FreeGate, RealFiles, RealOut};
+use std::alloc::{AllocError, Global};
 use std::io::ErrorKind;
 use std::process::ExitCode;
 use std::rt::Env;
 use std::{env, io};
 pub use words::{BadWords, Mode, Words, read_words};
 
+/// The greatest block that the C library's allocator may learn to keep, but for its own words.
+const KEPT: usize = 33_000_000;
+
+/// Takes a large block and gives it back untouched. From this the C library's allocator learns to keep freed blocks up to that size for
+/// later ones. Else each row of a field and each table of a race would be memory that is new from the system, page by page.
+fn keep_freed_blocks(alloc: Global) {
+    let _block: Result<Vec<u8>, AllocError> = Vec::with_capacity(alloc, KEPT);
+}
+
 /// Runs the program with the words of the command line, over the files and the output of the system.
 /// A command line that is not UTF-8 has bad words.
 fn main(rt: HostRuntime) -> ExitCode {
+    keep_freed_blocks(rt.alloc());
     let words = match command_line(&rt) {
         Ok(words) => words,
         Err(error) if error.kind() == ErrorKind::OutOfMemory => return ExitCode::from(9),
