@@ -1,3 +1,4 @@
+pub mod AllDense
 pub mod Growing
 pub mod Halves
 pub mod Levels

@@ -2,6 +2,7 @@
 #![tactic(auto)]
 
 mod branches;
+mod dense;
 pub mod listing;
 mod reached;
 mod ways;

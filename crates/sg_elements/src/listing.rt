@@ -1,14 +1,16 @@
-ghost use Rattle.std.specs.Prelude.{◌≡◌, ◌<◌, ◌≤◌, All, IfOk, length, map};
+ghost use Rattle.std.specs.Prelude.{◌≡◌, ◌<◌, ◌≤◌, All, IfOk, IsTrue, length, map};
 ghost use Rattle.std.specs.List.Sorted.{IsPermutation};
 ghost use Rattle.sg_coord.specs.Bounds.{bounds_of, volume};
 ghost use Rattle.sg_coord.specs.Coord.{point_at};
+ghost use Rattle.sg_layout.specs.Rules.{all_dense};
 ghost use Rattle.sg_flat.specs.declared.state.FlatLayout.{FlatLayout};
 ghost use Rattle.sg_store.specs.StandsFor.{StandsFor};
 ghost use Rattle.sg_elements.specs.steps.Levels.{walk_rows};
 
+use crate::dense::every_point;
 use crate::reached::{reached_count, reached_rows, rows_reached_by};
 use sg_coord::{Coord, Extents, coord_at, numbering};
-use sg_layout::{closure_members, paths_tell};
+use sg_layout::{closure_members, dense_is_full, paths_tell};
 use sg_store::Store;
 use sg_store::laws::cells_are_active;
 use sg_words::{Items, Memory};
@@ -19,6 +21,9 @@ use std::thread::Threads;
 pub fn elements(alloc: Global, store: &Store) -> Result<Items<Coord>, Memory>
     ensures { IfOk result (λ coords. (flat : FlatLayout) → StandsFor store.now flat → coords ≡ flat.active) }
 {
+    if store.layout().shape().is_dense() {
+        return dense_points(alloc, store);
+    }
     let rows = reached_rows(alloc, store)?;
     points_in_order(alloc, store, rows)
 }
@@ -33,6 +38,9 @@ pub fn elements_by_workers<R: Threads + Sync>(
     requires some { 1 ≤ workers }
     ensures { IfOk result (λ coords. (flat : FlatLayout) → StandsFor store.now flat → coords ≡ flat.active) }
 {
+    if store.layout().shape().is_dense() {
+        return dense_points(alloc, store);
+    }
     let rows = rows_reached_by(rt, alloc, store, workers)?;
     points_in_order(alloc, store, rows)
 }
@@ -51,9 +59,23 @@ pub fn active_count<R: Threads + Sync>(
     cells_are_active();
     paths_tell();
     closure_members();
+    dense_is_full();
     let extents = store.layout().extents();
     numbering(&extents);
+    if store.layout().shape().is_dense() {
+        return Ok(extents.volume() as usize);
+    }
     reached_count(rt, alloc, store, workers)
+}
+
+/// All points of a store all of whose nodes are dense, in row order.
+fn dense_points(alloc: Global, store: &Store) -> Result<Items<Coord>, Memory>
+    requires { IsTrue (all_dense store.now.shape.nodes) }
+    ensures { IfOk result (λ coords. (flat : FlatLayout) → StandsFor store.now flat → coords ≡ flat.active) }
+{
+    // for the law that it ensures
+    dense_is_full();
+    every_point(alloc, &store.layout().extents())
 }
 
 /// The points with the row numbers to which the walk leads, in row order.

@@ -1,7 +1,9 @@
-use Rattle.std.proofs.Common.{subst, arith}
-use Rattle.sg_coord.specs.Bounds.{IsBounds}
+use Rattle.std.proofs.Common.{◌≡◌, true, subst, sym, ap, ◌∙◌, arith}
+use Rattle.sg_coord.specs.Bounds.{IsBounds, bounds_of, volume}
 use Rattle.sg_layout.specs.declared.shape.Shape.{Shape}
 use Rattle.sg_layout.specs.Axes.{bounds_of_shape}
+use Rattle.sg_layout.specs.Rules.{all_dense}
+use Rattle.sg_elements.proofs.AllDense.{dense_count}
 use Rattle.sg_elements.proofs.Rows.{WalkLaws, rows_few, rows_count, then_count}
 use Rattle.sg_elements.proofs.listing.active_count.Goals as goal
 
@@ -44,3 +46,11 @@ returns g c =
       active = c.cells_are_active.ensures.active store;
     } in
     then_count store c.reached_count.result c.reached_count.ensures (λ flat stands. rows_count store laws flat stands)
+
+pub returns-then-is_dense : goal.returns-then-is_dense
+returns-then-is_dense g c = λ flat stands.
+    let shape = c.args.store.now.shape in
+    let e = bounds_of c.extents-extents.result in
+    let same : e ≡ bounds_of_shape shape = c.extents-extents.ensures.value ∙ ap bounds_of_shape c.layout.ensures.layout in
+    let dense : all_dense shape.nodes ≡ true = ap (λ (s : Shape). all_dense s.nodes) (sym (c.shape.ensures.value ∙ c.layout-2.ensures.layout)) ∙ sym c.is_dense.ensures ∙ c.if-is_dense.true in
+    c.volume.ensures.value ∙ ap volume same ∙ dense_count shape flat (c.dense_is_full.ensures shape) dense stands.is_flat.closed
