@@ -19,6 +19,7 @@ use Rattle.sg_exec.specs.declared.shared.Accumulated.{Accumulated}
 use Rattle.sg_exec.specs.declared.shared.Owned.{Owned}
 use Rattle.sg_exec.specs.declared.hand.Hand.{Hand}
 use Rattle.sg_exec.specs.steps.Racing.{contributions, last_own, between, AreSeats, HaveGiven, HaveShares, HasWorked, HasRun, AreSplit, AreJoined, IsDivided, IsOfBoth}
+use Rattle.sg_exec.specs.steps.Puts.{kept_writes}
 use Rattle.sg_exec.proofs.Giving.{at_below, given_both}
 
 abbrev pub Writes : Type 0
@@ -125,17 +126,17 @@ between-more from mid to points first second =
 -- ---- hands
 
 pub worked_nothing : (accumulated : List Accumulated) (owned : List Owned) (hand : Hand) → HaveGiven accumulated [] hand.seats.items hand.seats.items → HasWorked accumulated owned [] hand hand
-worked_nothing accumulated owned hand gave = record { gave = gave; puts = sym (append-nil hand.puts.items) }
+worked_nothing accumulated owned hand gave = record { gave = gave; puts = sym (append-nil (kept_writes hand.puts)) }
 
 pub worked_next : (accumulated : List Accumulated) (owned : List Owned) (turns : List Writes) (writes : Writes) (old mid now : Hand) → HasWorked accumulated owned turns old mid
-    → HaveGiven accumulated (joined_writes turns ++ writes) old.seats.items now.seats.items → now.puts.items ≡ mid.puts.items ++ last_own owned writes
+    → HaveGiven accumulated (joined_writes turns ++ writes) old.seats.items now.seats.items → (kept_writes now.puts) ≡ (kept_writes mid.puts) ++ last_own owned writes
     → HasWorked accumulated owned (turns ++ writes ∷ []) old now
 worked_next accumulated owned turns writes old mid now worked gave puts = record {
   gave = subst (λ (ws : Writes). HaveGiven accumulated ws old.seats.items now.seats.items)
       (ap (λ (ws : Writes). joined_writes turns ++ ws) (sym (append-nil writes)) ∙ sym (flat-append (λ (ws : Writes). ws) turns (writes ∷ []))) gave;
   puts = puts ∙ ap (λ (ps : Writes). ps ++ last_own owned writes) worked.puts
-      ∙ append_assoc old.puts.items (flat_map (last_own owned) turns) (last_own owned writes)
-      ∙ ap (λ (ps : Writes). old.puts.items ++ ps)
+      ∙ append_assoc (kept_writes old.puts) (flat_map (last_own owned) turns) (last_own owned writes)
+      ∙ ap (λ (ps : Writes). (kept_writes old.puts) ++ ps)
       (ap (λ (ps : Writes). flat_map (last_own owned) turns ++ ps) (sym (append-nil (last_own owned writes))) ∙ sym (flat-append (last_own owned) turns (writes ∷ [])));
 }
 
@@ -146,27 +147,27 @@ cells_both stores xs ys first second =
 
 module _ (accumulated : List Accumulated) (owned : List Owned) (old now other left right after : Hand) (split : AreSplit old.seats.items now.seats.items other.seats.items) (join : AreJoined left.seats.items right.seats.items after.seats.items)
     (was : AreSeats accumulated old.seats.items) (are : AreSeats accumulated now.seats.items) (also : AreSeats accumulated other.seats.items) (left_are : AreSeats accumulated left.seats.items) (right_are : AreSeats accumulated right.seats.items)
-    (kept : now.puts.items ≡ old.puts.items) (none : other.puts.items ≡ []) (puts : after.puts.items ≡ left.puts.items ++ right.puts.items) where
+    (kept : (kept_writes now.puts) ≡ (kept_writes old.puts)) (none : (kept_writes other.puts) ≡ []) (puts : (kept_writes after.puts) ≡ (kept_writes left.puts) ++ (kept_writes right.puts)) where
   pub worked_both : (xs ys : List Writes) → HasWorked accumulated owned xs now left → HasWorked accumulated owned ys other right → HasWorked accumulated owned (xs ++ ys) old after
   worked_both xs ys first second = record {
     gave = subst (λ (ws : Writes). HaveGiven accumulated ws old.seats.items after.seats.items) (sym (flat-append (λ (ws : Writes). ws) xs ys))
         (gave_both accumulated old.seats.items now.seats.items other.seats.items left.seats.items right.seats.items after.seats.items split join was are also left_are right_are (joined_writes xs) (joined_writes ys) first.gave second.gave);
-    puts = puts ∙ ap (λ (ps : Writes). ps ++ right.puts.items) (first.puts ∙ ap (λ (ps : Writes). ps ++ flat_map (last_own owned) xs) kept)
-        ∙ ap (λ (ps : Writes). (old.puts.items ++ flat_map (last_own owned) xs) ++ ps) (second.puts ∙ ap (λ (ps : Writes). ps ++ flat_map (last_own owned) ys) none)
-        ∙ append_assoc old.puts.items (flat_map (last_own owned) xs) (flat_map (last_own owned) ys)
-        ∙ ap (λ (ps : Writes). old.puts.items ++ ps) (sym (flat-append (last_own owned) xs ys));
+    puts = puts ∙ ap (λ (ps : Writes). ps ++ (kept_writes right.puts)) (first.puts ∙ ap (λ (ps : Writes). ps ++ flat_map (last_own owned) xs) kept)
+        ∙ ap (λ (ps : Writes). ((kept_writes old.puts) ++ flat_map (last_own owned) xs) ++ ps) (second.puts ∙ ap (λ (ps : Writes). ps ++ flat_map (last_own owned) ys) none)
+        ∙ append_assoc (kept_writes old.puts) (flat_map (last_own owned) xs) (flat_map (last_own owned) ys)
+        ∙ ap (λ (ps : Writes). (kept_writes old.puts) ++ ps) (sym (flat-append (last_own owned) xs ys));
   }
 
 -- what both halves did is what the whole does
 pub joined_run : (P : FlatState → Type 0) (accumulated : List Accumulated) (owned : List Owned) (stores : List StoreWords) (old now other : Hand) (xs ys zs : FlatState → List Writes) (left right result : Result Hand Memory)
     → ((s : FlatState) → xs s ++ ys s ≡ zs s) → IsDivided old now other → AreSeats accumulated old.seats.items → AreSeats accumulated now.seats.items → AreSeats accumulated other.seats.items
-    → IfOk left (λ h. AreSeats accumulated h.seats.items × AreCells stores h.puts.items × HasRun stores accumulated owned P xs now h)
-    → IfOk right (λ h. AreSeats accumulated h.seats.items × AreCells stores h.puts.items × HasRun stores accumulated owned P ys other h)
+    → IfOk left (λ h. AreSeats accumulated h.seats.items × AreCells stores (kept_writes h.puts) × HasRun stores accumulated owned P xs now h)
+    → IfOk right (λ h. AreSeats accumulated h.seats.items × AreCells stores (kept_writes h.puts) × HasRun stores accumulated owned P ys other h)
     → IfOk result (IsOfBoth left right) → IfOk result (HasRun stores accumulated owned P zs old)
 joined_run P accumulated owned stores old now other xs ys zs left right (Err e) whole divided was are also first second both = tt
 joined_run P accumulated owned stores old now other xs ys zs left right (Ok after) whole divided was are also first second both =
-    let l = subst (λ (r : Result Hand Memory). IfOk r (λ h. AreSeats accumulated h.seats.items × AreCells stores h.puts.items × HasRun stores accumulated owned P xs now h)) both.left_is first in
-    let r = subst (λ (r : Result Hand Memory). IfOk r (λ h. AreSeats accumulated h.seats.items × AreCells stores h.puts.items × HasRun stores accumulated owned P ys other h)) both.right_is second in
+    let l = subst (λ (r : Result Hand Memory). IfOk r (λ h. AreSeats accumulated h.seats.items × AreCells stores (kept_writes h.puts) × HasRun stores accumulated owned P xs now h)) both.left_is first in
+    let r = subst (λ (r : Result Hand Memory). IfOk r (λ h. AreSeats accumulated h.seats.items × AreCells stores (kept_writes h.puts) × HasRun stores accumulated owned P ys other h)) both.right_is second in
     record {
       turns = l.2.turns ++ r.2.turns;
       worked = worked_both accumulated owned old now other both.hand both.other after divided.split both.seats_join was are also l.0 r.0 divided.kept divided.none both.puts_are l.2.turns r.2.turns l.2.worked r.2.worked;
@@ -203,13 +204,13 @@ workers_points f points workers first mid more {last} is below =
     ∙ ap (map f) (between-more a b c points (starts_rise (length points) workers first mid below) (starts_rise (length points) workers mid (mid + more) (omega arith)))
     ∙ ap (λ (n : ℕ). map f (between a (slice_start (length points) workers n) points)) is
 
-pub if_first_two : (accumulated : List Accumulated) (stores : List StoreWords) (C : Hand → Type 0) (r : Result Hand Memory) → IfOk r (λ h. AreSeats accumulated h.seats.items × AreCells stores h.puts.items × C h)
-    → IfOk r (λ h. AreSeats accumulated h.seats.items × AreCells stores h.puts.items)
+pub if_first_two : (accumulated : List Accumulated) (stores : List StoreWords) (C : Hand → Type 0) (r : Result Hand Memory) → IfOk r (λ h. AreSeats accumulated h.seats.items × AreCells stores (kept_writes h.puts) × C h)
+    → IfOk r (λ h. AreSeats accumulated h.seats.items × AreCells stores (kept_writes h.puts))
 if_first_two accumulated stores C (Ok h) all = (all.0, all.1)
 if_first_two accumulated stores C (Err e) all = tt
 
 pub of_both : (left right result : Result Hand Memory) (hand other : Hand) → left ≡ Ok hand → right ≡ Ok other → IfOk result (λ after. AreJoined hand.seats.items other.seats.items after.seats.items)
-    → IfOk result (λ after. after.puts.items ≡ hand.puts.items ++ other.puts.items) → IfOk result (IsOfBoth left right)
+    → IfOk result (λ after. (kept_writes after.puts) ≡ (kept_writes hand.puts) ++ (kept_writes other.puts)) → IfOk result (IsOfBoth left right)
 of_both left right (Err e) hand other l r seats puts = tt
 of_both left right (Ok after) hand other l r seats puts = record { hand = hand; other = other; left_is = l; right_is = r; seats_join = seats; puts_are = puts }
 

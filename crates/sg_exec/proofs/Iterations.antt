@@ -14,6 +14,7 @@ use Rattle.sg_exec.specs.declared.shared.Owned.{Owned}
 use Rattle.sg_exec.specs.declared.hand.Hand.{Hand}
 use Rattle.sg_exec.specs.steps.Machines.{AreCells, IsCellOf}
 use Rattle.sg_exec.specs.steps.Racing.{last_own, between, HaveGiven, HasRun}
+use Rattle.sg_exec.specs.steps.Puts.{kept_writes}
 use Rattle.sg_exec.proofs.Giving.{gave_nothing, gave_more}
 use Rattle.sg_exec.proofs.Halves.{joined_writes, worked_nothing, worked_next, cells_both}
 
@@ -23,7 +24,7 @@ Writes = List CellWrite
 -- with the cells that it wrote into, where what it wrote is what the iteration writes at each state
 pub run_turn : (stores : List StoreWords) (accumulated : List Accumulated) (owned : List Owned) (P : FlatState → Type 0) (f : FlatState → Coord → Writes) (points : List Coord) (i : ℕ) (d : Coord) (writes : Writes) (old mid now : Hand) → i < length points
     → length mid.seats.items ≡ length accumulated → HasRun stores accumulated owned P (λ s. map (f s) (take i points)) old mid → HaveGiven accumulated writes mid.seats.items now.seats.items
-    → now.puts.items ≡ mid.puts.items ++ last_own owned writes → AreCells stores writes → ((s : FlatState) → P s → writes ≡ f s (get_or points i d))
+    → (kept_writes now.puts) ≡ (kept_writes mid.puts) ++ last_own owned writes → AreCells stores writes → ((s : FlatState) → P s → writes ≡ f s (get_or points i d))
     → HasRun stores accumulated owned P (λ s. map (f s) (take (i + 1) points)) old now
 run_turn stores accumulated owned P f points i d writes old mid now below long run gave puts cells is = record {
   turns = run.turns ++ writes ∷ [];

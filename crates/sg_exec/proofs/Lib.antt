@@ -1,4 +1,6 @@
 pub mod Going
+pub mod Keeping
+pub mod KeptLand
 pub mod Rows
 pub mod Seeing
 pub mod CellsLanded

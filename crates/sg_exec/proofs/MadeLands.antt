@@ -22,6 +22,7 @@ use Rattle.sg_exec.specs.steps.Racing.{ArePasses}
 use Rattle.sg_exec.specs.steps.Passes.{WritesOneWay, GaveReached}
 use Rattle.sg_exec.specs.steps.Working.{HasTurns}
 use Rattle.sg_exec.specs.steps.Made.{AddsSums, AreSums, HasLanded, HasRow, summed}
+use Rattle.sg_exec.specs.steps.Puts.{kept_writes}
 
 module _ (stores : List StoreWords) (accumulated : List Accumulated) (after : Hand) where
   pub if_rows : (result : Result Ended Memory) → ArePasses stores accumulated → GaveReached stores accumulated after.seats.items
@@ -29,12 +30,12 @@ module _ (stores : List StoreWords) (accumulated : List Accumulated) (after : Ha
   if_rows (Ok ended) are reached sums = subst (λ (list : List Sum). All (HasRow stores) list) (sym sums.added) (sums.rows stores are reached)
   if_rows (Err e) are reached sums = tt
 
-  pub if_cells : (result : Result Ended Memory) → AreCells stores after.puts.items → IfOk result (λ ended. ended.puts.items ≡ after.puts.items) → IfOk result (λ ended. AreCells stores ended.puts.items)
+  pub if_cells : (result : Result Ended Memory) → AreCells stores (kept_writes after.puts) → IfOk result (λ ended. (kept_writes ended.puts) ≡ (kept_writes after.puts)) → IfOk result (λ ended. AreCells stores (kept_writes ended.puts))
   if_cells (Ok ended) cells puts = subst (λ (list : List CellWrite). AreCells stores list) (sym puts) cells
   if_cells (Err e) cells puts = tt
 
   module _ (code : List Inst) (points : List Coord) where
-    made_lands : (ended : Ended) → ArePasses stores accumulated → AddsSums accumulated after.seats.items [] ended.sums.items → ended.puts.items ≡ after.puts.items
+    made_lands : (ended : Ended) → ArePasses stores accumulated → AddsSums accumulated after.seats.items [] ended.sums.items → (kept_writes ended.puts) ≡ (kept_writes after.puts)
         → (turn : Coord → Turn) → HasTurns stores accumulated turn points after → (news : List StoreWords) → HasLanded stores ended news → Lands stores news (writes_of (map turn points))
     made_lands ended are sums puts turn turns news landed =
         let writes = writes_of (map turn points) in
@@ -46,7 +47,7 @@ module _ (stores : List StoreWords) (accumulated : List Accumulated) (after : Ha
 
     pub if_lands : (result : Result Ended Memory) → ArePasses stores accumulated
         → (WritesOneWay (uses_in code) → (state : FlatState) → Sees stores state → AreNamedAt stores state code points → (turn : Coord → Turn) → AreTurnsOf stores state code points turn → HasTurns stores accumulated turn points after)
-        → IfOk result (λ ended. AddsSums accumulated after.seats.items [] ended.sums.items) → IfOk result (λ ended. ended.puts.items ≡ after.puts.items)
+        → IfOk result (λ ended. AddsSums accumulated after.seats.items [] ended.sums.items) → IfOk result (λ ended. (kept_writes ended.puts) ≡ (kept_writes after.puts))
         → IfOk result (λ ended. WritesOneWay (uses_in code) → (state : FlatState) → Sees stores state → AreNamedAt stores state code points → (turn : Coord → Turn) → AreTurnsOf stores state code points turn
         → (news : List StoreWords) → HasLanded stores ended news → Lands stores news (writes_of (map turn points)))
     if_lands (Ok ended) are turns sums puts = λ one_way state sees named turn of news landed.

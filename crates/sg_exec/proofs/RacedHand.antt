@@ -18,6 +18,7 @@ use Rattle.sg_exec.specs.steps.Landing.{Lands}
 use Rattle.sg_exec.specs.steps.Racing.{between, wrote, AreSeats, HaveShares}
 use Rattle.sg_exec.specs.steps.Passes.{HaveFields, AreGiven, passed}
 use Rattle.sg_exec.specs.steps.Working.{HasRunAt, HasRaced}
+use Rattle.sg_exec.specs.steps.Puts.{kept_writes}
 use Rattle.sg_exec.proofs.CellsLanded.{landings_are}
 use Rattle.sg_exec.proofs.PassesLanded.{turns_writes}
 use Rattle.sg_exec.proofs.RacedRun.{are_whole, gave_reached, are_given, puts_are, raced_lands, turn_is, turn_used, turn_own}
@@ -37,9 +38,9 @@ all_points points workers parts =
     ∙ ap (λ (n : ℕ). take n points) none
     ∙ take_all (length points) points (omega arith)
 
-module _ (stores : List StoreWords) (code : List Inst) (points : List Coord) (accumulated : List Accumulated) (owned : List Owned) (workers : ℕ) (old : Hand) (have : HaveFields stores (uses_in code) accumulated old.seats.items owned) (none : old.puts.items ≡ [])
+module _ (stores : List StoreWords) (code : List Inst) (points : List Coord) (accumulated : List Accumulated) (owned : List Owned) (workers : ℕ) (old : Hand) (have : HaveFields stores (uses_in code) accumulated old.seats.items owned) (none : (kept_writes old.puts) ≡ [])
     (parts : IsPartition (length points) workers) where
-  raced : (after : Hand) → AreSeats accumulated after.seats.items → AreCells stores after.puts.items
+  raced : (after : Hand) → AreSeats accumulated after.seats.items → AreCells stores (kept_writes after.puts)
       → HasRunAt stores code points (between (slice_start (length points) workers 0) (slice_start (length points) workers (0 + workers)) points) accumulated owned old after → HasRaced stores code points accumulated after
   raced after seats cells ran = record {
     seats = seats;
@@ -63,7 +64,7 @@ module _ (stores : List StoreWords) (code : List Inst) (points : List Coord) (ac
         };
   }
 
-  pub if_raced : (result : Result Hand Memory) → IfOk result (λ after. AreSeats accumulated after.seats.items) → IfOk result (λ after. AreCells stores after.puts.items)
+  pub if_raced : (result : Result Hand Memory) → IfOk result (λ after. AreSeats accumulated after.seats.items) → IfOk result (λ after. AreCells stores (kept_writes after.puts))
       → IfOk result (HasRunAt stores code points (between (slice_start (length points) workers 0) (slice_start (length points) workers (0 + workers)) points) accumulated owned old) → IfOk result (HasRaced stores code points accumulated)
   if_raced (Ok after) seats cells ran = raced after seats cells ran
   if_raced (Err e) seats cells ran = tt

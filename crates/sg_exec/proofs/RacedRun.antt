@@ -27,6 +27,7 @@ use Rattle.sg_exec.specs.steps.Machines.{seen_in, IsCellOf, AreCells, IsAtLoop}
 use Rattle.sg_exec.specs.steps.Landing.{code_write, landing, AreTurnsOf, Lands}
 use Rattle.sg_exec.specs.steps.Racing.{is_into, given_at, given_by, contributions, last_own, AreSeats, HasRun}
 use Rattle.sg_exec.specs.steps.Passes.{HaveFields, AreWhole, GaveReached, AreGiven, WritesOneWay, passed}
+use Rattle.sg_exec.specs.steps.Puts.{kept_writes}
 use Rattle.sg_exec.proofs.Giving.{at_below}
 use Rattle.sg_exec.proofs.LastOwn.{kept_own, last_own_is}
 use Rattle.sg_exec.proofs.StoresLanded.{lands_more}
@@ -127,7 +128,7 @@ module _ (stores : List StoreWords) (uses : List Use) (accumulated : List Accumu
           ∙ ap (λ (ws : List CellWrite). given_to cell (contributions it.layout it.field ws)) (ap (flat_map (λ (ws : List CellWrite). ws)) turns_are ∙ joined points each);
     }
 
-    pub puts_are : old.puts.items ≡ [] → after.puts.items ≡ map (landing stores) (flat_map (λ (at : Coord). kept_own owned (f at)) points)
+    pub puts_are : (kept_writes old.puts) ≡ [] → (kept_writes after.puts) ≡ map (landing stores) (flat_map (λ (at : Coord). kept_own owned (f at)) points)
     puts_are none = ran.worked.puts ∙ ap (λ (ws : List CellWrite). ws ++ flat_map (last_own owned) ran.turns) none ∙ ap (flat_map (last_own owned)) turns_are ∙ own_joined points each
 
     pub raced_lands : (mids news : List StoreWords) → Lands stores mids (passed accumulated (flat_map f points)) → Lands mids news (flat_map (λ (at : Coord). kept_own owned (f at)) points) → Lands stores news (flat_map f points)

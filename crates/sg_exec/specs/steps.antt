@@ -5,6 +5,7 @@ pub mod Rows
 pub mod Moments
 pub mod Accessing
 pub mod Boxes
+pub mod Puts
 pub mod Written
 pub mod Wants
 pub mod Turning

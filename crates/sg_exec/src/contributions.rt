@@ -5,9 +5,11 @@ ghost use Rattle.sg_exec.specs.steps.Machines.{AreCells, IsCellOf};
 ghost use Rattle.sg_exec.specs.steps.Landing.{current};
 ghost use Rattle.sg_exec.specs.steps.Racing.{last_own, listed, ArePasses, AreSeats, HaveGiven};
 ghost use Rattle.sg_exec.specs.steps.Written.{own_write};
+ghost use Rattle.sg_exec.specs.steps.Puts.{kept_writes};
 
 use crate::cell_write::CellWrite;
 use crate::cells::Cells;
+use crate::puts::Puts;
 use crate::shared::{Accumulated, Owned};
 use sg_accum::AccSeat;
 use sg_flat::Way;
@@ -125,13 +127,9 @@ fn number_between(
 }
 
 /// Adds the last own write to each own-written field.
-pub(crate) fn put_all(
-    owned: &[Owned],
-    cells: &Cells,
-    puts: &mut Vec<CellWrite>,
-) -> Result<(), Memory>
-    ensures puts { OnOk result (puts.new.items ≡ puts.old.items ++ last_own owned.now cells.now.writes) }
-    ensures cells { OnOk result (AreCells cells.now.stores puts.old.items → AreCells cells.now.stores puts.new.items) }
+pub(crate) fn put_all(owned: &[Owned], cells: &Cells, puts: &mut Puts) -> Result<(), Memory>
+    ensures puts { OnOk result (kept_writes puts.new ≡ kept_writes puts.old ++ last_own owned.now cells.now.writes) }
+    ensures cells { OnOk result (AreCells cells.now.stores (kept_writes puts.old) → AreCells cells.now.stores (kept_writes puts.new)) }
 {
     for own in owned {
         put_one(*own, cells, puts)?;
@@ -140,9 +138,9 @@ pub(crate) fn put_all(
 }
 
 #[inline(always)]
-fn put_one(own: Owned, cells: &Cells, puts: &mut Vec<CellWrite>) -> Result<(), Memory>
-    ensures puts { OnOk result (puts.new.items ≡ puts.old.items ++ listed (own_write own.layout own.field cells.now.writes)) }
-    ensures cells { OnOk result (AreCells cells.now.stores puts.old.items → AreCells cells.now.stores puts.new.items) }
+fn put_one(own: Owned, cells: &Cells, puts: &mut Puts) -> Result<(), Memory>
+    ensures puts { OnOk result (kept_writes puts.new ≡ kept_writes puts.old ++ listed (own_write own.layout own.field cells.now.writes)) }
+    ensures cells { OnOk result (AreCells cells.now.stores (kept_writes puts.old) → AreCells cells.now.stores (kept_writes puts.new)) }
 {
     // for the cells that it ensures
     cells.writes();

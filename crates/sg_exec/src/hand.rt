@@ -1,9 +1,10 @@
 ghost use Rattle.std.specs.Prelude.{◌≡◌, ◌++◌, ◌-◌, ◌/◌, ◌≤◌, ◌<◌, IfOk};
 ghost use Rattle.sg_exec.specs.steps.Machines.{AreCells};
 ghost use Rattle.sg_exec.specs.steps.Landing.{current};
+ghost use Rattle.sg_exec.specs.steps.Puts.{kept_writes};
 ghost use Rattle.sg_exec.specs.steps.Racing.{AreSeats, HaveShares, AreSplit, AreJoined, IsDivided, IsOfBoth};
 
-use crate::cell_write::CellWrite;
+use crate::puts::Puts;
 use crate::shared::Accumulated;
 use sg_accum::AccSeat;
 use sg_store::{Store, Stores};
@@ -14,7 +15,7 @@ use std::alloc::Global;
 #[derive(Drop)]
 pub struct Hand {
     pub seats: Vec<AccSeat>,
-    pub puts: Vec<CellWrite>,
+    pub puts: Puts,
 }
 
 /// How many of so many workers a thread that forks keeps for itself and for threads that it starts later: all but one, where half of the
@@ -42,10 +43,10 @@ pub(crate) fn divided(
     requires two { 2 ≤ share }
     requires seats { AreSeats accumulated.now hand.seats.items }
     requires shares { HaveShares share hand.seats.items }
-    requires cells { AreCells (current reached.now stores.now.list) hand.puts.items }
+    requires cells { AreCells (current reached.now stores.now.list) (kept_writes hand.puts) }
     ensures seats { IfOk result (λ r. AreSeats accumulated.now r.0.seats.items × AreSeats accumulated.now r.1.seats.items) }
     ensures shares { IfOk result (λ r. HaveShares (share - share / 2) r.0.seats.items × HaveShares (share / 2) r.1.seats.items) }
-    ensures cells { IfOk result (λ r. AreCells (current reached.now stores.now.list) r.0.puts.items × AreCells (current reached.now stores.now.list) r.1.puts.items) }
+    ensures cells { IfOk result (λ r. AreCells (current reached.now stores.now.list) (kept_writes r.0.puts) × AreCells (current reached.now stores.now.list) (kept_writes r.1.puts)) }
     ensures divided { IfOk result (λ r. IsDivided hand r.0 r.1) }
 {
     let (_stores, _reached) = (stores, reached);
@@ -54,7 +55,7 @@ pub(crate) fn divided(
     let hand = Hand { seats, puts };
     let other = Hand {
         seats: others,
-        puts: Vec::new(alloc),
+        puts: Puts::new(alloc),
     };
     Ok((hand, other))
 }
@@ -88,10 +89,10 @@ pub(crate) fn both(
     left: Result<Hand, Memory>,
     right: Result<Hand, Memory>,
 ) -> Result<Hand, Memory>
-    requires left { IfOk left (λ hand. AreSeats accumulated.now hand.seats.items × AreCells (current reached.now stores.now.list) hand.puts.items) }
-    requires right { IfOk right (λ hand. AreSeats accumulated.now hand.seats.items × AreCells (current reached.now stores.now.list) hand.puts.items) }
+    requires left { IfOk left (λ hand. AreSeats accumulated.now hand.seats.items × AreCells (current reached.now stores.now.list) (kept_writes hand.puts)) }
+    requires right { IfOk right (λ hand. AreSeats accumulated.now hand.seats.items × AreCells (current reached.now stores.now.list) (kept_writes hand.puts)) }
     ensures seats { IfOk result (λ after. AreSeats accumulated.now after.seats.items) }
-    ensures cells { IfOk result (λ after. AreCells (current reached.now stores.now.list) after.puts.items) }
+    ensures cells { IfOk result (λ after. AreCells (current reached.now stores.now.list) (kept_writes after.puts)) }
     ensures joined { IfOk result (IsOfBoth left right) }
 {
     let hand = left?;
@@ -109,23 +110,20 @@ fn joined(
 ) -> Result<Hand, Memory>
     requires seats { AreSeats accumulated.now hand.seats.items }
     requires others { AreSeats accumulated.now other.seats.items }
-    requires cells { AreCells (current reached.now stores.now.list) hand.puts.items × AreCells (current reached.now stores.now.list) other.puts.items }
+    requires cells { AreCells (current reached.now stores.now.list) (kept_writes hand.puts) × AreCells (current reached.now stores.now.list) (kept_writes other.puts) }
     ensures seats { IfOk result (λ after. AreSeats accumulated.now after.seats.items) }
-    ensures cells { IfOk result (λ after. AreCells (current reached.now stores.now.list) after.puts.items) }
+    ensures cells { IfOk result (λ after. AreCells (current reached.now stores.now.list) (kept_writes after.puts)) }
     ensures joined { IfOk result (λ after. AreJoined hand.seats.items other.seats.items after.seats.items) }
-    ensures puts { IfOk result (λ after. after.puts.items ≡ hand.puts.items ++ other.puts.items) }
+    ensures puts { IfOk result (λ after. (kept_writes after.puts) ≡ (kept_writes hand.puts) ++ (kept_writes other.puts)) }
 {
     let (_stores, _reached) = (stores, reached);
-    let Hand {
-        mut seats,
-        mut puts,
-    } = hand;
+    let Hand { mut seats, puts } = hand;
     let Hand {
         seats: mut others,
         puts: later,
     } = other;
     join_all(accumulated, &mut seats, &mut others);
-    puts.extend_from_slice(later.as_slice())?;
+    let puts = puts.with(later)?;
     Ok(Hand { seats, puts })
 }
 

@@ -6,11 +6,13 @@ ghost use Rattle.sg_store.specs.StoreWords.{StoreWords};
 ghost use Rattle.sg_exec.specs.steps.Machines.{IsCellOf, AreCells};
 ghost use Rattle.sg_exec.specs.steps.Landing.{current, landing, Lands};
 ghost use Rattle.sg_exec.specs.steps.Passes.{IsSumOf, into_field};
+ghost use Rattle.sg_exec.specs.steps.Puts.{in_lists, kept_writes};
 ghost use Rattle.sg_exec.specs.steps.Made.{AreSums, CanLand, HasLanded, HasRow, HaveTrees, KeepsField, summed, words_of};
 
 use crate::cell_write::CellWrite;
 use crate::landing::put_cell;
 use crate::made::Made;
+use crate::puts::Puts;
 use crate::sums::{Sum, put_sum};
 use sg_store::{Store, Stores};
 use sg_words::Items;
@@ -30,7 +32,7 @@ pub(crate) fn land(alloc: Global, stores: &mut Stores, made: Made)
     let list = std::mem::replace(&mut stores.list, Items::new(alloc));
     move_all(list, copies, &mut owned);
     land_sums(&mut owned, ended.sums.as_slice());
-    land_cells(&mut owned, ended.puts.as_slice());
+    land_puts(&mut owned, &ended.puts);
     stores.list = Items::from_vec(owned);
 }
 
@@ -92,9 +94,34 @@ fn land_sum(stores: &mut Vec<Store>, sum: &Sum)
     put_sum(store, sum);
 }
 
+/// Lands kept writes, list after list.
+fn land_puts(stores: &mut Vec<Store>, puts: &Puts)
+    requires cells { AreCells stores.old.items (kept_writes puts.now) }
+    ensures lands { (base : List StoreWords) (made : List Write) → HaveTrees base stores.old.items → kept_writes puts.now ≡ map (landing base) made →
+        Lands stores.old.items stores.new.items made }
+{
+    land_lists(stores, puts.before.as_slice());
+    land_cells(stores, puts.last.as_slice());
+}
+
+/// Lands the writes of lists, one list after the other.
+fn land_lists(stores: &mut Vec<Store>, lists: &[Vec<CellWrite>])
+    requires cells { AreCells stores.old.items (in_lists lists.now) }
+    ensures trees { HaveTrees stores.old.items stores.new.items }
+    ensures lands { (base : List StoreWords) (made : List Write) → HaveTrees base stores.old.items → in_lists lists.now ≡ map (landing base) made →
+        Lands stores.old.items stores.new.items made }
+{
+    let Some((first, rest)) = lists.split_first() else {
+        return;
+    };
+    land_cells(stores, first.as_slice());
+    land_lists(stores, rest);
+}
+
 /// Lands kept writes, in order.
 fn land_cells(stores: &mut Vec<Store>, writes: &[CellWrite])
     requires cells { AreCells stores.old.items writes.now }
+    ensures trees { HaveTrees stores.old.items stores.new.items }
     ensures lands { (base : List StoreWords) (made : List Write) → HaveTrees base stores.old.items → writes.now ≡ map (landing base) made →
         Lands stores.old.items stores.new.items made }
 {

@@ -1,4 +1,4 @@
-use crate::cell_write::CellWrite;
+use crate::puts::Puts;
 use crate::sums::Sum;
 use sg_store::Store;
 
@@ -6,7 +6,7 @@ use sg_store::Store;
 #[derive(Drop)]
 pub struct Ended {
     pub sums: Vec<Sum>,
-    pub puts: Vec<CellWrite>,
+    pub puts: Puts,
 }
 
 /// What a run makes of some stores: copies in which what it wants is active, what lands in them, and room for all stores.

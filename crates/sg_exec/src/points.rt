@@ -14,7 +14,7 @@ use sg_elements::elements_by_workers;
 use sg_flat::Domain;
 use sg_store::Stores;
 use sg_words::{Items, Memory};
-use std::alloc::Global;
+use std::alloc::{AllocError, Global};
 use std::thread::Threads;
 
 /// The points that a loop visits, in row order. Those of a walk are listed by so many workers.
@@ -61,7 +61,7 @@ fn box_points(alloc: Global, lo: Coord, hi: Coord) -> Result<Items<Coord>, Memor
     }
     let few = (planes.count() as usize).saturating_mul(lines.count() as usize);
     let all = few.saturating_mul(cells.count() as usize);
-    let mut points = Items::from_vec(Vec::with_capacity(alloc, all)?);
+    let mut points = Vec::with_capacity(alloc, all)?;
     for k in 0..planes.count() {
         let plane = Coord {
             n: lo.n,
@@ -71,17 +71,17 @@ fn box_points(alloc: Global, lo: Coord, hi: Coord) -> Result<Items<Coord>, Memor
         };
         push_plane(&mut points, plane, lines, cells)?;
     }
-    Ok(points)
+    Ok(Items::from_vec(points))
 }
 
 /// Adds the points with the first part of `plane`.
 fn push_plane(
-    points: &mut Items<Coord>,
+    points: &mut Vec<Coord>,
     plane: Coord,
     lines: Side,
     cells: Side,
-) -> Result<(), Memory>
-    ensures { OnOk result (points.new ≡ points.old ++ plane_points plane lines cells) }
+) -> Result<(), AllocError>
+    ensures { OnOk result (points.new.items ≡ points.old.items ++ plane_points plane lines cells) }
 {
     for k in 0..lines.count() {
         let line = Coord {
@@ -96,8 +96,8 @@ fn push_plane(
 }
 
 /// Adds the points with the first two parts of `line`.
-fn push_line(points: &mut Items<Coord>, line: Coord, cells: Side) -> Result<(), Memory>
-    ensures { OnOk result (points.new ≡ points.old ++ line_points line cells) }
+fn push_line(points: &mut Vec<Coord>, line: Coord, cells: Side) -> Result<(), AllocError>
+    ensures { OnOk result (points.new.items ≡ points.old.items ++ line_points line cells) }
 {
     for k in 0..cells.count() {
         points.push(Coord {

@@ -25,7 +25,8 @@ use std::alloc::Global;
 use std::thread::Threads;
 
 /// Runs a kernel over the stores of these layouts on so many workers, from 1 to 16, or refuses it. Each worker passes the gate
-/// before each iteration of its slice. After a refusal, or where memory runs out, the stores are as before.
+/// before what each iteration of its slice asks for and before what it contributes. After a refusal, or where memory runs out, the
+/// stores are as before.
 pub fn run_kernel<R: Threads + Sync, G: Gate + Sync>(
     rt: &R,
     alloc: Global,

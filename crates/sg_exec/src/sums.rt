@@ -18,11 +18,13 @@ ghost use Rattle.sg_exec.specs.steps.Landing.{current, landed_layout, AreTurnsOf
 ghost use Rattle.sg_exec.specs.steps.Racing.{AreSeats};
 ghost use Rattle.sg_exec.specs.steps.Working.{HasRaced};
 ghost use Rattle.sg_exec.specs.steps.Passes.{WritesOneWay, HaveFields, AreWhole, IsSumOf, AreActiveTo, into_field, with_row};
+ghost use Rattle.sg_exec.specs.steps.Puts.{kept_writes};
 ghost use Rattle.sg_exec.specs.steps.Made.{AddsSums, HasLanded, HasRow, words_of};
 
 use crate::fields::written_fields;
 use crate::hand::Hand;
 use crate::made::Ended;
+use crate::puts::Puts;
 use crate::shared::{Accumulated, Owned};
 use crate::values::ONE_POINT;
 use crate::workers::race;
@@ -64,7 +66,7 @@ pub(crate) fn raced_points<R: Threads + Sync, G: Gate + Sync>(
     requires some { 1 ≤ workers }
     requires few { workers ≤ 16 }
     ensures rows { IfOk result (λ ended. All (HasRow (current reached.now stores.now.list)) ended.sums.items) }
-    ensures cells { IfOk result (λ ended. AreCells (current reached.now stores.now.list) ended.puts.items) }
+    ensures cells { IfOk result (λ ended. AreCells (current reached.now stores.now.list) (kept_writes ended.puts)) }
     ensures lands { IfOk result (λ ended. WritesOneWay (uses_in code.now) → (state : FlatState) → Sees (current reached.now stores.now.list) state →
         AreNamedAt (current reached.now stores.now.list) state code.now points.now →
         (turn : Coord → Turn) → AreTurnsOf (current reached.now stores.now.list) state code.now points.now turn →
@@ -106,7 +108,7 @@ fn raced<R: Threads + Sync, G: Gate + Sync>(
 {
     // for the law that it ensures
     slices_partition(points.len(), workers);
-    let puts = Vec::new(alloc);
+    let puts = Puts::new(alloc);
     let hand = Hand { seats, puts };
     race(
         rt,
@@ -138,7 +140,7 @@ fn landed<R: Threads + Sync>(
     requires seats { AreSeats accumulated.items after.seats.items }
     requires whole { AreWhole after.seats.items }
     ensures sums { IfOk result (λ ended. AddsSums accumulated.items after.seats.items [] ended.sums.items) }
-    ensures puts { IfOk result (λ ended. ended.puts.items ≡ after.puts.items) }
+    ensures puts { IfOk result (λ ended. (kept_writes ended.puts) ≡ (kept_writes after.puts)) }
 {
     let Hand { seats, puts } = after;
     let mut sums = Vec::new(alloc);

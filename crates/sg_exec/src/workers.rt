@@ -13,6 +13,7 @@ ghost use Rattle.sg_exec.specs.steps.Machines.{seen_in, Sees, AreCells};
 ghost use Rattle.sg_exec.specs.steps.Landing.{current};
 ghost use Rattle.sg_exec.specs.steps.Racing.{wrote, between, ArePasses, AreSeats, HaveShares};
 ghost use Rattle.sg_exec.specs.steps.Working.{HasRunAt};
+ghost use Rattle.sg_exec.specs.steps.Puts.{kept_writes};
 
 use crate::batch::{Batch, SIDE_BY_SIDE, batch_for, iterate_all};
 use crate::contributions::{give_all, put_all};
@@ -56,9 +57,9 @@ pub(crate) fn race<R: Threads + Sync, G: Gate + Sync>(
     requires seats { AreSeats accumulated.now hand.seats.items }
     requires enough { workers ≤ share }
     requires shares { HaveShares share hand.seats.items }
-    requires cells { AreCells (current reached.now stores.now.list) hand.puts.items }
+    requires cells { AreCells (current reached.now stores.now.list) (kept_writes hand.puts) }
     ensures seats { IfOk result (λ after. AreSeats accumulated.now after.seats.items) }
-    ensures cells { IfOk result (λ after. AreCells (current reached.now stores.now.list) after.puts.items) }
+    ensures cells { IfOk result (λ after. AreCells (current reached.now stores.now.list) (kept_writes after.puts)) }
     ensures ran { IfOk result (HasRunAt (current reached.now stores.now.list) code.now points.now (between
         (slice_start (length points.now) all first) (slice_start (length points.now) all (first + workers)) points.now)
         accumulated.now owned.now hand) }
@@ -120,9 +121,9 @@ pub(crate) fn race<R: Threads + Sync, G: Gate + Sync>(
         move || -> Result<Hand, Memory>
             requires { IsSync R.row × IsSync G.row × (rest < workers) × (workers - rest ≤ share - share / 2) × (first + workers ≤ all) × (all ≤ 16)
                 × ArePasses (current reached.now stores.now.list) accumulated.now × AreSeats accumulated.now hand.seats.items
-                × HaveShares (share - share / 2) hand.seats.items × AreCells (current reached.now stores.now.list) hand.puts.items }
+                × HaveShares (share - share / 2) hand.seats.items × AreCells (current reached.now stores.now.list) (kept_writes hand.puts) }
             ensures { IfOk result (λ after. AreSeats accumulated.entry.now after.seats.items
-                × AreCells (current reached.entry.now stores.entry.now.list) after.puts.items
+                × AreCells (current reached.entry.now stores.entry.now.list) (kept_writes after.puts)
                 × HasRunAt (current reached.entry.now stores.entry.now.list) code.entry.now points.entry.now (between
                 (slice_start (length points.entry.now) all first) (slice_start (length points.entry.now) all (first + (workers - rest)))
                 points.entry.now) accumulated.entry.now owned.entry.now hand after) }
@@ -148,9 +149,9 @@ pub(crate) fn race<R: Threads + Sync, G: Gate + Sync>(
         move || -> Result<Hand, Memory>
             requires { IsSync R.row × IsSync G.row × (1 ≤ rest) × (rest < workers) × (rest ≤ share / 2) × (first + workers ≤ all) × (all ≤ 16)
                 × ArePasses (current reached.now stores.now.list) accumulated.now × AreSeats accumulated.now other.seats.items
-                × HaveShares (share / 2) other.seats.items × AreCells (current reached.now stores.now.list) other.puts.items }
+                × HaveShares (share / 2) other.seats.items × AreCells (current reached.now stores.now.list) (kept_writes other.puts) }
             ensures { IfOk result (λ after. AreSeats accumulated.entry.now after.seats.items
-                × AreCells (current reached.entry.now stores.entry.now.list) after.puts.items
+                × AreCells (current reached.entry.now stores.entry.now.list) (kept_writes after.puts)
                 × HasRunAt (current reached.entry.now stores.entry.now.list) code.entry.now points.entry.now (between
                 (slice_start (length points.entry.now) all (first + (workers - rest)))
                 (slice_start (length points.entry.now) all (first + (workers - rest) + rest)) points.entry.now)
@@ -197,9 +198,9 @@ fn work_apart<R: Threads + Sync, G: Gate + Sync>(
     requires few { all ≤ 16 }
     requires passes { ArePasses (current reached.now stores.now.list) accumulated.now }
     requires seats { AreSeats accumulated.now hand.seats.items }
-    requires cells { AreCells (current reached.now stores.now.list) hand.puts.items }
+    requires cells { AreCells (current reached.now stores.now.list) (kept_writes hand.puts) }
     ensures seats { IfOk result (λ after. AreSeats accumulated.now after.seats.items) }
-    ensures cells { IfOk result (λ after. AreCells (current reached.now stores.now.list) after.puts.items) }
+    ensures cells { IfOk result (λ after. AreCells (current reached.now stores.now.list) (kept_writes after.puts)) }
     ensures ran { IfOk result (HasRunAt (current reached.now stores.now.list) code.now points.now (between
         (slice_start (length points.now) all worker) (slice_start (length points.now) all (worker + 1)) points.now)
         accumulated.now owned.now hand) }
@@ -208,9 +209,9 @@ fn work_apart<R: Threads + Sync, G: Gate + Sync>(
         rt,
         move || -> Result<Hand, Memory>
             requires { IsSync G.row × (worker < all) × (all ≤ 16) × ArePasses (current reached.now stores.now.list) accumulated.now
-                × AreSeats accumulated.now hand.seats.items × AreCells (current reached.now stores.now.list) hand.puts.items }
+                × AreSeats accumulated.now hand.seats.items × AreCells (current reached.now stores.now.list) (kept_writes hand.puts) }
             ensures { IfOk result (λ after. AreSeats accumulated.entry.now after.seats.items
-                × AreCells (current reached.entry.now stores.entry.now.list) after.puts.items
+                × AreCells (current reached.entry.now stores.entry.now.list) (kept_writes after.puts)
                 × HasRunAt (current reached.entry.now stores.entry.now.list) code.entry.now points.entry.now (between
                 (slice_start (length points.entry.now) all worker) (slice_start (length points.entry.now) all (worker + 1))
                 points.entry.now) accumulated.entry.now owned.entry.now hand after) }
@@ -252,9 +253,9 @@ fn work<G: Gate>(
     requires few { all ≤ 16 }
     requires passes { ArePasses (current reached.now stores.now.list) accumulated.now }
     requires seats { AreSeats accumulated.now hand.seats.items }
-    requires cells { AreCells (current reached.now stores.now.list) hand.puts.items }
+    requires cells { AreCells (current reached.now stores.now.list) (kept_writes hand.puts) }
     ensures seats { IfOk result (λ after. AreSeats accumulated.now after.seats.items) }
-    ensures cells { IfOk result (λ after. AreCells (current reached.now stores.now.list) after.puts.items) }
+    ensures cells { IfOk result (λ after. AreCells (current reached.now stores.now.list) (kept_writes after.puts)) }
     ensures ran { IfOk result (HasRunAt (current reached.now stores.now.list) code.now points.now (between
         (slice_start (length points.now) all worker) (slice_start (length points.now) all (worker + 1)) points.now)
         accumulated.now owned.now hand) }
@@ -295,9 +296,9 @@ fn work_all<G: Gate>(
     requires over { IsOver (current reached.now stores.now.list) batch.old }
     requires passes { ArePasses (current reached.now stores.now.list) accumulated.now }
     requires seats { AreSeats accumulated.now hand.seats.items }
-    requires cells { AreCells (current reached.now stores.now.list) hand.puts.items }
+    requires cells { AreCells (current reached.now stores.now.list) (kept_writes hand.puts) }
     ensures seats { IfOk result (λ after. AreSeats accumulated.now after.seats.items) }
-    ensures cells { IfOk result (λ after. AreCells (current reached.now stores.now.list) after.puts.items) }
+    ensures cells { IfOk result (λ after. AreCells (current reached.now stores.now.list) (kept_writes after.puts)) }
     ensures ran { IfOk result (HasRunAt (current reached.now stores.now.list) code.now points.now mine.now accumulated.now owned.now hand) }
 {
     let mut hand = hand;
@@ -345,10 +346,10 @@ fn work_some<G: Gate>(
     requires over { IsOver (current reached.now stores.now.list) batch.old }
     requires passes { ArePasses (current reached.now stores.now.list) accumulated.now }
     requires seats { AreSeats accumulated.now hand.old.seats.items }
-    requires cells { AreCells (current reached.now stores.now.list) hand.old.puts.items }
+    requires cells { AreCells (current reached.now stores.now.list) (kept_writes hand.old.puts) }
     ensures over { IsOver (current reached.now stores.now.list) batch.new }
     ensures seats { OnOk result (AreSeats accumulated.now hand.new.seats.items) }
-    ensures cells { OnOk result (AreCells (current reached.now stores.now.list) hand.new.puts.items) }
+    ensures cells { OnOk result (AreCells (current reached.now stores.now.list) (kept_writes hand.new.puts)) }
     ensures ran { OnOk result ((start : Hand) →
         HasRunAt (current reached.now stores.now.list) code.now points.now (take first mine.now) accumulated.now owned.now start hand.old →
         HasRunAt (current reached.now stores.now.list) code.now points.now (take (first + count) mine.now) accumulated.now owned.now start hand.new) }

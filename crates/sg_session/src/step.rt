@@ -26,7 +26,7 @@ impl Session {
 
     /// Performs a task and gives its text, or its refusal. After any answer but `Ok` the stores are as before. A load reads its file
     /// once, and no other; every other task reads none. A kernel runs on so many workers, from 1 to 16, each of which passes the gate
-    /// before each of its iterations; a load takes one worker, and no gate.
+    /// before what each of its iterations asks for and before what it contributes; a load takes one worker, and no gate.
     pub fn step<R: Threads + Sync, F: Files, G: Gate + Sync>(
         &mut self,
         rt: &R,

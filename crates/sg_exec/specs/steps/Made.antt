@@ -19,6 +19,7 @@ use Rattle.sg_exec.specs.steps.Landing.{current, landing, HasTree, Lands}
 use Rattle.sg_exec.specs.steps.Machines.{AreCells}
 use Rattle.sg_exec.specs.steps.Passes.{HasPass, GaveReached, AreGiven, IsSumOf, into_field, passed}
 use Rattle.sg_exec.specs.steps.Racing.{ArePasses}
+use Rattle.sg_exec.specs.steps.Puts.{kept_writes}
 
 -- each store is another but for its fields
 abbrev pub HaveTrees : List StoreWords → List StoreWords → Type 0
@@ -66,7 +67,7 @@ pub record AddsSums (accumulated : List Accumulated) (seats : List AccSeat) (old
 pub record CanLand (stores : List StoreWords) (made : Made) : Type 0 where
   pub copies : length made.copies.items ≡ length stores
   pub rows : All (HasRow (current made.copies.items stores)) made.ended.sums.items
-  pub cells : AreCells (current made.copies.items stores) made.ended.puts.items
+  pub cells : AreCells (current made.copies.items stores) (kept_writes made.ended.puts)
   pub none : made.room.items ≡ []
   pub space : length stores ≤ vec_capacity made.room
 
@@ -74,7 +75,7 @@ pub record CanLand (stores : List StoreWords) (made : Made) : Type 0 where
 pub record HasLanded (stores : List StoreWords) (ended : Ended) (news : List StoreWords) : Type 0 where
   pub mids : List StoreWords
   pub sums_land : (writes : List Write) → AreSums stores ended.sums.items writes → Lands stores mids (summed ended.sums.items writes)
-  pub puts_land : (made : List Write) → ended.puts.items ≡ map (landing stores) made → Lands mids news made
+  pub puts_land : (made : List Write) → (kept_writes ended.puts) ≡ map (landing stores) made → Lands mids news made
 
 -- What was made is what a meaning says: any stores in which it has landed stand for the meaning's state, and a refusal is that of the meaning.
 abbrev pub MadeRan : List StoreWords → Result Made (Stop RunFault) → Result FlatState RunFault → Type 0

@@ -16,6 +16,7 @@ use Rattle.sg_exec.specs.declared.shared.Owned.{Owned}
 use Rattle.sg_exec.specs.declared.hand.Hand.{Hand}
 use Rattle.sg_exec.specs.steps.Machines.{seen_in, cell_write, AreCells}
 use Rattle.sg_exec.specs.steps.Written.{own_write}
+use Rattle.sg_exec.specs.steps.Puts.{kept_writes}
 
 -- ---- contributions
 
@@ -99,7 +100,7 @@ HaveGiven accumulated writes olds nows =
 -- a hand after iterations, each with its writes
 pub record HasWorked (accumulated : List Accumulated) (owned : List Owned) (turns : List (List CellWrite)) (old now : Hand) : Type 0 where
   pub gave : HaveGiven accumulated (flat_map (λ writes. writes) turns) old.seats.items now.seats.items
-  pub puts : now.puts.items ≡ old.puts.items ++ flat_map (last_own owned) turns
+  pub puts : (kept_writes now.puts) ≡ (kept_writes old.puts) ++ flat_map (last_own owned) turns
 
 -- A hand after iterations that wrote into cells of the stores; at each state of which something holds the iterations are these.
 pub record HasRun (stores : List StoreWords) (accumulated : List Accumulated) (owned : List Owned) (P : FlatState → Type 0) (at : FlatState → List (List CellWrite)) (old now : Hand) : Type 0 where
@@ -123,8 +124,8 @@ AreJoined olds others nows =
 -- a hand was divided: its seats were split, and the other has no own values yet
 pub record IsDivided (old now other : Hand) : Type 0 where
   pub split : AreSplit old.seats.items now.seats.items other.seats.items
-  pub kept : now.puts.items ≡ old.puts.items
-  pub none : other.puts.items ≡ []
+  pub kept : (kept_writes now.puts) ≡ (kept_writes old.puts)
+  pub none : (kept_writes other.puts) ≡ []
   pub long : length now.seats.items ≡ length old.seats.items
   pub other_long : length other.seats.items ≡ length old.seats.items
 
@@ -135,4 +136,4 @@ pub record IsOfBoth (left right : Result Hand Memory) (after : Hand) : Type 0 wh
   pub left_is : left ≡ Ok hand
   pub right_is : right ≡ Ok other
   pub seats_join : AreJoined hand.seats.items other.seats.items after.seats.items
-  pub puts_are : after.puts.items ≡ hand.puts.items ++ other.puts.items
+  pub puts_are : (kept_writes after.puts) ≡ (kept_writes hand.puts) ++ (kept_writes other.puts)

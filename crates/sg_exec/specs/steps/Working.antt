@@ -16,6 +16,7 @@ use Rattle.sg_exec.specs.steps.Moments.{AreNamedAt}
 use Rattle.sg_exec.specs.steps.Landing.{landing, AreTurnsOf, Lands}
 use Rattle.sg_exec.specs.steps.Racing.{wrote, AreSeats, HasRun}
 use Rattle.sg_exec.specs.steps.Passes.{WritesOneWay, AreWhole, GaveReached, AreGiven, passed}
+use Rattle.sg_exec.specs.steps.Puts.{kept_writes}
 
 -- the stores have the values of a state, at which the code goes where its registers say at all points of a run
 abbrev pub RunsAt : List StoreWords → List Inst → List Coord → FlatState → Type 0
@@ -30,12 +31,12 @@ HasRunAt stores code points mine accumulated owned =
 pub record HasTurns (stores : List StoreWords) (accumulated : List Accumulated) (turn : Coord → Turn) (points : List Coord) (after : Hand) : Type 0 where
   pub given : AreGiven stores accumulated after.seats.items (writes_of (map turn points))
   pub lands : (mids news : List StoreWords) → Lands stores mids (passed accumulated (writes_of (map turn points))) →
-      ((made : List Write) → after.puts.items ≡ map (landing stores) made → Lands mids news made) → Lands stores news (writes_of (map turn points))
+      ((made : List Write) → (kept_writes after.puts) ≡ map (landing stores) made → Lands mids news made) → Lands stores news (writes_of (map turn points))
 
 -- a hand after all iterations
 pub record HasRaced (stores : List StoreWords) (code : List Inst) (points : List Coord) (accumulated : List Accumulated) (after : Hand) : Type 0 where
   pub seats : AreSeats accumulated after.seats.items
-  pub cells : AreCells stores after.puts.items
+  pub cells : AreCells stores (kept_writes after.puts)
   pub whole : AreWhole after.seats.items
   pub reached : GaveReached stores accumulated after.seats.items
   pub turns : WritesOneWay (uses_in code) → (state : FlatState) → Sees stores state → AreNamedAt stores state code points →

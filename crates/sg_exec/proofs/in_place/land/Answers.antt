@@ -1,23 +1,22 @@
 use Rattle.std.proofs.Common.{◌≡◌, ◌++◌, List, sym, ap, ◌∙◌, subst}
 use Rattle.sg_store.specs.StoreWords.{StoreWords}
-use Rattle.sg_exec.specs.declared.cell_write.CellWrite.{CellWrite}
 use Rattle.sg_exec.specs.declared.sums.Sum.{Sum}
 use Rattle.sg_exec.specs.steps.Machines.{AreCells}
 use Rattle.sg_exec.specs.steps.Landing.{current, Lands}
 use Rattle.sg_exec.specs.steps.Made.{AreSums, HaveTrees, summed}
+use Rattle.sg_exec.specs.steps.Puts.{kept_writes}
 use Rattle.sg_exec.proofs.TreesKept.{cells_over}
 use Rattle.sg_exec.proofs.in_place.land.Goals as goal
 
-pub land_cells-requires : goal.land_cells-requires
-land_cells-requires c =
+pub land_puts-requires : goal.land_puts-requires
+land_puts-requires c =
     let copies = c.args.made.copies.items in
-    let puts = c.args.made.ended.puts.items in
+    let puts = (kept_writes c.args.made.ended.puts) in
     let owned = c.move_all.new.owned.items in
     let is : owned ≡ current copies c.args.stores.now.list =
     c.move_all.ensures.items ∙ ap (λ (front : List StoreWords). front ++ current copies c.replace-list.result) c.requires.none ∙ ap (current copies) c.replace-list.ensures.value in
     record {
-      cells = subst (λ (writes : List CellWrite). AreCells c.land_sums.new.stores.items writes) (sym c.as_slice-2.ensures.value)
-          (cells_over owned c.land_sums.new.stores.items puts c.land_sums.ensures.trees (subst (λ (stores : List StoreWords). AreCells stores puts) (sym is) c.requires.cells));
+      cells = cells_over owned c.land_sums.new.stores.items puts c.land_sums.ensures.trees (subst (λ (stores : List StoreWords). AreCells stores puts) (sym is) c.requires.cells);
     }
 
 pub returns : goal.returns
@@ -38,5 +37,5 @@ returns c =
           (subst (λ (list : List Sum). AreSums owned list writes) (sym c.as_slice.ensures.value) (subst (λ (stores : List StoreWords). AreSums stores sums writes) (sym is) are))));
       puts_land = λ made given.
           subst (λ (news : List StoreWords). Lands mids news made) (sym c.from_vec.ensures)
-          (c.land_cells.ensures.lands base made (subst (λ (stores : List StoreWords). HaveTrees stores mids) is c.land_sums.ensures.trees) (c.as_slice-2.ensures.value ∙ given));
+          (c.land_puts.ensures.lands base made (subst (λ (stores : List StoreWords). HaveTrees stores mids) is c.land_sums.ensures.trees) given);
     }

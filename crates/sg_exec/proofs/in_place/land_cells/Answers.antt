@@ -30,6 +30,7 @@ loop-write-preserved c =
 
 pub returns : goal.returns
 returns c = record {
+  trees = c.loop-write.invariant.trees;
   lands = λ base made trees is.
       let long : length c.args.writes.now ≡ length made = ap (λ (ws : List CellWrite). length ws) is ∙ map_long (landing base) made in
       subst (λ (ws : List Write). Lands c.args.stores.now.items c.loop-write.stores.items ws)

@@ -13,9 +13,9 @@ loop-k-preserved c =
     let a : FitsSigned w32 c.args.plane.a = search rules in
     let p : FitsSigned w32 c.part.result = search rules in
     c.in_ok-push_line.ensures
-    ∙ ap (λ (at : Coord). c.loop-k.points ++ line_points at c.args.cells) (same_point c.args.plane.n _ _ _ _ (pos 0) (pos 0) (to_z-of_z a) (to_z-of_z p) refl)
-    ∙ flat_map_next (λ (b : ℤ). line_points (with_second c.args.plane b) c.args.cells) (parts c.args.lines) c.loop-k.k c.part.result c.args.points.now c.loop-k.points c.part.ensures c.loop-k.invariant
+    ∙ ap (λ (at : Coord). c.loop-k.points.items ++ line_points at c.args.cells) (same_point c.args.plane.n _ _ _ _ (pos 0) (pos 0) (to_z-of_z a) (to_z-of_z p) refl)
+    ∙ flat_map_next (λ (b : ℤ). line_points (with_second c.args.plane b) c.args.cells) (parts c.args.lines) c.loop-k.k c.part.result c.args.points.now.items c.loop-k.points.items c.part.ensures c.loop-k.invariant
 
 pub returns : goal.returns
 returns c =
-    c.loop-k.invariant ∙ ap (λ (ps : List ℤ). c.args.points.now ++ flat_map (λ (b : ℤ). line_points (with_second c.args.plane b) c.args.cells) ps) (take_all c.loop-k.k (parts c.args.lines) (omega (arith, c.count-k-end.ensures)))
+    c.loop-k.invariant ∙ ap (λ (ps : List ℤ). c.args.points.now.items ++ flat_map (λ (b : ℤ). line_points (with_second c.args.plane b) c.args.cells) ps) (take_all c.loop-k.k (parts c.args.lines) (omega (arith, c.count-k-end.ensures)))

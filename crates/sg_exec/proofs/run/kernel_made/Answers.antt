@@ -12,6 +12,7 @@ use Rattle.sg_exec.specs.steps.Landing.{current, AreTurnsOf, Lands}
 use Rattle.sg_exec.specs.steps.Passes.{WritesOneWay}
 use Rattle.sg_exec.specs.steps.Made.{HasLanded, HasRow}
 use Rattle.sg_exec.specs.steps.Turning.{wants_from, TurnsActivated}
+use Rattle.sg_exec.specs.steps.Puts.{kept_writes}
 use Rattle.sg_exec.proofs.Kernels.{KernelLaws, slice_is_named, code_is_named, turns_are, kernel_outside, kernel_full, kernel_ran}
 use Rattle.sg_exec.proofs.Seeing.{sees_reached, named_over, turns_over}
 use Rattle.sg_exec.proofs.MadeRuns.{made_stopped}
@@ -71,7 +72,7 @@ returns-clause-lands g c =
     record {
       copies = c.in_ok-copies.ensures.room;
       rows = subst (λ (ms : List StoreWords). All (HasRow ms) ended.sums.items) lent c.in_ok-ended.ensures.rows;
-      cells = subst (λ (ms : List StoreWords). AreCells ms ended.puts.items) lent c.in_ok-ended.ensures.cells;
+      cells = subst (λ (ms : List StoreWords). AreCells ms (kept_writes ended.puts)) lent c.in_ok-ended.ensures.cells;
       none = c.in_ok-room.ensures.none;
       space = c.in_ok-room.ensures.space;
     }

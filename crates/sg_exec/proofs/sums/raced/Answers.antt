@@ -16,5 +16,5 @@ race-requires-clause-shares g c κs within =
 pub returns : goal.returns
 returns g c =
     let stores = current c.args.reached.now c.args.stores.now.list in
-    if_raced stores c.args.code.now c.args.points.now c.args.accumulated.now c.args.owned.now c.args.workers (record { seats = c.args.seats; puts = c.new-puts.result }) c.requires.fields c.new-puts.ensures.items
+    if_raced stores c.args.code.now c.args.points.now c.args.accumulated.now c.args.owned.now c.args.workers (record { seats = c.args.seats; puts = c.new-puts.result }) c.requires.fields c.new-puts.ensures
     c.slices_partition.ensures.here c.race.result c.race.ensures.seats c.race.ensures.cells c.race.ensures.ran

@@ -8,6 +8,7 @@ use Rattle.sg_exec.specs.steps.Machines.{AreCells}
 use Rattle.sg_exec.specs.steps.Landing.{current}
 use Rattle.sg_exec.specs.steps.Racing.{wrote, last_own}
 use Rattle.sg_exec.specs.steps.Working.{RunsAt, HasRunAt}
+use Rattle.sg_exec.specs.steps.Puts.{kept_writes}
 use Rattle.sg_exec.proofs.Iterations.{run_turn, point_in}
 use Rattle.sg_exec.proofs.workers.work_some.Goals as goal
 
@@ -23,14 +24,14 @@ loop-k-preserved g c =
     let over : moment.cells.stores ≡ stores = c.iterate_all.ensures.over.moments c.loop-k.k moment here in
     record {
       seats = c.give_all.ensures.seats;
-      cells = subst (λ (list : List StoreWords). AreCells list c.put_all.new.puts.items) over
-          (c.in_ok-put_all.ensures.cells (subst (λ (list : List StoreWords). AreCells list c.loop-k.hand.puts.items) (sym over) c.loop-k.invariant.cells));
+      cells = subst (λ (list : List StoreWords). AreCells list (kept_writes c.put_all.new.puts)) over
+          (c.in_ok-put_all.ensures.cells (subst (λ (list : List StoreWords). AreCells list (kept_writes c.loop-k.hand.puts)) (sym over) c.loop-k.invariant.cells));
       ran = λ start run.
           subst (λ (n : ℕ). HasRunAt stores c.args.code.now c.args.points.now (take n c.args.mine.now) c.args.accumulated.now c.args.owned.now start (record { seats = c.give_all.new.seats; puts = c.put_all.new.puts }))
           (omega arith)
           (run_turn stores c.args.accumulated.now c.args.owned.now (RunsAt stores c.args.code.now c.args.points.now) (λ state. wrote stores state c.args.code.now) c.args.mine.now (c.args.first + c.loop-k.k) d
           c.writes-writes.result.now start c.loop-k.hand (record { seats = c.give_all.new.seats; puts = c.put_all.new.puts }) below c.loop-k.invariant.seats.long (c.loop-k.invariant.ran start run)
-          c.give_all.ensures.gave (c.in_ok-put_all.ensures.puts ∙ ap (λ (ws : List CellWrite). c.loop-k.hand.puts.items ++ last_own c.args.owned.now ws) (sym c.writes-writes.ensures.value))
+          c.give_all.ensures.gave (c.in_ok-put_all.ensures.puts ∙ ap (λ (ws : List CellWrite). (kept_writes c.loop-k.hand.puts) ++ last_own c.args.owned.now ws) (sym c.writes-writes.ensures.value))
           (subst (λ (list : List StoreWords). AreCells list c.writes-writes.result.now) over c.writes-writes.ensures.cells)
           (λ state runs. c.writes-writes.ensures.value ∙ (c.in_ok-iterate_all.ensures.ran state runs.0 c.loop-k.k (get_or c.args.mine.now (c.args.first + c.loop-k.k) d)
           (point_in c.args.mine.now c.args.first _ c.loop-k.k d (omega arith) below) moment here
