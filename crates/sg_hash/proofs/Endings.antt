@@ -12,13 +12,13 @@ use Rattle.sg_words.specs.Counts.{one, once_below, times_in, pairs, firsts}
 use Rattle.sg_words.specs.RaceMachine.{Race, HasOthersBefore, place_in_order}
 use Rattle.sg_words.specs.RaceInvariant.{MeetsRaceInvariant, handed_share, made_at, holds_ticket, has_seen, has_made, has_linked, has_key, has_put, links_from}
 use Rattle.sg_words.specs.RaceLaws.{IsFreshSetting}
-use Rattle.sg_words.proofs.Uses.{alone, stands, le-total, part-of, made-ticket, new_links_differ, spares_never_fill, pair_cases, first_cases, total-le, total-append}
+use Rattle.sg_words.proofs.Uses.{alone, stands, le-total, part-of, made-ticket, new_links_differ, spares_never_fill, firsts-pair, pair_cases, first_cases, total-le, total-append}
 use Rattle.sg_hash.proofs.Turns.{place_comes}
 use Rattle.sg_hash.proofs.Racing.{made-held, sum_below, sum-same, sum-add, spread}
 use Rattle.sg_hash.specs.declared.rule.Start.{Start}
 use Rattle.sg_hash.specs.HashRace.{setting_of, Racing}
-use Rattle.sg_hash.specs.Asking.{AreLinks, IsFreshStock}
-use Rattle.sg_hash.specs.Finishing.{full_words, taken_of, Settled, KeysSettled, AreSpares}
+use Rattle.sg_hash.specs.Asking.{AreLinks, IsFreshStock, HasLinkedBesideKeys}
+use Rattle.sg_hash.specs.Finishing.{full_words, taken_of, Settled, KeysSettled, LinksHaveKeys, AreSpares}
 use Rattle.sg_hash.specs.steps.Ending.{Ended, outside}
 
 -- ---- the closed table
@@ -130,6 +130,18 @@ keys_settled start v links keys count full all many others end =
           let e = there (place_in_order (length start.links) o.0 c.0) other.0 other.2 in
           subst (λ q. 0 < slice_index keys q) c.2 (omega arith))));
     }
+
+-- where each old link stood beside a key, each link does: it is an old one, or the last seat made it at a place where it had found a key
+pub links_have_keys : (old old_keys stock : List ℕ) (v : Worker) (links keys : List ℕ) (full : Bool) → Settled old stock v links → KeysSettled old_keys v keys full → HasLinkedBesideKeys v
+    → LinksHaveKeys old_keys old → LinksHaveKeys keys links
+links_have_keys old old_keys stock v links keys full s k beside before p linked = dite (ℕ_discrete (slice_index old p) 0)
+    (λ new. dite (ℕ_discrete (firsts p v.made) 0)
+    (λ none. absurd (let e = s.bare p new none in omega arith))
+    (λ some'.
+    let made = firsts-pair p v.made (omega arith) in
+    let key = beside p made.0 made.1 in
+    let word = k.found p key.0 key.1 in omega arith))
+    (λ was. let key = before p (omega arith) in let word = k.stay p key in omega arith)
 
 -- ---- the spares
 -- the sum of the numbers below n that are t

@@ -6,10 +6,10 @@ use native.Mathlib.Decide.{ℕ_discrete}
 use Rattle.sg_words.specs.declared.race.Worker.{Worker}
 use Rattle.sg_words.specs.Counts.{one, pairs}
 use Rattle.sg_words.specs.RaceMachine.{HasOthersBefore, MayPut, place_in_order, after_join}
-use Rattle.sg_words.proofs.Uses.{total-append}
+use Rattle.sg_words.proofs.Uses.{total-append, pairs-snoc, pair_cases}
 use Rattle.sg_hash.specs.declared.ask.Ask.{Ask}
 use Rattle.sg_hash.specs.declared.ask.Ask.TheVariants as ask
-use Rattle.sg_hash.specs.Asking.{Answered, AnsweredBeside, AnsweredKey, HasPut, SameTeam}
+use Rattle.sg_hash.specs.Asking.{HasLinkedBesideKeys, Answered, AnsweredBeside, AnsweredKey, HasPut, SameTeam}
 use Rattle.sg_hash.specs.steps.Searching.{TellKeys, SameKeys, Searched, PutAt, SearchFound, HasLookedPast}
 use Rattle.sg_hash.proofs.Turns.{place_comes}
 use Rattle.sg_hash.proofs.Keys.{same-searched, searched-twice, others-grow}
@@ -101,3 +101,35 @@ full-joins n v w a b c e mine theirs is = go a b (sym e ∙ is) mine theirs
 
 pub others-same : (n key j : ℕ) (v w : Worker) → w.keys ≡ v.keys → HasOthersBefore n key j v → HasOthersBefore n key j w
 others-same n key j v w e has i below = let o = has i below in (o.0, o.1, subst (λ l. 0 < pairs (place_in_order n key i) o.0 l) (sym e) o.2)
+
+-- ---- links beside keys
+-- where no link was made, and the keys that were found are still there
+pub beside-kept : (v w : Worker) → w.made ≡ v.made → ((p k : ℕ) → 0 < pairs p k v.keys → 0 < pairs p k w.keys) → HasLinkedBesideKeys v → HasLinkedBesideKeys w
+beside-kept v w same grows beside p t has = let b = beside p t (subst (λ l. 0 < pairs p t l) same has) in (b.0, grows p b.0 b.1)
+
+-- one more link, at a place where a key was found
+beside-more : (p' t' key : ℕ) (v w : Worker) → w.made ≡ v.made ++ (p', t') ∷ [] → 0 < pairs p' key w.keys → ((p k : ℕ) → 0 < pairs p k v.keys → 0 < pairs p k w.keys)
+    → HasLinkedBesideKeys v → HasLinkedBesideKeys w
+beside-more p' t' key v w is found grows beside p t has =
+    let s = pairs-snoc p t v.made (p', t') in
+    let more : 0 < pairs p t (v.made ++ (p', t') ∷ []) = subst (λ l. 0 < pairs p t l) is has in
+    pair_cases (λ n. pairs p t (v.made ++ (p', t') ∷ []) ≡ pairs p t v.made + n → (k : ℕ) × (0 < pairs p k w.keys)) p' t' p t
+    (λ e _ _. (key, subst (λ q. 0 < pairs q key w.keys) e found))
+    (λ _ e. let b = beside p t (omega arith) in (b.0, grows p b.0 b.1)) s
+
+-- the ask for the slot at the place where the key was found
+pub beside-asked : (slot key : ℕ) (u v w : Worker) (answer : Ask) → Searched u v → 0 < pairs slot key v.keys → SameKeys v w → Answered slot v answer w
+    → HasLinkedBesideKeys u → HasLinkedBesideKeys w
+beside-asked slot key u v w (ask.Node n) s found same a beside =
+    ⊎_elim (λ e. beside-kept u w (e ∙ s.made) (keys-grow u v w s same) beside)
+    (λ e. beside-more slot e.0 key u w (e.1 ∙ ap (λ l. l ++ (slot, e.0) ∷ []) s.made) (subst (λ l. 0 < pairs slot key l) (sym same.0) found) (keys-grow u v w s same) beside) a.1
+beside-asked slot key u v w ask.Dry s found same a beside = beside-kept u w (a.1 ∙ s.made) (keys-grow u v w s same) beside
+
+-- a seat into which another was joined
+pub beside-joined : (v w both : Worker) → both.made ≡ v.made ++ w.made → both.keys ≡ v.keys ++ w.keys → HasLinkedBesideKeys v → HasLinkedBesideKeys w → HasLinkedBesideKeys both
+beside-joined v w both made keys mine theirs p t has =
+    let a : pairs p t both.made ≡ pairs p t v.made + pairs p t w.made = ap (pairs p t) made ∙ total-append (λ (x : ℕ × ℕ). one ((x.0 == p) && (x.1 == t))) v.made w.made in
+    let b : (k : ℕ) → pairs p k both.keys ≡ pairs p k v.keys + pairs p k w.keys = λ k. ap (pairs p k) keys ∙ total-append (λ (x : ℕ × ℕ). one ((x.0 == p) && (x.1 == k))) v.keys w.keys in
+    dite (ℕ_discrete (pairs p t v.made) 0)
+    (λ none. let o = theirs p t (omega arith) in let e = b o.0 in let h = o.1 in (o.0, omega arith))
+    (λ some. let o = mine p t (omega arith) in let e = b o.0 in let h = o.1 in (o.0, omega arith))

@@ -33,6 +33,10 @@ HasPut key v w = (w.put ≡ v.put) ⊎ (w.put ≡ v.put ++ key ∷ [])
 abbrev pub AnsweredBeside : ℕ → Worker → Ask → Worker → Type 0
 AnsweredBeside key v answer w = (p : ℕ) × (0 < pairs p key w.keys) × Answered p v answer w
 
+-- each link that a worker made stands at a place where it has found or put a key
+abbrev pub HasLinkedBesideKeys : Worker → Type 0
+HasLinkedBesideKeys v = (p t : ℕ) → 0 < pairs p t v.made → (k : ℕ) × (0 < pairs p k v.keys)
+
 -- What a seat knows after an ask for a key among n places: it asked for the slot beside the key. Or it found another key in every place,
 -- did no more, and is full
 abbrev pub AnsweredKey : ℕ → ℕ → Worker → Bool → Ask → Worker → Bool → Type 0

@@ -1,6 +1,8 @@
 -- Worked equations: four places, with the keys 6 at its first place and 2 behind it.
-use Rattle.std.specs.Prelude.{◌≡◌, ℕ, Some, None, List, [], ◌∷◌, refl}
+use Rattle.std.specs.Prelude.{◌≡◌, ℕ, zero, suc, Some, None, List, [], ◌∷◌, refl}
+use Rattle.std.proofs.Common.{lit<, arith}
 use Rattle.sg_hash.specs.Tables.{place, beside}
+use Rattle.sg_hash.specs.Finishing.{LinksHaveKeys}
 
 abbrev pub keys : List ℕ
 keys = 0 ∷ 0 ∷ 7 ∷ 3 ∷ []
@@ -26,3 +28,20 @@ beside_six = refl
 
 pub beside_ten : beside keys links 10 ≡ None
 beside_ten = refl
+
+-- links stand at the last two places, and keys do
+pub two_links_have_keys : LinksHaveKeys keys links
+two_links_have_keys zero linked = linked
+two_links_have_keys (suc zero) linked = linked
+two_links_have_keys (suc (suc zero)) linked = lit< tt
+two_links_have_keys (suc (suc (suc zero))) linked = lit< tt
+two_links_have_keys (suc (suc (suc (suc p)))) linked = linked
+
+-- a key without a link is no fault
+pub seven_without_link : LinksHaveKeys (8 ∷ []) (0 ∷ [])
+seven_without_link zero linked = lit< tt
+seven_without_link (suc p) linked = linked
+
+-- a link without a key is one
+pub four_without_key : LinksHaveKeys (0 ∷ []) (5 ∷ []) → ⊥
+four_without_key have = let key = have 0 (lit< tt) in omega arith

@@ -38,6 +38,10 @@ pub record KeysSettled (old : List ℕ) (v : Worker) (new : List ℕ) (full : Bo
   pub table : IsTable new
   pub filled : full ≡ true → full_words new ≡ length new
 
+-- a link stands only where a key stands
+abbrev pub LinksHaveKeys : List ℕ → List ℕ → Type 0
+LinksHaveKeys keys links = (p : ℕ) → 0 < slice_index links p → 0 < slice_index keys p
+
 -- the drawn numbers that aren't linked: those of the tickets that are spares of the last seat or were left to it, at most as many as workers
 pub record AreSpares (stock : List ℕ) (v : Worker) (spares : List ℕ) : Type 0 where
   pub stand : (t : ℕ) → t < length stock → times_in (slice_index stock t) spares ≡ pairs 0 t v.spare + pairs 0 t v.left

@@ -3,6 +3,7 @@ use Rattle.std.specs.Prelude.{◌≡◌, ℕ, ◌<◌, Bool, true, List, [], ◌
 use Rattle.sg_words.specs.declared.race.Worker.{Worker}
 use Rattle.sg_words.specs.Counts.{pairs}
 use Rattle.sg_words.specs.RaceMachine.{HasOthersBefore}
+use Rattle.sg_hash.specs.Asking.{HasLinkedBesideKeys}
 use Rattle.sg_hash.specs.declared.seat.HashSeat.{HashSeat}
 use Rattle.sg_hash.specs.declared.seat.HashPass.{HashPass}
 
@@ -32,7 +33,8 @@ pub record IsSeatAt (p : HashPass) (s : HashSeat) : Type 0 where
   pub told : (worker_of s).told ≡ length (stock_of p) ∷ length (old_links p) ∷ []
   pub spare : (t : ℕ) → 0 < pairs 0 t (worker_of s).spare → t < length (stock_of p)
 
--- a seat of this pass: and where it is full, it found another key in every place of some key's order
+-- a seat of this pass: where it is full, it found another key in every place of some key's order; and its links stand beside keys
 pub record IsSeatOf (p : HashPass) (s : HashSeat) : Type 0 where
   pub at : IsSeatAt p s
   pub others : is_full s ≡ true → (k : ℕ) × HasOthersBefore (length (old_links p)) k (length (old_links p)) (worker_of s)
+  pub beside : HasLinkedBesideKeys (worker_of s)

@@ -4,7 +4,7 @@ ghost use Rattle.std.specs.Mem.Slots.{slots_items, slots_len, IsFull};
 ghost use Rattle.sg_words.specs.Counts.{times_in};
 ghost use Rattle.sg_words.specs.RaceInvariant.{handed_share};
 ghost use Rattle.sg_hash.specs.Asking.{AreLinks, is_dry};
-ghost use Rattle.sg_hash.specs.Finishing.{Settled, KeysSettled, AreSpares, taken_of};
+ghost use Rattle.sg_hash.specs.Finishing.{Settled, KeysSettled, LinksHaveKeys, AreSpares, taken_of};
 ghost use Rattle.sg_hash.specs.steps.Ending.{Ended, outside};
 ghost use Rattle.sg_hash.specs.Seats.{old_keys, old_links, stock_of, worker_of, is_full, IsSeatOf};
 
@@ -44,6 +44,7 @@ impl HashPass {
         requires all { handed_share (worker_of seat) ≡ 16 }
         ensures settled { IfOk result (λ linked. Settled (old_links self) (stock_of self) (worker_of seat) linked.links) }
         ensures keys { IfOk result (λ linked. KeysSettled (old_keys self) (worker_of seat) linked.keys (is_full seat)) }
+        ensures beside { IfOk result (λ linked. LinksHaveKeys (old_keys self) (old_links self) → LinksHaveKeys linked.keys linked.links) }
         ensures dry { IfOk result (λ linked. linked.dry ≡ (is_dry (worker_of seat) || is_full seat)) }
         ensures taken { IfOk result (λ linked. linked.taken ≡ taken_of (old_links self) linked.links) }
         ensures spares { IfOk result (λ linked. AreSpares (stock_of self) (worker_of seat) linked.spares) }

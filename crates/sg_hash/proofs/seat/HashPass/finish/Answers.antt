@@ -4,7 +4,7 @@ use Rattle.sg_words.specs.Counts.{times_in}
 use Rattle.sg_hash.specs.declared.rule.Start.{Start}
 use Rattle.sg_hash.specs.Finishing.{AreSpares, taken_of}
 use Rattle.sg_hash.specs.steps.Ending.{outside}
-use Rattle.sg_hash.proofs.Endings.{settled, keys_settled, are_spares}
+use Rattle.sg_hash.proofs.Endings.{settled, keys_settled, links_have_keys, are_spares}
 use Rattle.sg_hash.proofs.seat.HashPass.finish.Goals as goal
 
 pub returns-clause-settled : goal.returns-clause-settled
@@ -16,6 +16,12 @@ pub returns-clause-keys : goal.returns-clause-keys
 returns-clause-keys c =
     let g = c.gather-start in
     keys_settled c.args.self.start c.args.seat.seat.me.0 g.result.links g.result.keys g.result.count c.args.seat.full c.requires.all c.args.self.many c.requires.own.others g.ensures.ended
+
+pub returns-clause-beside : goal.returns-clause-beside
+returns-clause-beside c =
+    let g = c.gather-start in
+    let start = c.args.self.start in
+    links_have_keys start.links start.keys start.stock c.args.seat.seat.me.0 g.result.links g.result.keys c.args.seat.full (returns-clause-settled c) (returns-clause-keys c) c.requires.own.beside
 
 pub returns-clause-spares : goal.returns-clause-spares
 returns-clause-spares c =

@@ -1,7 +1,7 @@
 use Rattle.std.proofs.Common.{rules, ◌<◌, refl, sym, ap, ◌∙◌, subst, arith}
 use Rattle.sg_words.specs.Counts.{pairs}
 use Rattle.sg_hash.proofs.Passes.{split-allowed}
-use Rattle.sg_hash.proofs.Searches.{full-grows}
+use Rattle.sg_hash.proofs.Searches.{full-grows, beside-kept}
 use Rattle.sg_hash.proofs.seat.HashPass.split.Goals as goal
 
 pub split_seat-other-requires : goal.split_seat-other-requires
@@ -20,4 +20,6 @@ returns-clause-own c =
       };
       others = full-grows _ c.args.seat.now.seat.me.0 c.split_seat-other.new.seat.me.0 c.args.seat.now.full c.args.seat.now.full refl
           (λ p k has. subst (λ l. 0 < pairs p k l) (sym (ap (λ m. m.0.keys) h.2)) has) c.requires.own.others;
+      beside = beside-kept c.args.seat.now.seat.me.0 c.split_seat-other.new.seat.me.0 (ap (λ m. m.0.made) h.2)
+          (λ p k has. subst (λ l. 0 < pairs p k l) (sym (ap (λ m. m.0.keys) h.2)) has) c.requires.own.beside;
     }
