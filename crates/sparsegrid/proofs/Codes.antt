@@ -14,8 +14,9 @@ use Rattle.sparsegrid.specs.declared.session.Done.{Done}
 use Rattle.sparsegrid.specs.Words.{Asked, good_words, is_gen}
 use Rattle.sparsegrid.specs.Meaning.{Meaning, meaning, meaning_by, asks_code, with_text, with_code}
 use Rattle.sparsegrid.specs.Outcome.{Outside, HasWholeText, IsCutShort, IsEnding, HasSession, LeavesSession, code_in, Wrote, WroteMeaning, WroteStopped, WentAFront, WroteFront, EndsAs, AsksAs, ReadFaults, PutFaults, CountOf, ReadCount, StandsForLast, asked_more, counted_more}
-use Rattle.sparsegrid.specs.steps.Along.{SendCause, status_of, session_of, Went, IsEnd, IsDue, code_left, PutsCode}
+use Rattle.sparsegrid.specs.steps.Along.{KeepsWritten, SendCause, status_of, session_of, Went, IsEnd, IsDue, code_left, PutsCode}
 use Rattle.sparsegrid.proofs.Writing.{followed_by-nil, followed_by-twice}
+use Rattle.sparsegrid.proofs.Lowered.{words_silent}
 use Rattle.sparsegrid.proofs.Clauses as clauses
 
 -- ---- the text of code behind that of a meaning
@@ -219,6 +220,24 @@ module _ (words : List (List ℕ)) (before mid : Outside) (result : Result Done 
         (sym (due_code lost.0) ∙ lost.2.whole) (λ three. lost.2.less)))
     by_puts (inr (inr out)) = subst (λ (d : Done). Fronts held (code_in d.session) d.status) (sym out.1)
         (inl (front_part words before mid written failed [] (meaning words held None) 9 (due_asks out.0) (due_wrote out.0 held told) [] [] (out.2 ∙ sym (followed_by-nil mid.written)) refl (λ three. absurd (omega (arith, three)))))
+
+  -- in mode lower nothing was written where memory ran out
+  pub quiet : (asks_code (good_words words) ≡ true → KeepsWritten result before.written mid.written) → asks_code (good_words words) ≡ true → end.status ≡ 9 → written ≡ before.written
+  quiet keeps wanted nine = by_puts puts where
+    by_result : (r : Result Done (Stop PutFailed)) → IfOk r IsEnd → KeepsWritten r before.written mid.written → status_of r ≡ 9 → mid.written ≡ before.written
+    by_result (Ok it) e k is = absurd (e.1 is)
+    by_result (Err (stop.Refused why)) e k is = absurd (omega (arith, is))
+    by_result (Err stop.Memory) e k is = k
+
+    by_puts : PutsCode lower done end mid.written written mid.failed_puts failed → written ≡ before.written
+    by_puts (inl so) =
+        let is : done.status ≡ 9 = sym (ap (λ (d : Done). d.status) so.0) ∙ nine in
+        so.1 ∙ (ap (followed_by mid.written) (none_due (no_session (inr is))) ∙ (followed_by-nil mid.written ∙ by_result result is_end (keeps wanted) (sym status ∙ is)))
+    by_puts (inr (inl lost)) = let is_three : end.status ≡ 3 = ap (λ (d : Done). d.status) lost.1 in absurd (omega (arith, is_three, nine))
+    by_puts (inr (inr out)) =
+        let zero : status_of result ≡ 0 = sym status ∙ out.0.all_done in
+        let found = clauses.ended words before mid result went is_end ((λ three. absurd (omega (arith, zero, three))), (λ nine. absurd (omega (arith, zero, nine)))) in
+        out.2 ∙ (found.1.text ∙ (ap (followed_by before.written) (words_silent words found.0 wanted (sym found.1.status ∙ zero)) ∙ followed_by-nil before.written))
 
   pub ended : IsEnding end.status → EndsAs words (code_in end.session) before after end.status
   ended ending = by_puts puts where

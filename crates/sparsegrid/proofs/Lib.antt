@@ -15,6 +15,11 @@ pub mod Tasks
 pub mod Clauses
 pub mod Sources
 pub mod OfFile
+pub mod Lowered
 pub mod Codes
 pub mod Unread
+pub mod SamePrograms
+pub mod Lefts
+pub mod NoGrids
+pub mod TwoRuns
 pub mod Generating

@@ -6,5 +6,6 @@ pub mod Generated
 pub mod Meaning
 pub mod Outcome
 pub mod Laws
+pub mod Independence
 pub mod steps
 pub mod Examples

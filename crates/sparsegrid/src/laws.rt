@@ -1,6 +1,10 @@
 //! What follows from the clauses and the meaning of a run, each as the contract of a function that does nothing.
 
+ghost use Rattle.sparsegrid.specs.Independence.{LayoutsDontMatterToRuns, MeaningIsOfCommands};
 ghost use Rattle.sparsegrid.specs.Laws.{FaultlessIsWhole, GeneratedIsText};
+
+use sg_parser::laws::parsed_is_spelled;
+use sg_session::laws::layouts_dont_matter;
 
 /// Where neither count of faults rose and memory didn't run out, a run wrote the whole of what it means.
 pub fn faultless_is_whole()
@@ -12,3 +16,19 @@ pub fn faultless_is_whole()
 pub fn generated_is_text()
     ensures { GeneratedIsText }
 {}
+
+/// Where nothing is refused, the commands of a run are performed one after the other, and the run means what they leave.
+pub fn meaning_is_of_commands()
+    ensures { MeaningIsOfCommands }
+{}
+
+/// Two runs whose programs differ in the nodes of their layouts alone, and that run neutral kernels alone, mean the same values after each
+/// command and at the end, and the same images, where neither of them refuses anything.
+pub fn layouts_dont_matter_to_runs()
+    ensures { LayoutsDontMatterToRuns }
+{
+    // for the laws that they ensure
+    parsed_is_spelled();
+    meaning_is_of_commands();
+    layouts_dont_matter();
+}

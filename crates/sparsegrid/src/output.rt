@@ -1,5 +1,5 @@
 ghost use Rattle.std.specs.Prelude.{◌≡◌, ℕ, List, Option, ◌<◌, IfOk};
-ghost use Rattle.sparsegrid.specs.steps.Along.{Sends, SendCause, WroteAll, line_text};
+ghost use Rattle.sparsegrid.specs.steps.Along.{Sends, KeepsWritten, SendCause, WroteAll, line_text};
 
 use crate::last_line::LastLine;
 use sg_outside::{Put, Sink};
@@ -14,6 +14,7 @@ pub struct PutFailed;
 #[tactic(auto, using(crate::proofs::Writing::part_taken))]
 pub fn send<S: Sink>(out: &mut S, text: &[u8]) -> Result<(), Stop<PutFailed>>
     ensures bytes { Sends result (S.has out.old) (S.has out.new) text.now }
+    ensures quiet { KeepsWritten result (S.has out.old) (S.has out.new) }
     ensures cause { SendCause result (S.faults out.old) (S.faults out.new) }
 {
     if text.is_empty() {
@@ -33,6 +34,7 @@ pub fn send_last<S: Sink>(
     last: &LastLine,
 ) -> Result<u8, Stop<PutFailed>>
     ensures wrote { WroteAll result (line_text last.now) last.now.status (S.has out.old) (S.has out.new) }
+    ensures quiet { KeepsWritten result (S.has out.old) (S.has out.new) }
     ensures cause { SendCause result (S.faults out.old) (S.faults out.new) }
     ensures status { IfOk result (λ status. status ≡ last.now.status) }
 {

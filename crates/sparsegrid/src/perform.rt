@@ -8,7 +8,7 @@ ghost use Rattle.sg_session.specs.Bindings.{binding_read};
 ghost use Rattle.sg_flat.specs.State.{opening};
 ghost use Rattle.sparsegrid.specs.Meaning.{meaning_of_run, meaning_of_tasks, is_unbound, all_done};
 ghost use Rattle.sparsegrid.specs.Outcome.{outside_of, HasSession};
-ghost use Rattle.sparsegrid.specs.steps.Along.{WentAlong, Went, SendCause, IsEnd, LeavesProgram};
+ghost use Rattle.sparsegrid.specs.steps.Along.{WentAlong, KeepsWritten, Went, SendCause, IsEnd, LeavesProgram};
 
 use crate::drive::drive;
 use crate::output::{PutFailed, send};
@@ -49,6 +49,7 @@ pub(crate) fn leave_open<R: Threads + Sync, S: Sink>(
     out: &mut S,
 ) -> Result<Done, Stop<PutFailed>>
     ensures along { WentAlong (all_done text.now (opening compiled.layouts)) (S.has out.old) (S.has out.new) result }
+    ensures quiet { KeepsWritten result (S.has out.old) (S.has out.new) }
     ensures cause { SendCause result (S.faults out.old) (S.faults out.new) }
     ensures end { IfOk result IsEnd }
     ensures program { LeavesProgram compiled result }

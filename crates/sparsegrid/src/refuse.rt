@@ -6,7 +6,7 @@ ghost use Rattle.sg_session.specs.Compiling.{spelled_program};
 ghost use Rattle.sg_session.specs.Compiled.{IsTask};
 ghost use Rattle.sparsegrid.specs.Lines.{words_last, no_file_last, read_last, file_bytes_last, field_text, refusal_last};
 ghost use Rattle.sparsegrid.specs.Meaning.{items_or_none, refused_before_tasks};
-ghost use Rattle.sparsegrid.specs.steps.Along.{WentAlong, SendCause};
+ghost use Rattle.sparsegrid.specs.steps.Along.{WentAlong, KeepsWritten, SendCause};
 
 use crate::last_line::{
     LastLine, file_bytes_last, no_file_last, read_last, refusal_last, words_last,
@@ -22,6 +22,7 @@ use std::alloc::Global;
 /// Writes the last line of a run that leaves no session.
 fn refuse<S: Sink>(alloc: Global, out: &mut S, last: &LastLine) -> Result<Done, Stop<PutFailed>>
     ensures along { WentAlong (refused_before_tasks last.now) (S.has out.old) (S.has out.new) result }
+    ensures quiet { KeepsWritten result (S.has out.old) (S.has out.new) }
     ensures cause { SendCause result (S.faults out.old) (S.faults out.new) }
     ensures status { IfOk result (λ done. done.status ≡ last.now.status) }
     ensures session { IfOk result (λ done. done.session ≡ None) }
@@ -38,6 +39,7 @@ fn refuse<S: Sink>(alloc: Global, out: &mut S, last: &LastLine) -> Result<Done, 
 /// Writes the last line of a run with bad words.
 pub(crate) fn refuse_words<S: Sink>(alloc: Global, out: &mut S) -> Result<Done, Stop<PutFailed>>
     ensures along { WentAlong (refused_before_tasks words_last) (S.has out.old) (S.has out.new) result }
+    ensures quiet { KeepsWritten result (S.has out.old) (S.has out.new) }
     ensures cause { SendCause result (S.faults out.old) (S.faults out.new) }
     ensures status { IfOk result (λ done. done.status ≡ 1) }
     ensures session { IfOk result (λ done. done.session ≡ None) }
@@ -51,6 +53,7 @@ pub(crate) fn refuse_words<S: Sink>(alloc: Global, out: &mut S) -> Result<Done, 
 /// Writes the last line of a run whose file has too many bytes.
 pub(crate) fn refuse_long<S: Sink>(alloc: Global, out: &mut S) -> Result<Done, Stop<PutFailed>>
     ensures along { WentAlong (refused_before_tasks file_bytes_last) (S.has out.old) (S.has out.new) result }
+    ensures quiet { KeepsWritten result (S.has out.old) (S.has out.new) }
     ensures cause { SendCause result (S.faults out.old) (S.faults out.new) }
     ensures status { IfOk result (λ done. done.status ≡ 8) }
     ensures session { IfOk result (λ done. done.session ≡ None) }
@@ -68,6 +71,7 @@ pub(crate) fn refuse_read<S: Sink>(
     name: &str,
 ) -> Result<Done, Stop<PutFailed>>
     ensures along { WentAlong (refused_before_tasks (read_last name.now)) (S.has out.old) (S.has out.new) result }
+    ensures quiet { KeepsWritten result (S.has out.old) (S.has out.new) }
     ensures cause { SendCause result (S.faults out.old) (S.faults out.new) }
     ensures status { IfOk result (λ done. done.status ≡ 2) }
     ensures session { IfOk result (λ done. done.session ≡ None) }
@@ -107,6 +111,7 @@ pub(crate) fn refuse_source<S: Sink>(
 ) -> Result<Done, Stop<PutFailed>>
     requires { length bytes.now ≤ most_file_bytes }
     ensures along { WentAlong (refused_before_tasks (refusal_last (items_or_none (spelled_program bytes.now)) refusal)) (S.has out.old) (S.has out.new) result }
+    ensures quiet { KeepsWritten result (S.has out.old) (S.has out.new) }
     ensures cause { SendCause result (S.faults out.old) (S.faults out.new) }
     ensures status { IfOk result (λ done. done.status ≡ (refusal_last (items_or_none (spelled_program bytes.now)) refusal).status) }
     ensures session { IfOk result (λ done. done.session ≡ None) }

@@ -11,7 +11,7 @@ ghost use Rattle.sparsegrid.specs.Words.{asked_by, good_words};
 ghost use Rattle.sparsegrid.specs.Meaning as spec;
 ghost use Rattle.sparsegrid.specs.Meaning.{asks_code, meaning, meaning_by, meaning_of_asked, meaning_of_compiled, meaning_in};
 ghost use Rattle.sparsegrid.specs.Outcome.{outside_of, HasWholeText, IsCutShort, IsEnding, LeavesSession, code_in, WroteMeaning, WroteStopped, WroteFront, EndsAs, AsksAs, ReadFaults, PutFaults, ReadCount, StandsForLast, IsOfAsked, IsOfFile};
-ghost use Rattle.sparsegrid.specs.steps.Along.{Went, SendCause, IsEnd, LeavesOnly, LeavesProgram, status_of, session_of, PutsCode};
+ghost use Rattle.sparsegrid.specs.steps.Along.{Went, KeepsWritten, SendCause, IsEnd, LeavesOnly, LeavesProgram, status_of, session_of, PutsCode};
 
 use crate::generated::{generated_text, is_gen};
 use crate::output::{PutFailed, send};
@@ -58,6 +58,8 @@ pub fn run<R: Threads + Sync, F: Files, S: Sink, G: Gate + Sync>(
     // of the files was read.
     ensures front { IsCutShort result.status → WroteFront (texts words.now) (code_in result.session)
         (outside_of F.Files S.Sink files.old out.old) (outside_of F.Files S.Sink files.new out.new) result.status }
+    // In mode lower want of memory leaves the written bytes as they were.
+    ensures quiet { asks_code (good_words (texts words.now)) ≡ true → result.status ≡ 9 → S.has out.new ≡ S.has out.old }
     // Whatever the files and the sink tell, a run that came to its end ended as it means where its reads give some readings.
     ensures ended { IsEnding result.status → EndsAs (texts words.now) (code_in result.session)
         (outside_of F.Files S.Sink files.old out.old) (outside_of F.Files S.Sink files.new out.new) result.status }
@@ -156,6 +158,7 @@ fn answer<R: Threads + Sync, F: Files, S: Sink, G: Gate + Sync>(
     requires { lower.old ≡ false }
     ensures went { Went (meaning_by (texts words.now)) 0
         (outside_of F.Files S.Sink files.old out.old) (outside_of F.Files S.Sink files.new out.new) result }
+    ensures quiet { asks_code (good_words (texts words.now)) ≡ true → KeepsWritten result (S.has out.old) (S.has out.new) }
     ensures holds { F.holds files.new ≡ F.holds files.old }
     ensures never_falls { F.faults files.old ≤ F.faults files.new }
     ensures cause { SendCause result (S.faults out.old) (S.faults out.new) }
@@ -198,6 +201,7 @@ fn run_asked<R: Threads + Sync, F: Files, S: Sink, G: Gate + Sync>(
     requires few { asked.now.workers ≤ 16 }
     ensures went { Went (meaning_of_asked (asked_by asked.now)) 0
         (outside_of F.Files S.Sink files.old out.old) (outside_of F.Files S.Sink files.new out.new) result }
+    ensures quiet { spec.is_lower asked.now.mode ≡ true → KeepsWritten result (S.has out.old) (S.has out.new) }
     ensures holds { F.holds files.new ≡ F.holds files.old }
     ensures never_falls { F.faults files.old ≤ F.faults files.new }
     ensures cause { SendCause result (S.faults out.old) (S.faults out.new) }
@@ -226,6 +230,7 @@ fn run_generated<R: Threads + Sync, F: Files, S: Sink, G: Gate + Sync>(
     requires number { spec_words.is_gen asked.now.mode ≡ true }
     ensures went { Went (meaning_of_asked (asked_by asked.now)) 0
         (outside_of F.Files S.Sink files.old out.old) (outside_of F.Files S.Sink files.new out.new) result }
+    ensures quiet { spec.is_lower asked.now.mode ≡ true → KeepsWritten result (S.has out.old) (S.has out.new) }
     ensures holds { F.holds files.new ≡ F.holds files.old }
     ensures never_falls { F.faults files.old ≤ F.faults files.new }
     ensures cause { SendCause result (S.faults out.old) (S.faults out.new) }
@@ -253,6 +258,7 @@ fn run_file<R: Threads + Sync, F: Files, S: Sink, G: Gate + Sync>(
     requires file { spec_words.is_gen asked.now.mode ≡ false }
     ensures went { Went (meaning_of_asked (asked_by asked.now)) 0
         (outside_of F.Files S.Sink files.old out.old) (outside_of F.Files S.Sink files.new out.new) result }
+    ensures quiet { spec.is_lower asked.now.mode ≡ true → KeepsWritten result (S.has out.old) (S.has out.new) }
     ensures holds { F.holds files.new ≡ F.holds files.old }
     ensures never_falls { F.faults files.old ≤ F.faults files.new }
     ensures cause { SendCause result (S.faults out.old) (S.faults out.new) }
@@ -285,6 +291,7 @@ fn run_source<R: Threads + Sync, F: Files, S: Sink, G: Gate + Sync>(
     requires few { asked.now.workers ≤ 16 }
     ensures went { Went (λ readings. meaning_of_compiled (asked_by asked.now) readings bytes.now (compiled_program bytes.now)) 1
         (outside_of F.Files S.Sink files.old out.old) (outside_of F.Files S.Sink files.new out.new) result }
+    ensures quiet { spec.is_lower asked.now.mode ≡ true → KeepsWritten result (S.has out.old) (S.has out.new) }
     ensures holds { F.holds files.new ≡ F.holds files.old }
     ensures never_falls { F.faults files.old ≤ F.faults files.new }
     ensures cause { SendCause result (S.faults out.old) (S.faults out.new) }
@@ -313,6 +320,7 @@ fn run_compiled<R: Threads + Sync, F: Files, S: Sink, G: Gate + Sync>(
     ensures went { (program : CheckedProgram) → Compiles program compiled →
         Went (meaning_in asked.now.mode program (map binding_read asked.now.binds.list)) 1
         (outside_of F.Files S.Sink files.old out.old) (outside_of F.Files S.Sink files.new out.new) result }
+    ensures quiet { spec.is_lower asked.now.mode ≡ true → KeepsWritten result (S.has out.old) (S.has out.new) }
     ensures holds { F.holds files.new ≡ F.holds files.old }
     ensures never_falls { F.faults files.old ≤ F.faults files.new }
     ensures cause { SendCause result (S.faults out.old) (S.faults out.new) }

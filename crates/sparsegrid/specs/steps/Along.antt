@@ -37,6 +37,12 @@ Sends (Ok done) old new text = new ≡ followed_by old text
 Sends (Err (stop.Refused failed)) old new text = GrewByPart old new text
 Sends (Err stop.Memory) old new text = new ≡ old
 
+-- where memory ran out, the written bytes stayed as they were
+abbrev pub KeepsWritten : {A : Type 0} → Result A (Stop PutFailed) → Option (List ℕ) → Option (List ℕ) → Type 0
+KeepsWritten (Ok done) old new = Unit {0}
+KeepsWritten (Err (stop.Refused failed)) old new = Unit {0}
+KeepsWritten (Err stop.Memory) old new = new ≡ old
+
 -- the sink's count of faults rose, and didn't fall, where a put failed, and else stays
 abbrev pub SendCause : {A : Type 0} → Result A (Stop PutFailed) → ℕ → ℕ → Type 0
 SendCause (Ok done) old new = new ≡ old

@@ -128,22 +128,35 @@ impl Sink for NarrowSink {
     }
 }
 
-/// A source, how many puts there is room for, and the status.
-static ROOMS: &[(&str, u32, u8)] = &[
-    (TWO_DUMPS, 0, 9),
-    (TWO_DUMPS, 1, 9),
-    (TWO_DUMPS, 2, 0),
-    (DUMP_AND_REFUSAL, 1, 9),
-    (DUMP_AND_REFUSAL, 2, 7),
+const RUN: &[&str] = &["p.sg"];
+
+const LOWER: &[&str] = &["--mode", "lower", "p.sg"];
+
+/// The words, a source, how many puts there is room for, and the status. In mode lower there is one put.
+static ROOMS: &[(&[&str], &str, u32, u8)] = &[
+    (RUN, TWO_DUMPS, 0, 9),
+    (RUN, TWO_DUMPS, 1, 9),
+    (RUN, TWO_DUMPS, 2, 0),
+    (RUN, DUMP_AND_REFUSAL, 1, 9),
+    (RUN, DUMP_AND_REFUSAL, 2, 7),
+    (LOWER, TWO_DUMPS, 0, 9),
+    (LOWER, TWO_DUMPS, 1, 0),
+    (LOWER, "kernel", 0, 9),
+    (LOWER, "kernel", 1, 4),
 ];
 
 #[test]
 fn a_sink_with_no_room(rt: HostRuntime) -> Result<(), Fail> {
-    for (source, room, status) in ROOMS {
+    for (words, source, room, status) in ROOMS {
         let mut out = NarrowSink { left: *room };
-        let (ended, session) = Setting::of(source).run_into(&rt, rt.alloc(), &mut out)?;
+        let setting = Setting {
+            words,
+            source,
+            ..SQUARES
+        };
+        let (ended, session) = setting.run_into(&rt, rt.alloc(), &mut out)?;
         assert_eq!(rt; ended, *status, "{source}");
-        assert_eq!(rt; session, *status != 9, "{source}");
+        assert_eq!(rt; session, *status == 0 || *status == 7, "{source}");
     }
     Ok(())
 }

@@ -134,7 +134,7 @@ fn passed<R: Threads + Sync + Abort>(
     ))
 }
 
-/// Each worker passes the gate before each iteration of its slice, which it counts from 0.
+/// Each worker passes the gate before what each iteration of its slice contributes, which it counts from 0.
 #[test]
 fn each_iteration_passes_the_gate(rt: HostRuntime) -> Result<(), Fail> {
     let alloc = rt.alloc();

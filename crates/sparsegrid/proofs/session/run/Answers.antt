@@ -15,6 +15,9 @@ returns-clause-stopped g c = codes.stopped (texts c.args.words.now) _ _ c.answer
 pub returns-clause-front : goal.returns-clause-front
 returns-clause-front g c = codes.front (texts c.args.words.now) _ _ c.answer.result c.answer.ensures.went c.answer.ensures.end _ c.answer.ensures.lower c.done_of-done.result c.with_code.result c.done_of-done.ensures.status c.done_of-done.ensures.session _ _ c.with_code.ensures
 
+pub returns-clause-quiet : goal.returns-clause-quiet
+returns-clause-quiet g c = codes.quiet (texts c.args.words.now) _ _ c.answer.result c.answer.ensures.went c.answer.ensures.end _ c.answer.ensures.lower c.done_of-done.result c.with_code.result c.done_of-done.ensures.status c.done_of-done.ensures.session _ _ c.with_code.ensures c.answer.ensures.quiet
+
 pub returns-clause-ended : goal.returns-clause-ended
 returns-clause-ended g c = codes.ended (texts c.args.words.now) _ _ c.answer.result c.answer.ensures.went c.answer.ensures.end _ c.answer.ensures.lower c.done_of-done.result c.with_code.result c.done_of-done.ensures.status c.done_of-done.ensures.session _ _ c.with_code.ensures
 
