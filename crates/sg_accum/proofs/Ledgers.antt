@@ -97,6 +97,7 @@ gives-in-part seats cell word old now below is gave c =
 -- what a seat is after a contribution to one part
 pub record Gives (cell word : ℕ) (seats now : List PartSeat) : Type 0 where
   pub some : 0 < length now
+  pub long : length (seat_workers now) ≡ length (seat_workers seats)
   pub alike : HaveEqualShares (seat_workers now)
   pub given : (c : ℕ) → given_in_parts (seat_workers now) c ≡ given_in_parts (seat_workers seats) c ++ given_to c ((cell, word) ∷ [])
   pub share : (worker_at (seat_workers now) 0).share ≡ (worker_at (seat_workers seats) 0).share
@@ -123,6 +124,7 @@ gives seats cell word old now below is gave alike =
     let shares = first-share first.share first.back (seat_workers after) some' have in
     record {
       some = some;
+      long = length-map after (λ (s : PartSeat). s.seat.me.0) ∙ length-set seats k now ∙ sym (length-map seats (λ (s : PartSeat). s.seat.me.0));
       alike = alike-from first.share first.back (seat_workers after) have;
       given = gives-in-part seats cell word old now below is gave;
       share = shares.0;

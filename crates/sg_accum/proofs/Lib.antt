@@ -3,6 +3,7 @@ pub mod Events
 pub mod Moves
 pub mod Pieces
 pub mod Ledgers
+pub mod Roomy
 pub mod Giving
 pub mod Rounds
 pub mod Halving

@@ -147,7 +147,7 @@ cut-in-two seat now other left right =
     }
 
 -- two seats of a pass have as many workers
-as-many-workers : (pass : AccPass) (seat other : AccSeat) → IsSeatOf pass seat → IsSeatOf pass other → length (seat_workers other.seats.items) ≡ length (seat_workers seat.seats.items)
+pub as-many-workers : (pass : AccPass) (seat other : AccSeat) → IsSeatOf pass seat → IsSeatOf pass other → length (seat_workers other.seats.items) ≡ length (seat_workers seat.seats.items)
 as-many-workers pass seat other own own' =
     let mine = seat.seats.items in
     let theirs = other.seats.items in

@@ -6,6 +6,7 @@ mod halves;
 pub mod laws;
 mod part;
 pub mod pass;
+mod rooms;
 pub mod rule;
 pub mod seat;
 mod steps;

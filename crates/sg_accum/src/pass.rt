@@ -5,6 +5,7 @@ ghost use Rattle.sg_words.specs.declared.operators.AccOp.TheVariants as acc;
 ghost use Rattle.sg_accum.specs.Folding.{old_values, operator_of, type_of, given_of, share_of, handed_of, IsSeatOf, IsNew, HasGivenWord, IsCut, IsMerged, AreFolded};
 
 use crate::halves::{Begun, begin_all, end_all};
+use crate::rooms::{Cut, Room, Rooms};
 use crate::seat::{AccPass, AccSeat};
 use crate::teams::{join_each, split_each};
 use sg_words::{AccOp, Items, Memory, Ty};
@@ -33,7 +34,8 @@ impl AccPass {
         ensures new { IfOk result (λ r. IsNew 16 r.1) }
     {
         let Begun { parts, seats } = begin_all(rt, alloc, values, op, ty, workers, false)?;
-        Ok((AccPass { parts, op, ty }, AccSeat { seats }))
+        let rooms = Rooms::make(alloc, parts.len())?;
+        Ok((AccPass { parts, op, ty }, AccSeat { seats, rooms }))
     }
 
     /// Adds a word to a cell, modulo 2^32. No refusal, no memory, and no waiting.
@@ -75,17 +77,26 @@ impl AccPass {
         self.parts[place].most(&mut seat.seats[place], cell % PART, word);
     }
 
-    /// A new seat, which takes half of the share, rounded down.
-    pub fn split(&self, alloc: Global, seat: &mut AccSeat) -> Result<AccSeat, Memory>
+    /// A new seat, which takes half of the share, rounded down. No memory: its room was taken when the pass started.
+    pub fn split(&self, seat: &mut AccSeat) -> AccSeat
         requires own { IsSeatOf self.now seat.old }
         requires share { 2 ≤ share_of seat.old }
         ensures own { IsSeatOf self.now seat.new }
-        ensures other { IfOk result (IsSeatOf self.now) }
-        ensures cut { IfOk result (IsCut seat.old seat.new) }
+        ensures other { IsSeatOf self.now result }
+        ensures cut { IsCut seat.old seat.new result }
     {
-        let mut others = Vec::with_capacity(alloc, self.parts.len())?;
+        let Cut {
+            first,
+            mine,
+            theirs,
+        } = std::mem::replace(&mut seat.rooms, Rooms::None).cut();
+        let Room { list: mut others } = first;
         split_each(self.parts.as_slice(), &mut seat.seats, &mut others);
-        Ok(AccSeat { seats: others })
+        seat.rooms = mine;
+        AccSeat {
+            seats: others,
+            rooms: theirs,
+        }
     }
 
     /// Joins another seat into this one: what it has given, its share and what came back to it.
@@ -95,7 +106,7 @@ impl AccPass {
         ensures own { IsSeatOf self.now seat.new }
         ensures merged { IsMerged seat.old other seat.new }
     {
-        let AccSeat { seats } = other;
+        let AccSeat { seats, rooms: _ } = other;
         join_each(self.parts.as_slice(), &mut seat.seats, seats);
     }
 
@@ -113,7 +124,7 @@ impl AccPass {
         ensures { IfOk result (λ parts. AreFolded (operator_of self) (type_of self) (old_values self) (given_of seat) (concat parts.items)) }
     {
         let AccPass { parts, op, ty } = self;
-        let AccSeat { seats } = seat;
+        let AccSeat { seats, rooms: _ } = seat;
         end_all(rt, alloc, op, ty, parts, seats, workers, false)
     }
 }

@@ -21,7 +21,7 @@ fn joined(alloc: Global, parts: Vec<Items<u32>>) -> Result<Vec<u32>, Memory> {
 fn contributions_of_two_seats_are_summed(rt: HostRuntime) -> Result<(), Fail> {
     let values = [4294967295, 7];
     let (pass, mut seat) = AccPass::start(&rt, rt.alloc(), &values, AccOp::Add, Ty::I32, 1)?;
-    let mut other = pass.split(rt.alloc(), &mut seat)?;
+    let mut other = pass.split(&mut seat);
     pass.add(&mut seat, 0, 3);
     pass.add(&mut other, 0, 4294967290);
     pass.add(&mut other, 1, 1);
@@ -73,7 +73,7 @@ fn two_parts<R: Threads + Sync>(rt: &R, alloc: Global, workers: u32) -> Result<V
         Ty::U32,
         workers,
     )?;
-    let mut other = pass.split(alloc, &mut seat)?;
+    let mut other = pass.split(&mut seat);
     give(&pass, &mut seat, 10);
     give(&pass, &mut other, 100);
     pass.add(&mut other, 65_536, 1000);

@@ -75,7 +75,7 @@ fn split_all(
     let mut others = Vec::new(alloc);
     for number in 0..accumulated.len() {
         let seat = &mut seats[number];
-        let other = accumulated[number].pass.split(alloc, seat)?;
+        let other = accumulated[number].pass.split(seat);
         others.push(other)?;
     }
     Ok(others)

@@ -1,4 +1,5 @@
 use Rattle.sg_accum.proofs.Ledgers.{own-stays}
+use Rattle.sg_accum.proofs.Roomy.{rooms-stay}
 use Rattle.sg_accum.proofs.Giving.{part-within, seat-within, takes, giving, given-word}
 use Rattle.std.proofs.Common.{◌/◌, refl}
 use Rattle.sg_accum.proofs.seat.AccPass.add.Goals as goal
@@ -17,7 +18,8 @@ add-requires c =
 pub invariant_of-seat : goal.invariant_of-seat
 invariant_of-seat c =
     let now = giving c.args.self.now c.args.seat.now c.args.cell c.args.word _ _ c.requires.own c.requires.inside c.index_mut.ensures.value c.add.ensures.gave in
-    record { some = now.some; alike = now.alike }
+    let rooms = rooms-stay c.args.seat.now _ now.long now.share in
+    record { some = now.some; alike = now.alike; enough = rooms.enough; room = rooms.each }
 
 pub returns-clause-own : goal.returns-clause-own
 returns-clause-own c = own-stays c.args.self.now.parts.items c.args.seat.now.seats.items (c.args.cell / 65536) _ _ c.index_mut.ensures.value c.add.ensures.own c.requires.own
