@@ -35,7 +35,6 @@ pub mod Settling
 pub mod Uncapped
 pub mod AllActive
 pub mod Answering
-pub mod Uses
 pub mod Giving
 pub mod SideBySide
 pub mod Starting

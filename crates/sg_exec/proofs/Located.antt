@@ -4,7 +4,7 @@ use Rattle.std.specs.Prelude.{filter, slice_get, Contains}
 use Rattle.std.specs.List.{AllZip}
 use Rattle.std.proofs.lemmas.Bool.{cases_Bool, cond-true, cond-false, and_parts, not-false, both_ways}
 use Rattle.std.proofs.lemmas.List.Elements.{All-head, All-tail}
-use Rattle.sg_words.proofs.Uses.{contains_none, contains_cases, contains_head, contains_rest}
+use Rattle.sg_words.proofs.Uses.{contains_none, contains_cases}
 use Rattle.sg_coord.specs.declared.coord.Coord.{Coord}
 use Rattle.sg_layout.specs.declared.shape.Shape.{Shape}
 use Rattle.sg_flat.specs.declared.effects.Domain.{Domain}
@@ -124,35 +124,3 @@ module _ (domain : Domain) (at : Coord) where
         )
     | inr later ↦ left_at_loop (wants_left (may_activate domain first) wants) writes write later out
   ]
-
-  abbrev head_or : Coord → List Coord → Coord
-  head_or d [] = d
-  head_or d (x ∷ xs) = x
-
-  abbrev tail_of : List Coord → List Coord
-  tail_of [] = []
-  tail_of (x ∷ xs) = xs
-
-  -- ---- for the crates above: code whose writes and wants are those of a list of writes has exactly these
-  pub located-whole : (code : Write → CodeWrite) → ((write : Write) (x : Coord) → x ≡ write.at → write_at (code write) x ≡ write) → (writes : List Write) (wants : List CodeWant)
-      → map (λ (want : CodeWant). want.at) wants ≡ map (λ (write : Write). write.at) (filter (acts domain) writes)
-      → ((write : Write) → acts domain write ≡ may_activate domain (code write))
-      → ((write : Write) → Contains writes write → acts domain write ≡ false → write.at ≡ at) → located domain at wants (map code writes) ≡ writes
-  located-whole code is [] wants same acting loop = refl
-  located-whole code is (write ∷ writes) wants same acting loop = elim (cases_Bool (acts domain write)) [
-    | inl may ↦ by_want wants (λ ws more. located-whole code is writes ws more acting (λ w has. loop w (contains_rest w write writes has))) (same ∙ ap (map (λ (w : Write). w.at)) (kept (acts domain) write writes may)) may
-    | inr not ↦
-        step (code write) (map code writes) wants false (sym (acting write) ∙ not)
-        ∙ ap (λ (w : Write). w ∷ located domain at wants (map code writes)) (is write at (sym (loop write (contains_head write write writes refl) not)))
-        ∙ ap (λ (ws : List Write). write ∷ ws) (located-whole code is writes wants (same ∙ ap (map (λ (w : Write). w.at)) (dropped (acts domain) write writes not)) acting (λ w has. loop w (contains_rest w write writes has)))
-  ]
-    where
-      by_want : (wants : List CodeWant) → ((ws : List CodeWant) → map (λ (want : CodeWant). want.at) ws ≡ map (λ (w : Write). w.at) (filter (acts domain) writes) → located domain at ws (map code writes) ≡ writes)
-          → map (λ (want : CodeWant). want.at) wants ≡ write.at ∷ map (λ (w : Write). w.at) (filter (acts domain) writes) → acts domain write ≡ true → located domain at wants (map code (write ∷ writes)) ≡ write ∷ writes
-      by_want [] rest same may = absurd (cc)
-      by_want (want ∷ wants) rest same may =
-          let head : want.at ≡ write.at = ap (head_or at) same in
-          let tail : map (λ (want : CodeWant). want.at) wants ≡ map (λ (w : Write). w.at) (filter (acts domain) writes) = ap tail_of same in
-          step (code write) (map code writes) (want ∷ wants) true (sym (acting write) ∙ may)
-          ∙ ap (λ (w : Write). w ∷ located domain at wants (map code writes)) (is write want.at head)
-          ∙ ap (λ (ws : List Write). write ∷ ws) (rest wants tail)

@@ -271,25 +271,44 @@ same_parts laws one other names names' first second good all same named parts pa
       fits = kernels_fit laws one names parts.layouts parts.kernels good named parts.layouts_are parts.kernels_are;
     }))
 
--- a file that spells a program is compiled as it is, and the program is one of the grammar
-record HasProgram (program : Program) (compiled : CheckedProgram) : Type 0 where
-  grammar : IsTrue (is_program program)
-  is : compiled_tree program ≡ Ok compiled
+-- a file that spells a program is compiled as it is
+tree_is : (file : List ℕ) (program : Program) (compiled : CheckedProgram) → spelled_program file ≡ Ok program → compiled_program file ≡ Ok compiled → compiled_tree program ≡ Ok compiled
+unfolding compiled_program
+tree_is file program compiled spelled e = sym (ap (λ (r : Result Program Refusal). r >>= compiled_tree) spelled) ∙ e
 
-program_kept : ParsedIsSpelled → (file : List ℕ) (program : Program) (compiled : CheckedProgram) → spelled_program file ≡ Ok program → compiled_program file ≡ Ok compiled → HasProgram program compiled
-unfolding spelled_program compiled_program
-program_kept law file program compiled spelled e =
+-- and the program is one of the grammar
+in_grammar : ParsedIsSpelled → (file : List ℕ) (program : Program) → spelled_program file ≡ Ok program → IsTrue (is_program program)
+unfolding spelled_program
+in_grammar law file program spelled =
     let found = bound_ok (fault_as refusal.Lex (tokens file)) (λ (found : Tokens). fault_as refusal.Parse (program_of found.list)) program spelled in
-    record {
-      grammar = (law found.x.list program (as_ok refusal.Parse (program_of found.x.list) program found.gives)).of_grammar;
-      is = sym (ap (λ (r : Result Program Refusal). r >>= compiled_tree) spelled) ∙ e;
-    }
+    (law found.x.list program (as_ok refusal.Parse (program_of found.x.list) program found.gives)).of_grammar
+
+-- the names of two alike programs are the same
+trees_same : (file file' : List ℕ) (first second : CheckedProgram) (alike : AreSameUpToNodes file file' first second) (tree : HasTree alike.one first) (tree' : HasTree alike.other second) → tree.names ≡ tree'.names
+trees_same file file' first second alike tree tree' =
+    tables_same no_tables no_tables 0 0 1 1 alike.one.items alike.other.items tree.names tree'.names refl alike.items tree.named tree'.named
 
 pub programs_same : TextLaws → (file file' : List ℕ) (first second : CheckedProgram) → AreSameUpToNodes file file' first second → HaveSameParts first second
 programs_same laws file file' first second alike =
-    let one = program_kept laws.parsed file alike.one first alike.one_is alike.first_is in
-    let other = program_kept laws.parsed file' alike.other second alike.other_is alike.second_is in
-    let tree = tree_kept alike.one first one.is in
-    let tree' = tree_kept alike.other second other.is in
-    let same = tables_same no_tables no_tables 0 0 1 1 alike.one.items alike.other.items tree.names tree'.names refl alike.items tree.named tree'.named in
-    same_parts laws alike.one alike.other tree.names tree'.names first second one.grammar alike.items same tree.named tree.parts tree'.parts
+    let tree = tree_kept alike.one first (tree_is file alike.one first alike.one_is alike.first_is) in
+    let tree' = tree_kept alike.other second (tree_is file' alike.other second alike.other_is alike.second_is) in
+    same_parts laws alike.one alike.other tree.names tree'.names first second (in_grammar laws.parsed file alike.one alike.one_is) alike.items (trees_same file file' first second alike tree tree') tree.named tree.parts tree'.parts
+
+-- ---- for the crates above: two alike programs have the same names and the same commands
+
+pub record HaveSameTasks (first second : CheckedProgram) : Type 0 where
+  pub names : second.names ≡ first.names
+  pub commands : second.commands ≡ first.commands
+
+pub tasks_same : (file file' : List ℕ) (first second : CheckedProgram) → AreSameUpToNodes file file' first second → HaveSameTasks first second
+tasks_same file file' first second alike =
+    let tree = tree_kept alike.one first (tree_is file alike.one first alike.one_is alike.first_is) in
+    let tree' = tree_kept alike.other second (tree_is file' alike.other second alike.other_is alike.second_is) in
+    let same = trees_same file file' first second alike tree tree' in
+    let one = tree.parts.is in
+    let other = tree'.parts.is in
+    record {
+      names = sym (ap (λ (c : CheckedProgram). c.names) other) ∙ sym same ∙ ap (λ (c : CheckedProgram). c.names) one;
+      commands = sym (ap (λ (c : CheckedProgram). c.commands) other) ∙ ap (λ (names : Tables). stages_of names alike.other.items) (sym same) ∙ sym (stages_same tree.names alike.one.items alike.other.items alike.items)
+          ∙ ap (λ (c : CheckedProgram). c.commands) one;
+    }

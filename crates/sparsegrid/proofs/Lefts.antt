@@ -21,7 +21,7 @@ use Rattle.sg_session.specs.Independence.{left_by, left_by_program, last_after}
 use Rattle.sparsegrid.specs.Lines.{fault_last, run_last}
 use Rattle.sparsegrid.specs.Meaning.{Meaning, Readings, is_unbound, after_task, task_and_more, meaning_of_tasks, meaning_unless, meaning_of_run}
 use Rattle.sparsegrid.specs.Independence.{reading_behind, reads_with, told_from, told, IsWhatIsLeft, MeaningIsOfCommands}
-use Rattle.sparsegrid.proofs.SamePrograms.{bound_ok}
+use Rattle.sg_session.proofs.Uses.{bound_ok}
 
 -- a refused command has a status other than 0
 fault_status : (names : Tables) (kernel : Option ℕ) (fault : RunFault) → (fault_last names kernel fault).status ≡ 0 → ⊥

@@ -18,7 +18,6 @@ pub mod OfFile
 pub mod Lowered
 pub mod Codes
 pub mod Unread
-pub mod SamePrograms
 pub mod Lefts
 pub mod NoGrids
 pub mod TwoRuns

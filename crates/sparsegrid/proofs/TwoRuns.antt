@@ -32,7 +32,7 @@ use Rattle.sparsegrid.specs.Words.{Asked, is_gen, good_words}
 use Rattle.sparsegrid.specs.Meaning.{Meaning, asking_for, readings_in, meaning_of_run, meaning_in, meaning_of_compiled, meaning_of_source, meaning_of_file, meaning_of_generated, meaning_of_asked, meaning_of_words, meaning}
 use Rattle.sparsegrid.specs.Independence.{reading_behind, reads_with, told_from, told, IsWhatIsLeft, MeaningIsOfCommands, AreSameBut, LayoutsDontMatterToRuns}
 use Rattle.sparsegrid.proofs.NoGrids.{no_grid}
-use Rattle.sparsegrid.proofs.SamePrograms.{bound_ok, tasks_same}
+use Rattle.sg_session.proofs.Uses.{bound_ok, tasks_same}
 
 -- ---- a program is no grid of a field
 
