@@ -1,2 +1,3 @@
 pub mod Activating
+pub mod Examples
 pub mod steps

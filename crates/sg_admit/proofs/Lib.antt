@@ -20,3 +20,6 @@ pub mod Corners
 pub mod OneWay
 pub mod Rising
 pub mod WorkedAdmission
+pub mod WorkedKernels
+pub mod WorkedBounds
+pub mod WorkedNeutral

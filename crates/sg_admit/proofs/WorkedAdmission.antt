@@ -33,38 +33,38 @@ use Rattle.sg_admit.proofs.StmtWords.{line_equations, slice_equations}
 
 -- ---- small kernels over the layout 0 with the field 0, and the layout 1 with the field 0
 
-abbrev literal : ℕ → TypedExpr
+abbrev pub literal : ℕ → TypedExpr
 literal word = record { ty = ty.I32; form = form.Literal word }
 
-abbrev name : ℕ → TypedExpr
+abbrev pub name : ℕ → TypedExpr
 name var = record { ty = ty.I32; form = form.Var var }
 
-abbrev bin : BinOp → TypedExpr → TypedExpr → TypedExpr
+abbrev pub bin : BinOp → TypedExpr → TypedExpr → TypedExpr
 bin op left right = record { ty = ty.I32; form = form.Bin op left right }
 
-abbrev read : ℕ → TypedExpr → TypedExpr
+abbrev pub read : ℕ → TypedExpr → TypedExpr
 read layout at = record { ty = ty.I32; form = form.Read layout 0 (at ∷ []) }
 
-abbrev write : ℕ → ℕ → TypedExpr → Way → TypedExpr → TypedStmt
+abbrev pub write : ℕ → ℕ → TypedExpr → Way → TypedExpr → TypedStmt
 write number layout at way value = record { number = number; kind = kind.Write layout 0 (at ∷ []) way value }
 
-abbrev writes : ℕ → TypedExpr → Way → TypedExpr → Deed
+abbrev pub writes : ℕ → TypedExpr → Way → TypedExpr → Deed
 writes layout at way value = Writes layout 0 (at ∷ []) way value
 
-abbrev range : ℕ → ℕ → TypedRange
+abbrev pub range : ℕ → ℕ → TypedRange
 range lo hi = record { lo = literal lo; hi = literal hi }
 
-abbrev kernel : TypedDomain → List TypedStmt → TypedKernel
+abbrev pub kernel : TypedDomain → List TypedStmt → TypedKernel
 kernel over body = record { vars = 1; domain = over; types = ty.I32 ∷ ty.I32 ∷ ty.I32 ∷ []; body = body }
 
-abbrev walk : TypedDomain
+abbrev pub walk : TypedDomain
 walk = domain.Walk 0
 
-abbrev box : TypedDomain
+abbrev pub box : TypedDomain
 box = domain.Ranges (range 0 1 ∷ [])
 
 -- the line of the kernel's loop
-abbrev loop : TypedDomain → Line
+abbrev pub loop : TypedDomain → Line
 loop over = line_of 0 nothing_round (Opens (domain_ranges over))
 
 -- ---- whether the reads of an expression are good, at the forms that stand here
@@ -73,21 +73,21 @@ abbrev its_reads : TypedExpr-F SeenPart SeenPart → SeenPart
 its_reads expr = expr.form
 
 module _ (vars : ℕ) (good : ℕ → ℕ → Bool → Bool) where
-  good-Literal : (given : Ty) (word : ℕ) → has_good_reads vars good (record { ty = given; form = form.Literal word }) ≡ true
+  pub good-Literal : (given : Ty) (word : ℕ) → has_good_reads vars good (record { ty = given; form = form.Literal word }) ≡ true
   good-Literal given word = ap (λ (seen : SeenPart). seen.1) (fold-Literal (seen_step vars good) its_reads given word)
 
-  good-Var : (given : Ty) (var : ℕ) → has_good_reads vars good (record { ty = given; form = form.Var var }) ≡ true
+  pub good-Var : (given : Ty) (var : ℕ) → has_good_reads vars good (record { ty = given; form = form.Var var }) ≡ true
   good-Var given var = ap (λ (seen : SeenPart). seen.1) (fold-Var (seen_step vars good) its_reads given var)
 
-  good-Bin : (given : Ty) (op : BinOp) (left right : TypedExpr)
+  pub good-Bin : (given : Ty) (op : BinOp) (left right : TypedExpr)
       → has_good_reads vars good (record { ty = given; form = form.Bin op left right }) ≡ (has_good_reads vars good left && has_good_reads vars good right)
   good-Bin given op left right = ap (λ (seen : SeenPart). seen.1) (fold-Bin (seen_step vars good) its_reads given op left right)
 
-  good-Read : (given : Ty) (layout place : ℕ) (index : List TypedExpr)
+  pub good-Read : (given : Ty) (layout place : ℕ) (index : List TypedExpr)
       → has_good_reads vars good (record { ty = given; form = form.Read layout place index }) ≡ (good layout place (are_names vars 0 (map name_of index)) && list_all (has_good_reads vars good) index)
   good-Read given layout place index = read_good vars good (record { ty = given; form = form.Read layout place index }) layout place index refl
 
-ruleset read_equations = (good-Literal, good-Var, good-Bin, good-Read)
+pub ruleset read_equations = (good-Literal, good-Var, good-Bin, good-Read)
 
 -- ---- the fault of plain lines is that of the kernel
 
@@ -104,7 +104,7 @@ facts_from vars walked lines = record {
 abbrev fault_in : TypedDomain → List Line → Option AdmitFault
 fault_in over lines = first_fault (facts_from 1 (walked_by over) lines) lines
 
-refused : (over : TypedDomain) (body : List TypedStmt) (lines : List Line) (fault : AdmitFault) → kernel_lines (kernel over body) ≡ lines → fault_in over lines ≡ Some fault
+pub refused : (over : TypedDomain) (body : List TypedStmt) (lines : List Line) (fault : AdmitFault) → kernel_lines (kernel over body) ≡ lines → fault_in over lines ≡ Some fault
     → admission (kernel over body) ≡ Err fault
 refused over body lines fault l f = ap (λ (found : Option AdmitFault). fault_or found (box_answer (kernel over body))) (ap (fault_in over) l ∙ f)
 

@@ -6,5 +6,6 @@ pub mod Bounds
 pub mod Rules
 pub mod Admission
 pub mod Neutral
+pub mod Examples
 pub mod Laws
 pub mod steps

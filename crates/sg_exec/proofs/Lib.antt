@@ -61,3 +61,4 @@ pub mod MadeLands
 pub mod MadeRuns
 pub mod RacedRun
 pub mod RacedHand
+pub mod WorkedTurns
