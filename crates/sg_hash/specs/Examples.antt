@@ -1,27 +1,53 @@
--- Worked equations: four places, with the keys 6 at its first place and 2 behind it.
+-- Worked equations: four places, with the keys 6 and 1, whose first places are the same.
 use Rattle.std.specs.Prelude.{◌≡◌, ℕ, zero, suc, Some, None, List, [], ◌∷◌, refl}
 use Rattle.std.proofs.Common.{lit<, arith}
+use Rattle.sg_words.specs.RaceMachine.{home}
 use Rattle.sg_hash.specs.Tables.{place, beside}
 use Rattle.sg_hash.specs.Finishing.{LinksHaveKeys}
 
 abbrev pub keys : List ℕ
-keys = 0 ∷ 0 ∷ 7 ∷ 3 ∷ []
+keys = 0 ∷ 0 ∷ 7 ∷ 2 ∷ []
 
 abbrev pub links : List ℕ
 links = 0 ∷ 0 ∷ 1 ∷ 5 ∷ []
 
 pub six_begins_at_two : place 4 6 0 ≡ 2
+unfolding home
 six_begins_at_two = refl
 
-pub two_goes_on_at_three : place 4 2 1 ≡ 3
-two_goes_on_at_three = refl
+pub one_begins_at_two : place 4 1 0 ≡ 2
+unfolding home
+one_begins_at_two = refl
+
+pub one_goes_on_at_three : place 4 1 1 ≡ 3
+unfolding home
+one_goes_on_at_three = refl
 
 -- the last place is followed by the first
-pub two_then_goes_to_zero : place 4 2 2 ≡ 0
-two_then_goes_to_zero = refl
+pub one_then_goes_to_zero : place 4 1 2 ≡ 0
+unfolding home
+one_then_goes_to_zero = refl
 
-pub beside_two : beside keys links 2 ≡ Some 4
-beside_two = refl
+-- keys that differ by multiples of the number of places begin at places far apart
+pub zero_begins_at_zero : home 65536 0 ≡ 0
+unfolding home
+zero_begins_at_zero = refl
+
+pub next_row_begins_far_on : home 65536 65536 ≡ 31161
+unfolding home
+next_row_begins_far_on = refl
+
+pub row_after_begins_between : home 65536 131072 ≡ 62322
+unfolding home
+row_after_begins_between = refl
+
+-- of a number of places that is no power of two
+pub six_of_five : home 5 6 ≡ 3
+unfolding home
+six_of_five = refl
+
+pub beside_one : beside keys links 1 ≡ Some 4
+beside_one = refl
 
 pub beside_six : beside keys links 6 ≡ Some 0
 beside_six = refl

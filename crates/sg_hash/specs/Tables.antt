@@ -1,10 +1,11 @@
 -- Tables of keys by linear probing: a key word is 0 where its place is empty, else one more than a key.
 use Rattle.std.specs.Prelude.{◌≡◌, ◌≢◌, ℕ, ◌+◌, ◌-◌, ◌<◌, ◌≤◌, ◌^◌, ◌%◌, ◌==◌, if◌then◌else◌, Option, Some, None, List, [], ◌∷◌, length, slice_index}
+use Rattle.sg_words.specs.RaceMachine.{home}
 
--- the places in a key's order: its first is the key modulo the number of places, each next one follows, and the last is
--- followed by the first
+-- the places in a key's order: its first is `home`, the high part of a product, so that keys at equal distances go to places far
+-- apart; each next one follows, and the last is followed by the first
 abbrev pub place : ℕ → ℕ → ℕ → ℕ
-place places key turn = (key + turn) % places
+place places key turn = (home places key + turn) % places
 
 -- a key word whose place isn't empty, and holds another key than this one
 abbrev pub HoldsOther : ℕ → ℕ → Type 0

@@ -12,7 +12,7 @@ ghost use Rattle.sg_hash.specs.declared.ask.Ask.TheVariants as ask;
 
 use crate::rule::{Draw, Half, Link, Look, LookKey, PutKey, Start};
 use crate::seat::{HashPass, HashSeat};
-use crate::table::following;
+use crate::table::{first_place, following};
 use atomic_table::Table;
 use sg_words::{Items, Memory};
 use std::alloc::Global;
@@ -93,7 +93,8 @@ impl HashPass {
     {
         let places = self.start.links.len();
         let wanted = key as u64 + 1;
-        let mut at = key as usize % places;
+        let first = first_place(places, key);
+        let mut at = first;
         for _turn in 0..places {
             let word = self.probe(seat, at, key);
             if word == wanted {

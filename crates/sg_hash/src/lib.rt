@@ -12,6 +12,3 @@ pub use ask::Ask;
 pub use finish::HashLinked;
 pub use seat::{HashPass, HashSeat};
 pub use table::{find, put};
-
-#[cfg(test)]
-mod tests;

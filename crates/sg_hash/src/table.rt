@@ -1,4 +1,5 @@
 ghost use Rattle.std.specs.Prelude.{◌≡◌, ℕ, ◌+◌, ◌<◌, ◌%◌, false, true, ◌==◌, if◌then◌else◌, Some, None, ◌↔◌, length};
+ghost use Rattle.sg_words.specs.RaceMachine.{home};
 ghost use Rattle.sg_hash.specs.Tables.{IsTable, AreBeside, beside, IsAbsent, IsFull};
 ghost use Rattle.sg_hash.specs.steps.Probing.{IsProbe};
 
@@ -53,7 +54,8 @@ fn probe(keys: &[u64], key: u32) -> Option<usize>
     ensures { IsProbe keys.now key result }
 {
     let wanted = u64::from(key) + 1;
-    let mut at = key as usize % keys.len();
+    let first = first_place(keys.len(), key);
+    let mut at = first;
     for _turn in 0..keys.len() {
         let word = keys[at];
         if word == 0 || word == wanted {
@@ -62,6 +64,16 @@ fn probe(keys: &[u64], key: u32) -> Option<usize>
         at = following(at, keys.len());
     }
     None
+}
+
+/// The first place of a key among so many.
+#[tactic(auto, unfolding(sg_words::specs::RaceMachine::home))]
+pub(crate) fn first_place(places: usize, key: u32) -> usize
+    requires { 0 < places }
+    ensures { result ≡ home places key }
+{
+    let mixed = key.wrapping_mul(2654435769);
+    (u128::from(mixed) * places as u128 >> 32) as usize
 }
 
 pub(crate) fn following(at: usize, places: usize) -> usize

@@ -11,7 +11,7 @@ use native.Mathlib.Decide.{ℕ_discrete, dec_le}
 use lib.ListN.{get_elem?}
 use Rattle.sg_words.specs.declared.race.Worker.{Worker}
 use Rattle.sg_words.specs.Counts.{one, total, greatest, bit_in}
-use Rattle.sg_words.specs.RaceMachine.{Setting, place_in_order, KnowsContainer, MayPut, after_mark, after_raise, after_add, after_key_put, mark_word}
+use Rattle.sg_words.specs.RaceMachine.{Setting, home, place_in_order, KnowsContainer, MayPut, after_mark, after_raise, after_add, after_key_put, mark_word}
 use Rattle.sg_words.specs.RaceInvariant.{has_seen, has_key, SeenIsThere, SeenKeysAreThere, has_put, KeysArePut, Probed, has_marked, BitsAreMarked, raised_to, LengthsAreRaised, with_one, fold_in, fold_all, CellsAreFolded, IsReachedContainer, Hanging}
 use Rattle.sg_words.proofs.RaceTotals.{total-more, total-snoc, le-total, first_cases, greatest-more, greatest-append, set_other_at}
 use Rattle.sg_words.proofs.RaceLinks.{written, full-stays}
@@ -37,8 +37,8 @@ turn_apart n k i j lt below e =
 
 pub one_place : (n k i j : ℕ) → i < n → j < n → place_in_order n k i ≡ place_in_order n k j → i ≡ j
 one_place n k i j a b e = dite (ℕ_discrete i j) (λ h. h) (λ ne. dite (dec_le i j)
-    (λ le. absurd (turn_apart n k i j (omega arith) b e))
-    (λ gt. absurd (turn_apart n k j i (omega arith) a (sym e))))
+    (λ le. absurd (turn_apart n (home n k) i j (omega arith) b e))
+    (λ gt. absurd (turn_apart n (home n k) j i (omega arith) a (sym e))))
 
 -- a key is put in a place before which others stand
 pub probed-put : (keys : List ℕ) (ws : List Worker) (id p k : ℕ) (v : Worker) → get_elem? ws id ≡ some v → slice_index keys p ≡ 0 → MayPut (length keys) p k v

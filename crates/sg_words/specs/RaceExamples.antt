@@ -1,6 +1,6 @@
 -- Worked equations of the race machine.
 use Rattle.std.specs.Prelude.{◌≡◌, refl, ◌+◌, true, List, [], ◌∷◌}
-use Rattle.sg_words.specs.RaceMachine.{Setting, Race, Event, first, enrol, draw, see, miss, link, key, mark, raise, add, join, opening_race, state_after_all, worker, place_in_order}
+use Rattle.sg_words.specs.RaceMachine.{Setting, Race, Event, first, enrol, draw, see, miss, link, key, mark, raise, add, join, opening_race, state_after_all, worker, home, place_in_order}
 use Rattle.sg_words.specs.RaceInvariant.{holds_ticket, links_from, fold_all}
 
 -- three slots of one node, whose second holds the number 4, with the stock 7, 8
@@ -87,5 +87,15 @@ dry-made = refl
 dry-sizes : (worker dry 0).size + (worker dry 1).size ≡ 3
 dry-sizes = refl
 
-order_of-seven : place_in_order 5 7 0 + place_in_order 5 7 3 ≡ 2 + 0
-order_of-seven = refl
+seven-begins : place_in_order 5 7 0 ≡ 1
+unfolding home
+seven-begins = refl
+
+seven-ends : place_in_order 5 7 4 ≡ 0
+unfolding home
+seven-ends = refl
+
+-- the key that was put at place 1 of two has its first place there
+three-begins : place_in_order 2 3 0 ≡ 1
+unfolding home
+three-begins = refl

@@ -1,6 +1,6 @@
 -- The race machine: numbered workers race for slots, keys, bits, lengths and cells, an event at a time. A run is any list of events
 -- whose needs are met. It knows no threads: that a pass over shared words is such a run is what the crates of passes prove.
-use Rattle.std.specs.Prelude.{◌≡◌, ◌≢◌, ℕ, ◌+◌, ◌-◌, ◌/◌, ◌%◌, ◌^◌, ◌<◌, ◌≤◌, max, Bool, true, nat_lt, ◌==◌, if◌then◌else◌, ◌⊎◌, List, [], ◌∷◌, ◌++◌, length, replicate, slice_index, slice_index_or, slice_set, bit_or}
+use Rattle.std.specs.Prelude.{◌≡◌, ◌≢◌, ℕ, ◌+◌, ◌-◌, ◌*◌, ◌/◌, ◌%◌, ◌^◌, ◌<◌, ◌≤◌, max, Bool, true, nat_lt, ◌==◌, if◌then◌else◌, ◌⊎◌, List, [], ◌∷◌, ◌++◌, length, replicate, slice_index, slice_index_or, slice_set, bit_or}
 use Rattle.sg_words.specs.declared.race.Worker.{Worker}
 use Rattle.sg_words.specs.Counts.{pairs, firsts, without}
 
@@ -119,9 +119,13 @@ abbrev pub after_add : ℕ → ℕ → Worker → Worker
 after_add c x v = record v { given = v.given ++ (c, x) ∷ [] }
 
 -- ---- what an event needs
--- place number j in the order of key k among n places
+-- the first place of key k among n: the high part of a product, so that keys at equal distances go to places far apart
+unfoldable pub home : ℕ → ℕ → ℕ
+home n k = ((k * 2654435769) % 2 ^ 32) * n / 2 ^ 32
+
+-- place number j in the order of key k among n places: each next one follows, and the last is followed by the first
 abbrev pub place_in_order : ℕ → ℕ → ℕ → ℕ
-place_in_order n k j = (k + j) % n
+place_in_order n k j = (home n k + j) % n
 
 -- a worker knows a container that was live at the start, or that it has seen in a slot
 abbrev pub KnowsContainer : Setting → Worker → ℕ × ℕ → Type 0

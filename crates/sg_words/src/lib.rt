@@ -14,6 +14,3 @@ pub use operators::{AccOp, BinOp, Ty, UnOp};
 pub use race::Worker;
 pub use sqlite_items::{Boxed, Items};
 pub use text::Text;
-
-#[cfg(test)]
-mod tests;

@@ -1,8 +1,18 @@
 use Rattle.std.proofs.Common.{◌≡◌, ℕ, ◌+◌, ◌%◌, length, ap, ◌∙◌, subst, arith}
 use Rattle.sg_hash.specs.Tables.{place, Passes}
-use Rattle.sg_hash.proofs.Turns.{place_next}
+use Rattle.sg_hash.proofs.Turns.{home_below, place_first, place_next}
 use Rattle.sg_hash.proofs.Uses.{full_by_turns, passes_more}
 use Rattle.sg_hash.proofs.table.probe.Goals as goal
+
+pub loop-turn-init : goal.loop-turn-init
+loop-turn-init c =
+    let n : ℕ = length c.args.keys.now in
+    let below = home_below n c.args.key c.requires in
+    record {
+      at_turn = λ some. c.first_place-first.ensures ∙ place_first n c.args.key some;
+      below = omega (arith, c.first_place-first.ensures, below);
+      passed = λ j before. absurd (omega (arith, before));
+    }
 
 pub loop-turn-preserved : goal.loop-turn-preserved
 loop-turn-preserved c =

@@ -1,9 +1,22 @@
-use Rattle.std.proofs.Common.{◌≡◌, ℕ, ◌+◌, ◌%◌, length, ap, ◌∙◌, subst, arith}
-use Rattle.sg_words.specs.RaceMachine.{place_in_order}
+use Rattle.std.proofs.Common.{◌≡◌, ℕ, ◌+◌, ◌%◌, length, refl, ap, ◌∙◌, subst, arith}
+use Rattle.sg_words.specs.RaceMachine.{home, place_in_order}
 use Rattle.sg_hash.specs.steps.Searching.{HasLookedPast}
-use Rattle.sg_hash.proofs.Turns.{place_next}
-use Rattle.sg_hash.proofs.Searches.{more-passed, none-there}
+use Rattle.sg_hash.proofs.Turns.{home_below, place_first, place_next}
+use Rattle.sg_hash.proofs.Searches.{start-passed, more-passed, none-there}
 use Rattle.sg_hash.proofs.seat.HashPass.search.Goals as goal
+
+pub loop-turn-init : goal.loop-turn-init
+loop-turn-init c =
+    let n : ℕ = length c.args.self.now.start.links in
+    let at : c.first_place-first.result ≡ home n c.args.key = c.first_place-first.ensures ∙ ap (λ m. home m c.args.key) c.len-places.ensures in
+    let below = home_below n c.args.key c.args.self.now.slots in
+    record {
+      at_turn = λ some. at ∙ place_first n c.args.key some;
+      below = omega (arith, at, below);
+      own = c.requires.own;
+      full = refl;
+      passed = start-passed n c.args.key c.args.seat.now.seat.me.0;
+    }
 
 pub loop-turn-preserved : goal.loop-turn-preserved
 loop-turn-preserved c =
