@@ -9,6 +9,3 @@ pub mod seat;
 
 pub use chunks::{ChunkFull, fit_chunks};
 pub use seat::{LengthPass, RaiseSeat};
-
-#[cfg(test)]
-mod tests;

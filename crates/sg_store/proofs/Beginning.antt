@@ -34,7 +34,7 @@ use Rattle.sg_store.specs.StandsFor.{IsSlotOf, StandsFor}
 use Rattle.sg_store.specs.steps.Fresh.{AreFresh, IsCapped, KeysFit, EndWithDynamic, IsRoomy, IsZeroRow}
 use Rattle.sg_store.proofs.Walking.{own_kind, own_kind_is}
 use Rattle.sg_store.proofs.Opened.{slot_long}
-use Rattle.sg_store.proofs.Opening.{fresh_fit, fresh_within, fresh_off}
+use Rattle.sg_store.proofs.Opening.{fresh_fit, fresh_within, fresh_parted, fresh_off}
 use Rattle.sg_store.proofs.Roomy.{AreLater, AreOrdered, few_cells, few_chains, some_parts, at_least}
 
 -- ── Accepted shapes are roomy ──
@@ -184,6 +184,7 @@ fresh_well_formed store fresh = record {
   accepted = fresh.accepted;
   nodes_fit = fresh_fit store.shape.nodes store.nodes 1 is_root fresh.words;
   within_caps = fresh_within store.shape.nodes store.nodes 1 fresh.words;
+  numbers_parted = fresh_parted store.shape.nodes store.nodes 1 fresh.words;
   few_words = fresh.few_words;
   few_cells = omega (arith, few_cells store.shape fresh.order (some_fields store.shape fresh.accepted), fresh.few_words);
   field_count = fresh.field_count;

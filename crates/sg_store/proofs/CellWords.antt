@@ -94,6 +94,7 @@ set_well_formed store place cell word well field reached =
       accepted = well.accepted;
       nodes_fit = well.nodes_fit;
       within_caps = well.within_caps;
+      numbers_parted = well.numbers_parted;
       few_words = well.few_words;
       few_cells = well.few_cells;
       field_count = length-set store.fields place (slice_set old cell word) ∙ well.field_count;

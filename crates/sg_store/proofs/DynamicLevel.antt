@@ -75,7 +75,7 @@ pub fitted_well_formed : (store : StoreWords) (i : ℕ) (lengths : List ℕ) (ch
 fitted_well_formed store i lengths chunk now is can changed =
     subst (λ l. IsWellFormed (record store { nodes = l })) (sym changed.now_is)
     (well_formed_grown store i changed.after is (lengths_grow_at store i lengths chunk changed.kept changed.after is can changed.was changed.change)
-    (lengths_capped_at store i lengths chunk changed.kept changed.after is can changed.was changed.change))
+    (lengths_capped_at store i lengths chunk changed.kept changed.after is can changed.was changed.change) changed.change.parted)
 
 -- ── Slots of one parent are live together ──
 

@@ -124,7 +124,7 @@ pub rekeyed_well_formed : (store : StoreWords) (i : ℕ) (keys links taken : Lis
 rekeyed_well_formed store i keys links taken now is can changed =
     subst (λ l. IsWellFormed (record store { nodes = l })) (sym changed.now_is)
     (well_formed_grown store i changed.after is (keys_grow_at store i keys links taken changed.kept changed.after is can changed.was changed.change)
-    (keys_capped_at store i keys links taken changed.kept changed.after is can changed.was changed.change))
+    (keys_capped_at store i keys links taken changed.kept changed.after is can changed.was changed.change) changed.change.parted)
 
 -- ── What is known where the node is opened ──
 

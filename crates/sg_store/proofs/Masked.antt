@@ -14,6 +14,7 @@ use Rattle.sg_layout.specs.declared.shape.Kind.TheVariants.{Bitmasked}
 use Rattle.sg_layout.specs.declared.shape.NodeShape.{NodeShape}
 use Rattle.sg_layout.specs.Live.{kind_or, kind_at}
 use Rattle.sg_layout.specs.PathLaws.{PathIsSlot}
+use Rattle.sg_pool.specs.Numbers.{IsParted}
 use Rattle.sg_store.specs.declared.node.NodeWords.{NodeWords}
 use Rattle.sg_store.specs.StoreWords.{StoreWords}
 use Rattle.sg_store.specs.Slots.{mask_bit, is_set, place_below}
@@ -24,7 +25,7 @@ use Rattle.sg_store.specs.steps.Levels.{IsOfKind, OpensNext}
 use Rattle.sg_store.specs.steps.Marking.{IsMarked}
 use Rattle.sg_store.specs.steps.Settling.{CanSettleMasks, IsRemasked, ChangesAt, ChangesNode, NodeGrows}
 use Rattle.sg_store.proofs.ActiveCells.{as_many_words}
-use Rattle.sg_store.proofs.Opened.{OfWithinCap, AddsSlots, keeps_cells, well_formed_grown, opens_next}
+use Rattle.sg_store.proofs.Opened.{OfWithinCap, AddsSlots, keeps_cells, well_formed_grown, parted_at, opens_next}
 use Rattle.sg_store.proofs.Wanted.{Wants, wanted_live}
 use Rattle.sg_store.proofs.Leading.{InLive}
 use Rattle.sg_store.proofs.Counting.{node_of, Both, both_at, OfWellFormed, nodes_at, at_node_from}
@@ -79,7 +80,8 @@ pub masked_well_formed : (store : StoreWords) (i : ℕ) (masks : List ℕ) (now 
 masked_well_formed store i masks now is can changed =
     subst (λ l. IsWellFormed (record store { nodes = l })) (sym changed.now_is)
     (well_formed_grown store i changed.after is (grows_at store i masks changed.kept changed.after is can changed.was changed.change)
-    (capped_at store i masks changed.after can))
+    (capped_at store i masks changed.after can)
+    (subst IsParted (sym changed.change.same_pool) (parted_at store.nodes i changed.kept is.numbers_parted changed.was)))
 
 -- ── Wanted slots are in live containers ──
 

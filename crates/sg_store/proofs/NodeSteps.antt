@@ -1,5 +1,5 @@
 -- One step down a node of each kind, as the code takes it.
-use Rattle.std.proofs.Common.{◌≡◌, ℕ, zero, suc, ◌+◌, ◌*◌, ◌/◌, ◌%◌, ◌<◌, Bool, true, false, cond, not, List, slice_index, nat_lt, refl, sym, ap, ◌∙◌, subst}
+use Rattle.std.proofs.Common.{◌≡◌, ℕ, ◌+◌, ◌*◌, ◌/◌, ◌%◌, ◌<◌, Bool, true, false, cond, slice_index, nat_lt, refl, sym, ap, ◌∙◌, subst}
 use Rattle.std.specs.Prelude.{Option, Some, None, is_some}
 use Rattle.std.proofs.lemmas.Nat.{div-mul-add, mod-mul-add}
 use Rattle.sg_links.specs.Lists.{list_of}
@@ -9,7 +9,7 @@ use Rattle.sg_layout.specs.declared.shape.Kind.TheVariants.{Dense, Bitmasked, Po
 use Rattle.sg_layout.specs.declared.shape.NodeShape.{NodeShape}
 use Rattle.sg_layout.specs.Axes.{count_of, size_of}
 use Rattle.sg_store.specs.declared.node.NodeWords.{NodeWords}
-use Rattle.sg_store.specs.Slots.{mask_bit, linked, chunk_cell, below_length, is_set, place_below}
+use Rattle.sg_store.specs.Slots.{mask_bit, linked, chunk_cell, is_set, place_below}
 use Rattle.sg_store.specs.steps.Walking.{step_of_walk, unless_unset, CanFind, IsTableFor, IsChainFor, IsUnderParent}
 use Rattle.sg_store.proofs.BySlots.{set_linked}
 

@@ -1,9 +1,9 @@
 -- A store in which the words of one node have grown: it is well-formed again, its cells stay, and where the node keeps
 -- the slots of wanted coordinates besides the old ones, it is open one node further.
-use Rattle.std.proofs.Common.{◌≡◌, ◌≢◌, ℕ, zero, suc, ◌≤◌, Bool, false, ◌||◌, List, [], ◌∷◌, ◌++◌, take, get_or, refl, sym, ap, ◌∙◌, subst, arith, cond, inl, inr, length}
+use Rattle.std.proofs.Common.{◌≡◌, ◌≢◌, ℕ, zero, suc, ◌<◌, ◌≤◌, Bool, false, ◌||◌, List, [], ◌∷◌, ◌++◌, take, get_or, refl, sym, ap, ◌∙◌, subst, arith, cond, inl, inr, length}
 use Rattle.std.specs.Prelude.{Option, Some, None, unwrap_or, slice_get, slice_set, ◌==◌, nat_le}
 use Rattle.std.specs.Option.{option_map}
-use Rattle.std.specs.List.{AllZip, list_any}
+use Rattle.std.specs.List.{All, AllZip, list_any}
 use Rattle.std.proofs.lemmas.Bool.{cases_eq, leb-true, le-leb}
 use Rattle.std.proofs.lemmas.List.Folds.{list_any-append}
 use Rattle.sg_coord.specs.declared.coord.Coord.{Coord}
@@ -25,7 +25,9 @@ use Rattle.sg_store.specs.steps.Settling.{NodeGrows}
 use Rattle.sg_store.specs.steps.Levels.{OpensNext}
 use Rattle.sg_store.proofs.Walking.{own_kind, own_kind_is}
 use Rattle.std.specs.List.{Contains}
-use Rattle.std.proofs.lemmas.List.Elements.{Contains-append_right}
+use Rattle.std.proofs.lemmas.List.Elements.{All-get_or, All-set, Contains-append_right}
+use Rattle.std.proofs.lemmas.Option.{same_Some, slice_get_within, slice_get-get_or}
+use Rattle.sg_pool.specs.Numbers.{IsParted}
 pub use Rattle.sg_store.proofs.SlotPaths.{slot_offsets, slot_long, live_alone, live_from_path, path_from_live, same_bool, not_true}
 pub use Rattle.sg_store.proofs.Wanted.{Wants, wanted_live, wanted_some, wanted_none, number_there, open_for}
 use Rattle.sg_store.proofs.Grown.{nodes_grown, cells_stay, number_stays, own_answer_at, on_elsewhere}
@@ -65,11 +67,18 @@ caps_kept (node ∷ later) [] places live i after here all = absurd here
 caps_kept (node ∷ later) (kept ∷ words) places live zero after here all = (here, all.1)
 caps_kept (node ∷ later) (kept ∷ words) places live (suc i) after here all = (all.0, caps_kept later words _ _ i after here all.1)
 
-pub well_formed_grown : (store : StoreWords) (i : ℕ) (after : NodeWords) → IsWellFormed store → AtNodeOf (NodeGrows after) store i → AtNodeOf (OfWithinCap after) store i → IsWellFormed (with_node store i after)
-well_formed_grown store i after is grown capped = record {
+pub parted_at : (words : List NodeWords) (i : ℕ) (kept : NodeWords) → All (λ (k : NodeWords). IsParted k.pool) words → slice_get words i ≡ Some kept → IsParted kept.pool
+parted_at words i kept all has =
+    let within : i < length words = slice_get_within words i kept has in
+    subst (λ (k : NodeWords). IsParted k.pool) (same_Some (get_or words i kept) kept (sym (slice_get-get_or words i kept within) ∙ has))
+    (All-get_or (λ (k : NodeWords). IsParted k.pool) words i kept within all)
+
+pub well_formed_grown : (store : StoreWords) (i : ℕ) (after : NodeWords) → IsWellFormed store → AtNodeOf (NodeGrows after) store i → AtNodeOf (OfWithinCap after) store i → IsParted after.pool → IsWellFormed (with_node store i after)
+well_formed_grown store i after is grown capped parted = record {
   accepted = is.accepted;
   nodes_fit = nodes_grown store.shape.nodes store.nodes 1 is_root i after is.nodes_fit grown;
   within_caps = caps_kept store.shape.nodes store.nodes 1 is_root i after capped is.within_caps;
+  numbers_parted = All-set (λ (kept : NodeWords). IsParted kept.pool) store.nodes i after parted is.numbers_parted;
   few_words = is.few_words;
   few_cells = is.few_cells;
   field_count = is.field_count;

@@ -1,11 +1,11 @@
 -- Fresh words of nodes: no link, no bit, no live number. They fit their nodes, and none of their slots is on.
 use Rattle.std.proofs.Common.{◌≡◌, ◌≢◌, ℕ, suc, ◌+◌, ◌-◌, ◌*◌, ◌/◌, ◌%◌, ◌<◌, ◌≤◌, ◌^◌, Bool, false, not, ◌==◌, List, [], ◌∷◌, ◌++◌, length, drop, get_or, replicate, inl, inr, append_assoc, refl, sym, ap, ◌∙◌, subst, arith}
 use Rattle.std.specs.Prelude.{Option, Some, None, option_and_then, unwrap_or, nat_lt, slice_index, is_some}
-use Rattle.std.specs.List.{Contains, AllZip}
+use Rattle.std.specs.List.{All, Contains, AllZip}
 use Rattle.std.proofs.lemmas.Bool.{false≢true, cases_lt}
 use Rattle.std.proofs.lemmas.Bool.Decides.{nat_tests}
 use Rattle.std.proofs.lemmas.Nat.{div_below}
-use Rattle.std.proofs.lemmas.List.Elements.{All-head}
+use Rattle.std.proofs.lemmas.List.Elements.{All-head, All-cons}
 use Rattle.std.proofs.lemmas.List.{get_or_default, get_or_past, length-replicate, get_or-replicate, get_or-map, append-nil, drop_more, drop_all}
 use Rattle.sg_layout.specs.declared.shape.Kind.{Kind}
 use Rattle.sg_layout.specs.declared.shape.Kind.TheVariants.{Dense, Bitmasked, Pointer, Hash, Dynamic}
@@ -14,7 +14,7 @@ use Rattle.sg_layout.specs.Axes.{count_of, size_of, sizes_of}
 use Rattle.sg_layout.specs.StorageWords.{power_for}
 use Rattle.sg_hash.specs.Tables.{IsTable, AreBeside, beside}
 use Rattle.sg_hash.proofs.Uses.{beside_none, empty_table, empty_beside}
-use Rattle.sg_pool.specs.Numbers.{place_count, is_live_number, live_count}
+use Rattle.sg_pool.specs.Numbers.{place_count, is_live_number, live_count, IsParted}
 use Rattle.sg_store.specs.declared.node.NodeWords.{NodeWords}
 use Rattle.sg_links.specs.Lists.{Lists, list_of}
 use Rattle.sg_dynamic.specs.Chunks.{chunks_of}
@@ -121,6 +121,12 @@ fresh_within [] [] places fresh = tt
 fresh_within [] (kept ∷ words) places fresh = fresh
 fresh_within (node ∷ later) [] places fresh = fresh
 fresh_within (node ∷ later) (kept ∷ words) places fresh = (within node.kind node kept fresh.1.none_counted, fresh_within later words _ fresh.2)
+
+pub fresh_parted : (nodes : List NodeShape) (words : List NodeWords) (places : ℕ) → AreFresh nodes words places → All (λ (kept : NodeWords). IsParted kept.pool) words
+fresh_parted [] [] places fresh = λ k d below. absurd (omega (arith, below))
+fresh_parted [] (kept ∷ words) places fresh = absurd fresh
+fresh_parted (node ∷ later) [] places fresh = absurd fresh
+fresh_parted (node ∷ later) (kept ∷ words) places fresh = All-cons (λ (k : NodeWords). IsParted k.pool) kept words fresh.1.parted (fresh_parted later words _ fresh.2)
 
 -- ── None is on ──
 

@@ -1,20 +1,17 @@
 -- A store into which the words at all coordinates with a value have moved stands for the layout with only those kept.
-use Rattle.std.proofs.Common.{◌≡◌, ◌≢◌, ◌⊎◌, inl, inr, ℕ, zero, suc, ◌+◌, ◌<◌, ◌^◌, Bool, true, false, not, cond, ◌||◌, ◌==◌, nat_lt, eqb, List, [], ◌∷◌, ◌++◌, length, map, get_or, Option, Some, None, is_some, refl, sym, ap, ◌∙◌, subst, arith}
-use Rattle.std.specs.Prelude.{slice_get, slice_index, slice_index_or, IsSome, IsTrue}
-use Rattle.std.specs.List.{All, Contains, filter, list_any, range_with_len}
-use Rattle.std.proofs.lemmas.Bool.{cases_Bool, cases_eq, cond-true, cond-false, ne_eqb, or_right, eqb-true, false≢true, not-true}
-use Rattle.std.proofs.lemmas.List.{length-map, append-nil}
+use Rattle.std.proofs.Common.{◌≡◌, inl, inr, ℕ, zero, suc, ◌+◌, ◌<◌, Bool, true, false, not, cond, ◌||◌, ◌==◌, List, [], ◌∷◌, ◌++◌, length, map, get_or, Option, Some, None, is_some, refl, sym, ap, ◌∙◌, subst, arith}
+use Rattle.std.specs.Prelude.{slice_get, slice_index, slice_index_or}
+use Rattle.std.specs.List.{All, Contains, list_any, range_with_len}
+use Rattle.std.proofs.lemmas.Bool.{cases_Bool, cases_eq, cond-true, cond-false, ne_eqb, or_right, false≢true}
 use Rattle.std.proofs.lemmas.List.Elements.{Contains-get_or, All-head, All-tail}
 use Rattle.std.proofs.lemmas.List.Folds.{list_any_at}
 use Rattle.std.proofs.lemmas.List.FromFn.{length-range_with_len, get_or-range_with_len}
-use Rattle.std.proofs.lemmas.Option.{none-some}
-use Rattle.sg_words.proofs.Uses.{from_filter, into_filter, from_map, contains_head, contains_rest, contains_cases, contains_none}
+use Rattle.sg_words.proofs.Uses.{from_filter, into_filter, from_map}
 use Rattle.sg_words.specs.declared.operators.Ty.{Ty}
 use Rattle.sg_coord.specs.declared.coord.Coord.{Coord}
 use Rattle.sg_coord.specs.Bounds.{Bounds, volume}
 use Rattle.sg_coord.specs.Coord.{Inside, is_inside, row_of, point_at}
 use Rattle.sg_coord.specs.Laws.{InsideTest, RowOfPoint, PointOfRow}
-use Rattle.sg_layout.specs.declared.shape.NodeShape.{NodeShape}
 use Rattle.sg_layout.specs.declared.shape.Shape.{Shape}
 use Rattle.sg_layout.specs.Axes.{bounds_of_shape}
 use Rattle.sg_layout.specs.Path.{offsets}
@@ -31,7 +28,7 @@ use Rattle.sg_store.specs.WellFormed.{IsWellFormed}
 use Rattle.sg_store.specs.StandsFor.{HasLiveSlots, StandsFor}
 use Rattle.sg_store.specs.StoreLaws.{CellsAreActive}
 use Rattle.sg_store.specs.Pruning.{has_value, valued_coordinates, pruned}
-use Rattle.sg_store.specs.steps.Moving.{has_word, word_or_zero, kept_word, IsValued, AreValued, SameTree, HasMoved}
+use Rattle.sg_store.specs.steps.Moving.{has_word, word_or_zero, kept_word, AreValued, SameTree, HasMoved}
 
 -- the laws of coordinates, layouts and cells that tell it
 pub record PruneLaws (store : StoreWords) : Type 0 where

@@ -54,4 +54,4 @@ pub settled_well_formed : (store : StoreWords) (i : ℕ) (links taken : List ℕ
 settled_well_formed store i links taken now is can changed =
     subst (λ l. IsWellFormed (record store { nodes = l })) (sym changed.now_is)
     (well_formed_grown store i changed.after is (grows_at store i links taken changed.kept changed.after is can changed.was changed.change)
-    (capped_at store i links taken changed.kept changed.after is can changed.was changed.change))
+    (capped_at store i links taken changed.kept changed.after is can changed.was changed.change) changed.change.parted)

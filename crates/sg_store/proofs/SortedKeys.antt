@@ -1,13 +1,13 @@
 -- The keys of a hash node in order are the offsets over which the root leads on.
-use Rattle.std.proofs.Common.{◌≡◌, ◌≢◌, ℕ, zero, suc, ◌+◌, ◌*◌, ◌-◌, ◌<◌, ◌≤◌, ◌^◌, Bool, true, false, cond, eqb, not, List, [], ◌∷◌, ◌++◌, length, map, filter, get_or, refl, sym, ap, ◌∙◌, subst, arith, zero-add}
-use Rattle.std.specs.Prelude.{Option, Some, None, is_some, slice_get, slice_index, ◌==◌}
+use Rattle.std.proofs.Common.{◌≡◌, ◌≢◌, ℕ, zero, suc, ◌+◌, ◌-◌, ◌<◌, ◌≤◌, ◌^◌, Bool, true, cond, eqb, List, [], ◌∷◌, ◌++◌, length, map, filter, get_or, refl, sym, ap, ◌∙◌, subst, arith, zero-add}
+use Rattle.std.specs.Prelude.{Option, Some, None, is_some, slice_get, slice_index}
 use Rattle.std.specs.Option.{option_and_then}
 use Rattle.std.specs.List.{Contains, All, AllPairs, range_with_len}
-use Rattle.std.specs.List.Sorted.{IsPermutation, IsSorted, IsStrictlySortedBy}
+use Rattle.std.specs.List.Sorted.{IsStrictlySortedBy}
 use Rattle.std.specs.Ordering.{nat_cmp}
 use Rattle.std.specs.Cmp.{nat_cmp_total}
 use Rattle.std.specs.BTreeSet.{BTreeSet, contains}
-use Rattle.std.proofs.lemmas.Bool.{ne_eqb, false≢true}
+use Rattle.std.proofs.lemmas.Bool.{ne_eqb}
 use Rattle.std.proofs.lemmas.Bool.Decides.{nat_tests}
 use Rattle.std.proofs.lemmas.List.{length-map, get_or-map, get_or_default}
 use Rattle.std.proofs.lemmas.List.FromFn.{length-range_with_len, get_or-range_with_len}
@@ -22,14 +22,14 @@ use Rattle.sg_words.proofs.Uses.{same_tests, from_map, into_map, from_filter, in
 use Rattle.sg_layout.specs.declared.shape.Kind.{Kind}
 use Rattle.sg_layout.specs.declared.shape.Kind.TheVariants.{Dense, Bitmasked, Pointer, Hash, Dynamic}
 use Rattle.sg_layout.specs.declared.shape.NodeShape.{NodeShape}
-use Rattle.sg_layout.specs.Axes.{size_of, sizes_of}
-use Rattle.sg_hash.specs.Tables.{IsTable, AreBeside, beside}
+use Rattle.sg_layout.specs.Axes.{sizes_of}
+use Rattle.sg_hash.specs.Tables.{IsTable, beside}
 use Rattle.sg_hash.proofs.Uses.{stands_once}
 use Rattle.sg_store.specs.declared.node.NodeWords.{NodeWords}
 use Rattle.sg_store.specs.StoreWords.{StoreWords}
 use Rattle.sg_store.specs.Slots.{slot_under, active_below}
 use Rattle.sg_store.specs.Walks.{place_after, cell_along}
-use Rattle.sg_store.specs.WellFormed.{IsWellFormed, IsHashNode}
+use Rattle.sg_store.specs.WellFormed.{IsHashNode}
 use Rattle.sg_store.specs.Spots.{root_offsets}
 use Rattle.sg_store.specs.steps.Sorting.{holds_key, keys_in, AreSortedKeys}
 use Rattle.sg_store.proofs.Walking.{index_contains}

@@ -1,7 +1,7 @@
 -- What settling new words for one node changes of a store.
 use Rattle.std.specs.Prelude.{◌≡◌, ℕ, List, Some, slice_get, slice_set}
 use Rattle.sg_dynamic.specs.Chunks.{IsExact, AreFitted}
-use Rattle.sg_pool.specs.Numbers.{IsSettled}
+use Rattle.sg_pool.specs.Numbers.{IsSettled, IsParted}
 use Rattle.sg_store.specs.declared.node.NodeWords.{NodeWords}
 use Rattle.sg_store.specs.StoreWords.{StoreWords}
 
@@ -9,6 +9,7 @@ use Rattle.sg_store.specs.StoreWords.{StoreWords}
 pub record IsRelinked (links taken : List ℕ) (kept after : NodeWords) : Type 0 where
   pub new_links : after.links ≡ links
   pub pool : IsSettled kept.pool after.pool taken
+  pub parted : IsParted after.pool
   pub same_keys : after.keys ≡ kept.keys
   pub same_masks : after.masks ≡ kept.masks
   pub same_lengths : after.lengths ≡ kept.lengths
@@ -19,6 +20,7 @@ pub record IsRekeyed (keys links taken : List ℕ) (kept after : NodeWords) : Ty
   pub new_keys : after.keys ≡ keys
   pub new_links : after.links ≡ links
   pub pool : IsSettled kept.pool after.pool taken
+  pub parted : IsParted after.pool
   pub same_masks : after.masks ≡ kept.masks
   pub same_lengths : after.lengths ≡ kept.lengths
   pub same_chains : after.chains ≡ kept.chains
@@ -37,6 +39,7 @@ pub record IsRefitted (lengths : List ℕ) (chunk : ℕ) (kept after : NodeWords
   pub new_lengths : after.lengths ≡ lengths
   pub fitted : AreFitted kept.chains after.chains lengths chunk
   pub exact : IsExact after.chains after.pool
+  pub parted : IsParted after.pool
   pub same_keys : after.keys ≡ kept.keys
   pub same_links : after.links ≡ kept.links
   pub same_masks : after.masks ≡ kept.masks

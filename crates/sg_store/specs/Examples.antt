@@ -15,10 +15,10 @@ use Rattle.sg_store.specs.Spots.{width_after, place_of_spot, root_offsets}
 
 -- a pool of 19 numbers, of which the first two are live
 abbrev pub two_live : PoolNumbers
-two_live = record { live = true ∷ (true ∷ replicate 17 false) }
+two_live = record { live = true ∷ (true ∷ replicate 17 false); free = []; mark = 2 }
 
 abbrev pub no_numbers : PoolNumbers
-no_numbers = record { live = [] }
+no_numbers = record { live = []; free = []; mark = 0 }
 
 abbrev pub no_chains : Lists
 no_chains = record { numbers = 0; lists = [] }
@@ -118,7 +118,7 @@ grown_words = record {
   masks = [];
   lengths = 6 ∷ [];
   chains = record { numbers = 2; lists = (1 ∷ (0 ∷ [])) ∷ [] };
-  pool = record { live = true ∷ (true ∷ []) };
+  pool = record { live = true ∷ (true ∷ []); free = []; mark = 2 };
 }
 
 abbrev pub grown_store : StoreWords

@@ -56,7 +56,7 @@ lengths_of store number = lengths_or_none (slice_get store.nodes (number - 1))
 
 -- the pool of the numbers of its child containers or chunks
 abbrev pub pool_or_none : Option NodeWords → PoolNumbers
-pool_or_none None = record { live = [] }
+pool_or_none None = record { live = []; free = []; mark = 0 }
 pool_or_none (Some kept) = kept.pool
 
 -- the pool of the node with this number, from 1; one without numbers past the last node

@@ -1,5 +1,5 @@
 -- Freeing what holds no values.
-use Rattle.std.specs.Prelude.{ℕ, Bool, not, ◌==◌, List, filter}
+use Rattle.std.specs.Prelude.{Bool, not, ◌==◌, List, filter}
 use Rattle.std.specs.List.{list_any}
 use Rattle.sg_coord.specs.declared.coord.Coord.{Coord}
 use Rattle.sg_layout.specs.declared.shape.Shape.{Shape}

@@ -13,7 +13,7 @@ use Rattle.sg_layout.specs.Slots.{IsSlot}
 use Rattle.sg_hash.specs.Tables.{IsTable, AreBeside, beside}
 use Rattle.sg_links.specs.Lists.{list_of}
 use Rattle.sg_dynamic.specs.Chunks.{chunks_of, IsExact}
-use Rattle.sg_pool.specs.Numbers.{place_count, is_live_number, live_count}
+use Rattle.sg_pool.specs.Numbers.{place_count, is_live_number, live_count, IsParted}
 use Rattle.sg_store.specs.declared.node.NodeWords.{NodeWords}
 use Rattle.sg_store.specs.StoreWords.{StoreWords}
 use Rattle.sg_store.specs.Slots.{mask_bit, links_by_slot, below_length}
@@ -149,6 +149,7 @@ pub record IsWellFormed (store : StoreWords) : Type 0 where
   pub accepted : IsAccepted store.shape
   pub nodes_fit : AreNodes store.shape.nodes store.nodes 1 is_root
   pub within_caps : AllZip (λ node kept. IsWithinCap node.kind node kept) store.shape.nodes store.nodes
+  pub numbers_parted : All (λ kept. IsParted kept.pool) store.nodes
   pub few_words : words_of_shape store.shape ≤ most_words
   pub few_cells : cell_count store.shape ≤ 2 ^ 22
   pub field_count : length store.fields ≡ length store.shape.fields

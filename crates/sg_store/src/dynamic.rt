@@ -54,6 +54,8 @@ impl NodeWords {
         match fit_chunks(&mut self.chains, &mut self.pool, lengths, chunk) {
             Ok(()) => {
                 overwrite(&mut self.lengths, lengths);
+                // for the law that it ensures
+                self.pool.places();
                 Ok(())
             }
             Err(full) => Err(full),

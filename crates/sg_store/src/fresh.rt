@@ -150,13 +150,16 @@ fn zero_words(alloc: Global, room: &Room) -> Result<NodeWords, Memory>
     requires { room.now.lengths < 2 ^ 32 }
     ensures { IfOk result (AreZeroWords room.now) }
 {
+    let pool = Pool::make(alloc, room.numbers)?;
+    // for the law that it ensures
+    pool.places();
     Ok(NodeWords {
         keys: Items::from_vec(vec![in alloc; 0; room.keys]?),
         links: Items::from_vec(vec![in alloc; 0; room.links]?),
         masks: Items::from_vec(vec![in alloc; 0; room.masks]?),
         lengths: Items::from_vec(vec![in alloc; 0; room.lengths]?),
         chains: empty_chains(alloc, room.numbers, room.lengths as u32)?,
-        pool: Pool::make(alloc, room.numbers)?,
+        pool,
     })
 }
 

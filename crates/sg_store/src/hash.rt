@@ -93,6 +93,8 @@ impl NodeWords {
         overwrite(&mut self.keys, keys);
         overwrite(&mut self.links, links);
         self.pool.settle(taken);
+        // for the law that it ensures
+        self.pool.places();
     }
 }
 

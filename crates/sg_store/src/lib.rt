@@ -28,12 +28,3 @@ mod walk;
 pub use reach::Full;
 pub use spot::Spot;
 pub use store::{Store, Stores};
-
-#[cfg(test)]
-mod pruning_tests;
-#[cfg(test)]
-mod slot_tests;
-#[cfg(test)]
-mod tests;
-#[cfg(test)]
-mod worker_tests;

@@ -75,6 +75,8 @@ impl NodeWords {
     {
         overwrite(&mut self.links, links);
         self.pool.settle(taken);
+        // for the law that it ensures
+        self.pool.places();
     }
 }
 

@@ -7,7 +7,7 @@ use Rattle.sg_layout.specs.declared.shape.Kind.TheVariants.{Dense, Bitmasked, Po
 use Rattle.sg_layout.specs.declared.shape.NodeShape.{NodeShape}
 use Rattle.sg_layout.specs.Axes.{count_of, size_of, slots_of}
 use Rattle.sg_layout.specs.StorageWords.{power_for}
-use Rattle.sg_pool.specs.Numbers.{place_count, is_live_number, live_count}
+use Rattle.sg_pool.specs.Numbers.{place_count, is_live_number, live_count, IsParted}
 use Rattle.sg_links.specs.Lists.{empty_lists}
 use Rattle.sg_store.specs.declared.node.NodeWords.{NodeWords}
 use Rattle.sg_store.specs.declared.fresh.Room.{Room}
@@ -34,6 +34,7 @@ pub record IsFreshNode (kind : Kind) (node : NodeShape) (kept : NodeWords) (slot
   pub no_length : (parent : ℕ) → slice_index kept.lengths parent ≡ 0
   pub none_live : (number : ℕ) → is_live_number kept.pool number ≡ false
   pub none_counted : live_count kept.pool ≡ 0
+  pub parted : IsParted kept.pool
 
 -- so many words without a key, a link, a bit, a length or a live number
 pub record AreZeroWords (room : Room) (kept : NodeWords) : Type 0 where
@@ -49,6 +50,7 @@ pub record AreZeroWords (room : Room) (kept : NodeWords) : Type 0 where
   pub no_bit : (slot : ℕ) → mask_bit kept.masks slot ≡ false
   pub none_live : (number : ℕ) → is_live_number kept.pool number ≡ false
   pub none_counted : live_count kept.pool ≡ 0
+  pub parted : IsParted kept.pool
 
 -- such words for each node, under so many places
 abbrev pub AreFresh : List NodeShape → List NodeWords → ℕ → Type 0

@@ -1,4 +1,4 @@
-use Rattle.std.proofs.Common.{◌≡◌, List, ◌∷◌, ◌++◌, take, get_or, pos, sym, ap, ◌∙◌, subst}
+use Rattle.std.proofs.Common.{List, take, get_or, pos, sym, ◌∙◌, subst}
 use Rattle.std.proofs.lemmas.List.{take_more}
 use Rattle.sg_coord.specs.declared.coord.Coord.{Coord}
 use Rattle.sg_store.specs.steps.Moving.{HasMoved}

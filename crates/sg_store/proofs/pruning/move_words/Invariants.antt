@@ -1,4 +1,4 @@
-use Rattle.std.proofs.Common.{◌≡◌, take}
+use Rattle.std.proofs.Common.{take}
 use Rattle.sg_store.specs.steps.Moving.{HasMoved}
 use Rattle.sg_store.proofs.pruning.move_words.Given as goal
 

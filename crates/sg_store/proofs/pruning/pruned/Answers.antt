@@ -1,14 +1,12 @@
-use Rattle.std.proofs.Common.{◌≡◌, ◌++◌, List, sym, ap, ◌∙◌, subst}
+use Rattle.std.proofs.Common.{◌++◌, sym, ◌∙◌, subst}
 use Rattle.std.specs.List.{All}
-use Rattle.sg_coord.specs.declared.coord.Coord.{Coord}
 use Rattle.sg_coord.specs.Coord.{Inside}
 use Rattle.sg_layout.specs.declared.shape.Shape.{Shape}
 use Rattle.sg_layout.specs.Axes.{bounds_of_shape}
 use Rattle.sg_layout.specs.Closure.{closure}
-use Rattle.sg_flat.specs.declared.state.FlatLayout.{FlatLayout}
 use Rattle.sg_flat.specs.State.{opening_layout}
 use Rattle.sg_store.specs.StandsFor.{StandsFor}
-use Rattle.sg_store.specs.steps.Moving.{AreValued, HasMoved}
+use Rattle.sg_store.specs.steps.Moving.{AreValued}
 use Rattle.sg_store.proofs.Pruned.{PruneLaws, reached_layout, valued_inside, stands_after}
 use Rattle.sg_store.proofs.pruning.pruned.Goals as goal
 

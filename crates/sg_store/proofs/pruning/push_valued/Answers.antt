@@ -1,4 +1,4 @@
-use Rattle.std.proofs.Common.{◌≡◌, ◌+◌, ◌++◌, ◌∷◌, [], List, sym, ap, ◌∙◌, subst}
+use Rattle.std.proofs.Common.{◌+◌, List, sym, ◌∙◌, subst}
 use Rattle.sg_coord.specs.declared.coord.Coord.{Coord}
 use Rattle.sg_store.specs.steps.Moving.{AreValuedBelow}
 use Rattle.sg_store.proofs.Moved.{idle_cell, valued_cell}

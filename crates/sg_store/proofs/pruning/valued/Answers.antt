@@ -1,4 +1,4 @@
-use Rattle.std.proofs.Common.{◌≡◌, ◌≤◌, List, sym, subst, arith}
+use Rattle.std.proofs.Common.{◌≤◌, List, sym, subst, arith}
 use Rattle.sg_coord.specs.declared.coord.Coord.{Coord}
 use Rattle.sg_store.specs.WellFormed.{cell_count}
 use Rattle.sg_store.specs.steps.Moving.{AreValuedBelow}
