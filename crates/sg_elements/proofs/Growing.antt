@@ -1,10 +1,10 @@
 -- A level of the walk grows branch by branch.
 use Rattle.std.proofs.Common.{◌≡◌, ◌⊎◌, inl, inr, ℕ, zero, suc, ◌+◌, ◌^◌, ◌<◌, ◌≤◌, Bool, true, cond, List, [], ◌∷◌, ◌++◌, length, map, filter, take, get_or, slice_index, Some, None, is_some, refl, sym, ap, ◌∙◌, subst, arith, append_assoc, append-nil}
 use Rattle.std.specs.Prelude.{slice_get}
-use Rattle.std.specs.List.{flat_map}
+use Rattle.std.specs.List.{Contains, flat_map}
 use Rattle.std.proofs.lemmas.List.{take_more, take_all, map-append, length-append, length-map}
 use Rattle.std.proofs.lemmas.List.Concat.{flat_map-append}
-use Rattle.std.proofs.lemmas.List.Elements.{filter-append}
+use Rattle.std.proofs.lemmas.List.Elements.{All-contains_itself, filter-append}
 use Rattle.std.proofs.lemmas.Option.{slice_get-get_or, get_or_from_slice_get}
 use Rattle.sg_coord.specs.Bounds.{volume, IsBounds}
 use Rattle.sg_coord.specs.Coord.{Inside, row_of}
@@ -109,7 +109,7 @@ led_one : (store : StoreWords) (path : List ℕ) (ways : List Way) (i : ℕ) (d 
 led_one store path ways i d below led =
     led_more store path ways i d below ∙ ap (λ (b : Bool). led_over store path (offsets_of (take i ways)) ++ cond b ((path ++ (get_or ways i d).offset ∷ []) ∷ []) []) led
 
-led_none : (store : StoreWords) (path : List ℕ) (ways : List Way) (i : ℕ) (d : Way) → i < length ways → cell_along store (path ++ (get_or ways i d).offset ∷ []) ≡ None
+pub led_none : (store : StoreWords) (path : List ℕ) (ways : List Way) (i : ℕ) (d : Way) → i < length ways → cell_along store (path ++ (get_or ways i d).offset ∷ []) ≡ None
     → led_over store path (offsets_of (take (i + 1) ways)) ≡ led_over store path (offsets_of (take i ways))
 led_none store path ways i d below none =
     led_more store path ways i d below ∙ ap (λ (b : Bool). led_over store path (offsets_of (take i ways)) ++ cond b ((path ++ (get_or ways i d).offset ∷ []) ∷ []) []) (ap is_some none)
@@ -172,10 +172,10 @@ below_more store node index level are below =
     let path = get_or paths index [] in
     ap (flat_map f) (take_more paths index [] there) ∙ flat_map-append f (take index paths) (path ∷ []) ∙ ap (λ (list : List (List ℕ)). flat_map f (take index paths) ++ list) (append-nil (f path))
 
--- a path of the level has an offset for each node
-path_long : (store : StoreWords) (node index : ℕ) (level : List Branch) → AreBranches store node level (level_at store node) → index < length level → length (get_or (level_at store node) index []) ≡ node
-path_long store node index level are below =
-    (zip_at (IsBranch store node) level (level_at store node) index (record { spot = record { node = 0; part = 0; slot = 0 }; row = 0 }) [] are below).many
+path_there : (store : StoreWords) (node index : ℕ) (level : List Branch) → AreBranches store node level (level_at store node) → index < length level → Contains (level_at store node) (get_or (level_at store node) index [])
+path_there store node index level are below =
+    let there : index < length (level_at store node) = omega (arith, zip_length (IsBranch store node) level (level_at store node) are) in
+    All-contains_itself (level_at store node) index [] there
 
 pub level_more : (store : StoreWords) (node index : ℕ) (level old new : List Branch) (ways : List Way) → AreBranches store node level (level_at store node) → index < length level → AreWays store node ways
     → AreBranches store (suc node) old (flat_map (led_below store (node_size store node)) (take index (level_at store node)))
@@ -185,7 +185,7 @@ level_more store node index level old new ways are below of so adds =
     let paths = level_at store node in
     let f = led_below store (node_size store node) in
     let path = get_or paths index [] in
-    let more : AreBranches store (suc node) adds.more (f path) = subst (AreBranches store (suc node) adds.more) (of.all path (path_long store node index level are below)) adds.are in
+    let more : AreBranches store (suc node) adds.more (f path) = subst (AreBranches store (suc node) adds.more) (of.all path (path_there store node index level are below)) adds.are in
     subst (λ (bs : List Branch). AreBranches store (suc node) bs (flat_map (led_below store (node_size store node)) (take (index + 1) (level_at store node)))) (sym adds.added)
     (subst (AreBranches store (suc node) (old ++ adds.more)) (sym (below_more store node index level are below))
     (zip_append (IsBranch store (suc node)) old adds.more (flat_map f (take index paths)) (f path) so more))
@@ -200,7 +200,7 @@ rows_more store node index level front old new ways are below of so adds =
     ∙ map-append (row_along store.shape) (flat_map f (take index paths)) (f path)
     ∙ ap (λ (list : List ℕ). list ++ map (row_along store.shape) (f path)) so
     ∙ append_assoc front old (map (row_along store.shape) (f path))
-    ∙ ap (λ (list : List (List ℕ)). front ++ (old ++ map (row_along store.shape) list)) (sym (of.all path (path_long store node index level are below)))
+    ∙ ap (λ (list : List (List ℕ)). front ++ (old ++ map (row_along store.shape) list)) (sym (of.all path (path_there store node index level are below)))
     ∙ ap (λ (list : List ℕ). front ++ list) (sym adds)
 
 -- all of them

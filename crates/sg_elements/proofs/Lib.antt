@@ -1,4 +1,5 @@
 pub mod AllDense
+pub mod Ends
 pub mod Growing
 pub mod Halves
 pub mod Levels

@@ -1,24 +1,28 @@
 -- The ways of a node: over all its offsets, and over the keys of a hash node alone.
-use Rattle.std.proofs.Common.{◌≡◌, ℕ, zero, suc, ◌*◌, ◌<◌, ◌≤◌, Bool, List, [], ◌∷◌, ◌++◌, length, map, filter, take, get_or, slice_index, is_some, Result, Ok, Err, refl, sym, ap, ◌∙◌, subst, arith}
-use Rattle.std.specs.List.{All, range_with_len}
+use Rattle.std.proofs.Common.{◌≡◌, ℕ, zero, suc, ◌*◌, ◌<◌, ◌≤◌, Bool, List, [], ◌∷◌, ◌++◌, length, map, filter, take, get_or, slice_index, is_some, Result, Ok, Err, refl, sym, ap, ◌∙◌, subst, inl, inr, zero-add, arith}
+use Rattle.std.specs.List.{All, Contains, range_with_len}
 use Rattle.std.specs.Result.{IfOk}
 use Rattle.std.proofs.lemmas.List.{length-map, get_or-map}
+use Rattle.std.proofs.lemmas.List.FromFn.{length-range_with_len, get_or-range_with_len}
 use Rattle.std.proofs.lemmas.List.Elements.{All-filter, filter_passes, All-contains_itself}
-use Rattle.sg_words.proofs.Uses.{filter_all}
+use Rattle.sg_words.proofs.Uses.{contains_none, contains_cases, filter_all}
 use Rattle.sg_coord.specs.Bounds.{Bounds, volume, IsBounds}
 use Rattle.sg_coord.specs.Coord.{Inside}
+use Rattle.sg_layout.specs.declared.shape.Kind.TheVariants.{Hash, Dynamic}
 use Rattle.sg_layout.specs.declared.shape.NodeShape.{NodeShape}
 use Rattle.sg_layout.specs.declared.shape.Shape.{Shape}
 use Rattle.sg_layout.specs.Accepted.{IsAccepted}
 use Rattle.sg_layout.specs.Axes.{size_of, sizes_of, slots_of, bounds_of_shape}
+use Rattle.sg_layout.specs.Live.{kind_at}
 use Rattle.sg_layout.specs.PathLaws.{SlotIsReached, CoordinateOfPath}
 use Rattle.sg_layout.specs.Slots.{IsSlot, share_at}
 use Rattle.sg_store.specs.StoreWords.{StoreWords}
 use Rattle.sg_store.specs.Walks.{cell_along}
 use Rattle.sg_store.specs.Spots.{root_offsets}
 use Rattle.sg_elements.specs.declared.ways.Way.{Way}
-use Rattle.sg_elements.specs.steps.Levels.{is_led, led_over, led_below, node_size, share_row, SharesInside, way_of, offsets_of, AreWays}
+use Rattle.sg_elements.specs.steps.Levels.{is_led, led_over, led_below, level_at, node_size, share_row, SharesInside, way_of, offsets_of, AreEnough, AreWays}
 use Rattle.sg_elements.proofs.Lists.{filter-map}
+use Rattle.sg_elements.proofs.Ends.{led_enough}
 use Rattle.sg_elements.proofs.Levels.{below_range}
 use Rattle.sg_elements.proofs.Paths.{coordinate_inside, share_inside}
 
@@ -27,19 +31,25 @@ offsets_back store node [] = refl
 offsets_back store node (offset ∷ offsets) = ap (λ (list : List ℕ). offset ∷ list) (offsets_back store node offsets)
 
 pub ways_are : (store : StoreWords) (node : ℕ) (ways : List Way) (offsets : List ℕ) → ways ≡ map (way_of store.shape node) offsets → All (λ offset. offset < node_size store node) offsets
-    → ((path : List ℕ) → length path ≡ node → led_over store path offsets ≡ led_below store (node_size store node) path) → AreWays store node ways
-ways_are store node ways offsets are below all =
+    → ((path : List ℕ) → Contains (level_at store node) path → led_over store path offsets ≡ led_below store (node_size store node) path)
+    → (kind_at store.shape.nodes (suc node) ≡ Dynamic → (i : ℕ) → i < length offsets → get_or offsets i 0 ≡ i) → AreWays store node ways
+ways_are store node ways offsets are below all first =
     subst (AreWays store node) (sym are) (record {
       below = λ i d less. (let here : i < length offsets = omega (arith, less, length-map offsets (way_of store.shape node)) in
           subst (λ (way : Way). way.offset < node_size store node) (sym (get_or-map (way_of store.shape node) offsets i 0 d here)) (below i 0 here));
       shares = λ i d less. (let here : i < length offsets = omega (arith, less, length-map offsets (way_of store.shape node)) in
           subst (λ (way : Way). way.share ≡ share_row store.shape node way.offset) (sym (get_or-map (way_of store.shape node) offsets i 0 d here)) refl);
-      all = λ path long. ap (led_over store path) (offsets_back store node offsets) ∙ all path long;
+      all = λ path there. ap (led_over store path) (offsets_back store node offsets) ∙ all path there;
+      first = λ lists i d less. (let here : i < length offsets = omega (arith, less, length-map offsets (way_of store.shape node)) in
+          ap (λ (way : Way). way.offset) (get_or-map (way_of store.shape node) offsets i 0 d here) ∙ first lists i here);
     })
 
 pub all_below : (size : ℕ) → All (λ offset. offset < size) (range_with_len 0 size)
 all_below size i d less =
     below_range size (get_or (range_with_len 0 size) i d) (All-contains_itself (range_with_len 0 size) i d less)
+
+first_below : (count size : ℕ) → count ≤ size → All (λ offset. offset < size) (range_with_len 0 count)
+first_below count size few i d less = let here = all_below count i d less in omega arith
 
 -- ---- the keys of a hash node
 
@@ -47,9 +57,12 @@ pub roots_below : (store : StoreWords) → All (λ offset. offset < node_size st
 roots_below store =
     All-filter (λ offset. is_some (cell_along store (offset ∷ []))) (λ offset. offset < node_size store 0) (range_with_len 0 (node_size store 0)) (all_below (node_size store 0))
 
-pub roots_all : (store : StoreWords) (path : List ℕ) → length path ≡ 0 → led_over store path (root_offsets store) ≡ led_below store (node_size store 0) path
-roots_all store (x ∷ path) long = absurd (omega (arith, long))
-roots_all store [] long =
+pub roots_all : (store : StoreWords) (path : List ℕ) → Contains (level_at store 0) path → led_over store path (root_offsets store) ≡ led_below store (node_size store 0) path
+roots_all store (x ∷ path) there = elim (contains_cases (x ∷ path) [] [] there) [
+  | inl same ↦ absurd (cc)
+  | inr later ↦ absurd (contains_none (x ∷ path) later)
+]
+roots_all store [] there =
     let test : ℕ → Bool = λ offset. is_some (cell_along store (offset ∷ [])) in
     let range = range_with_len 0 (node_size store 0) in
     filter-map (λ (offset : ℕ). [] ++ offset ∷ []) (is_led store) (root_offsets store)
@@ -95,14 +108,17 @@ shares_inside shape node reached whole accepted fill good there offset below =
 
 -- ---- as they are answered
 
-pub keys_ok : (store : StoreWords) (node : ℕ) {E : Type 0} (r : Result (List Way) E) → node ≡ 0 → IfOk r (λ ways. ways ≡ map (way_of store.shape 0) (root_offsets store)) → IfOk r (AreWays store node)
-keys_ok store node (Ok ways) first are =
-    subst (λ (n : ℕ). AreWays store n ways) (sym first) (ways_are store 0 ways (root_offsets store) are (roots_below store) (roots_all store))
-keys_ok store node (Err e) first are = tt
+pub keys_ok : (store : StoreWords) (node : ℕ) {E : Type 0} (r : Result (List Way) E) → node ≡ 0 → kind_at store.shape.nodes 1 ≡ Hash → IfOk r (λ ways. ways ≡ map (way_of store.shape 0) (root_offsets store)) → IfOk r (AreWays store node)
+keys_ok store node (Ok ways) first hash are =
+    subst (λ (n : ℕ). AreWays store n ways) (sym first) (ways_are store 0 ways (root_offsets store) are (roots_below store) (roots_all store) (λ lists. absurd (cc)))
+keys_ok store node (Err e) first hash are = tt
 
-pub all_ok : (store : StoreWords) (shape : Shape) (node : ℕ) {E : Type 0} (r : Result (List Way) E) → shape ≡ store.shape → IfOk r (λ ways. ways ≡ map (way_of shape node) (range_with_len 0 (slice_index (sizes_of shape.nodes) node))) → IfOk r (AreWays store node)
-all_ok store shape node (Ok ways) same are =
-    let own : ways ≡ map (way_of store.shape node) (range_with_len 0 (node_size store node)) =
-    are ∙ ap (λ (s : Shape). map (way_of s node) (range_with_len 0 (slice_index (sizes_of s.nodes) node))) same in
-    ways_are store node ways (range_with_len 0 (node_size store node)) own (all_below (node_size store node)) (λ path long. refl)
-all_ok store shape node (Err e) same are = tt
+-- those over so many first offsets
+pub first_ok : (store : StoreWords) (shape : Shape) (node count : ℕ) {E : Type 0} (r : Result (List Way) E) → shape ≡ store.shape → count ≤ node_size store node → AreEnough store node count
+    → IfOk r (λ ways. ways ≡ map (way_of shape node) (range_with_len 0 count)) → IfOk r (AreWays store node)
+first_ok store shape node count (Ok ways) same few enough are =
+    let own : ways ≡ map (way_of store.shape node) (range_with_len 0 count) = are ∙ ap (λ (s : Shape). map (way_of s node) (range_with_len 0 count)) same in
+    ways_are store node ways (range_with_len 0 count) own (first_below count (node_size store node) few)
+    (λ path there. led_enough store node count path few (enough path there))
+    (λ lists i less. let here : i < count = omega (arith, length-range_with_len 0 count) in get_or-range_with_len 0 count i 0 here ∙ zero-add i)
+first_ok store shape node count (Err e) same few enough are = tt

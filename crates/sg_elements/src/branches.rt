@@ -4,7 +4,7 @@ ghost use Rattle.std.specs.Prelude.{◌≡◌, ◌+◌, ◌++◌, ℕ, suc, ◌<
 ghost use Rattle.sg_store.specs.StoreWords.{StoreWords};
 ghost use Rattle.sg_elements.specs.steps.Levels.{IsBranch, AreBranches, AddsBranches, AddsRows, AreWays, FewBelow, led_over, offsets_of, level_at, rows_upto};
 
-use crate::ways::{Way, ways_of};
+use crate::ways::{Way, has_lists, ways_of};
 use sg_coord::numbering;
 use sg_layout::paths_tell;
 use sg_store::{Spot, Store};
@@ -60,7 +60,7 @@ fn next_level(
     requires level { AreBranches store.now node level.now (level_at store.now node) }
     ensures { IfOk result (λ next. AreBranches store.now (suc node) next.items (level_at store.now (suc node))) }
 {
-    let ways = ways_of(alloc, store, node)?;
+    let ways = ways_of(alloc, store, node, level)?;
     let mut next = Vec::new(alloc);
     for index in 0..level.len() {
         push_below(store, node, level, index, ways.as_slice(), &mut next)?;
@@ -89,10 +89,18 @@ fn push_rows(
     let extents = store.layout().extents();
     numbering(&extents);
     let branch = level[index];
+    let lists = has_lists(store, node);
     for way in ways {
-        if let Some(_spot) = store.down(branch.spot, way.offset) {
-            let row = branch.row + way.share;
-            rows.push(row)?;
+        match store.down(branch.spot, way.offset) {
+            Some(_spot) => {
+                let row = branch.row + way.share;
+                rows.push(row)?;
+            }
+            None => {
+                if lists {
+                    return Ok(());
+                }
+            }
         }
     }
     Ok(())
@@ -133,10 +141,16 @@ fn count_below(store: &Store, node: usize, level: &[Branch], index: usize, ways:
     ensures { result ≡ length (led_over store.now path (offsets_of ways.now)) }
 {
     let branch = level[index];
+    let lists = has_lists(store, node);
     let mut count = 0;
     for way in ways {
-        if let Some(_spot) = store.down(branch.spot, way.offset) {
-            count += 1;
+        match store.down(branch.spot, way.offset) {
+            Some(_spot) => count += 1,
+            None => {
+                if lists {
+                    return count;
+                }
+            }
         }
     }
     count

@@ -21,7 +21,7 @@ pub fn reached_rows(alloc: Global, store: &Store) -> Result<Vec<u32>, Memory>
 {
     let last = store.layout().nodes() - 1;
     let level = level_through(alloc, store, last)?;
-    let ways = ways_of(alloc, store, last)?;
+    let ways = ways_of(alloc, store, last, &level)?;
     rows_between(alloc, store, last, &level, ways.as_slice(), 0, level.len())
 }
 
@@ -37,7 +37,7 @@ pub fn rows_reached_by<R: Threads + Sync>(
 {
     let last = store.layout().nodes() - 1;
     let level = level_through(alloc, store, last)?;
-    let ways = ways_of(alloc, store, last)?;
+    let ways = ways_of(alloc, store, last, &level)?;
     let list = ways.as_slice();
     rows_among(
         rt,
@@ -181,7 +181,7 @@ pub fn reached_count<R: Threads + Sync>(
 {
     let last = store.layout().nodes() - 1;
     let level = level_through(alloc, store, last)?;
-    let ways = ways_of(alloc, store, last)?;
+    let ways = ways_of(alloc, store, last, &level)?;
     let list = ways.as_slice();
     Ok(count_among(
         rt,

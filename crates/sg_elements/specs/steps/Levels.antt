@@ -1,10 +1,12 @@
 -- The walk down the tree of a store: the paths at each node over slots that are active, and what the code keeps of each.
-use Rattle.std.specs.Prelude.{◌≡◌, ℕ, zero, suc, ◌^◌, ◌<◌, Bool, List, [], ◌∷◌, ◌++◌, length, map, filter, take, slice_index, is_some}
-use Rattle.std.specs.List.{All, AllZip, flat_map, range_with_len}
+use Rattle.std.specs.Prelude.{◌≡◌, ℕ, zero, suc, ◌^◌, ◌<◌, ◌≤◌, Bool, List, [], ◌∷◌, ◌++◌, length, map, filter, take, slice_index, get_or, None, is_some}
+use Rattle.std.specs.List.{All, AllZip, Contains, flat_map, range_with_len}
 use Rattle.std.specs.List.Sorted.{IsPermutation}
 use Rattle.sg_coord.specs.Coord.{Inside, row_of}
 use Rattle.sg_layout.specs.declared.shape.Shape.{Shape}
 use Rattle.sg_layout.specs.Axes.{bounds_of_shape, sizes_of}
+use Rattle.sg_layout.specs.declared.shape.Kind.TheVariants.{Dynamic}
+use Rattle.sg_layout.specs.Live.{kind_at}
 use Rattle.sg_layout.specs.Slots.{IsSlot, coordinate_of, share_at}
 use Rattle.sg_store.specs.StoreWords.{StoreWords}
 use Rattle.sg_store.specs.Walks.{cell_along}
@@ -71,12 +73,22 @@ way_of shape node offset = record { offset = offset; share = share_row shape nod
 abbrev pub offsets_of : List Way → List ℕ
 offsets_of ways = map (λ (way : Way). way.offset) ways
 
--- ways of a node, over which the store leads on from each place of it as over all its offsets
+-- behind this path the store leads on over no offset of a node from this one on
+abbrev pub EndsAt : StoreWords → ℕ → ℕ → List ℕ → Type 0
+EndsAt store node end path = (offset : ℕ) → end ≤ offset → offset < node_size store node → cell_along store (path ++ offset ∷ []) ≡ None
+
+-- behind each path of a node's level
+abbrev pub AreEnough : StoreWords → ℕ → ℕ → Type 0
+AreEnough store node count = (path : List ℕ) → Contains (level_at store node) path → EndsAt store node count path
+
+-- Ways of a node, over which the store leads on from each place of it as over all its offsets. At a dynamic node, whose places have lists,
+-- they are those over its first offsets
 pub record AreWays (store : StoreWords) (node : ℕ) (ways : List Way) : Type 0 where
   pub below : All (λ (way : Way). way.offset < node_size store node) ways
   pub shares : All (λ (way : Way). way.share ≡ share_row store.shape node way.offset) ways
-  pub all : (path : List ℕ) → length path ≡ node →
+  pub all : (path : List ℕ) → Contains (level_at store node) path →
       led_over store path (offsets_of ways) ≡ led_below store (node_size store node) path
+  pub first : kind_at store.shape.nodes (suc node) ≡ Dynamic → (i : ℕ) (d : Way) → i < length ways → (get_or ways i d).offset ≡ i
 
 -- a branch of the walk after so many nodes
 pub record IsBranch (store : StoreWords) (node : ℕ) (branch : Branch) (path : List ℕ) : Type 0 where

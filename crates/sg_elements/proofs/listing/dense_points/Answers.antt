@@ -1,10 +1,8 @@
-use Rattle.std.proofs.Common.{◌≡◌, true, ap, ◌∙◌, sym}
+use Rattle.std.proofs.Common.{◌≡◌, ap, ◌∙◌}
 use Rattle.std.specs.List.{range_with_len}
 use Rattle.sg_coord.specs.Bounds.{bounds_of, volume}
-use Rattle.sg_layout.specs.declared.shape.Shape.{Shape}
 use Rattle.sg_layout.specs.Axes.{bounds_of_shape}
 use Rattle.sg_layout.specs.Closure.{points}
-use Rattle.sg_layout.specs.Rules.{all_dense}
 use Rattle.sg_elements.proofs.AllDense.{dense_active}
 use Rattle.sg_elements.proofs.Rows.{then_active}
 use Rattle.sg_elements.proofs.listing.dense_points.Goals as goal

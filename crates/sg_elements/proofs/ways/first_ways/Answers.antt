@@ -2,7 +2,7 @@ use Rattle.std.proofs.Common.{◌++◌, ◌∷◌, [], List, ap, ◌∙◌, sym,
 use Rattle.std.proofs.lemmas.List.FromFn.{map-range_with_len_more}
 use Rattle.sg_elements.specs.declared.ways.Way.{Way}
 use Rattle.sg_elements.specs.steps.Levels.{way_of}
-use Rattle.sg_elements.proofs.ways.all_ways.Goals as goal
+use Rattle.sg_elements.proofs.ways.first_ways.Goals as goal
 
 pub loop-offset-preserved : goal.loop-offset-preserved
 loop-offset-preserved c =
