@@ -5,4 +5,3 @@ pub mod Levels
 pub mod Links
 pub mod Masks
 pub mod Racing
-pub mod Tests

@@ -12,7 +12,7 @@ ghost use Rattle.sg_activate.specs.Activating.{wanted_below, unless_full};
 ghost use Rattle.sg_activate.specs.steps.Levels.{OpensIndex, IfActRefused, IsFirstFull};
 
 use crate::fault::ActFault;
-use crate::gates::pass_gate;
+use crate::gates::{pass_gate, workers_at};
 use crate::keys::open_keys;
 use crate::lengths::open_lengths;
 use crate::links::open_links;
@@ -64,7 +64,8 @@ pub fn activate<R: Threads + Sync, W: Wanted + Sync, G: Gate + Sync>(
 /// The store with the closure of what is active and what is wanted in the place of what is active, and all values kept;
 /// none where all that is wanted is active already, so that nothing changes. Refused where the need passes a cap. Up to 16
 /// workers race for it, node after node, each with a slice of the pieces, in order. In the first pass, or where there is
-/// none, each passes the gate before each of its pieces. It waits for its workers.
+/// none, each passes the gate before each of its pieces. Where the gate can't hold anyone, only as many race as have enough
+/// to do. It waits for its workers.
 pub fn activated<R: Threads + Sync, W: Wanted + Sync, G: Gate + Sync>(
     rt: &R,
     alloc: Global,
@@ -89,9 +90,11 @@ pub fn activated<R: Threads + Sync, W: Wanted + Sync, G: Gate + Sync>(
     live_grows();
     cells_are_active();
     store.layout();
+    let effort = want.effort().saturating_mul(want.pieces() as usize);
+    let racing = workers_at(gate, effort, workers);
     let work = Work {
         want,
-        workers,
+        workers: racing,
         gate,
         gated: false,
     };
@@ -104,7 +107,7 @@ pub fn activated<R: Threads + Sync, W: Wanted + Sync, G: Gate + Sync>(
     for index in 0..store.layout().nodes() {
         let work = Work {
             want,
-            workers,
+            workers: racing,
             gate,
             gated,
         };

@@ -5,13 +5,43 @@ use sg_coord::slice_of;
 use sg_outside::{Gate, Phase};
 use std::thread::{Threads, join};
 
+/// With less to do than so many instructions a worker isn't worth its thread.
+const ENOUGH: usize = 131_072;
+
+/// How many of so many workers have enough to do where all has about so many instructions; one at least.
+pub fn workers_for(effort: usize, workers: u32) -> u32
+    requires some { 1 ≤ workers }
+    ensures some { 1 ≤ result }
+    ensures few { result ≤ workers }
+{
+    let busy = u32::try_from(effort / ENOUGH).unwrap_or(workers);
+    if busy < 1 {
+        return 1;
+    }
+    if busy < workers { busy } else { workers }
+}
+
+/// The same, where they pass the gate: all of them where it may hold one, since it may be for another.
+pub fn workers_at<G: Gate>(gate: &G, effort: usize, workers: u32) -> u32
+    requires some { 1 ≤ workers }
+    ensures some { 1 ≤ result }
+    ensures few { result ≤ workers }
+{
+    if gate.may_hold() {
+        return workers;
+    }
+    workers_for(effort, workers)
+}
+
 /// So many workers pass the gate before each of so many pieces, each before those of its slice in order, as in an activation in which
-/// nothing is new. It waits for its workers.
+/// nothing is new. Where it can't hold anyone they needn't. It waits for its workers.
 pub fn pass_gate<R: Threads + Sync, G: Gate + Sync>(rt: &R, pieces: u32, workers: u32, gate: &G)
     requires some { 1 ≤ workers }
     requires few { workers ≤ 16 }
 {
-    pass_slices(rt, pieces, workers, gate, 0, workers);
+    if gate.may_hold() {
+        pass_slices(rt, pieces, workers, gate, 0, workers);
+    }
 }
 
 /// Workers from one number on pass the gate before each piece of their slices; halves of them in threads, where both have pieces.

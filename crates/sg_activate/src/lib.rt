@@ -15,8 +15,5 @@ pub mod wanted;
 
 pub use activation::{activate, activated};
 pub use fault::ActFault;
-pub use gates::pass_gate;
+pub use gates::{pass_gate, workers_at, workers_for};
 pub use wanted::Wanted;
-
-#[cfg(test)]
-mod tests;

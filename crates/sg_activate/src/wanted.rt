@@ -27,6 +27,12 @@ pub trait Wanted {
     fn pieces(&self) -> u32
         ensures { result ≡ count self.now };
 
+    /// About how many instructions a piece takes. Any number will do: where the gate can't hold anyone, there are as many workers as
+    /// have enough to do by it.
+    fn effort(&self) -> usize {
+        1
+    }
+
     /// A new hand.
     fn hand(&self, alloc: Global) -> Result<Self::Hand, Memory>
         ensures { IfOk result (IsHand self.now) };

@@ -5,7 +5,7 @@ ghost use Rattle.sg_words.specs.Words.{applied, applied_un, mulq_of};
 ghost use Rattle.sg_exec.specs.steps.Rows.{item_in, IsPut};
 
 use crate::columns::Columns;
-use sg_coord::digit;
+use sg_coord::Digits;
 use sg_words::{BinOp, Ty, UnOp, apply, apply_un, mulq};
 
 /// An operator on two words. Which it is, is asked once for all columns.
@@ -110,8 +110,9 @@ pub(crate) fn take_digits(
     requires from { from * 32 + 32 ≤ length regs.old }
     ensures { IsPut (λ k word. word ≡ (item_in regs.old 0 k from) / div % size) columns.first columns.end to 0 regs.old regs.new }
 {
+    let digits = Digits::of(div, size);
     for k in columns.first..columns.end {
-        regs[to as usize * 32 + k] = digit(regs[from as usize * 32 + k], div, size);
+        regs[to as usize * 32 + k] = digits.digit(regs[from as usize * 32 + k]);
     }
 }
 

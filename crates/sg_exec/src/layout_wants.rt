@@ -7,6 +7,7 @@ ghost use Rattle.sg_exec.specs.steps.Turning.{turn_count, wanted_of};
 
 use crate::ahead::{Ahead, column_of};
 use crate::batch::batch_for;
+use crate::effort::effort_of;
 use crate::turns::Turns;
 use crate::values::ONE_POINT;
 use sg_activate::Wanted;
@@ -44,6 +45,16 @@ impl<'a> Wanted for LayoutWants<'a> {
 
     fn pieces(&self) -> u32 {
         self.count
+    }
+
+    fn effort(&self) -> usize {
+        match self.turns {
+            Turns::Slice {
+                points: _points,
+                block,
+            } => effort_of(block),
+            Turns::Rows(_rows) => 1,
+        }
     }
 
     fn hand(&self, alloc: Global) -> Result<Ahead<'a>, Memory> {

@@ -9,6 +9,7 @@ mod cell_write;
 mod cells;
 mod columns;
 mod contributions;
+mod effort;
 mod fields;
 mod hand;
 mod held;
@@ -24,8 +25,6 @@ mod moment;
 mod outside;
 mod own;
 mod own_cell;
-#[cfg(test)]
-mod part_tests;
 mod places;
 mod points;
 mod puts;
@@ -34,8 +33,6 @@ pub mod run;
 mod shared;
 mod spots;
 mod sums;
-#[cfg(test)]
-mod tests;
 mod turns;
 mod values;
 mod view;

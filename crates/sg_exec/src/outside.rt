@@ -9,7 +9,9 @@ ghost use Rattle.sg_exec.specs.steps.Moments.{IsOver};
 ghost use Rattle.sg_exec.specs.steps.Turning.{SliceTells, IsActive, IsActiveAt, in_both};
 
 use crate::batch::{Batch, SIDE_BY_SIDE, batch_for, iterate_all};
+use crate::effort::effort_of;
 use crate::turns::block_seeks;
+use sg_activate::workers_for;
 use sg_coord::{Coord, inside};
 use sg_flat::{RunFault, Write};
 use sg_ir::Inst;
@@ -18,11 +20,8 @@ use sg_words::Stop;
 use std::alloc::Global;
 use std::thread::{Threads, join};
 
-/// At fewer points than these a slice is run sooner than a thread is started for a part of them.
-const FEW_POINTS: usize = 1_024;
-
 /// Refuses where a slice wants a coordinate outside at one of these points, with the fault of the first. Else it tells whether all that the
-/// slice wants there is active. A slice in which no instruction wants isn't run; any other by so many workers.
+/// slice wants there is active. A slice in which no instruction wants isn't run; any other by as many of the workers as have enough to do.
 pub(crate) fn first_pass<R: Threads + Sync>(
     rt: &R,
     alloc: Global,
@@ -35,7 +34,9 @@ pub(crate) fn first_pass<R: Threads + Sync>(
     ensures { SliceTells stores.now.list block.now points.now result }
 {
     if block_seeks(block) {
-        return no_want_outside(rt, alloc, stores, points, block, workers, false);
+        let effort = points.len().saturating_mul(effort_of(block));
+        let busy = workers_for(effort, workers);
+        return no_want_outside(rt, alloc, stores, points, block, busy, false);
     }
     Ok(true)
 }
@@ -54,7 +55,7 @@ fn no_want_outside<R: Threads + Sync>(
     requires some { 1 ≤ workers }
     ensures { SliceTells stores.now.list block.now points.now result }
 {
-    if workers < 2 || points.len() < FEW_POINTS {
+    if workers < 2 {
         if waits {
             return no_want_outside_apart(rt, alloc, stores, points, block);
         }

@@ -21,6 +21,7 @@ ghost use Rattle.sg_exec.specs.steps.Passes.{WritesOneWay, HaveFields, AreWhole,
 ghost use Rattle.sg_exec.specs.steps.Puts.{kept_writes};
 ghost use Rattle.sg_exec.specs.steps.Made.{AddsSums, HasLanded, HasRow, words_of};
 
+use crate::effort::effort_of;
 use crate::fields::written_fields;
 use crate::hand::Hand;
 use crate::made::Ended;
@@ -30,6 +31,7 @@ use crate::values::ONE_POINT;
 use crate::workers::race;
 use crate::written_fields::WrittenFields;
 use sg_accum::AccSeat;
+use sg_activate::workers_at;
 use sg_coord::{Coord, numbering, slices_partition};
 use sg_ir::Inst;
 use sg_layout::{closure_closes, closure_members, paths_tell};
@@ -52,7 +54,7 @@ pub struct Sum {
 }
 
 /// What code writes at these points, over the stores with what was reached in their places. The workers run the iterations side by
-/// side.
+/// side: all of them where the gate may hold one, and else as many as have enough to do.
 pub(crate) fn raced_points<R: Threads + Sync, G: Gate + Sync>(
     rt: &R,
     alloc: Global,
@@ -81,8 +83,10 @@ pub(crate) fn raced_points<R: Threads + Sync, G: Gate + Sync>(
     } = fields;
     let list = accumulated.as_slice();
     let own = owned.as_slice();
+    let effort = points.len().saturating_mul(effort_of(code));
+    let busy = workers_at(gate, effort, workers);
     let after = raced(
-        rt, alloc, stores, reached, points, code, list, seats, own, workers, gate,
+        rt, alloc, stores, reached, points, code, list, seats, own, busy, gate,
     )?;
     landed(rt, alloc, accumulated, after, workers)
 }

@@ -1,3 +1,5 @@
+ghost use Rattle.std.specs.Prelude.{◌≡◌, false};
+
 /// The two parts of a parallel run: activation, and the computing of values.
 #[derive(Clone, Copy, Debug, PartialEq, Eq)]
 pub enum Phase {
@@ -9,6 +11,12 @@ pub enum Phase {
 pub trait Gate {
     /// Called by a worker before its turn, both counted from 0.
     fn before(&self, phase: Phase, worker: u32, turn: u32);
+
+    /// Whether passing it may hold a worker, or is counted. Where the answer is no, passing does nothing: it may be left out, and little
+    /// work takes fewer workers. Yes promises nothing.
+    fn may_hold(&self) -> bool {
+        true
+    }
 }
 
 /// The gate that is always open.
@@ -17,4 +25,10 @@ pub struct FreeGate;
 
 impl Gate for FreeGate {
     fn before(&self, _phase: Phase, _worker: u32, _turn: u32) {}
+
+    fn may_hold(&self) -> bool
+        ensures { result ≡ false }
+    {
+        false
+    }
 }

@@ -18,8 +18,3 @@ pub use real_files::RealFiles;
 pub use real_out::RealOut;
 pub use sink::{Put, Sink};
 pub use test_gates::{HoldGate, OrderGate};
-
-#[cfg(test)]
-mod gate_tests;
-#[cfg(test)]
-mod tests;

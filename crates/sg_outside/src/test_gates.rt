@@ -60,6 +60,10 @@ impl Gate for HoldGate {
             self.meet(&self.one, &self.zero);
         }
     }
+
+    fn may_hold(&self) -> bool {
+        true
+    }
 }
 
 /// Lets one of the workers 0 and 1 pass its first turn of an activation before the other begins.
@@ -102,6 +106,10 @@ impl Gate for OrderGate {
         } else if turn == 0 && comes(&self.passed, self.limit) {
             self.saw.store(true, SeqCst);
         }
+    }
+
+    fn may_hold(&self) -> bool {
+        true
     }
 }
 

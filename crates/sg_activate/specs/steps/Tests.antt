@@ -1,7 +1,0 @@
--- Words of the tests.
-use Rattle.std.specs.Prelude.{List, [], ◌∷◌, Option, Some, None}
-
--- what is there, as a list
-abbrev pub listed : {A : Type 0} → Option A → List A
-listed None = []
-listed (Some x) = x ∷ []
