@@ -19,7 +19,7 @@ use Rattle.sg_ir.specs.Shared.{same_op, same_step, is_pure}
 use Rattle.sg_ir.specs.Trimmed.{is_within}
 use Rattle.sg_ir.specs.steps.InScope.{InScope, and_reg, and_place, IsScoped}
 use Rattle.sg_ir.specs.Places.{extents_in}
-use Rattle.sg_simplify.specs.steps.Pass.{Given, Pass, Next, Making, made_name, with_name, next_with_reg, next_with_place, given_type, span_in, span_of, renamed, and_op, and_step, fresh, taken_at, taken, numbered, stepped_at, stepped, check_at, checks_made, offset_made, offset, descent_of, descended, placed_in, place_made, looped, simplified}
+use Rattle.sg_simplify.specs.steps.Pass.{Given, Pass, Next, Making, made_name, with_name, next_with_reg, next_with_place, given_type, span_in, span_of, renamed, and_op, and_step, fresh, taken_at, looked_up, operand_again, plainest, taken_or, taken, numbered, stepped_at, stepped, check_at, checks_made, offset_made, offset, descent_of, descended, placed_in, place_made, looped, simplified}
 use Rattle.sg_simplify.specs.steps.Ruled.{Grown}
 use Rattle.sg_simplify.proofs.Tables.{length_push, get_kept, names_put}
 
@@ -87,12 +87,19 @@ module _ (given : Given) (scope : InScope) (start : Next) where
   fresh_grows : (type : Ty) (how : Op) (index : List ℕ) (go : ℕ → Making) → Grows go → (pass : Pass) (next : Next) → Grown scope start next → Grown scope start (fresh given type how index go pass next).1
   fresh_grows type how index go grows pass next h = grows (length next.spans) pass (next_with_reg type (span_of given pass next how) next) (grown_reg scope start next type (span_of given pass next how) h)
 
-  taken_grows : (type : Ty) (how : Op) (index : List ℕ) (go : ℕ → Making) → Grows go → (pass : Pass) (next : Next) → Grown scope start next → Grown scope start (taken given type how index go pass next).1
-  taken_grows type how index go grows pass next h = by_found (lookup (same_op how) pass.ops)
+  looked_up_grows : (type : Ty) (how : Op) (index : List ℕ) (go : ℕ → Making) → Grows go → (pass : Pass) (next : Next) → Grown scope start next → Grown scope start (looked_up given type how index go pass next).1
+  looked_up_grows type how index go grows pass next h = by_found (lookup (same_op how) pass.ops)
     where
       by_found : (o : Option ℕ) → Grown scope start (taken_at given type how index go o pass next).1
       by_found (Some t) = grows t pass next h
       by_found None = grows (length next.spans) (and_op how (length next.spans) pass) (next_with_reg type (span_of given pass next how) next) (grown_reg scope start next type (span_of given pass next how) h)
+
+  taken_grows : (type : Ty) (how : Op) (index : List ℕ) (go : ℕ → Making) → Grows go → (pass : Pass) (next : Next) → Grown scope start next → Grown scope start (taken given type how index go pass next).1
+  taken_grows type how index go grows pass next h = by_operand (operand_again next how)
+    where
+      by_operand : (o : Option ℕ) → Grown scope start (taken_or given type how index go o pass next).1
+      by_operand (Some t) = grows t pass next h
+      by_operand None = looked_up_grows type (plainest type how) index go grows pass next h
 
   numbered_grows : (pure : Bool) (type : Ty) (how : Op) (go : ℕ → Making) → Grows go → (pass : Pass) (next : Next) → Grown scope start next → Grown scope start (numbered pure given type how go pass next).1
   numbered_grows true type how go grows pass next h = taken_grows type how [] go grows pass next h

@@ -5,6 +5,7 @@ pub mod Acting
 pub mod Descending
 pub mod Passing
 pub mod Tables
+pub mod Plainest
 pub mod Serving
 pub mod Placing
 pub mod Growing

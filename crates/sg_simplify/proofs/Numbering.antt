@@ -17,7 +17,7 @@ use Rattle.sg_ir.specs.Places.{extents_in}
 use Rattle.sg_ir.specs.Blocks.{Block, End, Word, Spot, Cell, Do, Branch, Loop, SetVar, WriteOwn, Contribute, Wish}
 use Rattle.sg_ir.specs.Shared.{same_op, same_step, is_pure}
 use Rattle.sg_ir.specs.Trimmed.{is_within}
-use Rattle.sg_simplify.specs.steps.Pass.{Given, Pass, Next, Making, made_name, with_name, next_with_reg, next_with_place, given_type, span_in, span_of, renamed, and_op, and_step, put_in_front, set_word, fresh, taken_at, taken, numbered, stepped_at, stepped, check_at, checks_made, offset_made, offset, descent_of, descended, placed_in, place_made, looped, simplified}
+use Rattle.sg_simplify.specs.steps.Pass.{Given, Pass, Next, Making, made_name, with_name, next_with_reg, next_with_place, given_type, span_in, span_of, renamed, and_op, and_step, put_in_front, set_word, fresh, taken_at, looked_up, operand_again, plainest, taken_or, taken, numbered, stepped_at, stepped, check_at, checks_made, offset_made, offset, descent_of, descended, placed_in, place_made, looped, simplified}
 use Rattle.sg_simplify.specs.steps.Counted.{one_where, regs_set, places_set}
 use Rattle.sg_simplify.proofs.Tables.{length_push}
 
@@ -140,8 +140,8 @@ module _ (given : Given) (n : ℕ) where
       let span = span_of given known next how in
       reg_numbers type span how index next (go (length next.spans) known (next_with_reg type span next)) (goes (length next.spans) known (next_with_reg type span next))
 
-  taken_numbers : (type : Ty) (how : Op) (index : List ℕ) (go : ℕ → Making) → GoesNumbering go → (known : Pass) (next : Next) → Numbers next (taken given type how index go known next)
-  taken_numbers type how index go goes known next = by_found (lookup (same_op how) known.ops)
+  looked_up_numbers : (type : Ty) (how : Op) (index : List ℕ) (go : ℕ → Making) → GoesNumbering go → (known : Pass) (next : Next) → Numbers next (looked_up given type how index go known next)
+  looked_up_numbers type how index go goes known next = by_found (lookup (same_op how) known.ops)
     where
       by_found : (o : Option ℕ) → Numbers next (taken_at given type how index go o known next)
       by_found (Some t) = goes t known next
@@ -149,6 +149,13 @@ module _ (given : Given) (n : ℕ) where
           let span = span_of given known next how in
           let further = and_op how (length next.spans) known in
           reg_numbers type span how index next (go (length next.spans) further (next_with_reg type span next)) (goes (length next.spans) further (next_with_reg type span next))
+
+  taken_numbers : (type : Ty) (how : Op) (index : List ℕ) (go : ℕ → Making) → GoesNumbering go → (known : Pass) (next : Next) → Numbers next (taken given type how index go known next)
+  taken_numbers type how index go goes known next = by_operand (operand_again next how)
+    where
+      by_operand : (o : Option ℕ) → Numbers next (taken_or given type how index go o known next)
+      by_operand (Some t) = goes t known next
+      by_operand None = looked_up_numbers type (plainest type how) index go goes known next
 
   numbered_numbers : (pure : Bool) (type : Ty) (how : Op) (go : ℕ → Making) → GoesNumbering go → (known : Pass) (next : Next) → Numbers next (numbered pure given type how go known next)
   numbered_numbers true type how go goes known next = taken_numbers type how [] go goes known next

@@ -17,8 +17,9 @@ use Rattle.sg_ir.specs.Trimmed.{is_within}
 use Rattle.sg_ir.specs.Places.{extents_in}
 use Rattle.sg_ir.specs.Apt.{Use, Writes, Reads}
 use Rattle.sg_flat.specs.declared.effects.Way.TheVariants.{Own, Acc}
-use Rattle.sg_simplify.specs.steps.Pass.{Given, Pass, Next, Making, made_name, with_name, next_with_reg, next_with_place, given_type, span_in, span_of, renamed, and_op, and_step, put_in_front, set_word, fresh, taken_at, taken, numbered, stepped_at, stepped, check_at, checks_made, offset_made, offset, descent_of, descended, placed_in, place_made, looped, simplified}
+use Rattle.sg_simplify.specs.steps.Pass.{Given, Pass, Next, Making, made_name, with_name, next_with_reg, next_with_place, given_type, span_in, span_of, renamed, and_op, and_step, put_in_front, set_word, fresh, taken_at, looked_up, operand_again, plainest, taken_or, taken, numbered, stepped_at, stepped, check_at, checks_made, offset_made, offset, descent_of, descended, placed_in, place_made, looped, simplified}
 use Rattle.sg_simplify.specs.steps.Only.{op_use, has_use}
+use Rattle.sg_simplify.proofs.Plainest.{plainest_use}
 
 word_use : (test : Use → Bool) (n : ℕ) (how : Op) (index : List ℕ) (rest : Block) → has_use test (set_word n how index rest) ≡ (op_use test how || has_use test rest)
 word_use test n (op.Const word truth) index rest = refl
@@ -62,12 +63,19 @@ module _ (given : Given) (test : Use → Bool) where
   fresh_only : (type : Ty) (how : Op) (index : List ℕ) (go : ℕ → Making) → op_use test how ≡ false → GoesUsing go → (known : Pass) (next : Next) → has_use test (fresh given type how index go known next).0 ≡ false
   fresh_only type how index go off goes known next = word_use test (length next.spans) how index _ ∙ neither _ _ off (goes (length next.spans) known (next_with_reg type (span_of given known next how) next))
 
-  taken_only : (type : Ty) (how : Op) (index : List ℕ) (go : ℕ → Making) → op_use test how ≡ false → GoesUsing go → (known : Pass) (next : Next) → has_use test (taken given type how index go known next).0 ≡ false
-  taken_only type how index go off goes known next = by_found (lookup (same_op how) known.ops)
+  looked_up_only : (type : Ty) (how : Op) (index : List ℕ) (go : ℕ → Making) → op_use test how ≡ false → GoesUsing go → (known : Pass) (next : Next) → has_use test (looked_up given type how index go known next).0 ≡ false
+  looked_up_only type how index go off goes known next = by_found (lookup (same_op how) known.ops)
     where
       by_found : (o : Option ℕ) → has_use test (taken_at given type how index go o known next).0 ≡ false
       by_found (Some t) = goes t known next
       by_found None = word_use test (length next.spans) how index _ ∙ neither _ _ off (goes (length next.spans) (and_op how (length next.spans) known) (next_with_reg type (span_of given known next how) next))
+
+  taken_only : (type : Ty) (how : Op) (index : List ℕ) (go : ℕ → Making) → op_use test how ≡ false → GoesUsing go → (known : Pass) (next : Next) → has_use test (taken given type how index go known next).0 ≡ false
+  taken_only type how index go off goes known next = by_operand (operand_again next how)
+    where
+      by_operand : (o : Option ℕ) → has_use test (taken_or given type how index go o known next).0 ≡ false
+      by_operand (Some t) = goes t known next
+      by_operand None = looked_up_only type (plainest type how) index go (plainest_use test type how ∙ off) goes known next
 
   numbered_only : (pure : Bool) (type : Ty) (how : Op) (go : ℕ → Making) → op_use test how ≡ false → GoesUsing go → (known : Pass) (next : Next) → has_use test (numbered pure given type how go known next).0 ≡ false
   numbered_only true type how go off goes known next = taken_only type how [] go off goes known next

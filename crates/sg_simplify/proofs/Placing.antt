@@ -39,10 +39,6 @@ pub words_kept : (next : Next) (room : Room) (further : Next) (beyond : Room) �
 words_kept next room further beyond later [] all = refl
 words_kept next room further beyond later (r ∷ index) all = rw (later.kept r all.0, words_kept next room further beyond later index all.1) refl
 
-below_later : (m n : ℕ) → m ≤ n → (index : List ℕ) → EachByRecursion (λ r. r < m) index → EachByRecursion (λ r. r < n) index
-below_later m n more [] all = tt
-below_later m n more (r ∷ index) all = let h = all.0 in (omega arith, below_later m n more index all.1)
-
 index_later : (next : Next) (room : Room) (further : Next) (beyond : Room) → Later next room further beyond → (index : List ℕ) → EachByRecursion (IsIndex next room) index → EachByRecursion (IsIndex further beyond) index
 index_later next room further beyond later [] all = tt
 index_later next room further beyond later (r ∷ index) all = let h = all.0.0 in let more = later.regs in
@@ -59,39 +55,39 @@ module _ (seen : Seen) (laws : Laws seen) (given : Given) (rest : Block) (now re
   place_is : (pass : Pass) (next : Next) (room : Room) (v w : Option Place) (go : ℕ → Making) → v ≡ w → ServesPlace seen given rest pass next room now result w go → ServesPlace seen given rest pass next room now result v go
   place_is pass next room v w go e serves = subst (λ place. ServesPlace seen given rest pass next room now result place go) (sym e) serves
 
-  part_law : (node : NodeShape) (later : List NodeShape) (axis r : ℕ) (go : ℕ → Making) (pass : Pass) (next : Next) (room : Room) → HoldsInRoom seen given rest pass next room now → r < length next.spans
+  part_law : (node : NodeShape) (later : List NodeShape) (axis r : ℕ) (go : ℕ → Making) (pass : Pass) (next : Next) (room : Room) → HoldsInRoom seen given rest pass next room now → IsIndex next room r
       → Serves seen given rest pass next room now result (digit node later axis (room.regs r)) go → Good seen (part given node later axis r go pass next) room now result
-  part_law node later axis r go pass next room holds below serves =
-      taken_law seen laws given rest ty.U32 (op.Extract (extent_over later axis) (extent_in node.sizes axis) r) [] go pass next room now result holds tt below tt tt tt serves
+  part_law node later axis r go pass next room holds is serves =
+      taken_law seen laws given rest ty.U32 (op.Extract (extent_over later axis) (extent_in node.sizes axis) r) [] go pass next room now result holds tt is.0 tt is.1 tt serves
 
   joined_law : (node : NodeShape) (later : List NodeShape) (index : List ℕ) (axis high : ℕ) (go : ℕ → Making) (pass : Pass) (next : Next) (room : Room) → HoldsInRoom seen given rest pass next room now
-      → high < length next.spans → Lies (span_in next high) (room.regs high) → EachByRecursion (λ r. r < length next.spans) index
+      → high < length next.spans → Lies (span_in next high) (room.regs high) → EachByRecursion (IsIndex next room) index
       → Serves seen given rest pass next room now result (offset_from node later axis (map room.regs index) (room.regs high)) go → Good seen (offset_made given node later axis index high go pass next) room now result
   joined_law node later [] axis high go pass next room holds below lies all serves = serves high pass next room (later_same next room) (alike_same pass next) holds below refl lies
   joined_law node later (r ∷ index) axis high go pass next room holds below lies all serves =
       part_law node later axis r (λ low. taken given ty.U32 (op.Offset high (extent_in node.sizes axis) low) [] (λ o. offset_made given node later (suc axis) index o go)) pass next room holds all.0
       (λ low known further beyond behind loops holding low_below low_is low_lies.
       let more = behind.regs in
-      taken_law seen laws given rest ty.U32 (op.Offset high (extent_in node.sizes axis) low) [] (λ o. offset_made given node later (suc axis) index o go) known further beyond now result holding tt (omega arith, low_below) tt tt tt
+      taken_law seen laws given rest ty.U32 (op.Offset high (extent_in node.sizes axis) low) [] (λ o. offset_made given node later (suc axis) index o go) known further beyond now result holding tt (omega arith, low_below) tt (rw (behind.spans high below, behind.kept high below) lies, rw low_is low_lies) tt
       (λ o known' further' beyond' behind' loops' holding' o_below o_is o_lies.
       let whole_way = later_on next room further beyond further' beyond' behind behind' in
-      joined_law node later index (suc axis) o go known' further' beyond' holding' o_below (rw o_is o_lies) (below_later (length next.spans) (length further'.spans) whole_way.regs index all.1)
+      joined_law node later index (suc axis) o go known' further' beyond' holding' o_below (rw o_is o_lies) (index_later next room further' beyond' whole_way index all.1)
       (serves_is known' further' beyond' _ (offset_from node later axis (map room.regs (r ∷ index)) (room.regs high)) go
-      (rw (words_kept next room further' beyond' whole_way index all.1, o_is, behind.kept high below, low_is) refl)
+      (rw (words_kept next room further' beyond' whole_way index (index_below next room index all.1), o_is, behind.kept high below, low_is) refl)
       (serves_later seen given rest pass next room known' further' beyond' now result _ go whole_way (alike_on pass next known further known' further' loops loops') serves))))
 
   offset_law : (node : NodeShape) (later : List NodeShape) (r : ℕ) (index : List ℕ) (go : ℕ → Making) (pass : Pass) (next : Next) (room : Room) → HoldsInRoom seen given rest pass next room now
-      → EachByRecursion (λ k. k < length next.spans) (r ∷ index)
+      → EachByRecursion (IsIndex next room) (r ∷ index)
       → Serves seen given rest pass next room now result (node_offset node later (map room.regs (r ∷ index))) go → Good seen (offset given node later (r ∷ index) go pass next) room now result
   offset_law node later r index go pass next room holds all serves =
       part_law node later 1 r (λ high. offset_made given node later 2 index high go) pass next room holds all.0
       (λ high known further beyond behind loops holding high_below high_is high_lies.
-      joined_law node later index 2 high go known further beyond holding high_below (rw high_is high_lies) (below_later (length next.spans) (length further.spans) behind.regs index all.1)
-      (serves_is known further beyond _ (node_offset node later (map room.regs (r ∷ index))) go (rw (words_kept next room further beyond behind index all.1, high_is) refl)
+      joined_law node later index 2 high go known further beyond holding high_below (rw high_is high_lies) (index_later next room further beyond behind index all.1)
+      (serves_is known further beyond _ (node_offset node later (map room.regs (r ∷ index))) go (rw (words_kept next room further beyond behind index (index_below next room index all.1), high_is) refl)
       (serves_later seen given rest pass next room known further beyond now result _ go behind loops serves)))
 
   descended_law : (nodes : List NodeShape) (number : ℕ) (r : ℕ) (index : List ℕ) (place : ℕ) (go : ℕ → Making) (pass : Pass) (next : Next) (room : Room) → HoldsInRoom seen given rest pass next room now
-      → place < next.places → EachByRecursion (λ k. k < length next.spans) (r ∷ index)
+      → place < next.places → EachByRecursion (IsIndex next room) (r ∷ index)
       → ServesPlace seen given rest pass next room now result (led seen.shapes number nodes (map room.regs (r ∷ index)) (room.places place)) go → Good seen (descended given nodes number (r ∷ index) place go pass next) room now result
   descended_law [] number r index place go pass next room holds below all serves = serves place pass next room (later_same next room) (alike_same pass next) holds below refl
   descended_law (node ∷ later) number r index place go pass next room holds below all serves =
@@ -101,9 +97,9 @@ module _ (seen : Seen) (laws : Laws seen) (given : Given) (rest : Block) (now re
       stepped_law seen laws given rest (step.Down (descent_of node.kind) place number o) (λ p. descended given later (suc number) (r ∷ index) p go) known further beyond now result holding (omega arith, o_below)
       (λ p known' further' beyond' behind' loops' holding' p_below p_is.
       let whole_way = later_on next room further beyond further' beyond' behind behind' in
-      descended_law later (suc number) r index p go known' further' beyond' holding' p_below (below_later (length next.spans) (length further'.spans) whole_way.regs (r ∷ index) all)
+      descended_law later (suc number) r index p go known' further' beyond' holding' p_below (index_later next room further' beyond' whole_way (r ∷ index) all)
       (place_is known' further' beyond' _ (led seen.shapes number (node ∷ later) (map room.regs (r ∷ index)) (room.places place)) go
-      (rw (words_kept next room further' beyond' whole_way (r ∷ index) all, p_is, behind.kept_places place below, o_is) refl)
+      (rw (words_kept next room further' beyond' whole_way (r ∷ index) (index_below next room (r ∷ index) all), p_is, behind.kept_places place below, o_is) refl)
       (serves_place_later seen given rest pass next room known' further' beyond' now result _ go whole_way (alike_on pass next known further known' further' loops loops') serves))))
 
   checked_law : (extents : List ℕ) (axis : ℕ) (index : List ℕ) (place : ℕ) (go : ℕ → Making) (pass : Pass) (next : Next) (room : Room) → HoldsInRoom seen given rest pass next room now
@@ -142,7 +138,7 @@ module _ (seen : Seen) (laws : Laws seen) (given : Given) (rest : Block) (now re
       (λ p known' further' beyond' behind' loops' holding' p_below p_is.
       let whole_way = later_on next room further beyond further' beyond' behind behind' in
       let below = index_below next room (r ∷ index) all in
-      descended_law shape.nodes 1 r index p go known' further' beyond' holding' p_below (below_later (length next.spans) (length further'.spans) whole_way.regs (r ∷ index) below)
+      descended_law shape.nodes 1 r index p go known' further' beyond' holding' p_below (index_later next room further' beyond' whole_way (r ∷ index) all)
       (place_is known' further' beyond' _ (place_at seen.shapes layout (coord_of (map room.regs (r ∷ index)))) go
       (ap (λ words. led seen.shapes 1 shape.nodes words (beyond'.places p)) (words_kept next room further' beyond' whole_way (r ∷ index) below)
       ∙ ap (led seen.shapes 1 shape.nodes (map room.regs (r ∷ index)))

@@ -90,8 +90,8 @@ module _ (seen : Seen) (scope : InScope) (next : Next) (from to : Room) (all : A
   op_renamed_lies (op.Bin how kind a b) plain set = ((all a set.0).lies, (all b set.1.0).lies)
   op_renamed_lies (op.Un how kind a) plain set = tt
   op_renamed_lies (op.Mulq a b s) plain set = tt
-  op_renamed_lies (op.Extract div size r) plain set = tt
-  op_renamed_lies (op.Offset high size low) plain set = tt
+  op_renamed_lies (op.Extract div size r) plain set = (all r set.0).lies
+  op_renamed_lies (op.Offset high size low) plain set = ((all high set.0).lies, (all low set.1.0).lies)
   op_renamed_lies (op.Read place layout field) plain set = absurd plain
   op_renamed_lies (op.OwnRead layout field) plain set = tt
 

@@ -15,9 +15,10 @@ use Rattle.sg_ir.specs.Span.{whole_i32}
 use Rattle.sg_ir.specs.Shared.{same_op, same_step}
 use Rattle.sg_ir.specs.SpanLaws.{Lies, HasConstantWord}
 use Rattle.sg_ir.specs.steps.Scoped.{RunMoment, Room, room_reg, room_place, op_word, step_place, run}
-use Rattle.sg_simplify.specs.steps.Pass.{Given, Pass, Next, Making, next_with_reg, next_with_place, span_in, vars_of, span_of, and_op, and_step, put_in_front, set_word, fresh, taken_at, taken, stepped_at, stepped}
+use Rattle.sg_simplify.specs.steps.Pass.{Given, Pass, Next, Making, next_with_reg, next_with_place, span_in, vars_of, span_of, and_op, and_step, put_in_front, set_word, fresh, taken_at, looked_up, operand_again, plainest, taken_or, taken, stepped_at, stepped}
 use Rattle.sg_simplify.specs.steps.Serves.{Laws, NamesAll, OpBelow, StepBelow, OpStays, OpHolds, StepHolds, HoldsInRoom, Later, Alike, Good, Serves, ServesPlace, OpIsAt, OpLies}
 use Rattle.sg_simplify.proofs.Tables.{each_push, each_map, IsFound, each_found, length_push, get_last, get_kept}
+use Rattle.sg_simplify.proofs.Plainest.{operand_holds, plainest_constant, plainest_below, plainest_stays, plainest_lies, plainest_at, plainest_word}
 
 -- ---- a number that is given something new, and the others
 put_here : {A : Type 0} (to : ℕ) (x : A) (f : ℕ → A) → put to x f to ≡ x
@@ -213,10 +214,10 @@ module _ (seen : Seen) where
         (omega arith) (put_here n word room.regs) (rw (get_last next.spans span whole_i32) lies))
 
     -- a register that holds a pure operation
-    pub taken_law : (rest : Block) (type : Ty) (how : Op) (index : List ℕ) (go : ℕ → Making) (pass : Pass) (next : Next) (room : Room) (now result : RunMoment) → HoldsInRoom seen given rest pass next room now
+    looked_up_law : (rest : Block) (type : Ty) (how : Op) (index : List ℕ) (go : ℕ → Making) (pass : Pass) (next : Next) (room : Room) (now result : RunMoment) → HoldsInRoom seen given rest pass next room now
         → HasConstantWord how → OpBelow (length next.spans) next.places how → OpStays rest how → OpLies next room how → OpIsAt seen.shapes room how index
-        → Serves seen given rest pass next room now result (op_word seen room now how) go → Good seen (taken given type how index go pass next) room now result
-    taken_law rest type how index go pass next room now result holds has below stays operands at serves = by_found (lookup (same_op how) pass.ops) refl
+        → Serves seen given rest pass next room now result (op_word seen room now how) go → Good seen (looked_up given type how index go pass next) room now result
+    looked_up_law rest type how index go pass next room now result holds has below stays operands at serves = by_found (lookup (same_op how) pass.ops) refl
       where
         by_found : (o : Option ℕ) → lookup (same_op how) pass.ops ≡ o → Good seen (taken_at given type how index go o pass next) room now result
         by_found (Some t) e =
@@ -244,6 +245,21 @@ module _ (seen : Seen) where
             (serves n (and_op how n pass) (next_with_reg type span next) (room_reg n word room) later (record { loops = refl; names = refl })
             (record { ops = each_push (OpHolds seen rest (next_with_reg type span next) (room_reg n word room) now) pass.ops (how, n) mid.ops entry; steps = mid.steps; words = mid.words; fits = mid.fits })
             (omega arith) (put_here n word room.regs) here)
+
+    -- a register that holds the word of a pure operation, be it an operand or that of a plainer one
+    pub taken_law : (rest : Block) (type : Ty) (how : Op) (index : List ℕ) (go : ℕ → Making) (pass : Pass) (next : Next) (room : Room) (now result : RunMoment) → HoldsInRoom seen given rest pass next room now
+        → HasConstantWord how → OpBelow (length next.spans) next.places how → OpStays rest how → OpLies next room how → OpIsAt seen.shapes room how index
+        → Serves seen given rest pass next room now result (op_word seen room now how) go → Good seen (taken given type how index go pass next) room now result
+    taken_law rest type how index go pass next room now result holds has below stays operands at serves = by_operand (operand_again next how) refl
+      where
+        by_operand : (o : Option ℕ) → operand_again next how ≡ o → Good seen (taken_or given type how index go o pass next) room now result
+        by_operand (Some t) e =
+            let again = operand_holds seen room now next how t below operands e in
+            serves t pass next room (later_same next room) (alike_same pass next) holds again.named again.word (subst (λ w. Lies (span_in next t) w) again.word again.lies)
+        by_operand None e =
+            looked_up_law rest type (plainest type how) index go pass next room now result holds (plainest_constant type how has) (plainest_below (length next.spans) next.places type how below) (plainest_stays rest type how stays)
+            (plainest_lies next room type how operands) (plainest_at seen.shapes room type how index at)
+            (subst (λ w. Serves seen given rest pass next room now result w go) (sym (plainest_word seen room now type how)) serves)
 
     -- a place that a step gives
     place_later : (place : Option Place) (next : Next) (room : Room) → Later next room (next_with_place next) (room_place next.places place room)

@@ -19,11 +19,12 @@ use Rattle.sg_ir.specs.Shared.{same_op, same_step, is_pure}
 use Rattle.sg_ir.specs.Trimmed.{is_within}
 use Rattle.sg_ir.specs.steps.InScope.{InScope, and_reg, and_place, op_regs, op_places, step_regs, step_places, AreSet, IsScoped}
 use Rattle.sg_ir.specs.Places.{extents_in}
-use Rattle.sg_simplify.specs.steps.Pass.{Given, Pass, Next, Making, made_name, with_name, next_with_reg, next_with_place, given_type, span_in, span_of, renamed, and_op, and_step, put_in_front, set_word, fresh, taken_at, taken, numbered, stepped_at, stepped, check_at, checks_made, offset_made, offset, descent_of, descended, placed_in, place_made, looped, simplified}
+use Rattle.sg_simplify.specs.steps.Pass.{Given, Pass, Next, Making, made_name, with_name, next_with_reg, next_with_place, given_type, span_in, span_of, renamed, and_op, and_step, put_in_front, set_word, fresh, taken_at, looked_up, operand_again, plainest, taken_or, taken, numbered, stepped_at, stepped, check_at, checks_made, offset_made, offset, descent_of, descended, placed_in, place_made, looped, simplified}
 use Rattle.sg_simplify.specs.steps.Ruled.{IsNotRead, HasAccessLayouts, HasLayout, Grown}
 use Rattle.sg_simplify.specs.steps.Sets.{Wider, Sets, GoesOnIn, GoesOnAt, IndexIsSet, AllNamed}
 use Rattle.sg_simplify.proofs.Tables.{each_push, each_map, IsFound, each_found, length_push}
 use Rattle.sg_simplify.proofs.Growing.{name_here, name_other, grown_on, simplified_grows}
+use Rattle.sg_simplify.proofs.Plainest.{operand_is_set, plainest_regs, plainest_places, plainest_index}
 
 -- ---- wider scopes
 pub wider_same : (scope : InScope) → Wider scope scope
@@ -101,9 +102,9 @@ module _ (given : Given) where
       set_scoped scope n how index _ regs places set (h.free_regs n (omega arith))
       (goes n known (next_with_reg type (span_of given known next how) next) (and_reg n scope) (and_reg_wider n scope) refl (sets_reg scope known next type (span_of given known next how) h) (put_now n scope.regs))
 
-  taken_sets : (type : Ty) (how : Op) (index : List ℕ) (go : ℕ → Making) (scope : InScope) (known : Pass) (next : Next) → Sets scope known next → AreSet scope.regs (op_regs how) → AreSet scope.places (op_places how) → IndexIsSet scope how index
-      → GoesOnIn scope next go → IsScoped scope (taken given type how index go known next).0
-  taken_sets type how index go scope known next h regs places set goes = by_found (lookup (same_op how) known.ops) refl
+  looked_up_sets : (type : Ty) (how : Op) (index : List ℕ) (go : ℕ → Making) (scope : InScope) (known : Pass) (next : Next) → Sets scope known next → AreSet scope.regs (op_regs how) → AreSet scope.places (op_places how) → IndexIsSet scope how index
+      → GoesOnIn scope next go → IsScoped scope (looked_up given type how index go known next).0
+  looked_up_sets type how index go scope known next h regs places set goes = by_found (lookup (same_op how) known.ops) refl
     where
       by_found : (o : Option ℕ) → lookup (same_op how) known.ops ≡ o → IsScoped scope (taken_at given type how index go o known next).0
       by_found (Some t) e = let found : IsFound same_op how (λ entry. scope.regs entry.1 ≡ true) t = each_found same_op how (λ entry. scope.regs entry.1 ≡ true) known.ops t h.ops e in
@@ -115,6 +116,15 @@ module _ (given : Given) where
           (goes n (and_op how n known) (next_with_reg type (span_of given known next how) next) (and_reg n scope) (and_reg_wider n scope) refl
           (record { ops = each_push (λ entry. put n true scope.regs entry.1 ≡ true) known.ops (how, n) mid.ops (put_now n scope.regs); steps = mid.steps; free_regs = mid.free_regs; free_places = mid.free_places })
           (put_now n scope.regs))
+
+  taken_sets : (type : Ty) (how : Op) (index : List ℕ) (go : ℕ → Making) (scope : InScope) (known : Pass) (next : Next) → Sets scope known next → AreSet scope.regs (op_regs how) → AreSet scope.places (op_places how) → IndexIsSet scope how index
+      → GoesOnIn scope next go → IsScoped scope (taken given type how index go known next).0
+  taken_sets type how index go scope known next h regs places set goes = by_operand (operand_again next how) refl
+    where
+      by_operand : (o : Option ℕ) → operand_again next how ≡ o → IsScoped scope (taken_or given type how index go o known next).0
+      by_operand (Some t) e = goes t known next scope (wider_same scope) refl h (operand_is_set scope.regs next how t regs e)
+      by_operand None e =
+          looked_up_sets type (plainest type how) index go scope known next h (plainest_regs scope.regs type how regs) (subst (λ (ps : List ℕ). AreSet scope.places ps) (sym (plainest_places type how)) places) (plainest_index scope type how index set) goes
 
   numbered_sets : (pure : Bool) (type : Ty) (how : Op) (go : ℕ → Making) (scope : InScope) (known : Pass) (next : Next) → Sets scope known next → AreSet scope.regs (op_regs how) → AreSet scope.places (op_places how) → IndexIsSet scope how []
       → GoesOnIn scope next go → IsScoped scope (numbered pure given type how go known next).0

@@ -19,7 +19,7 @@ use Rattle.sg_ir.specs.Shared.{same_op, same_step, is_pure, is_single, shares, i
 use Rattle.sg_ir.specs.Trimmed.{is_within}
 use Rattle.sg_ir.specs.Places.{extents_in}
 use Rattle.sg_ir.proofs.Uses.{op_exact}
-use Rattle.sg_simplify.specs.steps.Pass.{Given, Pass, Next, Making, made_name, with_name, next_with_reg, next_with_place, given_type, span_in, span_of, renamed, and_op, and_step, put_in_front, set_word, fresh, taken_at, taken, numbered, stepped_at, stepped, check_at, checks_made, offset_made, offset, descent_of, descended, placed_in, place_made, looped, simplified, given_of, first_pass, first_next, simple}
+use Rattle.sg_simplify.specs.steps.Pass.{Given, Pass, Next, Making, made_name, with_name, next_with_reg, next_with_place, given_type, span_in, span_of, renamed, and_op, and_step, put_in_front, set_word, fresh, taken_at, looked_up, operand_again, plainest, taken_or, taken, numbered, stepped_at, stepped, check_at, checks_made, offset_made, offset, descent_of, descended, placed_in, place_made, looped, simplified, given_of, first_pass, first_next, simple}
 use Rattle.sg_simplify.proofs.Sharing.{simplified_shares}
 
 word_sets : (var n : ℕ) (how : Op) (index : List ℕ) (rest : Block) → sets var (set_word n how index rest) ≡ sets var rest
@@ -41,12 +41,19 @@ module _ (given : Given) (var : ℕ) where
   fresh_count : (count : ℕ) (type : Ty) (how : Op) (index : List ℕ) (go : ℕ → Making) → GoesSetting count go → (known : Pass) (next : Next) → sets var (fresh given type how index go known next).0 ≡ count
   fresh_count count type how index go goes known next = word_sets var (length next.spans) how index _ ∙ goes (length next.spans) known (next_with_reg type (span_of given known next how) next)
 
-  taken_count : (count : ℕ) (type : Ty) (how : Op) (index : List ℕ) (go : ℕ → Making) → GoesSetting count go → (known : Pass) (next : Next) → sets var (taken given type how index go known next).0 ≡ count
-  taken_count count type how index go goes known next = by_found (lookup (same_op how) known.ops)
+  looked_up_count : (count : ℕ) (type : Ty) (how : Op) (index : List ℕ) (go : ℕ → Making) → GoesSetting count go → (known : Pass) (next : Next) → sets var (looked_up given type how index go known next).0 ≡ count
+  looked_up_count count type how index go goes known next = by_found (lookup (same_op how) known.ops)
     where
       by_found : (o : Option ℕ) → sets var (taken_at given type how index go o known next).0 ≡ count
       by_found (Some t) = goes t known next
       by_found None = word_sets var (length next.spans) how index _ ∙ goes (length next.spans) (and_op how (length next.spans) known) (next_with_reg type (span_of given known next how) next)
+
+  taken_count : (count : ℕ) (type : Ty) (how : Op) (index : List ℕ) (go : ℕ → Making) → GoesSetting count go → (known : Pass) (next : Next) → sets var (taken given type how index go known next).0 ≡ count
+  taken_count count type how index go goes known next = by_operand (operand_again next how)
+    where
+      by_operand : (o : Option ℕ) → sets var (taken_or given type how index go o known next).0 ≡ count
+      by_operand (Some t) = goes t known next
+      by_operand None = looked_up_count count type (plainest type how) index go goes known next
 
   numbered_count : (count : ℕ) (pure : Bool) (type : Ty) (how : Op) (go : ℕ → Making) → GoesSetting count go → (known : Pass) (next : Next) → sets var (numbered pure given type how go known next).0 ≡ count
   numbered_count count true type how go goes known next = taken_count count type how [] go goes known next

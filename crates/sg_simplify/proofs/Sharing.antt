@@ -16,8 +16,9 @@ use Rattle.sg_ir.specs.Blocks.{Block, End, Word, Spot, Cell, Do, Branch, Loop, S
 use Rattle.sg_ir.specs.Shared.{same_op, same_step, is_pure, shares}
 use Rattle.sg_ir.specs.Trimmed.{is_within}
 use Rattle.sg_ir.specs.Places.{extents_in}
-use Rattle.sg_simplify.specs.steps.Pass.{Given, Pass, Next, Making, made_name, with_name, next_with_reg, next_with_place, given_type, span_in, span_of, renamed, and_op, and_step, put_in_front, set_word, fresh, taken_at, taken, numbered, stepped_at, stepped, check_at, checks_made, offset_made, offset, descent_of, descended, placed_in, place_made, looped, simplified}
+use Rattle.sg_simplify.specs.steps.Pass.{Given, Pass, Next, Making, made_name, with_name, next_with_reg, next_with_place, given_type, span_in, span_of, renamed, and_op, and_step, put_in_front, set_word, fresh, taken_at, looked_up, operand_again, plainest, taken_or, taken, numbered, stepped_at, stepped, check_at, checks_made, offset_made, offset, descent_of, descended, placed_in, place_made, looped, simplified}
 use Rattle.sg_simplify.specs.steps.Shares.{Knows, GoesShared}
+use Rattle.sg_simplify.proofs.Plainest.{plainest_pure}
 
 both_true : (a b : Bool) → a ≡ true → b ≡ true → (a && b) ≡ true
 both_true true true e f = refl
@@ -114,9 +115,9 @@ module _ (same_exact : (a b : Op) → same_op a b ≡ true → a ≡ b) (given :
       ∙ both_true _ _ (ap (λ (b : Bool). not (b && list_any (same_op how) ops)) impure)
       (goes n known (next_with_reg type (span_of given known next how) next) (how ∷ ops) steps (knows_impure ops steps known how impure h))
 
-  taken_shares : (type : Ty) (how : Op) (index : List ℕ) (go : ℕ → Making) → is_pure single how ≡ true → GoesShared single go → (known : Pass) (next : Next) (ops : List Op) (steps : List Step) → Knows single ops steps known
-      → shares single ops steps (taken given type how index go known next).0 ≡ true
-  taken_shares type how index go pure goes known next ops steps h = by_found (lookup (same_op how) known.ops) refl
+  looked_up_shares : (type : Ty) (how : Op) (index : List ℕ) (go : ℕ → Making) → is_pure single how ≡ true → GoesShared single go → (known : Pass) (next : Next) (ops : List Op) (steps : List Step) → Knows single ops steps known
+      → shares single ops steps (looked_up given type how index go known next).0 ≡ true
+  looked_up_shares type how index go pure goes known next ops steps h = by_found (lookup (same_op how) known.ops) refl
     where
       by_found : (o : Option ℕ) → lookup (same_op how) known.ops ≡ o → shares single ops steps (taken_at given type how index go o known next).0 ≡ true
       by_found (Some t) e = goes t known next ops steps h
@@ -125,6 +126,14 @@ module _ (same_exact : (a b : Op) → same_op a b ≡ true → a ≡ b) (given :
           set_shares single ops steps n how index _
           ∙ both_true _ _ (ap (λ (b : Bool). not (b && list_any (same_op how) ops)) pure ∙ none_of_them (list_any (same_op how) ops) (lookup (same_op how) known.ops) e (h.ops how pure))
           (goes n (and_op how n known) (next_with_reg type (span_of given known next how) next) (how ∷ ops) steps (knows_op ops steps known how n h))
+
+  taken_shares : (type : Ty) (how : Op) (index : List ℕ) (go : ℕ → Making) → is_pure single how ≡ true → GoesShared single go → (known : Pass) (next : Next) (ops : List Op) (steps : List Step) → Knows single ops steps known
+      → shares single ops steps (taken given type how index go known next).0 ≡ true
+  taken_shares type how index go pure goes known next ops steps h = by_operand (operand_again next how)
+    where
+      by_operand : (o : Option ℕ) → shares single ops steps (taken_or given type how index go o known next).0 ≡ true
+      by_operand (Some t) = goes t known next ops steps h
+      by_operand None = looked_up_shares type (plainest type how) index go (plainest_pure single type how ∙ pure) goes known next ops steps h
 
   numbered_shares : (pure : Bool) (type : Ty) (how : Op) (go : ℕ → Making) → is_pure single how ≡ pure → GoesShared single go → (known : Pass) (next : Next) (ops : List Op) (steps : List Step) → Knows single ops steps known
       → shares single ops steps (numbered pure given type how go known next).0 ≡ true

@@ -10,7 +10,7 @@ use Rattle.sg_ir.specs.Blocks.{Block, link, Spot}
 use Rattle.sg_ir.specs.Shared.{same_op, same_step}
 use Rattle.sg_ir.specs.Trimmed.{is_within}
 use Rattle.sg_simplify.specs.declared.made.Made.{Made}
-use Rattle.sg_simplify.specs.steps.Pass.{Given, Pass, Next, Making, fresh, taken, taken_at, stepped, stepped_at, and_op, and_step, next_with_place, with_name, span_in, check_at, numbered, simplified}
+use Rattle.sg_simplify.specs.steps.Pass.{Given, Pass, Next, Making, fresh, taken, taken_at, looked_up, taken_or, operand_again, plainest, stepped, stepped_at, and_op, and_step, next_with_place, with_name, span_in, check_at, numbered, simplified}
 use Rattle.sg_simplify.specs.steps.Made.{pass_of, next_of, types_of, Longer, Goes, onward, check_in}
 use Rattle.sg_simplify.proofs.Reading.{append-none}
 use Rattle.sg_simplify.proofs.Making.{longer-none, goes-here, goes-from, goes-to, goes-put}
@@ -27,17 +27,17 @@ longer-same old new types known = record {
 }
 
 pub known-goes : (given : Given) (type : Ty) (how : Op) (index : List ℕ) (t : ℕ) (made : Made) (x : List Inst) → lookup (same_op how) (pass_of made).ops ≡ Some t →
-    (go : ℕ → Making) → Goes made made x x (taken given type how index go) (go t)
+    (go : ℕ → Making) → Goes made made x x (looked_up given type how index go) (go t)
 known-goes given type how index t made x found go =
-    goes-here made made x (taken given type how index go) (go t) (longer-none made)
+    goes-here made made x (looked_up given type how index go) (go t) (longer-none made)
     (ap (λ there. taken_at given type how index go there (pass_of made) (next_of made)) found)
 
 pub taken-goes : (given : Given) (type : Ty) (how : Op) (index : List ℕ) (to : ℕ) (old mid new : Made) (x y : List Inst) → lookup (same_op how) (pass_of old).ops ≡ None →
     ((go : ℕ → Making) → Goes old mid x y (fresh given type how index go) (go to)) → next_of new ≡ next_of mid → pass_of new ≡ and_op how to (pass_of mid) →
-    (go : ℕ → Making) → Goes old new x y (taken given type how index go) (go to)
+    (go : ℕ → Making) → Goes old new x y (looked_up given type how index go) (go to)
 taken-goes given type how index to old mid new x y none goes next known go =
-    goes-to old mid new x y (taken given type how index go) (noted to) (go to) longer
-    (goes-from old mid x y (taken given type how index go) (fresh given type how index noted) (noted to) (ap (λ there. taken_at given type how index go there (pass_of old) (next_of old)) none) (goes noted))
+    goes-to old mid new x y (looked_up given type how index go) (noted to) (go to) longer
+    (goes-from old mid x y (looked_up given type how index go) (fresh given type how index noted) (noted to) (ap (λ there. taken_at given type how index go there (pass_of old) (next_of old)) none) (goes noted))
     (ap (λ pass. go to pass (next_of mid)) (sym known) ∙ ap (go to (pass_of new)) (sym next))
   where
     noted : ℕ → Making
@@ -53,6 +53,19 @@ taken-goes given type how index to old mid new x y none goes next known go =
       more_steps = ap (λ (pass : Pass). pass.steps) known ∙ append-none (pass_of mid).steps;
       loops = ap (λ (pass : Pass). pass.loops) known;
     }
+
+-- an operand that holds the operation's word, and else what the plainest form gives
+pub operand-goes : (given : Given) (type : Ty) (how : Op) (index : List ℕ) (t : ℕ) (made : Made) (x : List Inst) → operand_again (next_of made) how ≡ Some t →
+    (go : ℕ → Making) → Goes made made x x (taken given type how index go) (go t)
+operand-goes given type how index t made x again go =
+    goes-here made made x (taken given type how index go) (go t) (longer-none made)
+    (ap (λ there. taken_or given type how index go there (pass_of made) (next_of made)) again)
+
+pub plainest-goes : (given : Given) (type : Ty) (how : Op) (index : List ℕ) (to : ℕ) (old new : Made) (x y : List Inst) → operand_again (next_of old) how ≡ None →
+    (simple : Op) → simple ≡ plainest type how → ((go : ℕ → Making) → Goes old new x y (looked_up given type simple index go) (go to)) → (go : ℕ → Making) → Goes old new x y (taken given type how index go) (go to)
+plainest-goes given type how index to old new x y none simple is goes go =
+    goes-from old new x y (taken given type how index go) (looked_up given type simple index go) (go to)
+    (ap (λ there. taken_or given type how index go there (pass_of old) (next_of old)) none ∙ ap (λ o. looked_up given type o index go (pass_of old) (next_of old)) (sym is)) (goes go)
 
 pub found-goes : (how : Step) (t : ℕ) (made : Made) (x : List Inst) → lookup (same_step how) (pass_of made).steps ≡ Some t → (go : ℕ → Making) → Goes made made x x (stepped how go) (go t)
 found-goes how t made x found go =

@@ -22,7 +22,7 @@ use Rattle.sg_ir.specs.Trimmed.{is_within, AxisCheck, Ways, way_to, way_behind, 
 use Rattle.sg_ir.specs.steps.InScope.{InScope, and_reg, and_place, op_regs, step_places, AreSet, IsScoped}
 use Rattle.sg_ir.specs.Places.{extents_in}
 use Rattle.sg_ir.proofs.Uses.{step_exact}
-use Rattle.sg_simplify.specs.steps.Pass.{Given, Pass, Next, Making, made_name, with_name, next_with_reg, next_with_place, given_type, span_in, span_of, renamed, and_op, and_step, put_in_front, set_word, fresh, taken_at, taken, numbered, stepped_at, stepped, check_at, checks_made, offset_made, offset, descent_of, descended, placed_in, place_made, looped, simplified}
+use Rattle.sg_simplify.specs.steps.Pass.{Given, Pass, Next, Making, made_name, with_name, next_with_reg, next_with_place, given_type, span_in, span_of, renamed, and_op, and_step, put_in_front, set_word, fresh, taken_at, looked_up, operand_again, plainest, taken_or, taken, numbered, stepped_at, stepped, check_at, checks_made, offset_made, offset, descent_of, descended, placed_in, place_made, looped, simplified}
 use Rattle.sg_simplify.specs.steps.Ruled.{IsNotRead, HasAccessLayouts, HasLayout, Grown}
 use Rattle.sg_simplify.specs.steps.Sets.{Sets, AllNamed}
 use Rattle.sg_simplify.specs.steps.Trims.{StepTrims, Trims, Onward, asked, GoesTrim, GoesTrimAt, GoesOnBy, OpIsTrim}
@@ -30,6 +30,7 @@ use Rattle.sg_simplify.proofs.Tables.{each_push, each_map, IsFound, each_found, 
 use Rattle.sg_simplify.proofs.Setting.{put_still, put_now, and_reg_wider, and_place_wider, set_wider, sets_reg, sets_place, named_put, named_by, named_grown, index_named, op_named, sets_grown, sets_named}
 use Rattle.sg_simplify.proofs.Growing.{grown_on, simplified_grows}
 use Rattle.sg_simplify.proofs.Onward.{behind_kept, both_true, given_before, onward_on, onward_same, other_place, places_wider, way_here, way_kept}
+use Rattle.sg_simplify.proofs.Plainest.{operand_is_set, plainest_regs, plainest_trim}
 
 module _ (given : Given) where
   -- the span of an operation
@@ -100,9 +101,9 @@ module _ (given : Given) where
       → GoesTrim given scope next ways go → accesses_are_trim given.shapes spans ways (fresh given type how index go known next).0 ≡ true
   fresh_trims type how index go scope known next spans ways h set at goes = put_out type how index go scope known known next spans ways h set at (λ mid. mid) goes
 
-  taken_trims : (type : Ty) (how : Op) (index : List ℕ) (go : ℕ → Making) (scope : InScope) (known : Pass) (next : Next) (spans : Spans) (ways : Ways) → Trims given scope known next spans ways → AreSet scope.regs (op_regs how) → OpIsTrim given spans ways how index
-      → GoesTrim given scope next ways go → accesses_are_trim given.shapes spans ways (taken given type how index go known next).0 ≡ true
-  taken_trims type how index go scope known next spans ways h set at goes = by_found (lookup (same_op how) known.ops) refl
+  looked_up_trims : (type : Ty) (how : Op) (index : List ℕ) (go : ℕ → Making) (scope : InScope) (known : Pass) (next : Next) (spans : Spans) (ways : Ways) → Trims given scope known next spans ways → AreSet scope.regs (op_regs how) → OpIsTrim given spans ways how index
+      → GoesTrim given scope next ways go → accesses_are_trim given.shapes spans ways (looked_up given type how index go known next).0 ≡ true
+  looked_up_trims type how index go scope known next spans ways h set at goes = by_found (lookup (same_op how) known.ops) refl
     where
       by_found : (o : Option ℕ) → lookup (same_op how) known.ops ≡ o → accesses_are_trim given.shapes spans ways (taken_at given type how index go o known next).0 ≡ true
       by_found (Some t) e = let found : IsFound same_op how (λ entry. scope.regs entry.1 ≡ true) t = each_found same_op how (λ entry. scope.regs entry.1 ≡ true) known.ops t h.sets.ops e in
@@ -114,6 +115,14 @@ module _ (given : Given) where
             vars = mid.vars;
             steps = mid.steps;
           }) goes
+
+  taken_trims : (type : Ty) (how : Op) (index : List ℕ) (go : ℕ → Making) (scope : InScope) (known : Pass) (next : Next) (spans : Spans) (ways : Ways) → Trims given scope known next spans ways → AreSet scope.regs (op_regs how) → OpIsTrim given spans ways how index
+      → GoesTrim given scope next ways go → accesses_are_trim given.shapes spans ways (taken given type how index go known next).0 ≡ true
+  taken_trims type how index go scope known next spans ways h set at goes = by_operand (operand_again next how) refl
+    where
+      by_operand : (o : Option ℕ) → operand_again next how ≡ o → accesses_are_trim given.shapes spans ways (taken_or given type how index go o known next).0 ≡ true
+      by_operand (Some t) e = goes t known next scope spans ways (onward_same scope next ways) h (operand_is_set scope.regs next how t set e)
+      by_operand None e = looked_up_trims type (plainest type how) index go scope known next spans ways h (plainest_regs scope.regs type how set) (plainest_trim given spans ways type how index at) goes
 
   numbered_trims : (pure : Bool) (type : Ty) (how : Op) (go : ℕ → Making) (scope : InScope) (known : Pass) (next : Next) (spans : Spans) (ways : Ways) → Trims given scope known next spans ways → AreSet scope.regs (op_regs how) → OpIsTrim given spans ways how []
       → GoesTrim given scope next ways go → accesses_are_trim given.shapes spans ways (numbered pure given type how go known next).0 ≡ true

@@ -24,12 +24,13 @@ use Rattle.sg_ir.specs.Trimmed.{is_within}
 use Rattle.sg_ir.specs.WellTyped as well
 use Rattle.sg_ir.specs.WellTyped.{KnownPlace, Scope, Frame, is_truth_as, reads, holds_of, goes_down, checkable, descends}
 use Rattle.sg_ir.proofs.Uses.{op_exact, step_exact}
-use Rattle.sg_simplify.specs.steps.Pass.{Given, Pass, Next, Making, next_with_reg, next_with_place, span_in, span_of, and_op, and_step, put_in_front, set_word, fresh, taken_at, taken, numbered, stepped_at, stepped, check_at, checks_made, offset_made, offset, descent_of, descended, placed_in, place_made}
+use Rattle.sg_simplify.specs.steps.Pass.{Given, Pass, Next, Making, next_with_reg, next_with_place, span_in, span_of, and_op, and_step, put_in_front, set_word, fresh, taken_at, looked_up, operand_again, plainest, taken_or, taken, numbered, stepped_at, stepped, check_at, checks_made, offset_made, offset, descent_of, descended, placed_in, place_made}
 use Rattle.sg_simplify.specs.steps.Judged.{gives_type, truth_of, operands_fit, IndexIsGood, way_by, step_reads, step_known, and_known, act_fits, behind_act, fits_scope}
 use Rattle.sg_simplify.specs.steps.Typed.{Fixed, frame_by, Starts, OpTyped, StepTyped, Types, Typed, GoesTyped, GoesDown, AllRead, ChecksFit, NodesFit}
 use Rattle.sg_simplify.proofs.Tables.{each_push, IsFound, each_found, length_push}
 use Rattle.sg_simplify.proofs.Setting.{put_now}
 use Rattle.sg_simplify.proofs.TypingSteps.{both, eq_same, get_end, get_below, widens_same, widens_on, widens_reg, widens_place, starts_same, starts_on, starts_reg, starts_place, reads_on, all_read_on, operands_on, good_index_on, step_reads_on, known_on, word_fits, put_here, types_reg, types_place}
+use Rattle.sg_simplify.proofs.Plainest.{operand_fits, plainest_fits, plainest_type, plainest_good, plainest_truth}
 
 -- a number below another
 below_test : (n k : ℕ) → n < k → nat_lt n k ≡ true
@@ -75,10 +76,10 @@ module _ (given : Given) (vars : List Ty) (setters : ℕ → ℕ) where
       (goes n known further (well.with_reg n scope) (widens_reg n scope) refl (starts_reg type span next) (types_reg fixed scope known next type span h) (put_now n scope.regs)
       (subst (λ (o : Option Ty). gives_type (truth how) o ≡ true) (sym last) type_ok))
 
-  pub taken_typed : (type : Ty) (how : Op) (index : List ℕ) (go : ℕ → Making) (scope : Scope) (known : Pass) (next : Next) → Types fixed scope known next
+  looked_up_typed : (type : Ty) (how : Op) (index : List ℕ) (go : ℕ → Making) (scope : Scope) (known : Pass) (next : Next) → Types fixed scope known next
       → operands_fit (frame_by fixed next) scope how ≡ true → gives_type (truth how) (Some type) ≡ true → IndexIsGood (frame_by fixed next) scope how index → GoesTyped fixed scope next (truth how) go
-      → Typed fixed scope next (taken given type how index go known next)
-  taken_typed type how index go scope known next h operands type_ok index_ok goes = by_found (lookup (same_op how) known.ops) refl
+      → Typed fixed scope next (looked_up given type how index go known next)
+  looked_up_typed type how index go scope known next h operands type_ok index_ok goes = by_found (lookup (same_op how) known.ops) refl
     where
       by_found : (o : Option ℕ) → lookup (same_op how) known.ops ≡ o → Typed fixed scope next (taken_at given type how index go o known next)
       by_found (Some t) e =
@@ -97,6 +98,19 @@ module _ (given : Given) (vars : List Ty) (setters : ℕ → ℕ) where
           (goes n (and_op how n known) further wide (widens_reg n scope) refl (starts_reg type span next)
           (record { even = mid.even; ops = each_push (OpTyped fixed wide further) known.ops (how, n) mid.ops one; steps = mid.steps; free_regs = mid.free_regs; free_places = mid.free_places })
           (put_now n scope.regs) last)
+
+  pub taken_typed : (type : Ty) (how : Op) (index : List ℕ) (go : ℕ → Making) (scope : Scope) (known : Pass) (next : Next) → Types fixed scope known next
+      → operands_fit (frame_by fixed next) scope how ≡ true → gives_type (truth how) (Some type) ≡ true → IndexIsGood (frame_by fixed next) scope how index → GoesTyped fixed scope next (truth how) go
+      → Typed fixed scope next (taken given type how index go known next)
+  taken_typed type how index go scope known next h operands type_ok index_ok goes = by_operand (operand_again next how) refl
+    where
+      by_operand : (o : Option ℕ) → operand_again next how ≡ o → Typed fixed scope next (taken_or given type how index go o known next)
+      by_operand (Some t) e =
+          let fits = operand_fits given.shapes vars (frame_by fixed next) scope next how t operands e in
+          goes t known next scope (widens_same scope) refl (starts_same next) h fits.0 fits.1
+      by_operand None e =
+          looked_up_typed type (plainest type how) index go scope known next h (plainest_fits (frame_by fixed next) scope type how operands) (plainest_type given.shapes vars type how type_ok) (plainest_good (frame_by fixed next) scope type how index index_ok)
+          (subst (λ (o : Option Bool). GoesTyped fixed scope next o go) (sym (plainest_truth given.shapes vars type how type_ok)) goes)
 
   pub numbered_typed : (pure : Bool) (type : Ty) (how : Op) (go : ℕ → Making) (scope : Scope) (known : Pass) (next : Next) → Types fixed scope known next
       → operands_fit (frame_by fixed next) scope how ≡ true → gives_type (truth how) (Some type) ≡ true → IndexIsGood (frame_by fixed next) scope how [] → GoesTyped fixed scope next (truth how) go

@@ -18,12 +18,13 @@ use Rattle.sg_ir.specs.Trimmed.{is_within, AxisCheck, Ways, way_to, checks_of, p
 use Rattle.sg_ir.specs.steps.InScope.{InScope, and_reg, and_place, op_places, step_places, IsScoped}
 use Rattle.sg_ir.specs.Places.{extents_in}
 use Rattle.sg_ir.proofs.Uses.{op_exact, step_exact}
-use Rattle.sg_simplify.specs.steps.Pass.{Given, Pass, Next, Making, made_name, with_name, next_with_reg, next_with_place, given_type, span_in, span_of, renamed, and_op, and_step, put_in_front, set_word, taken_at, taken, numbered, stepped_at, stepped, check_at, checks_made, offset_made, offset, descent_of, descended, placed_in, place_made, looped, simplified}
+use Rattle.sg_simplify.specs.steps.Pass.{Given, Pass, Next, Making, made_name, with_name, next_with_reg, next_with_place, given_type, span_in, span_of, renamed, and_op, and_step, put_in_front, set_word, taken_at, looked_up, operand_again, plainest, taken_or, taken, numbered, stepped_at, stepped, check_at, checks_made, offset_made, offset, descent_of, descended, placed_in, place_made, looped, simplified}
 use Rattle.sg_simplify.specs.steps.Serves.{EachByRecursion}
 use Rattle.sg_simplify.specs.steps.Ruled.{IsNotRead, HasAccessLayouts, HasLayout}
 use Rattle.sg_simplify.specs.steps.Uses.{IsPassed, Used, AreOld, IsUnread, IsPending}
 use Rattle.sg_simplify.proofs.Tables.{each_push, each_map, IsFound, each_found}
 use Rattle.sg_simplify.proofs.Growing.{grown_on, simplified_grows}
+use Rattle.sg_simplify.proofs.Plainest.{plainest_places, plainest_unread}
 
 -- ---- lists
 each_both : {A : Type 0} (P : A → Type 0) (xs ys : List A) → EachByRecursion P xs → EachByRecursion P ys → EachByRecursion P (xs ++ ys)
@@ -138,9 +139,9 @@ module _ (given : Given) where
   pending_op known ways [] p n how off h = tt
   pending_op known ways (check ∷ pending) p n how off h = (h.0, record { reads = λ layout field. none_more (same_op (op.Read p layout field)) known.ops how n (h.1.reads layout field) (off layout field); steps = h.1.steps })
 
-  calc_uses : (type : Ty) (how : Op) (go : ℕ → Making) (ways : Ways) (pending : List ℕ) (p : ℕ) (known : Pass) (next : Next) → op_places how ≡ [] → ((layout field : ℕ) → same_op (op.Read p layout field) how ≡ false)
-      → AreOld known next → p < next.places → IsPending known ways pending p → GoesUsed ways pending p go → Used ways pending (taken given type how [] go known next).0
-  calc_uses type how go ways pending p known next none off old below is goes = by_found (lookup (same_op how) known.ops)
+  looked_up_uses : (type : Ty) (how : Op) (go : ℕ → Making) (ways : Ways) (pending : List ℕ) (p : ℕ) (known : Pass) (next : Next) → op_places how ≡ [] → ((layout field : ℕ) → same_op (op.Read p layout field) how ≡ false)
+      → AreOld known next → p < next.places → IsPending known ways pending p → GoesUsed ways pending p go → Used ways pending (looked_up given type how [] go known next).0
+  looked_up_uses type how go ways pending p known next none off old below is goes = by_found (lookup (same_op how) known.ops)
     where
       by_found : (o : Option ℕ) → Used ways pending (taken_at given type how [] go o known next).0
       by_found (Some t) = goes t known next old below is
@@ -148,6 +149,14 @@ module _ (given : Given) where
           used_word ways pending n how [] _ (goes n (and_op how n known) (next_with_reg type (span_of given known next how) next)
           (record { ops = each_push (λ entry. EachByRecursion (λ q. q < next.places) (op_places entry.0)) known.ops (how, n) old.ops (subst (λ (ps : List ℕ). EachByRecursion (λ q. q < next.places) ps) (sym none) tt); steps = old.steps; given = old.given })
           below (pending_op known ways pending p n how off is))
+
+  calc_uses : (type : Ty) (how : Op) (go : ℕ → Making) (ways : Ways) (pending : List ℕ) (p : ℕ) (known : Pass) (next : Next) → op_places how ≡ [] → ((layout field : ℕ) → same_op (op.Read p layout field) how ≡ false)
+      → AreOld known next → p < next.places → IsPending known ways pending p → GoesUsed ways pending p go → Used ways pending (taken given type how [] go known next).0
+  calc_uses type how go ways pending p known next none off old below is goes = by_operand (operand_again next how)
+    where
+      by_operand : (o : Option ℕ) → Used ways pending (taken_or given type how [] go o known next).0
+      by_operand (Some t) = goes t known next old below is
+      by_operand None = looked_up_uses type (plainest type how) go ways pending p known next (plainest_places type how ∙ none) (λ layout field. plainest_unread type how p layout field (off layout field)) old below is goes
 
   joined_uses : (node : NodeShape) (later : List NodeShape) (index : List ℕ) (axis high : ℕ) (go : ℕ → Making) (ways : Ways) (pending : List ℕ) (p : ℕ) (known : Pass) (next : Next)
       → AreOld known next → p < next.places → IsPending known ways pending p → GoesUsed ways pending p go → Used ways pending (offset_made given node later axis index high go known next).0
@@ -286,13 +295,20 @@ module _ (given : Given) where
   plain_uses : (pure : Bool) (type : Ty) (how : Op) (go : ℕ → Making) (ways : Ways) (known : Pass) (next : Next) → op_places how ≡ [] → AreOld known next → ((t : ℕ) (known' : Pass) (further : Next) → AreOld known' further → Used ways [] (go t known' further).0)
       → Used ways [] (numbered pure given type how go known next).0
   plain_uses false type how go ways known next none old goes = used_word ways [] (length next.spans) how [] _ (goes (length next.spans) known (next_with_reg type (span_of given known next how) next) (record { ops = old.ops; steps = old.steps; given = old.given }))
-  plain_uses true type how go ways known next none old goes = by_found (lookup (same_op how) known.ops)
+  plain_uses true type how go ways known next none old goes = by_operand (operand_again next how)
     where
-      by_found : (o : Option ℕ) → Used ways [] (taken_at given type how [] go o known next).0
+      how' : Op
+      how' = plainest type how
+
+      by_found : (o : Option ℕ) → Used ways [] (taken_at given type how' [] go o known next).0
       by_found (Some t) = goes t known next old
       by_found None = let n = length next.spans in
-          used_word ways [] n how [] _ (goes n (and_op how n known) (next_with_reg type (span_of given known next how) next)
-          (record { ops = each_push (λ entry. EachByRecursion (λ q. q < next.places) (op_places entry.0)) known.ops (how, n) old.ops (subst (λ (ps : List ℕ). EachByRecursion (λ q. q < next.places) ps) (sym none) tt); steps = old.steps; given = old.given }))
+          used_word ways [] n how' [] _ (goes n (and_op how' n known) (next_with_reg type (span_of given known next how') next)
+          (record { ops = each_push (λ entry. EachByRecursion (λ q. q < next.places) (op_places entry.0)) known.ops (how', n) old.ops (subst (λ (ps : List ℕ). EachByRecursion (λ q. q < next.places) ps) (sym (plainest_places type how ∙ none)) tt); steps = old.steps; given = old.given }))
+
+      by_operand : (o : Option ℕ) → Used ways [] (taken_or given type how [] go o known next).0
+      by_operand (Some t) = goes t known next old
+      by_operand None = by_found (lookup (same_op how') known.ops)
 
 plain_places : (next : Next) (how : Op) → IsNotRead how → op_places (renamed next how) ≡ []
 plain_places next (op.Const word truth) plain = refl

@@ -4,6 +4,7 @@
 
 mod acts;
 mod given;
+mod identities;
 mod insts;
 mod made;
 mod pass;

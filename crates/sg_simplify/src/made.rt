@@ -1,10 +1,11 @@
 //! What the pass has made so far, and what of it is known in scope.
 ghost use Rattle.std.specs.Prelude.{◌≡◌, IfOk, OnOk, ℕ, map, reverse};
-ghost use Rattle.sg_simplify.specs.steps.Pass.{Making, made_name, span_in, vars_of, span_of, fresh, taken, stepped, first_pass, first_next};
+ghost use Rattle.sg_simplify.specs.steps.Pass.{Making, made_name, span_in, vars_of, span_of, fresh, looked_up, taken, stepped, first_pass, first_next};
 ghost use Rattle.sg_ir.specs.Span.{held, var_span};
 ghost use Rattle.sg_simplify.specs.steps.Made.{given_in, span_in_loop, pass_of, next_of, AddsMadeReg, Goes, HasTruth};
 
 use crate::given::Given;
+use crate::identities::plainest;
 use crate::insts::{step_inst, word_inst};
 use indexmap::IndexMap;
 use sg_ir::{Inst, Op, Span, Step};
@@ -135,7 +136,7 @@ impl Made {
         Ok(to)
     }
 
-    /// A register that holds a pure operation: a known one, else a new one.
+    /// A register that holds the word of a pure operation: an operand, a known one, else a new one.
     pub fn taken(
         &mut self,
         given: &Given,
@@ -146,6 +147,24 @@ impl Made {
     ) -> Result<u32, Memory>
         requires truth { HasTruth ty op }
         ensures { IfOk result (λ to. (go : ℕ → Making) → Goes self.old self.new out.old out.new (taken (given_in given.now) ty op index go) (go to)) }
+    {
+        if let Some(again) = self.operand_again(op) {
+            return Ok(again);
+        }
+        self.looked_up(given, ty, plainest(ty, op), index, out)
+    }
+
+    /// A register that holds a pure operation: a known one, else a new one.
+    fn looked_up(
+        &mut self,
+        given: &Given,
+        ty: Ty,
+        op: Op,
+        index: Items<u32>,
+        out: &mut Items<Inst>,
+    ) -> Result<u32, Memory>
+        requires truth { HasTruth ty op }
+        ensures { IfOk result (λ to. (go : ℕ → Making) → Goes self.old self.new out.old out.new (looked_up (given_in given.now) ty op index go) (go to)) }
     {
         if let Some(known) = self.ops.get(&op).copied() {
             return Ok(known);

@@ -1,6 +1,6 @@
 -- The pass, on chains: equal pure instructions are shared, and the places of accesses are built anew with the checks that they need.
 -- What follows an instruction is passed on, so that a chain of instructions is one expression.
-use Rattle.std.specs.Prelude.{ℕ, ℤ, suc, Bool, true, false, List, [], ◌∷◌, ◌++◌, length, map, nat_eq, slice_get, get_or, unwrap_or, Option, Some, None}
+use Rattle.std.specs.Prelude.{ℕ, ℤ, suc, Bool, true, false, ◌&&◌, ◌==◌, if◌then◌else◌, List, [], ◌∷◌, ◌++◌, length, map, nat_eq, slice_get, get_or, unwrap_or, Option, Some, None}
 use Rattle.std.specs.Map.{lookup}
 use Rattle.indexmap.specs.IndexMap.{insert_entry}
 use Rattle.sg_words.specs.declared.operators.Ty.{Ty}
@@ -23,6 +23,7 @@ use Rattle.sg_ir.specs.declared.span.Span.{Span}
 use Rattle.sg_ir.specs.Span.{whole_i32, Spans, bin_span, range_span, op_span, first_spans}
 use Rattle.sg_ir.specs.Shared.{same_op, same_step, is_pure, is_single}
 use Rattle.sg_ir.specs.Trimmed.{is_within}
+use Rattle.sg_ir.specs.WellTyped.{is_truth}
 
 -- what is given: the layouts, the types of the given registers, which variables at most one instruction sets, and the spans of the
 -- variables outside of inner loops of them
@@ -125,8 +126,39 @@ taken_at given type how index go None pass next =
     (go (length next.spans) (and_op how (length next.spans) pass) (next_with_reg type (span_of given pass next how) next))
 
 -- a register that holds the operation: one known to hold the same operation, else a new one
+abbrev pub looked_up : Given → Ty → Op → List ℕ → (ℕ → Making) → Making
+looked_up given type how index go pass next = taken_at given type how index go (lookup (same_op how) pass.ops) pass next
+
+-- the first of two registers that may be there
+abbrev pub first_of : Option ℕ → Option ℕ → Option ℕ
+first_of (Some r) other = Some r
+first_of None other = other
+
+-- a register where a test holds, else none
+abbrev pub reg_where : Bool → ℕ → Option ℕ
+reg_where true r = Some r
+reg_where false r = None
+
+-- the operand whose word an operation gives again: the whole of a word below the size, and a sum with 0
+abbrev pub operand_again : Next → Op → Option ℕ
+operand_again next (op.Extract div size from) = reg_where ((div == 1) && is_within size (span_in next from)) from
+operand_again next (op.Offset high size low) =
+    first_of (reg_where (is_within 1 (span_in next high)) low) (reg_where ((size == 1) && is_within 1 (span_in next low)) high)
+operand_again next how = None
+
+-- an operation in its plainest form: a word modulo 1 is 0
+abbrev pub plainest : Ty → Op → Op
+plainest type (op.Extract div size from) = if size == 1 then op.Const 0 (is_truth type) else op.Extract div size from
+plainest type how = how
+
+-- what follows gets the operand that the operation gives again, where there is one
+abbrev pub taken_or : Given → Ty → Op → List ℕ → (ℕ → Making) → Option ℕ → Making
+taken_or given type how index go (Some t) pass next = go t pass next
+taken_or given type how index go None pass next = looked_up given type (plainest type how) index go pass next
+
+-- a register that holds the word of the operation: an operand, one known to hold the same operation, or a new one
 abbrev pub taken : Given → Ty → Op → List ℕ → (ℕ → Making) → Making
-taken given type how index go pass next = taken_at given type how index go (lookup (same_op how) pass.ops) pass next
+taken given type how index go pass next = taken_or given type how index go (operand_again next how) pass next
 
 -- the register of an operation: a shared one where the operation is pure, else always a new one
 abbrev pub numbered : Bool → Given → Ty → Op → (ℕ → Making) → Making

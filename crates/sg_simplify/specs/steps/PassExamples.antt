@@ -24,8 +24,13 @@ branches_keep_apart = refl
 
 -- the check of a read at i isn't needed
 needless_check_goes : simple (row_of_eight ∷ []) (Walk 0) [] (Word 0 (op.Var 0) (Spot 0 (step.Root 0) (Spot 1 (step.Check 0 0 8 0) (Word 1 (op.Extract 1 8 0) (Spot 2 (step.Down by.Child 1 1 1) (Cell 2 2 0 0 (0 ∷ []) End))))))
-    ≡ Word 0 (op.Var 0) (Word 1 (op.Extract 1 8 0) (Spot 0 (step.Root 0) (Spot 1 (step.Down by.Child 0 1 1) (Cell 2 1 0 0 (0 ∷ []) End))))
+    ≡ Word 0 (op.Var 0) (Spot 0 (step.Root 0) (Spot 1 (step.Down by.Child 0 1 0) (Cell 1 1 0 0 (0 ∷ []) End)))
 needless_check_goes = refl
+
+-- the part of an index on an axis that isn't split is 0, and an offset with 0 for its other part is the one part
+parts_of_one_go : simple (row_of_eight ∷ []) (Walk 0) [] (Word 0 (op.Var 0) (Word 1 (op.Extract 8 1 0) (Word 2 (op.Offset 1 8 0) (Word 3 (op.Offset 2 1 1) (Do (WriteOwn 0 0 3 0) End)))))
+    ≡ Word 0 (op.Var 0) (Word 1 (op.Const 0 false) (Do (WriteOwn 0 0 0 0) End))
+parts_of_one_go = refl
 
 -- reads at i and at i - 1
 two_reads_are_simple : (is_shared (simple (row_of_eight ∷ []) (Walk 0) [] two_reads) && is_trimmed (row_of_eight ∷ []) (Walk 0) (simple (row_of_eight ∷ []) (Walk 0) [] two_reads)) ≡ true

@@ -147,6 +147,8 @@ pub record Laws (seen : Seen) : Type 0 where
 -- operands lie in their spans
 abbrev pub OpLies : Next → Room → Op → Type 0
 OpLies next room (op.Bin how kind a b) = Lies (span_in next a) (room.regs a) × Lies (span_in next b) (room.regs b)
+OpLies next room (op.Extract div size from) = Lies (span_in next from) (room.regs from)
+OpLies next room (op.Offset high size low) = Lies (span_in next high) (room.regs high) × Lies (span_in next low) (room.regs low)
 OpLies next room how = Unit {0}
 
 -- an index register is there, and its word in its span
