@@ -14,6 +14,3 @@ mod teams;
 
 pub use begin::Start;
 pub use seat::{AccPass, AccSeat};
-
-#[cfg(test)]
-mod tests;

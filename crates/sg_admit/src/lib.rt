@@ -21,6 +21,3 @@ pub mod ways;
 pub use admission::admit;
 pub use admitted::{AdmitFault, Admitted};
 pub use neutral::is_neutral;
-
-#[cfg(test)]
-mod tests;

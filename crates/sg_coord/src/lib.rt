@@ -7,8 +7,6 @@ pub mod extents;
 pub mod laws;
 pub mod rows;
 pub mod slices;
-#[cfg(test)]
-mod tests;
 
 pub use coord::{Coord, coord_of, count, rises};
 pub use digits::{Digits, digit, quotient, remainder, wide_quotient, wide_remainder};

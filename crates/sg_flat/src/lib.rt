@@ -12,8 +12,6 @@ pub mod laws;
 mod lengths;
 mod need;
 pub mod state;
-#[cfg(test)]
-mod tests;
 
 pub use effects::{Domain, Effects, RunFault, Turn, Way, Write};
 pub use field::FlatField;

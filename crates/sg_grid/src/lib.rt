@@ -12,6 +12,3 @@ pub use dumping::dump;
 pub use grid::{Grid, GridFault, GridRow};
 pub use reading::read_grid;
 pub use writing::{grid_text, push_coordinate};
-
-#[cfg(test)]
-mod tests;

@@ -7,6 +7,3 @@ pub mod pgm;
 
 pub use counts::stats;
 pub use pgm::image;
-
-#[cfg(test)]
-mod tests;

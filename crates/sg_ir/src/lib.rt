@@ -24,6 +24,3 @@ pub use names::Names;
 pub use op::{Descent, Op, Step};
 pub use span::Span;
 pub use typing::well_typed;
-
-#[cfg(test)]
-mod tests;

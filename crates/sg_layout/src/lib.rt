@@ -18,6 +18,3 @@ pub use laws::{
 pub use layout::{Layout, LayoutFault, Layouts, check_layout};
 pub use shape::{Kind, NodeShape, Shape, Size};
 pub use words::{TooLarge, check_total};
-
-#[cfg(test)]
-mod tests;

@@ -9,6 +9,3 @@ mod order;
 
 pub use links::Links;
 pub use memory::LinkMemory;
-
-#[cfg(test)]
-mod tests;

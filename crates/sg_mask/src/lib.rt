@@ -7,6 +7,3 @@ pub mod rule;
 pub mod seat;
 
 pub use seat::{MarkSeat, MaskPass};
-
-#[cfg(test)]
-mod tests;

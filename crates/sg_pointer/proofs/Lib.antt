@@ -4,5 +4,4 @@ pub mod Loops
 pub mod Moves
 pub mod Passes
 pub mod Racing
-pub mod Stocks
 pub mod Views

@@ -10,6 +10,3 @@ pub mod seat;
 pub use ask::Ask;
 pub use finish::Linked;
 pub use seat::{AskSeat, PointerPass};
-
-#[cfg(test)]
-mod tests;

@@ -20,8 +20,6 @@ pub mod spelled;
 mod stages;
 mod step;
 pub mod tasks;
-#[cfg(test)]
-mod tests;
 mod views;
 
 pub use binds::{Bind, Binds, file_bound};

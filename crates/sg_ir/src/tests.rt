@@ -1,5 +1,0 @@
-//! Code that is emitted and code that is made by hand: its text, and whether it is well typed.
-
-mod judged;
-mod setting;
-mod texts;
