@@ -4,6 +4,8 @@
 mod drive;
 #[cfg(test)]
 mod examples;
+#[cfg(test)]
+mod gallery;
 mod generated;
 #[cfg(test)]
 mod larger_examples;

@@ -218,7 +218,8 @@ fn examples_of_the_page(rt: HostRuntime) -> Result<(), Fail> {
     compare(&rt, rt.alloc(), RUNS)
 }
 
-/// The declarations that the page shows whole, with a write at the last place of the layout and one behind it on each axis.
+/// The declarations that the page shows whole, with a write at the last place of the layout and one behind it on each axis; then the programs
+/// of its tour.
 static DECLARED: &[(&str, u8, &str)] = &[
     (
         "const N = 64; const LOW = -5; const S = 2654435761u; layout G(i, j) { dense(i: 8, j: N); field mass: i32; field flags: u32; } layout D(i) { dense(i: 1); field x: i32; field y: u32; } kernel last { for i, j in 7..8, 63..64 { mass[i, j] = LOW; flags[i, j] = S; } } kernel show { for i in D { x[i] = mass[7, 63]; y[i] = flags[7, 63]; } } run last; run show; dump x; dump y;",
@@ -234,6 +235,63 @@ static DECLARED: &[(&str, u8, &str)] = &[
         "const N = 64; layout G(i, j) { dense(i: 8, j: N); field mass: i32; field flags: u32; } kernel k { for i, j in 7..9, 63..64 { flags[i, j] = 1u; } } run k;",
         7,
         "refused: write outside: kernel k statement 1 at 8 63\n",
+    ),
+    (
+        "layout Line(i) { dense(i: 8); field ink: i32; }
+kernel drop { for i in 2..4 { ink[i] = 100; } }
+run drop;
+dump ink;
+",
+        0,
+        "grid 1 8\n0 0\n1 0\n2 100\n3 100\n4 0\n5 0\n6 0\n7 0\n",
+    ),
+    (
+        "layout Line(i) { dense(i: 8); field ink: i32; field next: i32; }
+kernel drop { for i in 2..4 { ink[i] = 100; } }
+kernel spread { for i in 0..8 { next[i] = (ink[i - 1] + 2 * ink[i] + ink[i + 1]) / 4; } }
+kernel keep { for i in 0..8 { ink[i] = next[i]; } }
+run drop;
+times 2 { run spread; run keep; }
+dump ink;
+",
+        0,
+        "grid 1 8\n0 6\n1 31\n2 62\n3 62\n4 31\n5 6\n6 0\n7 0\n",
+    ),
+    (
+        "layout Sheet(row, column) {
+  pointer(row: 256, column: 256) cap 64; // at most 64 blocks
+  dense(row: 4, column: 4);              // of 4 by 4 points
+  field ink: i32; field next: i32;
+}
+kernel drop { for row, column in 9..11, 9..11 { ink[row, column] = 800; } }
+kernel grow {
+  for row, column in Sheet {
+    if ink[row, column] > 0 { for a in -1..2 { for b in -1..2 { next[row + a, column + b] += 0; } } }
+  }
+}
+kernel spread {
+  for row, column in Sheet {
+    let beside = ink[row, column - 1] + ink[row, column + 1];
+    next[row, column] = (ink[row - 1, column] + beside + ink[row + 1, column] + 4 * ink[row, column]) / 8;
+  }
+}
+kernel keep { for row, column in Sheet { ink[row, column] = next[row, column]; } }
+run drop;
+times 2 { run grow; run spread; run keep; }
+stats Sheet;
+
+layout Total(t) { dense(t: 1); field all: i32; }
+kernel sum { for row, column in Sheet { all[0] += ink[row, column]; } }
+run sum;
+dump all;
+
+layout View(row, column) { dense(row: 4, column: 8); field grey: i32; }
+kernel look { for row, column in View { grey[row, column] = ink[row + 8, column + 6]; } }
+run look;
+image grey 0 800;
+",
+        0,
+        "stats Sheet active 80 node 1 live 5\ngrid 1 1\n0 3192\nP2\n8 4\n255\n0 0 7 43 43 7 0 0\n0 3 43 151 151 43 3 0\n0 3 43 151 151 43 3 0\n0 0 7 43 43 7 0 0\n",
     ),
 ];
 

@@ -8,17 +8,17 @@ static CODES: &[(&str, &str)] = &[
     // the example of the page
     (
         "layout A(i, j) { dense(i: 4, j: 4); field x: i32; } kernel s { for p in 0..4 { x[p, 1] += p * 2; } }",
-        "kernel s\nslice\nr0 = var 0\nr1 = const 1\nwant 0 r0 r1\ncode\nr0 = var 0\nr1 = const 2\nr2 = mul i32 r0 r1\nr3 = const 1\nr4 = extract 1 4 r0\nr5 = extract 1 4 r3\nr6 = offset r4 4 r5\np0 = root 0\np1 = child p0 1 r6\nacc add 0 0 p1 r2 r0 r3\n",
+        "kernel s\nslice\nr0 = var 0\nr1 = const 1\nwant 0 r0 r1\ncode\nr0 = var 0\nr1 = const 2\nr2 = mul i32 r0 r1\nr3 = const 1\nr4 = offset r0 4 r3\np0 = root 0\np1 = child p0 1 r4\nacc add 0 0 p1 r2 r0 r3\n",
     ),
     // four reads, each with the one check that its index needs
     (
         "layout A(i, j) { dense(i: 4, j: 4); field x: i32; field y: i32; } kernel k { for i, j in A { y[i, j] = x[i - 1, j] + x[i + 1, j] + x[i, j - 1] + x[i, j + 1]; } } load x; run k; image y 0 12;",
-        "kernel k\nslice\ncode\nr0 = var 0\nr1 = const 1\nr2 = sub i32 r0 r1\nr3 = var 1\nr4 = extract 1 4 r2\nr5 = extract 1 4 r3\nr6 = offset r4 4 r5\np0 = root 0\np1 = check p0 0 4 r2\np2 = child p1 1 r6\nr7 = read p2 0 0 r2 r3\nr8 = add i32 r0 r1\nr9 = extract 1 4 r8\nr10 = offset r9 4 r5\np3 = check p0 0 4 r8\np4 = child p3 1 r10\nr11 = read p4 0 0 r8 r3\nr12 = add i32 r7 r11\nr13 = sub i32 r3 r1\nr14 = extract 1 4 r0\nr15 = extract 1 4 r13\nr16 = offset r14 4 r15\np5 = check p0 1 4 r13\np6 = child p5 1 r16\nr17 = read p6 0 0 r0 r13\nr18 = add i32 r12 r17\nr19 = add i32 r3 r1\nr20 = extract 1 4 r19\nr21 = offset r14 4 r20\np7 = check p0 1 4 r19\np8 = child p7 1 r21\nr22 = read p8 0 0 r0 r19\nr23 = add i32 r18 r22\nownwrite 0 1 r23\n",
+        "kernel k\nslice\ncode\nr0 = var 0\nr1 = const 1\nr2 = sub i32 r0 r1\nr3 = var 1\nr4 = extract 1 4 r2\nr5 = offset r4 4 r3\np0 = root 0\np1 = check p0 0 4 r2\np2 = child p1 1 r5\nr6 = read p2 0 0 r2 r3\nr7 = add i32 r0 r1\nr8 = extract 1 4 r7\nr9 = offset r8 4 r3\np3 = check p0 0 4 r7\np4 = child p3 1 r9\nr10 = read p4 0 0 r7 r3\nr11 = add i32 r6 r10\nr12 = sub i32 r3 r1\nr13 = extract 1 4 r12\nr14 = offset r0 4 r13\np5 = check p0 1 4 r12\np6 = child p5 1 r14\nr15 = read p6 0 0 r0 r12\nr16 = add i32 r11 r15\nr17 = add i32 r3 r1\nr18 = extract 1 4 r17\nr19 = offset r0 4 r18\np7 = check p0 1 4 r17\np8 = child p7 1 r19\nr20 = read p8 0 0 r0 r17\nr21 = add i32 r16 r20\nownwrite 0 1 r21\n",
     ),
     // an index that may wrap keeps its check, one that comes back to where it was needs none
     (
         "layout A(i) { dense(i: 4); field x: i32; field y: i32; } kernel k { for i in A { y[i] = x[(i + 2147483647) - 2147483647] + x[(i + 1) - 1] + x[(i - 2147483647) - 2]; } }",
-        "kernel k\nslice\ncode\nr0 = var 0\nr1 = const 2147483647\nr2 = add i32 r0 r1\nr3 = sub i32 r2 r1\nr4 = extract 1 4 r3\np0 = root 0\np1 = check p0 0 4 r3\np2 = child p1 1 r4\nr5 = read p2 0 0 r3\nr6 = const 1\nr7 = add i32 r0 r6\nr8 = sub i32 r7 r6\nr9 = extract 1 4 r8\np3 = child p0 1 r9\nr10 = read p3 0 0 r8\nr11 = add i32 r5 r10\nr12 = sub i32 r0 r1\nr13 = const 2\nr14 = sub i32 r12 r13\nr15 = extract 1 4 r14\np4 = check p0 0 4 r14\np5 = child p4 1 r15\nr16 = read p5 0 0 r14\nr17 = add i32 r11 r16\nownwrite 0 1 r17\n",
+        "kernel k\nslice\ncode\nr0 = var 0\nr1 = const 2147483647\nr2 = add i32 r0 r1\nr3 = sub i32 r2 r1\nr4 = extract 1 4 r3\np0 = root 0\np1 = check p0 0 4 r3\np2 = child p1 1 r4\nr5 = read p2 0 0 r3\nr6 = const 1\nr7 = add i32 r0 r6\nr8 = sub i32 r7 r6\np3 = child p0 1 r8\nr9 = read p3 0 0 r8\nr10 = add i32 r5 r9\nr11 = sub i32 r0 r1\nr12 = const 2\nr13 = sub i32 r11 r12\nr14 = extract 1 4 r13\np4 = check p0 0 4 r13\np5 = child p4 1 r14\nr15 = read p5 0 0 r13\nr16 = add i32 r10 r15\nownwrite 0 1 r16\n",
     ),
     // what each branch of an `if` computes stays its own
     (
@@ -28,7 +28,7 @@ static CODES: &[(&str, &str)] = &[
     // one step down at a node of each kind
     (
         "layout H(i, j, k) { hash(i: 4, j: 4) cap 4; pointer(k: 4) cap 8; bitmasked(i: 2, j: 2); field h: u32; } layout D(i) { dynamic(i: 8) chunk 4 cap 2; field d: i32; } kernel k { for p in 0..8 { h[d[p] & 7, p, p >> 1] += u32(d[p]); } }",
-        "kernel k\nslice\nr0 = var 0\nr1 = extract 1 8 r0\np0 = root 1\np1 = dyncell p0 1 r1\nr2 = read p1 1 0 r0\nr3 = const 7\nr4 = and i32 r2 r3\nr5 = const 1\nr6 = shr i32 r0 r5\nwant 0 r4 r0 r6\ncode\nr0 = var 0\nr1 = extract 1 8 r0\np0 = root 1\np1 = dyncell p0 1 r1\nr2 = read p1 1 0 r0\nr3 = const 7\nr4 = and i32 r2 r3\nr5 = const 1\nr6 = shr i32 r0 r5\nr7 = extract 2 4 r4\nr8 = extract 2 4 r0\nr9 = offset r7 4 r8\nr10 = extract 4 1 r6\nr11 = offset r9 1 r10\nr12 = extract 2 1 r4\nr13 = extract 2 1 r0\nr14 = offset r12 1 r13\nr15 = extract 1 4 r6\nr16 = offset r14 4 r15\nr17 = extract 1 2 r4\nr18 = extract 1 2 r0\nr19 = offset r17 2 r18\nr20 = extract 1 1 r6\nr21 = offset r19 1 r20\np2 = root 0\np3 = check p2 0 8 r4\np4 = check p3 2 4 r6\np5 = hashchild p4 1 r11\np6 = child p5 2 r16\np7 = maskbit p6 3 r21\nacc add 0 0 p7 r2 r4 r0 r6\n",
+        "kernel k\nslice\nr0 = var 0\np0 = root 1\np1 = dyncell p0 1 r0\nr1 = read p1 1 0 r0\nr2 = const 7\nr3 = and i32 r1 r2\nr4 = const 1\nr5 = shr i32 r0 r4\nwant 0 r3 r0 r5\ncode\nr0 = var 0\np0 = root 1\np1 = dyncell p0 1 r0\nr1 = read p1 1 0 r0\nr2 = const 7\nr3 = and i32 r1 r2\nr4 = const 1\nr5 = shr i32 r0 r4\nr6 = extract 2 4 r3\nr7 = extract 2 4 r0\nr8 = offset r6 4 r7\nr9 = const 0\nr10 = extract 1 4 r5\nr11 = extract 1 2 r3\nr12 = extract 1 2 r0\nr13 = offset r11 2 r12\np2 = root 0\np3 = check p2 0 8 r3\np4 = check p3 2 4 r5\np5 = hashchild p4 1 r8\np6 = child p5 2 r10\np7 = maskbit p6 3 r13\nacc add 0 0 p7 r1 r3 r0 r5\n",
     ),
 ];
 

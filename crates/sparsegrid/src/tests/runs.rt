@@ -1,5 +1,6 @@
 use super::setting::{Setting, compare};
 use crate::examples::EXAMPLES;
+use crate::gallery::GALLERY;
 use crate::larger_examples::LARGER_EXAMPLES;
 use crate::loading_examples::LOADING_EXAMPLES;
 use std::test::Fail;
@@ -176,6 +177,19 @@ fn larger_examples_write_their_output(rt: HostRuntime) -> Result<(), Fail> {
             ..Setting::of(example.source)
         };
         setting.ends(&rt, rt.alloc(), 0, example.output)?;
+    }
+    Ok(())
+}
+
+#[test]
+fn gallery_programs_write_their_sums(rt: HostRuntime) -> Result<(), Fail> {
+    for program in GALLERY {
+        let setting = Setting {
+            words: program.words,
+            others: program.others,
+            ..Setting::of(program.source)
+        };
+        setting.ends(&rt, rt.alloc(), 0, program.output)?;
     }
     Ok(())
 }

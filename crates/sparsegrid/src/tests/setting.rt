@@ -1,6 +1,6 @@
 use crate::run;
 use sg_coord::Coord;
-use sg_outside::{FreeGate, Gate, MemFiles, MemSink, NamedBytes, Sink};
+use sg_outside::{Gate, MemFiles, MemSink, NamedBytes, Phase, Sink};
 use sg_session::spell;
 use sg_store::Store;
 use std::alloc::{AllocError, Global};
@@ -28,6 +28,14 @@ pub struct Seen {
     pub session: bool,
     pub active: Option<(u32, u32)>,
     pub containers: Option<(u32, u32)>,
+}
+
+/// A gate that is open and doesn't say so: all workers start, however little there is to do.
+#[derive(Clone, Copy)]
+pub struct EveryWorker;
+
+impl Gate for EveryWorker {
+    fn before(&self, _phase: Phase, _worker: u32, _turn: u32) {}
 }
 
 /// Runs with these words over files in memory. No other test function owns a session, since each that does is dear to prove.
@@ -128,7 +136,7 @@ impl<'a> Setting<'a> {
         alloc: Global,
         out: &mut S,
     ) -> Result<(u8, bool), AllocError> {
-        let seen = self.gated(rt, alloc, out, &FreeGate)?;
+        let seen = self.gated(rt, alloc, out, &EveryWorker)?;
         Ok((seen.status, seen.session))
     }
 

@@ -2,7 +2,7 @@
 
 ghost use Rattle.std.specs.Prelude.{◌≤◌};
 
-use super::setting::{Setting, named, owned, run_over};
+use super::setting::{EveryWorker, Setting, named, owned, run_over};
 use sg_outside::{FreeGate, MemFiles, MemSink, OrderGate};
 use std::alloc::Global;
 use std::process::Abort;
@@ -35,7 +35,7 @@ fn active_after<R: Threads + Sync>(
 ) -> Result<(u8, Option<(u32, u32)>), Fail> {
     let words = ["--workers", count, "p.sg"];
     let mut out = MemSink::new(alloc, Vec::new(alloc), 0);
-    let seen = on(&words, source).gated(rt, alloc, &mut out, &FreeGate)?;
+    let seen = on(&words, source).gated(rt, alloc, &mut out, &EveryWorker)?;
     Ok((seen.status, seen.active))
 }
 
@@ -47,6 +47,21 @@ fn a_refused_run_leaves_the_session(rt: HostRuntime) -> Result<(), Fail> {
         let outside = active_after(&rt, rt.alloc(), count, OUTSIDE)?;
         assert_eq!(rt; outside, (7, Some((0, 0))));
     }
+    Ok(())
+}
+
+/// A thousand runs at sixteen points, for sixteen workers: each on one, since the gate holds nobody. Threads for each would take a minute.
+#[test]
+fn few_points_take_one_worker(rt: HostRuntime) -> Result<(), Fail> {
+    let setting = on(
+        &["--workers", "16", "p.sg"],
+        "layout A(i) { dense(i: 1); field x: i32; } kernel k { for p in 0..16 { x[0] += 1; } } times 1000 { run k; } dump x;",
+    );
+    let alloc = rt.alloc();
+    let mut out = MemSink::new(alloc, Vec::new(alloc), 0);
+    let seen = setting.gated(&rt, alloc, &mut out, &FreeGate)?;
+    assert_eq!(rt; seen.status, 0);
+    assert_eq!(rt; out.bytes(), b"grid 1 1\n0 16000\n".as_slice());
     Ok(())
 }
 
@@ -142,7 +157,7 @@ fn scatter<R: Threads + Sync>(
 ) -> Result<u8, Fail> {
     let words = owned(alloc, words)?;
     let mut files = particle_files(alloc)?;
-    let seen = run_over(rt, alloc, words.as_slice(), &mut files, out, &FreeGate);
+    let seen = run_over(rt, alloc, words.as_slice(), &mut files, out, &EveryWorker);
     Ok(seen.status)
 }
 

@@ -1,0 +1,132 @@
+//! Stores made, copied and listed by workers, as without them.
+
+use crate::fixtures::{Node, coords_of, on_line, put, reach, store_of};
+use sg_elements::{active_count, elements, elements_by_workers};
+use sg_layout::Kind::{Dense, Pointer};
+use sg_store::Store;
+use std::alloc::Global;
+use std::test::Fail;
+use std::thread::Threads;
+
+static WORKERS: [u32; 3] = [1, 2, 16];
+
+/// Few cells, which one worker makes, and so many that all workers make and list them.
+static BLOCKS: [[Node; 2]; 2] = [
+    [(Pointer, [4, 0, 0], 2), (Dense, [4, 0, 0], 0)],
+    [(Pointer, [4, 0, 0], 2), (Dense, [8192, 0, 0], 0)],
+];
+
+/// Whether two stores have three fields each, with equal rows.
+fn are_alike(one: &Store, other: &Store) -> bool {
+    if one.layout().shape().fields.len() != 3 || other.layout().shape().fields.len() != 3 {
+        return false;
+    }
+    for place in 0..3 {
+        if one.field_row(place) != other.field_row(place) {
+            return false;
+        }
+    }
+    one.cell_of(on_line(5)) == other.cell_of(on_line(5))
+}
+
+fn copy_is_alike(alloc: Global, store: &Store) -> Result<bool, Fail> {
+    let copy = store.copy(alloc)?;
+    Ok(are_alike(store, &copy))
+}
+
+fn copies_are_alike<R: Threads + Sync>(
+    rt: &R,
+    alloc: Global,
+    store: &Store,
+    workers: u32,
+) -> Result<bool, Fail> {
+    let copy = store.copy_by_workers(rt, alloc, workers)?;
+    Ok(are_alike(store, &copy))
+}
+
+/// Whether workers make a store of the same layout like this one.
+fn made_is_alike<R: Threads + Sync>(
+    rt: &R,
+    alloc: Global,
+    store: &Store,
+    workers: u32,
+) -> Result<bool, Fail> {
+    if store.layout().words() > 1 << 22 {
+        return Err(Fail::from("many words"));
+    }
+    let made = Store::make_by_workers(rt, alloc, store.layout(), workers)?;
+    Ok(are_alike(&made, store))
+}
+
+fn lists_are_alike<R: Threads + Sync>(
+    rt: &R,
+    alloc: Global,
+    store: &Store,
+    workers: u32,
+) -> Result<bool, Fail> {
+    if workers == 0 {
+        return Ok(false);
+    }
+    let list = elements(alloc, store)?;
+    let by_workers = elements_by_workers(rt, alloc, store, workers)?;
+    let count = active_count(rt, alloc, store, workers)?;
+    Ok(list.as_slice() == by_workers.as_slice() && list.len() == count)
+}
+
+/// Whether one, two and sixteen workers make an opening store like this one.
+fn makers_agree<R: Threads + Sync>(rt: &R, alloc: Global, store: &Store) -> Result<bool, Fail> {
+    for workers in &WORKERS {
+        if !made_is_alike(rt, alloc, store, *workers)? {
+            return Ok(false);
+        }
+    }
+    Ok(true)
+}
+
+/// Whether one, two and sixteen workers copy and list the store as is done without them.
+fn workers_agree<R: Threads + Sync>(rt: &R, alloc: Global, store: &Store) -> Result<bool, Fail> {
+    for workers in &WORKERS {
+        if !copies_are_alike(rt, alloc, store, *workers)?
+            || !lists_are_alike(rt, alloc, store, *workers)?
+        {
+            return Ok(false);
+        }
+    }
+    copy_is_alike(alloc, store)
+}
+
+/// Activates the blocks at both ends, and makes each row another.
+fn fill(alloc: Global, store: &mut Store) -> Result<(), Fail> {
+    let last = (store.layout().extents().a as i32).wrapping_sub(1);
+    let wanted = coords_of(alloc, 1, &[[5, 0, 0], [last, 0, 0]])?;
+    reach(alloc, store, &wanted)?;
+    put(store, 0, on_line(5), 7);
+    put(store, 1, on_line(6), 8);
+    put(store, 2, on_line(last), 1);
+    Ok(())
+}
+
+/// Whether all is the same by workers, of an opening store and once it has values.
+fn all_agree<R: Threads + Sync>(rt: &R, alloc: Global, store: &mut Store) -> Result<bool, Fail> {
+    if !makers_agree(rt, alloc, store)? {
+        return Ok(false);
+    }
+    fill(alloc, store)?;
+    workers_agree(rt, alloc, store)
+}
+
+fn agree<R: Threads + Sync>(rt: &R, alloc: Global, nodes: &[Node]) -> Result<bool, Fail> {
+    match store_of(alloc, 1, nodes) {
+        Ok(mut store) => all_agree(rt, alloc, &mut store),
+        Err(fail) => Err(fail),
+    }
+}
+
+#[test]
+fn workers_make_the_same(rt: HostRuntime) -> Result<(), Fail> {
+    for nodes in &BLOCKS {
+        let same = agree(&rt, rt.alloc(), nodes)?;
+        assert!(rt; same);
+    }
+    Ok(())
+}

@@ -1,0 +1,101 @@
+ghost use Rattle.std.specs.Prelude.{◌≡◌, [], ◌∷◌, IfOk};
+ghost use Rattle.sg_words.specs.RaceMachine.{newcomer};
+ghost use Rattle.sg_hash.specs.Seats.{worker_of, IsSeatOf};
+
+use sg_hash::{Ask, HashLinked, HashPass, HashSeat};
+use sg_words::{Items, Memory};
+use std::alloc::Global;
+use std::test::Fail;
+use std::thread::{Threads, join};
+
+fn ask_two(pass: &HashPass, mut seat: HashSeat, first: u32, second: u32) -> (HashSeat, Ask, Ask)
+    requires own { IsSeatOf pass.now seat }
+    ensures own { IsSeatOf pass.now result.0 }
+    ensures share { ((worker_of result.0).share ≡ (worker_of seat).share) × ((worker_of result.0).back ≡ (worker_of seat).back) }
+{
+    let one = pass.ask(&mut seat, first);
+    let two = pass.ask(&mut seat, second);
+    (seat, one, two)
+}
+
+// Three empty places, and a stock of three numbers.
+fn pass_of_three(alloc: Global) -> Result<(HashPass, HashSeat), Memory>
+    ensures seat { IfOk result (λ r. IsSeatOf r.0 r.1) }
+    ensures worker { IfOk result (λ r. worker_of r.1 ≡ newcomer (3 ∷ 3 ∷ []) 16) }
+{
+    let keys = Items::from_slice(alloc, &[0, 0, 0])?;
+    let links = Items::from_slice(alloc, &[0, 0, 0])?;
+    let stock = Items::from_slice(alloc, &[7, 8, 9])?;
+    HashPass::start(alloc, keys, links, stock)
+}
+
+#[test]
+fn keys_get_places_and_numbers(rt: HostRuntime) -> Result<(), Fail> {
+    let (pass, seat) = pass_of_three(rt.alloc())?;
+    let (seat, four, one) = ask_two(&pass, seat, 4, 1);
+    let linked = pass.finish(rt.alloc(), seat)?;
+    assert_eq!(rt; [four, one], [Ask::Node(7), Ask::Node(8)]);
+    assert!(rt; linked.keys.as_slice() == [0, 5, 2].as_slice());
+    assert!(rt; linked.links.as_slice() == [0, 8, 9].as_slice());
+    assert!(rt; linked.taken.as_slice() == [7, 8].as_slice());
+    Ok(())
+}
+
+// Two workers in threads ask for the same two keys, of one first place, the one in the other's order: their answers, key after key.
+fn raced<R: Threads + Sync>(rt: &R, alloc: Global) -> Result<(HashLinked, [Ask; 4]), Memory> {
+    let (pass, mut seat) = pass_of_three(alloc)?;
+    let other = pass.split(&mut seat);
+    let shared = &pass;
+    let (mine, theirs) = join(
+        rt,
+        move || -> (HashSeat, Ask, Ask)
+            requires { IsSeatOf shared.now seat }
+            ensures { IsSeatOf shared.entry.now result.0 × ((worker_of result.0).share ≡ (worker_of seat).share) × ((worker_of result.0).back ≡ (worker_of seat).back) }
+        { ask_two(shared, seat, 4, 1) },
+        move || -> (HashSeat, Ask, Ask)
+            requires { IsSeatOf shared.now other }
+            ensures { IsSeatOf shared.entry.now result.0 × ((worker_of result.0).share ≡ (worker_of other).share) × ((worker_of result.0).back ≡ (worker_of other).back) }
+        { ask_two(shared, other, 1, 4) },
+    );
+    let (mut seat, four, one) = mine;
+    let (other, same_one, same_four) = theirs;
+    pass.join(&mut seat, other);
+    let linked = pass.finish(alloc, seat)?;
+    Ok((linked, [four, same_four, one, same_one]))
+}
+
+// The number of a link word, if it has one.
+fn answer_of(link: u64) -> Ask {
+    match u32::try_from(link.wrapping_sub(1)) {
+        Ok(number) => Ask::Node(number),
+        Err(_) => Ask::Dry,
+    }
+}
+
+// What stands beside a key word at the end.
+fn answer_beside(linked: &HashLinked, word: u64) -> Ask {
+    for (key, link) in linked.keys.as_slice().iter().zip(linked.links.as_slice()) {
+        if *key == word {
+            return answer_of(*link);
+        }
+    }
+    Ask::Dry
+}
+
+#[test]
+fn two_workers_contend(rt: HostRuntime) -> Result<(), Fail> {
+    for pass in 0..500 {
+        let (linked, answers) = raced(&rt, rt.alloc())?;
+        let (four, one) = (answer_beside(&linked, 5), answer_beside(&linked, 2));
+        assert!(rt; answers == [four, four, one, one], "pass {pass}");
+        assert!(rt;
+            four != Ask::Dry && one != Ask::Dry && four != one,
+            "pass {pass}"
+        );
+        assert!(rt;
+            linked.taken.len() == 2 && linked.spares.len() <= 1 && !linked.dry,
+            "pass {pass}"
+        );
+    }
+    Ok(())
+}
