@@ -121,7 +121,7 @@ all-none : (into : ℕ → ℕ → ℕ) (c a : ℕ) (ws : List Worker) → total
 all-none into c a [] e = refl
 all-none into c a (w ∷ ws) e = ap (λ b. fold_all into c b ws) (fold-none into c a w.given (omega arith)) ∙ all-none into c a ws (omega arith)
 
--- where nobody else has given anything, all is what one has given
+-- if nobody else has given anything, all is what one has given
 all-one : (into : ℕ → ℕ → ℕ) (c a : ℕ) (ws : List Worker) (id : ℕ) (v : Worker) → get_elem? ws id ≡ some v → total many_given ws ≡ many_given v → fold_all into c a ws ≡ fold_in into c a v.given
 all-one into c a [] id v at e = absurd (some-ne-none v (sym at))
 all-one into c a (w ∷ ws) zero v at e =

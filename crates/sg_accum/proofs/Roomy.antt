@@ -12,7 +12,7 @@ use Rattle.sg_accum.proofs.Rounds.{many-workers}
 as-many-seats : (seats now : List PartSeat) → length (seat_workers now) ≡ length (seat_workers seats) → length now ≡ length seats
 as-many-seats seats now same = sym (many-workers now) ∙ same ∙ many-workers seats
 
--- room stays where neither the parts nor the share change
+-- room stays if neither the parts nor the share change
 pub rooms-stay : (seat : AccSeat) (now : List PartSeat) → length (seat_workers now) ≡ length (seat_workers seat.seats.items) → (worker_at (seat_workers now) 0).share ≡ share_of seat
     → HasRooms (length now) (worker_at (seat_workers now) 0).share seat.rooms
 rooms-stay seat now long share =

@@ -118,7 +118,7 @@ seated share back ws seats is known =
 some-worker : (seat : AccSeat) → 0 < length (seat_workers seat.seats.items)
 some-worker seat = subst (λ n. 0 < n) (sym (many-workers seat.seats.items)) seat.some
 
--- the half that a seat keeps where it is cut
+-- the half that a seat keeps if it is cut
 pub left-seats : (seat : AccSeat) (left : List PartSeat) → seat_workers left ≡ map after_split (seat_workers seat.seats.items)
     → Seated (share_of seat - share_of seat / 2) (worker_at (seat_workers seat.seats.items) 0).back left
 left-seats seat left is =

@@ -12,7 +12,7 @@ use Rattle.sg_accum.specs.AccRace.{cell_of, AreEntries, setting_of, race_of, fir
 abbrev pub IsEvent : Start → List ℕ → List Worker → Event → List ℕ → List Worker → Type 0
 IsEvent start words views e words' views' = Needs (setting_of start) (race_of start words views) e × (state_after (setting_of start) e (race_of start words views) ≡ race_of start words' views')
 
--- the view of the worker with this number, or of nobody, whose share is 0, where there is none
+-- the view of the worker with this number, or of nobody, whose share is 0, if there is none
 abbrev pub at : Start → List Worker → ℕ → Worker
 at start views id = worker (race_of start [] views) id
 
@@ -26,15 +26,15 @@ abbrev pub GivesWord : Start → List ℕ → List Worker → (id c x n : ℕ) �
 GivesWord start words views id c x n = 0 < (at start views id).share → c < length words → AreEntries start.op words
     → IsEvent start words views (add id c x) (slice_set words c n) (slice_set views id (after_add c x (at start views id)))
 
--- where the part adds, a contribution is an event that adds to the word
+-- if the part adds, a contribution is an event that adds to the word
 abbrev pub AddIsEvent : Start → List ℕ → List Worker → (id c x : ℕ) → Type 0
 AddIsEvent start words views id c x = start.op ≡ acc.Add → GivesWord start words views id c x ((slice_index words c + x) % 2 ^ 64)
 
--- where the part keeps the least, a contribution of 32 bits is an event that leaves the lesser of the word and the contribution's rank
+-- if the part keeps the least, a contribution of 32 bits is an event that leaves the lesser of the word and the contribution's rank
 abbrev pub LeastIsEvent : Start → List ℕ → List Worker → (id c x : ℕ) → Type 0
 LeastIsEvent start words views id c x = start.op ≡ acc.Min → x < 2 ^ 32 → GivesWord start words views id c x (min (slice_index words c) (rank_of start.ty x))
 
--- where the part keeps the greatest, a contribution of 32 bits is an event that leaves the greater of the word and the contribution's rank
+-- if the part keeps the greatest, a contribution of 32 bits is an event that leaves the greater of the word and the contribution's rank
 abbrev pub MostIsEvent : Start → List ℕ → List Worker → (id c x : ℕ) → Type 0
 MostIsEvent start words views id c x = start.op ≡ acc.Max → x < 2 ^ 32 → GivesWord start words views id c x (max (slice_index words c) (rank_of start.ty x))
 
@@ -43,7 +43,7 @@ abbrev pub SplitIsEvent : Start → List ℕ → List Worker → ℕ → Type 0
 SplitIsEvent start words views id = 2 ≤ (at start views id).share
     → IsEvent start words views (enrol id) words (slice_set views id (after_split (at start views id)) ++ other_half (at start views id) ∷ [])
 
--- where both have a share, a join of another worker into a worker is an event, and leaves nobody in the other's place
+-- if both have a share, a join of another worker into a worker is an event, and leaves nobody in the other's place
 abbrev pub JoinIsEvent : Start → List ℕ → List Worker → ℕ → ℕ → Type 0
 JoinIsEvent start words views id other = 0 < (at start views id).share → 0 < (at start views other).share → other ≢ id
     → IsEvent start words views (join id other) words (slice_set (slice_set views id (after_join (at start views id) (at start views other))) other nobody)

@@ -54,7 +54,7 @@ pub(crate) fn begin_all<R: Threads + Sync>(
     both_begun(front?, back?)
 }
 
-// Where values of more than one part are cut: behind half of the parts.
+// Where values of more than one part are cut: after half of the parts.
 fn middle_of(values: usize) -> usize
     requires more { 65536 < values }
     ensures whole { result % 65536 ≡ 0 }

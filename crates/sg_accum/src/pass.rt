@@ -51,7 +51,7 @@ impl AccPass {
         self.parts[place].add(&mut seat.seats[place], cell % PART, word);
     }
 
-    /// Lowers a cell to a word where that is less in the pass's type. No refusal, no memory, and no waiting.
+    /// Lowers a cell to a word if that is less in the pass's type. No refusal, no memory, and no waiting.
     #[inline(always)]
     pub fn least(&self, seat: &mut AccSeat, cell: usize, word: u32)
         requires own { IsSeatOf self.now seat.old }
@@ -64,7 +64,7 @@ impl AccPass {
         self.parts[place].least(&mut seat.seats[place], cell % PART, word);
     }
 
-    /// Raises a cell to a word where that is more in the pass's type. No refusal, no memory, and no waiting.
+    /// Raises a cell to a word if that is more in the pass's type. No refusal, no memory, and no waiting.
     #[inline(always)]
     pub fn most(&self, seat: &mut AccSeat, cell: usize, word: u32)
         requires own { IsSeatOf self.now seat.old }

@@ -55,7 +55,7 @@ impl Part {
             .fetch_add::<Plain>(&mut seat.seat, cell, word as u64);
     }
 
-    /// Lowers a cell to a word where that is less in the part's type: one atomic step.
+    /// Lowers a cell to a word if that is less in the part's type: one atomic step.
     #[inline(always)]
     pub(crate) fn least(&self, seat: &mut PartSeat, cell: usize, word: u32)
         requires own { seat.old.seat.table_id ≡ self.now.table.shared.table_id }
@@ -76,7 +76,7 @@ impl Part {
         }
     }
 
-    /// Raises a cell to a word where that is more in the part's type: one atomic step.
+    /// Raises a cell to a word if that is more in the part's type: one atomic step.
     #[inline(always)]
     pub(crate) fn most(&self, seat: &mut PartSeat, cell: usize, word: u32)
         requires own { seat.old.seat.table_id ≡ self.now.table.shared.table_id }
@@ -137,7 +137,7 @@ impl Part {
     }
 }
 
-// The table's words at the start, in place of those that stood in the list.
+// The table's words at the start, instead of those that stood in the list.
 fn entries(op: AccOp, ty: Ty, values: &[u32], words: &mut Vec<u64>) -> Result<(), Memory>
     ensures cells { OnOk result (map (cell_of op ty) words.new.items ≡ values.now) }
     ensures low { OnOk result (AreEntries op words.new.items) }

@@ -35,7 +35,7 @@ module _ (walked : Option ℕ) (unclean : Unclean) where
   abbrev pub is_unclean_write : Write → Bool
   is_unclean_write write = unclean.fields write.layout write.place
 
-  -- the kernel's moment and the slice's: the same words of all variables that aren't dirty, the same writes that may activate but for
+  -- the kernel's moment and the slice's: the same words of all variables that aren't dirty, the same writes that may activate except for
   -- their values, and writes only of fields that the kernel writes
   pub record Agree (now beside : Moment) : Type 0 where
     pub words : (var : ℕ) → unclean.vars var ≡ false → now.words var ≡ beside.words var
@@ -146,7 +146,7 @@ module _ (walked : Option ℕ) (unclean : Unclean) where
     filter_more : (write : Write) (here : Bool) → activates write ≡ here → filter activates (now.writes ++ write ∷ []) ≡ filter activates now.writes ++ cond here (write ∷ []) []
     filter_more write here e = filter-append activates now.writes (write ∷ []) ∙ ap (λ (b : Bool). filter activates now.writes ++ cond b (write ∷ []) []) e
 
-    -- both write, but for the value, or the first alone makes a write that may not activate
+    -- both write, except for the value, or the first alone makes a write that may not activate
     pub write_both : (write : Write) → is_unclean_write write ≡ true → activates write ≡ true → Agree (add_write write now) (add_write (without_value write) beside)
     write_both write w h = record {
       words = agree.words;

@@ -34,7 +34,7 @@ or_true : (a : Bool) → (a || true) ≡ true
 or_true true = refl
 or_true false = refl
 
--- both of two hang on one
+-- both of two depend on one
 or_both : (p q t : Bool) → ((p || t) && (q || t)) ≡ ((p && q) || t)
 or_both true true t = refl
 or_both true false true = refl

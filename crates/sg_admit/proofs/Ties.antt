@@ -66,7 +66,7 @@ pub written_is : (lines : List Line) (layout place : ℕ) → is_noted_in (ways_
 written_is [] layout place = refl
 written_is (line ∷ lines) layout place = at_deed layout place lines (written_is lines layout place) line.deed
 
--- a field is written where it is own-written or accumulated
+-- a field is written if it is own-written or accumulated
 by_kinds : (ways : List FieldWay) (layout place : ℕ) → is_noted_in ways layout place ≡ (has_own ways layout place || has_acc ways layout place)
 by_kinds [] layout place = refl
 by_kinds (it ∷ ways) layout place =
@@ -93,7 +93,7 @@ at_turns var lines h (Tests condition) = h
 at_turns var lines h (Turns other range) = ap (λ (b : Bool). (other == var) || b) h
 at_turns var lines h (Opens ranges) = h
 
--- a variable is a loop's where it is noted as one
+-- a variable is a loop's if it is noted as one
 pub turns_is : (lines : List Line) (var : ℕ) → list_any (λ it. it == var) (loops_in lines) ≡ list_any (λ line. turns_var var line.deed) lines
 turns_is [] var = refl
 turns_is (line ∷ lines) var = at_turns var lines (turns_is lines var) line.deed

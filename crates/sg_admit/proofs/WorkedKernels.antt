@@ -73,7 +73,7 @@ slice_in_a_box : slice_of (kernel box nested) ≡ kept_if (write 5 0 (name 0) Ow
 unfolding nested nested_lines
 slice_in_a_box = ap (λ (it : List Line). block_slice (walked_by box) (unclean_in it) nested) (lines_in_order box) ∙ simp (slice_equations, expr_folds)
 
--- ---- `s = t; t = x[i]; if s > 2 { u = 5; } v = 5; x[i] = 0;`: `s` hangs on what stands behind it, and `u` on the condition round it
+-- ---- `s = t; t = x[i]; if s > 2 { u = 5; } v = 5; x[i] = 0;`: `s` depends on what stands after it, and `u` on the condition round it
 hanging_lines : List Line
 hanging_lines =
     line_of 1 nothing_round (Sets 2 (name 1))

@@ -45,7 +45,7 @@ clean_vars kernel =
 abbrev pub kept_of : TypedKernel → Admitted
 kept_of kernel = record { kernel = kernel; clean = clean_vars kernel; slice = slice_of kernel; domain = constant_domain kernel }
 
--- the answer where no rule is broken: the kernel, or that its box is too large
+-- the answer if no rule is broken: the kernel, or that its box is too large
 abbrev pub box_answer : TypedKernel → Result Admitted AdmitFault
 box_answer kernel = if nat_lt most_box_points (box_size (constant_domain kernel)) then Err BoxTooLarge else Ok (kept_of kernel)
 

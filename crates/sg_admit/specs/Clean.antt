@@ -44,7 +44,7 @@ pub record Giving : Type 0 where
   pub var : ℕ
   pub hangs_on : List TypedExpr
 
--- A `let` or an assignment hangs on its value and the conditions round it. The variable of an inner loop hangs on the conditions
+-- A `let` or an assignment depends on its value and the conditions round it. The variable of an inner loop depends on the conditions
 -- alone: where one of them isn't clean, the loop stands in no address slice.
 abbrev pub givings_of : Around → Deed → List Giving
 givings_of around (Sets var value) = record { var = var; hangs_on = value ∷ around.conditions } ∷ []
@@ -53,7 +53,7 @@ givings_of around (Tests condition) = []
 givings_of around (Turns var range) = record { var = var; hangs_on = around.conditions } ∷ []
 givings_of around (Opens ranges) = []
 
--- where the lines give a variable a word, in order; the variables of the kernel's own loop are given by none
+-- if the lines give a variable a word, in order; the variables of the kernel's own loop are given by none
 abbrev pub givings : List Line → List Giving
 givings lines = flat_map (λ line. givings_of line.around line.deed) lines
 
@@ -61,7 +61,7 @@ givings lines = flat_map (λ line. givings_of line.around line.deed) lines
 abbrev pub unclean_with : (ℕ → ℕ → Bool) → List ℕ → Unclean
 unclean_with fields dirty = record { fields = fields; vars = λ var. list_any (λ it. it == var) dirty }
 
--- all that a giving hangs on is clean; true where it hangs on nothing
+-- all that a giving depends on is clean; true if it depends on nothing
 abbrev pub is_clean_giving : Unclean → Giving → Bool
 is_clean_giving unclean giving = list_all (is_clean unclean) giving.hangs_on
 
@@ -75,7 +75,7 @@ times_over zero step from = from
 times_over (suc n) step from = step (times_over n step from)
 
 -- The dirty variables: a pass over all that give one, as many times as there are such. This is the least set that has each variable
--- that gets a word from what isn't clean. The code goes from each to those that hang on it, and looks at none twice.
+-- that gets a word from what isn't clean. The code goes from each to those that depend on it, and looks at none twice.
 abbrev pub dirty_among : (ℕ → ℕ → Bool) → List Giving → List ℕ
 dirty_among fields all = times_over (length all) (next_dirty fields all) []
 

@@ -74,7 +74,7 @@ pub record IsFirstBroken (facts : Facts) (lines : List Line) (stmt rule : ℕ) :
   pub number : stmt ≡ line.number
   pub broken : IsSmallestBroken (kept_by facts line) rule
 
--- What an answer of admission says: where it admits, that all lines keep all rules and the box isn't too large, and what it tells of
+-- What an answer of admission says: if it admits, that all lines keep all rules and the box isn't too large, and what it tells of
 -- the kernel; where it refuses for the box, that all lines keep all rules; where it refuses for a rule, that this is the first broken.
 abbrev pub Says : TypedKernel → Result Admitted AdmitFault → Type 0
 Says kernel (Ok kept) = (kept ≡ kept_of kernel) × (AllByRecursion (KeepsAll (facts_of kernel)) (kernel_lines kernel) × (box_size (constant_domain kernel) ≤ most_box_points))

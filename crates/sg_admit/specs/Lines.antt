@@ -64,11 +64,11 @@ line_step (k.For var range body) number around = line_of number around (Turns va
 abbrev pub stmt_lines : TypedStmt → Around → List Line
 stmt_lines = fold-TypedStmt (ℕ → Around → List Line) (Around → List Line) line_step (λ stmt. stmt.kind stmt.number)
 
--- the lines of the statements of a block, each with those of the statements in it right behind
+-- the lines of the statements of a block, each with those of the statements in it right after
 abbrev pub block_lines : List TypedStmt → Around → List Line
 block_lines block = lines_round (map stmt_lines block)
 
--- the ranges of the kernel's loop; none where it walks a layout
+-- the ranges of the kernel's loop; none if it walks a layout
 abbrev pub domain_ranges : TypedDomain → List TypedRange
 domain_ranges (domain.Walk layout) = []
 domain_ranges (domain.Ranges ranges) = ranges

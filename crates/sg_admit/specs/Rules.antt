@@ -18,7 +18,7 @@ use Rattle.sg_admit.specs.Bounds.{is_constant_range, turns_of, turns_over}
 
 -- ---- how fields are written
 
--- the field that a statement by itself writes, with the way; none where it isn't a write
+-- the field that a statement by itself writes, with the way; none if it isn't a write
 abbrev pub deed_ways : Deed → List FieldWay
 deed_ways (Sets var value) = []
 deed_ways (Writes layout place index way value) = record { layout = layout; place = place; way = way } ∷ []
@@ -85,7 +85,7 @@ name_step (f.Convert inner) = None
 abbrev pub name_of : TypedExpr → Option ℕ
 name_of = fold-TypedExpr (Option ℕ) (Option ℕ) name_step (λ expr. expr.form)
 
--- the bare name is that of this variable; false where there is no bare name
+-- the bare name is that of this variable; false if there is no bare name
 abbrev pub is_name_of : ℕ → Option ℕ → Bool
 is_name_of var None = false
 is_name_of var (Some name) = name == var
@@ -116,7 +116,7 @@ seen_step vars good (f.Convert inner) = (None, inner.1)
 abbrev pub reads_in : ℕ → (ℕ → ℕ → Bool → Bool) → TypedExpr → SeenPart
 reads_in vars good = fold-TypedExpr SeenPart SeenPart (seen_step vars good) (λ expr. expr.form)
 
--- each read in an expression is good, those in indices too; true where it reads no field
+-- each read in an expression is good, those in indices too; true if it reads no field
 abbrev pub has_good_reads : ℕ → (ℕ → ℕ → Bool → Bool) → TypedExpr → Bool
 has_good_reads vars good expr = (reads_in vars good expr).1
 

@@ -21,7 +21,7 @@ abbrev pub walked_by : TypedDomain → Option ℕ
 walked_by (domain.Walk layout) = Some layout
 walked_by (domain.Ranges ranges) = None
 
--- the kernel's loop walks this layout; false where it goes over a box
+-- the kernel's loop walks this layout; false if it goes over a box
 abbrev pub is_walked : Option ℕ → ℕ → Bool
 is_walked None layout = false
 is_walked (Some walked) layout = walked == layout
@@ -38,7 +38,7 @@ no_value value = record { ty = value.ty; form = form.Literal 0 }
 abbrev pub stmt_of : ℕ → TypedKind → TypedStmt
 stmt_of number kind = record { number = number; kind = kind }
 
--- a statement where it is kept, else none
+-- a statement if it is kept, else none
 abbrev pub stmt_if : Bool → TypedStmt → List TypedStmt
 stmt_if kept stmt = if kept then stmt ∷ [] else []
 

@@ -23,7 +23,7 @@ use sg_types::{TypedDomain, TypedKernel};
 use sg_words::{Items, Memory, Stop, Ty};
 use std::alloc::Global;
 
-/// The kernel with what is known of it, where it keeps the rules and its box isn't too large; else the first fault.
+/// The kernel with what is known of it, if it keeps the rules and its box isn't too large; else the first fault.
 pub fn admit(
     alloc: Global,
     kernel: TypedKernel,

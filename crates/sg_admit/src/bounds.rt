@@ -38,7 +38,7 @@ pub(crate) fn count_between(lo: u32, hi: u32) -> u64
     if count < 0 { 0 } else { count as u64 }
 }
 
-/// The turns that an inner loop makes with those round it, where there are at most as many of both as there may be.
+/// The turns that an inner loop makes with those round it, if there are at most as many of both as there may be.
 pub(crate) fn turns_within(depth: usize, turns: u64, own: Option<u64>) -> Option<u64>
     requires turns { turns ≤ most_loop_turns }
     requires own { IfSome own (λ own. own ≤ 2 ^ 33) }

@@ -45,7 +45,7 @@ fn corner(n: u32, ranges: &[TypedRange], upper: bool) -> Coord
     }
 }
 
-/// The word of a bound of the range with this number; 0 where there is none.
+/// The word of a bound of the range with this number; 0 if there is none.
 fn word_at(ranges: &[TypedRange], axis: usize, upper: bool) -> u32
     requires { list_all spec.is_constant_range ranges.now ≡ true }
     ensures { result ≡ get_or (map (λ range. spec.constant_word (bound_of upper range)) ranges.now) axis 0 }

@@ -1,6 +1,6 @@
 //! Which variables are dirty. Each `if` has a place and each variable has one: an `if` that isn't clean, or stands in one that isn't, is
 //! marked at its place, and a dirty variable at its. Links lead from each variable that an expression reads, and from the `if` round it,
-//! to the place that hangs on them; so there are as many links as tokens.
+//! to the place that depends on them; so there are as many links as tokens.
 
 ghost use Rattle.std.specs.Prelude.{◌≡◌, ℕ, ◌+◌, not, ◌||◌, length, IfOk, OnOk};
 ghost use Rattle.sg_admit.specs.Lines.{block_lines, stmt_lines, nothing_round};
@@ -22,7 +22,7 @@ pub(crate) struct Links {
 }
 
 impl Links {
-    /// One place hangs on another.
+    /// One place depends on another.
     fn lead(&mut self, from: usize, to: usize) -> Result<(), Memory>
         ensures { OnOk result (spec.SpreadWhereTested (λ places. not (places from) || places to) self.old self.new) }
     {
@@ -38,7 +38,7 @@ impl Links {
         Ok(())
     }
 
-    /// A place hangs on a read of a field, but for its indices.
+    /// A place depends on a read of a field, except for its indices.
     fn hang_on_field(
         &mut self,
         text: &Text,
@@ -55,7 +55,7 @@ impl Links {
         }
     }
 
-    /// A place hangs on what an expression reads.
+    /// A place depends on what an expression reads.
     #[cycle(reads)]
     fn hang(&mut self, text: &Text, to: usize, expr: &TypedExpr) -> Result<(), Memory>
         ensures { OnOk result (spec.SpreadWhereTested (λ places. spec.is_clean_by text.now places expr.now || places to) self.old self.new) }
@@ -101,7 +101,7 @@ impl Links {
         Ok(())
     }
 
-    /// A place hangs on an expression and on the `if` round it.
+    /// A place depends on an expression and on the `if` round it.
     fn hang_within(
         &mut self,
         text: &Text,

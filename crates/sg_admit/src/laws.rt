@@ -15,7 +15,7 @@ pub fn dirty_is_least()
     ensures { DirtyIsLeast }
 {}
 
-/// In each iteration the address slice makes exactly those writes of the body that may activate, in order, but for their values.
+/// In each iteration the address slice makes exactly those writes of the body that may activate, in order, except for their values.
 pub fn slice_wants_what_is_written()
     ensures { SliceWantsWhatIsWritten }
 {}

@@ -28,7 +28,7 @@ braces_after-append n m (x ∷ xs) ys h =
     let p = not_ended (ends_item n x) (braces_after (open_after n x) xs) m h in
     ap (λ ends. unless_ended ends (braces_after (open_after n x) (xs ++ ys))) p.0 ∙ braces_after-append (open_after n x) m xs ys p.1
 
--- no brace is open behind the end of an item
+-- no brace is open after the end of an item
 open_after-end : (n : ℕ) (x : Token) → ends_item n x ≡ true → open_after n x ≡ 0
 open_after-end n (t.Sign s.Semicolon) h = eqb-true n 0 h
 open_after-end n (t.Sign s.CloseBrace) h = let below : n ≤ 1 = leb-true n 1 h in omega arith
@@ -62,7 +62,7 @@ cut_by-whole {A} token n (x ∷ xs) rest h = go (ends_item n (token x)) refl xs 
   go true is (y ∷ ys) h more = absurd (cc)
   go false is ys h more = rw (is, more h) refl
 
--- behind a whole item, what is left is what is left of the rest
+-- after a whole item, what is left is what is left of the rest
 pub are_left_from-whole : (left : Bool) (n : ℕ) (xs rest : List Token) → is_whole n xs ≡ true → are_left_from left n (xs ++ rest) ≡ are_left_from false 0 rest
 are_left_from-whole left n [] rest h = absurd (cc)
 are_left_from-whole left n (x ∷ xs) rest h = go (ends_item n x) refl xs h (are_left_from-whole (not (ends_item n x)) (open_after n x) xs rest) where

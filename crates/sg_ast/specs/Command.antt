@@ -12,11 +12,11 @@ use Rattle.sg_ast.specs.declared.command.Command.TheOpen.{Command-F}
 use Rattle.sg_ast.specs.Limits.{max_number}
 use Rattle.sg_ast.specs.Stmt.{in_braces}
 
--- the number of a bound, with a `u` exactly where it is past the limit without one
+-- the number of a bound, with a `u` exactly when it is past the limit without one
 abbrev pub magnitude_token : ℕ → Token
 magnitude_token n = t.Number n (nat_lt (max_number false) n)
 
--- a bound: its number, behind a `-` where it is negative. `negsuc n` is -(n + 1), so no `-` stands before 0
+-- a bound: its number, after a `-` if it is negative. `negsuc n` is -(n + 1), so no `-` stands before 0
 abbrev pub bound_tokens : ℤ → List Token
 bound_tokens (pos n) = magnitude_token n ∷ []
 bound_tokens (negsuc n) = t.Sign s.Minus ∷ magnitude_token (n + 1) ∷ []

@@ -109,7 +109,7 @@ is_size (size.Name name) = is_name name
 abbrev pub is_axis : AxisDecl → Bool
 is_axis axis = is_name axis.name && is_size axis.size
 
--- the kind of a node, with its chunk and its cap exactly where the kind has them
+-- the kind of a node, with its chunk and its cap exactly when the kind has them
 abbrev pub has_bounds : NodeKind → Option SizeDecl → Option SizeDecl → Bool
 has_bounds kind.Dense None None = true
 has_bounds kind.Bitmasked None None = true

@@ -7,7 +7,7 @@ use Rattle.sg_ast.specs.declared.token.Token.TheVariants as t
 use Rattle.sg_ast.specs.declared.token.Spanned.{Spanned}
 
 -- whether a token ends an item, where so many braces are open: a `;` outside all braces,
--- a `}` that closes the last open brace, or a `}` where no brace is open
+-- a `}` that closes the last open brace, or a `}` if no brace is open
 abbrev pub ends_item : ℕ → Token → Bool
 ends_item braces (t.Sign s.Semicolon) = braces == 0
 ends_item braces (t.Sign s.CloseBrace) = nat_le braces 1
@@ -25,7 +25,7 @@ in_front true x items = (x ∷ []) ∷ items
 in_front false x [] = (x ∷ []) ∷ []
 in_front false x (item ∷ items) = (x ∷ item) ∷ items
 
--- a list of what has a token each, cut behind each end of an item, where so many braces are open at the front
+-- a list of what has a token each, cut after each end of an item, where so many braces are open at the front
 abbrev pub cut_by : {A : Type 0} → (A → Token) → ℕ → List A → List (List A)
 cut_by token braces [] = []
 cut_by token braces (x ∷ xs) = in_front (ends_item braces (token x)) x (cut_by token (open_after braces (token x)) xs)
@@ -51,7 +51,7 @@ first_line (spanned ∷ more) = spanned.line
 abbrev pub item_lines : List Spanned → List ℕ
 item_lines tokens = map first_line (items_of tokens)
 
--- whether tokens are left behind the last end of an item, where so many braces are open at the front;
+-- whether tokens are left after the last end of an item, where so many braces are open at the front;
 -- the first argument says whether some of the item went before
 abbrev pub are_left_from : Bool → ℕ → List Token → Bool
 are_left_from left braces [] = left

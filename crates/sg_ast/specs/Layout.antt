@@ -40,7 +40,7 @@ kind_token kind.Pointer = t.Word w.Pointer
 kind_token kind.Hash = t.Word w.Hash
 kind_token kind.Dynamic = t.Word w.Dynamic
 
--- the word `chunk` or `cap` and its size, where there is one
+-- the word `chunk` or `cap` and its size, if there is one
 abbrev pub bound_by : Word → Option SizeDecl → List Token
 bound_by word None = []
 bound_by word (Some size) = t.Word word ∷ size_token size ∷ []

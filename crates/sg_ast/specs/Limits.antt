@@ -9,7 +9,7 @@ most_name_bytes = 32
 abbrev pub most_tokens : ℕ
 most_tokens = 16384
 
--- the greatest number, by whether a `u` stands behind it
+-- the greatest number, by whether a `u` stands after it
 abbrev pub max_number : Bool → ℕ
 max_number unsigned = if unsigned then 4294967295 else 2147483648
 

@@ -13,7 +13,7 @@ use Rattle.sg_ast.specs.Layout.{layout_tokens}
 use Rattle.sg_ast.specs.Kernel.{kernel_tokens}
 use Rattle.sg_ast.specs.Command.{command_tokens}
 
--- a number, behind a `-` or not
+-- a number, after a `-` or not
 abbrev pub signed_tokens : Bool → Token → List Token
 signed_tokens true number = t.Sign s.Minus ∷ number ∷ []
 signed_tokens false number = number ∷ []

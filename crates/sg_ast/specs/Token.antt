@@ -74,7 +74,7 @@ is_name name = is_name_form name.text && (nat_le (length name.text) most_name_by
 abbrev pub same_name : Name → Name → Bool
 same_name x y = bytes_eq x.text y.text
 
--- whether a number may have this value, by whether a `u` stands behind it
+-- whether a number may have this value, by whether a `u` stands after it
 abbrev pub is_number : ℕ → Bool → Bool
 is_number value unsigned = nat_le value (max_number unsigned)
 

@@ -20,7 +20,7 @@ pub enum Item {
     Command(Command),
 }
 
-/// `const NAME = VALUE;`, with a `-` before the value where `minus` says so and a `u` behind it where `unsigned` does.
+/// `const NAME = VALUE;`, with a `-` before the value where `minus` says so and a `u` after it where `unsigned` does.
 #[derive(Debug, Drop)]
 pub struct ConstDecl {
     pub name: Name,

@@ -11,7 +11,7 @@ pub struct Name {
 }
 
 impl Name {
-    /// A name of its own with the same bytes. Fails where memory runs out.
+    /// A name of its own with the same bytes. Fails if memory runs out.
     pub fn copy(&self, alloc: Global) -> Result<Name, Memory>
         ensures { IfOk result (λ copy. copy ≡ self.now) }
     {
@@ -106,7 +106,7 @@ pub enum Sign {
     CaretEqual,
 }
 
-/// A token. A number has its value, and whether a `u` stands behind it.
+/// A token. A number has its value, and whether a `u` stands after it.
 #[derive(Debug, Drop)]
 pub enum Token {
     Name(Name),

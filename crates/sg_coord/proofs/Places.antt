@@ -28,7 +28,7 @@ place_first n l a b c q r =
     let split : (a * n + b) * l + c ≡ a * (n * l) + (b * l + c) = omega arith in
     ap (λ k. k / (n * l)) split ∙ div-mul-add a (n * l) (b * l + c) rest
 
--- where a number is below a product, no factor is 0
+-- if a number is below a product, no factor is 0
 pub factors_above : (m n l k : ℕ) → k < m * n * l → (0 < m) × (0 < n) × (0 < l)
 factors_above m n l k h = (
   pos_of_ne-zero (λ e. omega (arith, ap (λ x. x * n * l) e)),

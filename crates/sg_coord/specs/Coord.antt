@@ -4,7 +4,7 @@ use Rattle.std.specs.Ordering.{int_eq}
 use Rattle.sg_coord.specs.declared.coord.Coord.{Coord}
 use Rattle.sg_coord.specs.Bounds.{Bounds, four_by_eight, two_by_three_by_five}
 
--- a coordinate is inside where it has as many axes, and each part is at least 0 and below its extent
+-- a coordinate is inside if it has as many axes, and each part is at least 0 and below its extent
 pub record Inside (e : Bounds) (at : Coord) : Type 0 where
   pub same_axes : at.n ≡ e.n
   pub a_low : pos 0 ≤ℤ at.a
@@ -22,7 +22,7 @@ is_on_axis extent part = int_le (pos 0) part && int_lt part (pos extent)
 abbrev pub is_inside : Bounds → Coord → Bool
 is_inside e at = (at.n == e.n) && is_on_axis e.a at.a && is_on_axis e.b at.b && is_on_axis e.c at.c
 
--- a number as a count: 0 where it is negative, as no part of a coordinate inside is
+-- a number as a count: 0 if it is negative, as no part of a coordinate inside is
 abbrev pub count_of : ℤ → ℕ
 count_of (pos k) = k
 count_of (negsuc k) = 0

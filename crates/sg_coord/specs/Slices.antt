@@ -1,7 +1,7 @@
 -- How a range of numbers is cut into one slice for each worker.
 use Rattle.std.specs.Prelude.{◌≡◌, ℕ, ◌+◌, ◌*◌, ◌/◌, ◌%◌, ◌<◌, ◌≤◌, min, refl}
 
--- where the slice of worker w starts, and that of the worker before ends: each has the quotient of
+-- if the slice of worker w starts, and that of the worker before ends: each has the quotient of
 -- the length, and each of the first ones has one more, until the remainder is used up
 abbrev pub slice_start : (len workers w : ℕ) → ℕ
 slice_start len workers w = w * (len / workers) + min w (len % workers)

@@ -2,7 +2,7 @@
 
 ghost use Rattle.std.specs.Prelude.{◌≡◌, ◌/◌, ◌%◌, ◌<◌, ◌^◌, ℕ, true, bit_and};
 
-/// A word divided by a number, rounded down, and 0 where the number is 0.
+/// A word divided by a number, rounded down, and 0 if the number is 0.
 #[inline(always)]
 pub fn quotient(word: u32, div: u32) -> u32
     ensures { result ≡ word / div }
@@ -34,7 +34,7 @@ pub fn digit(word: u32, div: u32, size: u32) -> u32
     remainder(quotient(word, div), size)
 }
 
-/// A number of rows divided by another, rounded down, and 0 where that is 0.
+/// A number of rows divided by another, rounded down, and 0 if that is 0.
 #[inline(always)]
 pub fn wide_quotient(number: usize, div: usize) -> usize
     ensures { result ≡ number / div }
@@ -46,7 +46,7 @@ pub fn wide_quotient(number: usize, div: usize) -> usize
     if div == 0 { 0 } else { number / div }
 }
 
-/// A number of rows modulo another, and the number itself where that is 0.
+/// A number of rows modulo another, and the number itself if that is 0.
 #[inline(always)]
 pub fn wide_remainder(number: usize, size: usize) -> usize
     ensures { result ≡ number % size }
@@ -58,7 +58,7 @@ pub fn wide_remainder(number: usize, size: usize) -> usize
     if size == 0 { number } else { number % size }
 }
 
-/// A divisor and a modulus, by which digits of words are found; by a shift and a mask where both are powers of two, which is asked once.
+/// A divisor and a modulus, by which digits of words are found; by a shift and a mask if both are powers of two, which is asked once.
 #[derive(Clone, Copy, Debug, PartialEq, Eq)]
 pub struct Digits {
     pub div: u32,

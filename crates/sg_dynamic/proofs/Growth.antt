@@ -134,7 +134,7 @@ grew_more old now new head long x grew there is =
 pub heads_stay : (old now : Lists) (head size : ℕ) → Grew old now head size → head < length old.lists → head < length now.lists
 heads_stay old now head size grew there = omega (arith, ap (λ (l : Lists). length l.lists) grew.others, length-set old.lists head (list_of now head))
 
--- where all numbers are live, the chains have them all
+-- if all numbers are live, the chains have them all
 pub full_total : (chains : Lists) (pool : PoolNumbers) → IsExact chains pool → ((x : ℕ) → x < place_count pool → IsTrue (is_live_number pool x)) → sum_by length chains.lists ≡ chains.numbers
 full_total chains pool exact all =
     let below : (x : ℕ) → 0 < times_in_lists x chains.lists → x < chains.numbers = λ x has. elim (cases_Bool (is_live_number pool x)) [
@@ -143,7 +143,7 @@ full_total chains pool exact all =
     ] in
     total_is_sum chains.numbers chains.lists below ∙ sums_all (λ x. times_in_lists x chains.lists) chains.numbers (λ x short. exact.live x ∙ ap one_if (all x (omega (arith, exact.places))))
 
--- where as many are live as there are numbers, all are
+-- if as many are live as there are numbers, all are
 all_live : (pool : PoolNumbers) → live_count pool ≡ place_count pool → (x : ℕ) → x < place_count pool → IsTrue (is_live_number pool x)
 all_live pool full x below = elim (live_or_free pool x below) [
   | inl live ↦ live

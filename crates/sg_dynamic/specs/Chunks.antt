@@ -12,7 +12,7 @@ chunks_of chunk len = (len + (chunk - 1)) / chunk
 abbrev pub chunk_need : ℕ → List ℕ → ℕ
 chunk_need chunk lengths = sum_by (λ len. chunks_of chunk len) lengths
 
--- refused exactly where they need more chunks than there are places
+-- refused exactly when they need more chunks than there are places
 abbrev pub fit : ℕ → List ℕ → ℕ → Result Unit ChunkFull
 fit chunk lengths places =
     if nat_lt places (chunk_need chunk lengths) then Err (record { need = chunk_need chunk lengths; cap = places }) else Ok tt

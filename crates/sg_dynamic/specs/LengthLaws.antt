@@ -8,7 +8,7 @@ use Rattle.sg_dynamic.specs.LengthRace.{setting_of, race_of, first_worker}
 abbrev pub IsEvent : List ℕ → List ℕ → List Worker → Event → List ℕ → List Worker → Type 0
 IsEvent start words views e words' views' = Needs (setting_of start) (race_of words views) e × (state_after (setting_of start) e (race_of words views) ≡ race_of words' views')
 
--- the view of the worker with this number, or of nobody, whose share is 0, where there is none
+-- the view of the worker with this number, or of nobody, whose share is 0, if there is none
 abbrev pub at : List Worker → ℕ → Worker
 at views id = worker (race_of [] views) id
 
@@ -25,7 +25,7 @@ RaiseIsEvent start words views id q i = 0 < (at views id).share → q < length w
 abbrev pub SplitIsEvent : List ℕ → List ℕ → List Worker → ℕ → Type 0
 SplitIsEvent start words views id = 2 ≤ (at views id).share → IsEvent start words views (enrol id) words (slice_set views id (after_split (at views id)) ++ other_half (at views id) ∷ [])
 
--- where both have a share, a join of another worker into a worker is an event, and leaves nobody in the other's place
+-- if both have a share, a join of another worker into a worker is an event, and leaves nobody in the other's place
 abbrev pub JoinIsEvent : List ℕ → List ℕ → List Worker → ℕ → ℕ → Type 0
 JoinIsEvent start words views id other = 0 < (at views id).share → 0 < (at views other).share → other ≢ id
     → IsEvent start words views (join id other) words (slice_set (slice_set views id (after_join (at views id) (at views other))) other nobody)

@@ -17,7 +17,7 @@ worker_of s = s.seat.me.0
 abbrev pub IsSeatOf : LengthPass → RaiseSeat → Type 0
 IsSeatOf p s = s.seat.table_id ≡ p.table.shared.table_id
 
--- one more than the greatest index to which a length was raised, and 0 where it wasn't
+-- one more than the greatest index to which a length was raised, and 0 if it wasn't
 abbrev pub reach : ℕ → List (ℕ × ℕ) → ℕ
 reach q raised = greatest (λ x. if x.0 == q then x.1 + 1 else 0) raised
 

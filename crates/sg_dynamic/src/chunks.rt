@@ -16,7 +16,7 @@ pub struct ChunkFull {
 }
 
 /// Lets each chain grow at its end, until it has a number of the pool for each chunk of its length. The chains are the
-/// lists of the heads from 0 on, one for each length. Refused, with nothing changed, exactly where all lengths together
+/// lists of the heads from 0 on, one for each length. Refused, with nothing changed, exactly when all lengths together
 /// need more chunks than the pool has places. The chains are arranged then, so that their places are found in constant time.
 /// Takes time in proportion to the lengths and their chunks.
 pub fn fit_chunks(

@@ -1,4 +1,4 @@
--- Where the lists of a dynamic node end: behind a path along which the store doesn't lead on over an offset, it doesn't over a later one.
+-- Where the lists of a dynamic node end: after a path along which the store doesn't lead on over an offset, it doesn't over a later one.
 use Rattle.std.proofs.Common.{◌≡◌, inl, inr, ℕ, zero, suc, ◌+◌, ◌-◌, ◌*◌, ◌/◌, ◌%◌, ◌<◌, ◌≤◌, Bool, true, false, cond, List, [], ◌∷◌, ◌++◌, length, take, get_or, slice_index, Option, Some, None, option_and_then, is_some, refl, sym, ap, ◌∙◌, subst, arith, append-nil}
 use Rattle.std.specs.Prelude.{slice_get, nat_lt, if◌then◌else◌}
 use Rattle.std.specs.Option.{option_map}
@@ -96,7 +96,7 @@ place_past (node ∷ nodes) (kept ∷ words) place (z ∷ path) x y is later bel
     then_past (λ next. place_after active_below nodes words next (path ++ x ∷ [])) (λ next. place_after active_below nodes words next (path ++ y ∷ []))
     (λ next none. place_past nodes words next path x y is later below none) (active_below node.kind node kept (slot_under node place z)) none
 
--- the list behind a path ends where the store doesn't lead on
+-- the list after a path ends where the store doesn't lead on
 pub ends_there : (store : StoreWords) (node end : ℕ) (path : List ℕ) → length path ≡ node → kind_at store.shape.nodes (suc node) ≡ Dynamic → cell_along store (path ++ end ∷ []) ≡ None → EndsAt store node end path
 ends_there store node end path long is none = λ offset later below.
     let nodes = store.shape.nodes in
@@ -110,7 +110,7 @@ ends_later store node end last path later ends = λ offset from below. ends offs
 pub ends_past : (store : StoreWords) (node end : ℕ) (path : List ℕ) → node_size store node ≤ end → EndsAt store node end path
 ends_past store node end path past = λ offset from below. absurd (omega arith)
 
--- ---- offsets behind the end
+-- ---- offsets after the end
 
 led_until : (store : StoreWords) (node count more : ℕ) (path : List ℕ) → count + more ≤ node_size store node → EndsAt store node count path
     → led_over store path (range_with_len 0 (count + more)) ≡ led_over store path (range_with_len 0 count)
@@ -131,7 +131,7 @@ led_enough store node count path within ends =
     let whole : count + (node_size store node - count) ≡ node_size store node = omega arith in
     sym (led_until store node count (node_size store node - count) path (omega arith) ends) ∙ ap (λ n. led_over store path (range_with_len 0 n)) whole
 
--- ---- ways behind the end
+-- ---- ways after the end
 
 rest_unled : (store : StoreWords) (path : List ℕ) (ways : List Way) (i more : ℕ) (d : Way) → i + more ≤ length ways → ((j : ℕ) → i ≤ j → j < length ways → cell_along store (path ++ (get_or ways j d).offset ∷ []) ≡ None)
     → led_over store path (offsets_of (take (i + more) ways)) ≡ led_over store path (offsets_of (take i ways))
@@ -142,7 +142,7 @@ rest_unled store path ways i (suc more) d within none =
     ∙ led_none store path ways (i + more) d (omega arith) (none (i + more) (omega arith) (omega arith))
     ∙ rest_unled store path ways i more d (omega arith) none
 
--- where a list ends, none of the ways that are left leads on
+-- if a list ends, none of the ways that are left leads on
 pub led_to_end : (store : StoreWords) (node : ℕ) (path : List ℕ) (ways : List Way) (i : ℕ) (d : Way) → AreWays store node ways → i < length ways → length path ≡ node → kind_at store.shape.nodes (suc node) ≡ Dynamic
     → cell_along store (path ++ (get_or ways i d).offset ∷ []) ≡ None → led_over store path (offsets_of ways) ≡ led_over store path (offsets_of (take i ways))
 led_to_end store node path ways i d are there long is none =
@@ -156,7 +156,7 @@ led_to_end store node path ways i d are there long is none =
 
 -- ---- all lists of a level
 
--- behind each of the first so many paths of a level
+-- after each of the first so many paths of a level
 abbrev pub EndsUpto : StoreWords → ℕ → ℕ → ℕ → Type 0
 EndsUpto store node end count = (j : ℕ) → j < count → EndsAt store node end (get_or (level_at store node) j [])
 

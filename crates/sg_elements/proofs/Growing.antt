@@ -38,7 +38,7 @@ more_slot store node branch path offset there is below =
     let R : ℕ → Type 0 = λ n. offset < slice_index (sizes_of nodes) n in
     subst P is.many (slot_push nodes path offset (omega (arith, is.many)) (subst Q (sym is.many) is.is_slot) (subst R (sym is.many) below))
 
--- what is known of the offset behind a path: what it adds is inside, and the row number with it is no less than the sum and below the volume
+-- what is known of the offset after a path: what it adds is inside, and the row number with it is no less than the sum and below the volume
 pub record IsMore (store : StoreWords) (node start : ℕ) (path : List ℕ) (offset : ℕ) : Type 0 where
   pub is_slot : IsSlot (take (suc node) store.shape.nodes) (path ++ offset ∷ [])
   pub inside : Inside (bounds_of_shape store.shape) (share_at store.shape.axes store.shape.nodes node offset)

@@ -13,7 +13,7 @@ pub sorted_between : (store : StoreWords) (node from to : ℕ) (rows sorted : Li
 sorted_between store node from to rows sorted all mixed =
     subst (λ (list : List ℕ). IsPermutation list (rows_upto store node from ++ sorted)) (sym all) (IsPermutation-append_right (rows_upto store node from) rows sorted mixed)
 
--- one part behind another
+-- one part after another
 pub joined_between : (store : StoreWords) (node from middle to : ℕ) (rows others : List ℕ) → AreRowsBetween store node from middle rows → AreRowsBetween store node middle to others → AreRowsBetween store node from to (rows ++ others)
 joined_between store node from middle to rows others left right =
     subst (IsPermutation (rows_upto store node to)) (append_assoc (rows_upto store node from) rows others)

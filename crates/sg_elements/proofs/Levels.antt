@@ -33,7 +33,7 @@ range_apart size i j d less below same =
 abbrev paths_below : ℕ → List ℕ → List (List ℕ)
 paths_below size path = map (λ offset. path ++ offset ∷ []) (range_with_len 0 size)
 
--- such a path is the one above it with an offset behind it
+-- such a path is the one above it with an offset after it
 pub record IsBelow (store : StoreWords) (size : ℕ) (above path : List ℕ) : Type 0 where
   pub offset : ℕ
   pub below : offset < size

@@ -49,7 +49,7 @@ slot_cut (node ∷ later) (suc n) (x ∷ slot) few is =
     let rest = slot_cut later n slot (omega arith) is.1 in
     record { front = x ∷ rest.front; offset = rest.offset; is = ap (λ (list : List ℕ). x ∷ list) rest.is; is_slot = (is.0, rest.is_slot); below = rest.below }
 
--- ---- where a path leads, its front does
+-- ---- if a path leads, its front does
 
 led_then : (f g : ℕ → Option ℕ) → ((next : ℕ) → is_some (f next) ≡ true → is_some (g next) ≡ true) → (o : Option ℕ) → is_some (option_and_then f o) ≡ true → is_some (option_and_then g o) ≡ true
 led_then f g on None led = led

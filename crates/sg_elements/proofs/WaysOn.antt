@@ -89,7 +89,7 @@ some_product zero y one two = absurd (omega (arith, one))
 some_product (suc x) zero one two = absurd (omega (arith, two))
 some_product (suc x) (suc y) one two = omega arith
 
--- where each node has a slot, an offset behind zeros is one
+-- if each node has a slot, an offset after zeros is one
 zeros_slot : (nodes : List NodeShape) (n offset : ℕ) → 1 ≤ slots_of nodes → n < length nodes → offset < slice_index (sizes_of nodes) n → IsSlot (take (suc n) nodes) (zeros n ++ offset ∷ [])
 zeros_slot [] n offset some few below = absurd (omega arith)
 zeros_slot (node ∷ later) zero offset some few below = (below, tt)

@@ -118,7 +118,7 @@ kind_here nodes i node later split =
     ap (λ k. kind_or (slice_get nodes k)) before ∙ ap kind_or (node_here nodes i node later split)
 
 -- ---- closures
--- a slot of a node is live for coordinates inside exactly where they reach the point
+-- a slot of a node is live for coordinates inside exactly when they reach the point
 pub live_is_reached : (shape : Shape) (i : ℕ) (node : NodeShape) (later : List NodeShape) (coords : List Coord) (at : Coord) → PointOfRow → RowBelow → IsAccepted shape → drop i shape.nodes ≡ node ∷ later → All (Inside (bounds_of_shape shape)) coords → Inside (bounds_of_shape shape) at → is_live shape coords (suc i) (path shape at (suc i)) ≡ is_reached (bounds_of_shape shape) (bounds_over shape.axes (drop (nodes_above node.kind i) shape.nodes)) (is_whole node.kind) coords at
 live_is_reached shape i node later coords at point_of_row row_below accepted split inside at_in =
     let all = bounds_of_shape shape in
@@ -142,7 +142,7 @@ closure_of_dense shape coords inside_test point_inside dense =
     ((inside_test all (point_at all r)).1 (point_inside all r (rows_below (volume all) k d below)))
     ∙ ap (λ (b : Bool). b || is_live shape coords (last_sparse shape.nodes) (path shape (point_at all r) (last_sparse shape.nodes))) (eq-eqb (last_sparse shape.nodes) 0 dense)))
 
--- where a node isn't, the last of them being this
+-- if a node isn't, the last of them being this
 pub closure_of_sparse : (shape : Shape) (i : ℕ) (node : NodeShape) (later : List NodeShape) (coords : List Coord) (rows : BTreeSet ℕ) → InsideTest → PointInside → PointOfRow → RowBelow → IsAccepted shape → last_sparse shape.nodes ≡ suc i → drop i shape.nodes ≡ node ∷ later → All (Inside (bounds_of_shape shape)) coords → IsStrictlySortedBy nat_cmp rows.keys → ((r : ℕ) → contains nat_cmp rows r ≡ is_row_reached (bounds_of_shape shape) (bounds_over shape.axes (drop (nodes_above node.kind i) shape.nodes)) (is_whole node.kind) coords r) → closure shape coords ≡ map (point_at (bounds_of_shape shape)) rows.keys
 closure_of_sparse shape i node later coords rows inside_test point_inside point_of_row row_below accepted last split inside sorted has =
     let all = bounds_of_shape shape in

@@ -79,7 +79,7 @@ first_full_layout-here shapes flats whole turns i number shape flat stands so_fa
     ∙ ap (λ n. option_or (full_fault i (first_full shape (flat.active ++ written_in i turns))) (first_full_layout n (drop (i + 1) shapes) (drop (i + 1) flats) turns)) (add-one i)
     ∙ now
 
--- the search stops at a fault, and goes on where there is none
+-- the search stops at a fault, and goes on if there is none
 pub stops_here : (fault full later whole : Option RunFault) → fault ≡ full → is_some fault ≡ true → option_or full later ≡ whole → fault ≡ whole
 stops_here fault None later whole is some found = absurd (both_ways (is_some fault) (ap is_some is) some)
 stops_here fault (Some full) later whole is some found = is ∙ found

@@ -127,7 +127,7 @@ is_further all block at first by point a a' b b' c c' cut inside by_inside is_fi
           (ap (λ z. pos (count_of z % block.c)) c_is ∙ ap pos (place_in_run (count_of at.c) block.c (count_of by.c) c_by) ∙ sym (part_is by.c by_inside.c_low));
     }
 
--- two coordinates are in blocks of one number exactly where they are in the same run of each axis
+-- two coordinates are in blocks of one number exactly when they are in the same run of each axis
 pub record InSameRuns (block : Bounds) (x y : Coord) : Type 0 where
   pub a_run : count_of x.a / block.a ≡ count_of y.a / block.a
   pub b_run : count_of x.b / block.b ≡ count_of y.b / block.b

@@ -15,7 +15,7 @@ use Rattle.sg_flat.specs.Words.{has_no_zero, are_words, word_at, words_of}
 use Rattle.sg_flat.specs.steps.Landing.{AreWordsBelow, put_word}
 use Rattle.sg_flat.proofs.FieldWords.{RowsRise, are_words_from_rows, words_of-agree, word_at-past, head_not_zero, tail_not_zero}
 
--- a comparison of two numbers answers `Equal` exactly where they are equal
+-- a comparison of two numbers answers `Equal` exactly when they are equal
 pub is_eq-nat_cmp : (a b : ℕ) → is_eq (nat_cmp a b) ≡ eqb a b
 is_eq-nat_cmp a b = elim (cases_order a b) [
   | inl same ↦ ap is_eq (sym (nat_cmp_is a b Equal same)) ∙ sym (eq-eqb a b same)
@@ -72,7 +72,7 @@ all_keys : (entries : List (ℕ × ℕ)) → AllByRecursion (λ key. 0 ≤ key) 
 all_keys [] = tt
 all_keys (entry ∷ entries) = (zero-le, all_keys entries)
 
--- entries in the order of a map, with no word 0, whose words are the old ones but for one row
+-- entries in the order of a map, with no word 0, whose words are the old ones except for one row
 pub put_word_is : (size : ℕ) (old new : List (ℕ × ℕ)) (row word : ℕ) → row < size → AreWordsBelow size old → IsStrictlySortedBy nat_cmp (keys_of new) → has_no_zero new ≡ true → ((other : ℕ) → word_at new other ≡ put_word old row word other) → new ≡ words_of size (put_word old row word)
 put_word_is size old new row word below are_words sorted none puts =
     let past : (other : ℕ) → size ≤ other → word_at new other ≡ 0 =

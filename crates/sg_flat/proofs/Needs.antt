@@ -148,7 +148,7 @@ same_sums G (x ∷ xs) ys xs_apart ys_apart same =
     ]
 
 -- ---- the lengths of blocks as a map
--- a block has a length exactly where a coordinate is in it
+-- a block has a length exactly when a coordinate is in it
 some_length : {X : Type 0} (reach : X → ℕ) (test : X → Bool) (length : ℕ) (xs : List X) → (k : ℕ) × (fold longer (Some length) (map reach (filter test xs)) ≡ Some k)
 some_length reach test length [] = (length, refl)
 some_length {X} reach test length (x ∷ xs) =

@@ -71,7 +71,7 @@ rows_gain contained contained' true number other length other_length reach from 
     or_false true = refl
     or_false false = refl
 
--- one more row of a block, where no other row is that of this place
+-- one more row of a block, if no other row is that of this place
 pub row_more : (contained contained' old inside same : Bool) (r n from p place : ℕ) → contained' ≡ cond (is_at (nat_cmp n) r) true contained → contained ≡ (old || (inside && (same && (leb from place && ltb place p)))) → from ≤ p → (r ≡ n → (inside ≡ true) × (same ≡ true) × (place ≡ p)) → (inside ≡ true → same ≡ true → place ≡ p → r ≡ n) → contained' ≡ (old || (inside && (same && (leb from place && ltb place (p + 1)))))
 row_more contained contained' old inside same r n from p place after before rise here unique = elim (cases_eq r n) [
   | inl equal ↦ (

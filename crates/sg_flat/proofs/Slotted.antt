@@ -148,7 +148,7 @@ cut_over shape k accepted =
       c_cut = over_cut shape.nodes k 3 below;
     }
 
--- two coordinates inside have one path through the first nodes exactly where they are in one block of the others
+-- two coordinates inside have one path through the first nodes exactly when they are in one block of the others
 pub paths_tell : (shape : Shape) (k : ℕ) (x y : Coord) → PointOfRow → IsAccepted shape → Inside (bounds_of_shape shape) x → Inside (bounds_of_shape shape) y → bytes_eq (path shape x k) (path shape y k) ≡ eqb (block_number (bounds_of_shape shape) (bounds_over shape.axes (drop k shape.nodes)) x) (block_number (bounds_of_shape shape) (bounds_over shape.axes (drop k shape.nodes)) y)
 paths_tell shape k x y point_of_row accepted x_in y_in = same_tests _ _ there back
   where
@@ -257,7 +257,7 @@ length_test shape i node w at point_of_row accepted split w_in at_in =
     ∙ ap (λ (less : Bool). eqb (block_number (bounds_of_shape shape) block w) (block_number (bounds_of_shape shape) block at) && less)
     (ap (λ k. leb k (offset_at node [] w)) (place at) ∙ ap (leb (row_in_block block at)) (place w) ∙ leb-ltb_suc (row_in_block block at) (row_in_block block w))
 
--- a coordinate makes the slot of another live at a node exactly where they are in one block and the other is not past what it reaches
+-- a coordinate makes the slot of another live at a node exactly when they are in one block and the other is not past what it reaches
 pub slot_test : (shape : Shape) (i : ℕ) (node : NodeShape) (later : List NodeShape) (kind : Kind) (w at : Coord) → PointOfRow → RowBelow → IsAccepted shape → drop i shape.nodes ≡ node ∷ later → (kind ≡ Dynamic → later ≡ []) → Inside (bounds_of_shape shape) w → Inside (bounds_of_shape shape) at → makes_live kind (path shape w (suc i)) (path shape at (suc i)) ≡ (eqb (block_number (bounds_of_shape shape) (bounds_over shape.axes (drop (nodes_above kind i) shape.nodes)) w) (block_number (bounds_of_shape shape) (bounds_over shape.axes (drop (nodes_above kind i) shape.nodes)) at) && ltb (row_in_block (bounds_over shape.axes (drop (nodes_above kind i) shape.nodes)) at) (live_points (is_whole kind) (bounds_over shape.axes (drop (nodes_above kind i) shape.nodes)) w))
 slot_test shape i node later Dense w at point_of_row row_below accepted split last w_in at_in = whole_test shape i w at point_of_row row_below accepted w_in at_in
 slot_test shape i node later Bitmasked w at point_of_row row_below accepted split last w_in at_in = whole_test shape i w at point_of_row row_below accepted w_in at_in

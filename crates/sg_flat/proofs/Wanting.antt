@@ -1,4 +1,4 @@
--- What a run's refusals and its active coordinates hang on.
+-- What a run's refusals and its active coordinates depend on.
 use Rattle.std.proofs.Common.{◌≡◌, ◌↔◌, ℕ, suc, ◌+◌, Bool, List, [], ◌∷◌, ◌++◌, map, filter, Option, Some, None, Ok, refl, ap, inl, inr, arith, subst}
 use Rattle.std.specs.Prelude.{Contains, slice_get}
 use Rattle.std.specs.Result.{result_map_both}

@@ -7,7 +7,7 @@ use Rattle.sg_flat.specs.declared.effects.Domain.TheVariants.{Walk, Range}
 use Rattle.sg_flat.specs.declared.state.FlatLayout.{FlatLayout}
 use Rattle.sg_flat.specs.declared.state.FlatState.{FlatState}
 
--- the whole numbers from lo up to below hi: none where hi isn't above lo
+-- the whole numbers from lo up to below hi: none if hi isn't above lo
 abbrev pub numbers : ℤ → ℤ → List ℤ
 numbers lo hi = map (λ k. lo +ℤ pos k) (range_with_len 0 (count_of (hi -ℤ lo)))
 
@@ -20,7 +20,7 @@ abbrev pub box_points : Coord → Coord → List Coord
 box_points lo hi =
     flat_map (λ a. flat_map (λ b. map (λ c. record { n = lo.n; a = a; b = b; c = c }) (parts_of (nat_le 3 lo.n) lo.c hi.c)) (parts_of (nat_le 2 lo.n) lo.b hi.b)) (parts_of (nat_le 1 lo.n) lo.a hi.a)
 
--- the active coordinates of a layout that may be there; none where it isn't
+-- the active coordinates of a layout that may be there; none if it isn't
 abbrev pub active_in : Option FlatLayout → List Coord
 active_in None = []
 active_in (Some layout) = layout.active

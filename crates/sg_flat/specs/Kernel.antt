@@ -19,7 +19,7 @@ use Rattle.sg_flat.specs.declared.state.FlatState.{FlatState}
 use Rattle.sg_flat.specs.Words.{word_at, words_of}
 use Rattle.sg_flat.specs.Effects.{writes_of, writes_to, written_in, landed}
 
--- the coordinate is inside the extents of a layout that may be there; it is not where there is none
+-- the coordinate is inside the extents of a layout that may be there; it is not if there is none
 abbrev pub is_inside_of : Option Shape → Coord → Bool
 is_inside_of None at = false
 is_inside_of (Some shape) at = is_inside (bounds_of_shape shape) at
@@ -72,7 +72,7 @@ layouts_after layout (shape ∷ shapes) [] turns = []
 layouts_after layout (shape ∷ shapes) (flat ∷ flats) turns =
     layout_after layout shape flat turns ∷ layouts_after (suc layout) shapes flats turns
 
--- a kernel run of these effects: refused where some write is outside, else where some node has no room, else each
+-- a kernel run of these effects: refused if some write is outside, else where some node has no room, else each
 -- layout is as after the run
 abbrev pub kernel_meaning : List Shape → FlatState → Effects → Result FlatState RunFault
 kernel_meaning shapes state effects =

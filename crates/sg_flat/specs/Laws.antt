@@ -15,11 +15,11 @@ use Rattle.sg_flat.specs.Effects.{landed}
 abbrev pub values_of : List Write → List ℕ
 values_of writes = map (λ write. write.value) writes
 
--- where all writes are own, the last value stays, and the old word where there is none
+-- if all writes are own, the last value stays, and the old word if there is none
 abbrev pub LastValueStays : Ty → ℕ → List Write → Type 0
 LastValueStays ty old writes = All (λ write. write.way ≡ Own) writes → landed ty old writes ≡ slice_index (old ∷ values_of writes) (length writes)
 
--- where all writes are contributions by one operator, they leave its fold over the old word and their values
+-- if all writes are contributions by one operator, they leave its fold over the old word and their values
 abbrev pub ContributionsFold : AccOp → Ty → ℕ → List Write → Type 0
 ContributionsFold op ty old writes = All (λ write. write.way ≡ Acc op) writes → landed ty old writes ≡ fold (folded op ty) old (values_of writes)
 

@@ -87,7 +87,7 @@ least_by_the_type = refl
 greatest_by_the_type : kernel_meaning (two_fields ∷ []) (state2 ((0, 5) ∷ []) ((0, 5) ∷ [])) (run_of (to_both (Acc Max) 4294967293 ∷ [])) ≡ Ok (state2 ((0, 5) ∷ []) ((0, 4294967293) ∷ []))
 greatest_by_the_type = refl
 
--- the old value takes part, also where it is 0
+-- the old value takes part, also if it is 0
 the_old_value_takes_part : kernel_meaning (two_fields ∷ []) (state2 [] []) (run_of (to_both (Acc Min) 5 ∷ [])) ≡ Ok (state2 [] [])
 the_old_value_takes_part = refl
 

@@ -38,23 +38,23 @@ IsFlat shapes state = AreFlatLayouts shapes state.layouts
 abbrev pub value_in : Bounds → List (ℕ × ℕ) → Coord → ℕ
 value_in bounds words at = if is_inside bounds at then word_at words (row_of bounds at) else 0
 
--- the words of a field that may be there; no words where it isn't
+-- the words of a field that may be there; no words if it isn't
 abbrev pub words_or_none : Option (List (ℕ × ℕ)) → List (ℕ × ℕ)
 words_or_none None = []
 words_or_none (Some words) = words
 
--- the value of a field of a layout, numbered from 0, at a coordinate: 0 outside the extents, and where there is no such field
+-- the value of a field of a layout, numbered from 0, at a coordinate: 0 outside the extents, and if there is no such field
 abbrev pub value_at : Shape → FlatLayout → ℕ → Coord → ℕ
 value_at shape layout place at = value_in (bounds_of_shape shape) (words_or_none (slice_get layout.fields place)) at
 
--- the value of a field of a layout that may be there, and 0 where it isn't
+-- the value of a field of a layout that may be there, and 0 if it isn't
 abbrev pub value_or_zero : Option Shape → Option FlatLayout → ℕ → Coord → ℕ
 value_or_zero None flat place at = 0
 value_or_zero (Some shape) None place at = 0
 value_or_zero (Some shape) (Some flat) place at = value_at shape flat place at
 
--- the value of a field of a state at a coordinate, where both the layout and the field are numbered from 0: 0 outside the
--- layout's extents, and where there is no such layout or field
+-- the value of a field of a state at a coordinate, if both the layout and the field are numbered from 0: 0 outside the
+-- layout's extents, and if there is no such layout or field
 abbrev pub value_of : List Shape → FlatState → ℕ → ℕ → Coord → ℕ
 value_of shapes state layout place at = value_or_zero (slice_get shapes layout) (slice_get state.layouts layout) place at
 

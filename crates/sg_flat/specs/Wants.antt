@@ -1,4 +1,4 @@
--- What a run's refusals and its active coordinates hang on: where its writes are, and not what they write.
+-- What a run's refusals and its active coordinates depend on: where its writes are, and not what they write.
 use Rattle.std.specs.Prelude.{◌≡◌, ◌↔◌, ℕ, Bool, true, false, List, ◌++◌, map, filter, Contains, Some, Result, slice_get}
 use Rattle.std.specs.Result.{result_map_both}
 use Rattle.std.specs.List.{AllByRecursion}
@@ -40,7 +40,7 @@ turn_with keep turn = record { at = turn.at; writes = filter keep turn.writes }
 abbrev pub IsKeptOrInside : List Shape → (Write → Bool) → Write → Type 0
 IsKeptOrInside shapes keep write = keep write ≡ false → is_inside_of (slice_get shapes write.layout) write.at ≡ true
 
--- where all writes that don't pass a test are inside, the first write outside is that of those that pass
+-- if all writes that don't pass a test are inside, the first write outside is that of those that pass
 abbrev pub OutsideIsWanted : Type 0
 OutsideIsWanted = (shapes : List Shape) (keep : Write → Bool) (turns : List Turn)
     → AllByRecursion (λ turn. AllByRecursion (IsKeptOrInside shapes keep) turn.writes) turns

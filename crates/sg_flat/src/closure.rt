@@ -36,7 +36,7 @@ pub(crate) fn closure(
     points_at(alloc, &blocks.extents, &rows)
 }
 
-/// The number of the last node that isn't dense, from 1; 0 where all are.
+/// The number of the last node that isn't dense, from 1; 0 if all are.
 fn last_sparse(nodes: &[NodeShape]) -> usize
     ensures value { result ≡ last_sparse nodes.now }
     ensures most { result ≤ length nodes.now }

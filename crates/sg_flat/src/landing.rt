@@ -89,7 +89,7 @@ impl Target {
         Ok(())
     }
 
-    /// Lands one write, where it is one to this field.
+    /// Lands one write, if it is one to this field.
     fn land(&self, field: &mut FlatField, write: &Write) -> Result<(), Memory>
         requires words { AreWordsBelow (volume (bounds_of self.now.extents)) field.old }
         requires inside { IsTrue

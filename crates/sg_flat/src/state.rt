@@ -36,7 +36,7 @@ impl FlatState {
         Ok(FlatState { layouts: flats })
     }
 
-    /// The value of a field of a layout, both from 0, at a coordinate: 0 outside the extents, and where there is no such
+    /// The value of a field of a layout, both from 0, at a coordinate: 0 outside the extents, and if there is no such
     /// layout or field.
     pub fn value(&self, layouts: &Layouts, layout: u32, place: u32, at: Coord) -> u32
         ensures { result ≡ value_of layouts.now.list self.now layout place at }
@@ -55,7 +55,7 @@ impl FlatLayout {
     ghost use Rattle.std.specs.Prelude.{◌≡◌, IfOk};
     ghost use Rattle.sg_flat.specs.State.{IsFlatLayout, opening_layout, value_at};
 
-    /// The value of a field, from 0, at a coordinate: 0 outside the extents, and where there is no such field.
+    /// The value of a field, from 0, at a coordinate: 0 outside the extents, and if there is no such field.
     pub fn value(&self, layout: &Layout, place: u32, at: Coord) -> u32
         ensures { result ≡ value_at layout.now self.now place at }
     {

@@ -1,4 +1,4 @@
--- A number of a type with a text behind it, a coordinate, and a whole line: each stage finds what was written, and only that.
+-- A number of a type with a text after it, a coordinate, and a whole line: each stage finds what was written, and only that.
 use Rattle.std.proofs.Common.{◌≡◌, ℕ, ◌^◌, ◌<◌, Bool, true, false, nat_le, if◌then◌else◌, List, [], ◌∷◌, ◌++◌, get_or, Option, Some, codes, ℤ, pos, negsuc, refl, sym, ap, ◌∙◌, subst, arith, rules, append_assoc}
 use Rattle.std.specs.Fmt.{signed_decimal}
 use Rattle.std.specs.Char.{is_ascii_digit}
@@ -59,14 +59,14 @@ number_before_written type text z rest fits ends =
 
 -- ---- a coordinate
 
--- a part with a space behind it, and one behind a space, where it is there
+-- a part with a space after it, and one after a space, if it is there
 abbrev before_space : Bool → List ℕ → List ℕ
 before_space there text = if there then text ++ 32 ∷ [] else []
 
 abbrev behind_space : Bool → List ℕ → List ℕ
 behind_space there text = if there then 32 ∷ text else []
 
--- a space behind each part, or before each but the first and at the end
+-- a space after each part, or before each but the first and at the end
 spaces : (p q : Bool) (a b c rest : List ℕ) → a ++ 32 ∷ (before_space p b ++ (before_space q c ++ rest)) ≡ (a ++ behind_space p b ++ behind_space q c) ++ 32 ∷ rest
 spaces true true a b c rest = simp append_assoc
 spaces true false a b c rest = simp append_assoc
@@ -105,7 +105,7 @@ coordinate_found n bytes at rest e =
     ∙ spaces (nat_le 2 n) (nat_le 3 n) (signed_decimal a.0) (signed_decimal b.0) (signed_decimal c.0) rest
     ∙ ap (λ (c : Coord). coordinate_text c ++ 32 ∷ rest) parts.0)))
 
--- the parts are words of I32, and 0 where there are fewer axes
+-- the parts are words of I32, and 0 if there are fewer axes
 pub record IsWritten (at : Coord) : Type 0 where
   pub a : is_of_type ty.I32 at.a ≡ true
   pub b : is_of_type ty.I32 at.b ≡ true

@@ -9,7 +9,7 @@ use Rattle.sg_grid.specs.Limits.{most_grid_bytes, most_grid_rows}
 use Rattle.sg_grid.specs.GridText.{grid_text}
 use Rattle.sg_grid.specs.Reading.{follows}
 
--- rows of words at coordinates inside, which rise strictly in row order, behind a coordinate if there is one
+-- rows of words at coordinates inside, which rise strictly in row order, after a coordinate if there is one
 abbrev pub AreRows : Bounds → Option Coord → List GridRow → Type 0
 AreRows bounds last [] = Unit {0}
 AreRows bounds last (row ∷ rows) =

@@ -39,7 +39,7 @@ good_of_three_axes : rows_of planes ty.U32 (codes "grid 3 1\n3 1 7 4294967295\n"
 unfolding rows_of head_at row_in row_at coordinate_at further_part_at number_before number_at count_at rest_after digits
 good_of_three_axes = refl
 
--- what is refused for its second line: no number, nothing behind the value, a value of another type
+-- what is refused for its second line: no number, nothing after the value, a value of another type
 bad_lines : map read (codes "grid 1 1\n0 -0\n" ∷ codes "grid 1 1\n0 05\n" ∷ codes "grid 1 1\n0 5" ∷ codes "grid 1 1\n0 2147483648\n" ∷ codes "grid 1 1\n0  5\n" ∷ [])
     ≡ Err (fault.BadText 2) ∷ Err (fault.BadText 2) ∷ Err (fault.BadText 2) ∷ Err (fault.BadText 2) ∷ Err (fault.BadText 2) ∷ []
 unfolding rows_of head_at row_in row_at coordinate_at further_part_at number_before number_at count_at rest_after digits

@@ -16,7 +16,7 @@ use Rattle.sg_grid.specs.Fronts.{number_of_digits, is_numeral, is_of_type}
 use Rattle.sg_grid.specs.Reading.{follows}
 use Rattle.sg_grid.specs.Accepted.{AreRows}
 
--- the bytes begin with the line of a row over so many axes, wherever its coordinate is: its parts are numbers of I32, and 0 where there are
+-- the bytes begin with the line of a row over so many axes, wherever its coordinate is: its parts are numbers of I32, and 0 if there are
 -- fewer axes
 pub record BeginWithRow (n : ℕ) (type : Ty) (bytes : List ℕ) (row : GridRow) (rest : List ℕ) : Type 0 where
   pub axes : row.at.n ≡ n
@@ -28,7 +28,7 @@ pub record BeginWithRow (n : ℕ) (type : Ty) (bytes : List ℕ) (row : GridRow)
   pub word : row.word < 2 ^ 32
   pub text : bytes ≡ row_text type row ++ rest
 
--- the fault of the line at the front of the bytes, behind one with the coordinate `last`: no row stands there; or its coordinate isn't inside; or
+-- the fault of the line at the front of the bytes, after one with the coordinate `last`: no row stands there; or its coordinate isn't inside; or
 -- it is inside and doesn't come after `last`
 abbrev pub IsLineFault : Bounds → Ty → ℕ → Option Coord → List ℕ → GridFault → Type 0
 IsLineFault bounds type line last bytes (fault.BadText at) = (at ≡ line) × ((row : GridRow) (rest : List ℕ) → BeginWithRow bounds.n type bytes row rest → ⊥)
@@ -44,7 +44,7 @@ abbrev pub last_of : Option Coord → List GridRow → Option Coord
 last_of last [] = last
 last_of last (row ∷ rows) = last_of (Some row.at) rows
 
--- the first fault of so many lines, which are all that is left: rows without a fault, and behind them a line with one, or further bytes
+-- the first fault of so many lines, which are all that is left: rows without a fault, and after them a line with one, or further bytes
 pub record IsFaultBelow (bounds : Bounds) (type : Ty) (count line : ℕ) (last : Option Coord) (bytes : List ℕ) (found : GridFault) : Type 0 where
   pub rows : List GridRow
   pub rest : List ℕ

@@ -1,4 +1,4 @@
--- What stands at the front of the bytes of a grid text: stages, each of which finds something and leaves what is behind it.
+-- What stands at the front of the bytes of a grid text: stages, each of which finds something and leaves what comes after it.
 -- The code has the same stages over slices.
 use Rattle.std.specs.Prelude.{ℕ, zero, suc, ◌-◌, ◌+◌, ◌*◌, ◌^◌, min, Bool, not, ◌&&◌, ◌||◌, ◌==◌, nat_eq, nat_lt, nat_le, if◌then◌else◌, ℤ, pos, negsuc, int_le, int_lt, List, length, drop, slice_index, fold, take_while, Option, Some, None, codes}
 use Rattle.std.specs.List.{starts_with}
@@ -11,13 +11,13 @@ use Rattle.sg_words.specs.Words.{word_of}
 use Rattle.sg_grid.specs.declared.grid.GridRow.{GridRow}
 use Rattle.sg_grid.specs.GridText.{grid_head}
 
--- what a stage finds, with the bytes behind it
+-- what a stage finds, with the bytes after it
 abbrev pub AtFront : Type 0 → Type 0
 AtFront A = Option (A × List ℕ)
 
 -- ---- numbers
 
--- what stands behind this text, where the bytes begin with it
+-- what stands after this text, where the bytes begin with it
 unfoldable pub rest_after : List ℕ → List ℕ → Option (List ℕ)
 rest_after text bytes = only_if (starts_with nat_eq bytes text) (Some (drop (length text) bytes))
 
@@ -40,7 +40,7 @@ abbrev pub negative : ℕ → List ℕ → AtFront ℤ
 negative zero rest = None
 negative (suc k) rest = Some (negsuc k, rest)
 
--- a number behind `-`, where that stands there, or else one without a sign
+-- a number after `-`, if that stands there, or else one without a sign
 abbrev pub signed_at : List ℕ → Option (List ℕ) → AtFront ℤ
 signed_at bytes None = count_at bytes >>= (λ c. Some (pos c.0, c.1))
 signed_at bytes (Some rest) = count_at rest >>= (λ c. negative c.0 c.1)
@@ -55,7 +55,7 @@ is_of_type ty.I32 z = int_le (negsuc 2147483647) z && int_lt z (pos (2 ^ 31))
 is_of_type ty.U32 z = int_le (pos 0) z && int_lt z (pos (2 ^ 32))
 is_of_type ty.Bool z = int_le (pos 0) z && int_lt z (pos (2 ^ 32))
 
--- a number of the type, with this text behind it
+-- a number of the type, with this text after it
 unfoldable pub number_before : Ty → List ℕ → List ℕ → AtFront ℤ
 number_before type text bytes = do
   z ← number_at bytes
@@ -64,15 +64,15 @@ number_before type text bytes = do
 
 -- ---- lines
 
--- a part of a coordinate, with a space behind it
+-- a part of a coordinate, with a space after it
 abbrev pub coordinate_part_at : List ℕ → AtFront ℤ
 coordinate_part_at bytes = number_before ty.I32 (codes " ") bytes
 
--- the part of a further axis, or 0 where there are fewer axes
+-- the part of a further axis, or 0 if there are fewer axes
 unfoldable pub further_part_at : ℕ → ℕ → List ℕ → AtFront ℤ
 further_part_at axis n bytes = if nat_le axis n then coordinate_part_at bytes else Some (pos 0, bytes)
 
--- a coordinate of n axes, with a space behind each part
+-- a coordinate of n axes, with a space after each part
 unfoldable pub coordinate_at : ℕ → List ℕ → AtFront Coord
 coordinate_at n bytes = do
   a ← coordinate_part_at bytes

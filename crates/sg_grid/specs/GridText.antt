@@ -7,7 +7,7 @@ use Rattle.sg_words.specs.declared.operators.Ty.{Ty}
 use Rattle.sg_words.specs.Words.{number}
 use Rattle.sg_grid.specs.declared.grid.GridRow.{GridRow}
 
--- a further part of a coordinate, behind a space, where the axis is there
+-- a further part of a coordinate, after a space, where the axis is there
 abbrev pub further_part : ℕ → Coord → ℤ → List ℕ
 further_part axis at part = if nat_le axis at.n then 32 ∷ signed_decimal part else []
 

@@ -1,4 +1,4 @@
--- The rows of a grid text, or its first fault. The code has a loop over the lines in place of the recursion.
+-- The rows of a grid text, or its first fault. The code has a loop over the lines instead of the recursion.
 use Rattle.std.specs.Prelude.{ℕ, zero, suc, ◌+◌, Bool, true, nat_lt, if◌then◌else◌, List, [], ◌∷◌, length, Option, Some, None, Result, Ok, Err}
 use Rattle.sg_coord.specs.declared.coord.Coord.{Coord}
 use Rattle.sg_coord.specs.Bounds.{Bounds}
@@ -24,13 +24,13 @@ row_tested bounds line last None = Err (fault.BadText line)
 row_tested bounds line last (Some r) =
     if is_inside bounds r.0.at then (if follows last r.0.at then Ok r else Err (fault.NotRising line)) else Err (fault.Outside line)
 
--- the row of a line behind one with the coordinate `last`, or the line's fault
+-- the row of a line after one with the coordinate `last`, or the line's fault
 unfoldable pub row_in : Bounds → Ty → ℕ → Option Coord → List ℕ → Result (GridRow × List ℕ) GridFault
 row_in bounds type line last bytes = row_tested bounds line last (row_at bounds.n type bytes)
 
 -- ---- the whole
 
--- The rows of so many lines, from the line with this number on. A missing line is one that has no row; bytes behind the last line are a
+-- The rows of so many lines, from the line with this number on. A missing line is one that has no row; bytes after the last line are a
 -- fault of the line that would follow.
 abbrev pub rows_from : Bounds → Ty → (count line : ℕ) → Option Coord → List ℕ → Result (List GridRow) GridFault
 rows_from bounds type zero line last [] = Ok []

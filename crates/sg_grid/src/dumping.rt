@@ -70,7 +70,7 @@ fn field_type(layout: &Layout, place: u32) -> Ty
     }
 }
 
-/// The word that the store keeps of a field at a coordinate; 0 where it has no cell.
+/// The word that the store keeps of a field at a coordinate; 0 if it has no cell.
 fn kept_word(store: &Store, place: u32, at: Coord) -> u32
     requires { place < length store.now.shape.fields }
     ensures { result ≡ word_or_zero store.now place (cell_in store.now at) }

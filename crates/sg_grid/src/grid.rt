@@ -23,7 +23,7 @@ pub struct Grid {
 /// The first fault of a text that is no grid text. Lines are counted from 1.
 #[derive(Clone, Copy, Debug, PartialEq, Eq)]
 pub enum GridFault {
-    /// The line isn't there or out of form, it has a number outside its type, or bytes stand behind the last row.
+    /// The line isn't there or out of form, it has a number outside its type, or bytes stand after the last row.
     BadText { line: u32 },
     /// The coordinate isn't inside the extents.
     Outside { line: u32 },

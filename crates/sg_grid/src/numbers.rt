@@ -11,7 +11,7 @@ use sg_words::Ty;
 /// As large as a number counts; no number of a grid text reaches it.
 const PAST_NUMBERS: u64 = 1 << 32;
 
-/// What stands behind a text, where the bytes begin with it.
+/// What stands after a text, where the bytes begin with it.
 #[tactic(auto, unfolding(crate::specs::Fronts::rest_after))]
 pub fn rest_after<'a>(text: &[u8], bytes: &'a [u8]) -> Option<&'a [u8]>
     ensures { Leaves result (spec.rest_after text.now bytes.now) }
@@ -31,7 +31,7 @@ fn digits_at(bytes: &[u8]) -> usize
     bytes.iter().take_while(|b| b.is_ascii_digit()).count()
 }
 
-/// The number that digits spell, or `PAST_NUMBERS` where it is larger.
+/// The number that digits spell, or `PAST_NUMBERS` if it is larger.
 fn number_of_digits(digits: &[u8]) -> u64
     ensures { result ≡ min (spec.number_of_digits digits.now) (2 ^ 32) }
 {
@@ -42,7 +42,7 @@ fn number_of_digits(digits: &[u8]) -> u64
     value
 }
 
-/// A number without a sign, at most `PAST_NUMBERS`, and what stands behind it.
+/// A number without a sign, at most `PAST_NUMBERS`, and what stands after it.
 #[tactic(auto, unfolding(crate::specs::Fronts::count_at))]
 pub fn count_at(bytes: &[u8]) -> Option<(u64, &[u8])>
     ensures value { Finds result (spec.count_at bytes.now) }
@@ -55,7 +55,7 @@ pub fn count_at(bytes: &[u8]) -> Option<(u64, &[u8])>
     Some((number_of_digits(digits), rest))
 }
 
-/// A number with or without `-`, and what stands behind it.
+/// A number with or without `-`, and what stands after it.
 #[tactic(auto, unfolding(crate::specs::Fronts::number_at))]
 fn number_at(bytes: &[u8]) -> Option<(i64, &[u8])>
     ensures { Finds result (spec.number_at bytes.now) }
@@ -85,7 +85,7 @@ fn is_of_type(ty: Ty, number: i64) -> bool
     }
 }
 
-/// A number of the type with a text behind it, and what stands behind that.
+/// A number of the type with a text after it, and what stands after that.
 #[tactic(auto, unfolding(crate::specs::Fronts::number_before))]
 pub fn number_before<'a>(ty: Ty, text: &[u8], bytes: &'a [u8]) -> Option<(i64, &'a [u8])>
     ensures value { Finds result (spec.number_before ty text.now bytes.now) }

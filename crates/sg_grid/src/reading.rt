@@ -89,7 +89,7 @@ fn rows_from(
     }
 }
 
-/// The row of a line, behind one with the coordinate `last`, and the lines below it; or the line's fault.
+/// The row of a line, after one with the coordinate `last`, and the lines below it; or the line's fault.
 #[tactic(auto, unfolding(crate::specs::Reading::row_in))]
 fn row_in<'a>(
     extents: &Extents,
@@ -133,7 +133,7 @@ fn row_at(axes: u32, ty: Ty, bytes: &[u8]) -> Option<(GridRow, &[u8])>
     Some((GridRow { at, word }, rest))
 }
 
-/// A coordinate with a space behind each part.
+/// A coordinate with a space after each part.
 #[tactic(auto, unfolding(crate::specs::Fronts::coordinate_at))]
 fn coordinate_at(axes: u32, bytes: &[u8]) -> Option<(Coord, &[u8])>
     ensures { Finds result (front.coordinate_at axes bytes.now) }
@@ -144,7 +144,7 @@ fn coordinate_at(axes: u32, bytes: &[u8]) -> Option<(Coord, &[u8])>
     Some((Coord { n: axes, a, b, c }, rest))
 }
 
-/// A part of a coordinate with a space behind it.
+/// A part of a coordinate with a space after it.
 fn coordinate_part_at(bytes: &[u8]) -> Option<(i32, &[u8])>
     ensures { Finds result (front.coordinate_part_at bytes.now) }
 {
@@ -152,7 +152,7 @@ fn coordinate_part_at(bytes: &[u8]) -> Option<(i32, &[u8])>
     Some((part as i32, rest))
 }
 
-/// The part of a further axis, or 0 where there are fewer axes.
+/// The part of a further axis, or 0 if there are fewer axes.
 #[tactic(auto, unfolding(crate::specs::Fronts::further_part_at))]
 fn further_part_at(axis: u32, axes: u32, bytes: &[u8]) -> Option<(i32, &[u8])>
     ensures { Finds result (front.further_part_at axis axes bytes.now) }

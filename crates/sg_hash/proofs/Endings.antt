@@ -131,7 +131,7 @@ keys_settled start v links keys count full all many others end =
           subst (λ q. 0 < slice_index keys q) c.2 (omega arith))));
     }
 
--- where each old link stood beside a key, each link does: it is an old one, or the last seat made it at a place where it had found a key
+-- if each old link stood beside a key, each link does: it is an old one, or the last seat made it at a place where it had found a key
 pub links_have_keys : (old old_keys stock : List ℕ) (v : Worker) (links keys : List ℕ) (full : Bool) → Settled old stock v links → KeysSettled old_keys v keys full → HasLinkedBesideKeys v
     → LinksHaveKeys old_keys old → LinksHaveKeys keys links
 links_have_keys old old_keys stock v links keys full s k beside before p linked = dite (ℕ_discrete (slice_index old p) 0)
@@ -242,7 +242,7 @@ module _ (test : ℕ → Bool) where
       ap (λ l. length (outside test l)) more ∙ ap length (outside-append (take n xs) (slice_index xs n ∷ [])) ∙ length-append (outside test (take n xs)) (outside test (slice_index xs n ∷ [])) in
       omega arith
 
--- where a number was taken, an empty slot got it
+-- if a number was taken, an empty slot got it
 taken_case : (P : List ℕ → Type 0) (o n : ℕ) (rest : List ℕ) → (o ≡ 0 → n ≢ 0 → P ((n - 1) ∷ rest)) → ((o ≢ 0) ⊎ (n ≡ 0) → P rest) → P (cond ((o == 0) && not (n == 0)) ((n - 1) ∷ rest) rest)
 taken_case P o n rest hit miss = go (o == 0) refl (n == 0) refl
   where
@@ -289,7 +289,7 @@ module _ (start : Start) (v : Worker) (links keys : List ℕ) (count : ℕ) (tes
   all-tickets : (t : ℕ) → holds_ticket (λ _. 0) 0 t v ≡ once_below t (min count (length start.stock))
   all-tickets t = sym (alone (holds_ticket (λ _. 0) 0 t) end.0 end.1 v end.3 end.2.team all refl) ∙ end.2.tickets.within 0 t
 
-  -- a drawn ticket was linked exactly where its number was taken
+  -- a drawn ticket was linked exactly when its number was taken
   spare-once : (t : ℕ) → t < min count (length start.stock) → pairs 0 t v.spare + pairs 0 t v.left ≡ one (not (test (slice_index start.stock t)))
   spare-once t below =
       let num = slice_index start.stock t in

@@ -103,7 +103,7 @@ pub others-same : (n key j : ℕ) (v w : Worker) → w.keys ≡ v.keys → HasOt
 others-same n key j v w e has i below = let o = has i below in (o.0, o.1, subst (λ l. 0 < pairs (place_in_order n key i) o.0 l) (sym e) o.2)
 
 -- ---- links beside keys
--- where no link was made, and the keys that were found are still there
+-- if no link was made, and the keys that were found are still there
 pub beside-kept : (v w : Worker) → w.made ≡ v.made → ((p k : ℕ) → 0 < pairs p k v.keys → 0 < pairs p k w.keys) → HasLinkedBesideKeys v → HasLinkedBesideKeys w
 beside-kept v w same grows beside p t has = let b = beside p t (subst (λ l. 0 < pairs p t l) same has) in (b.0, grows p b.0 b.1)
 

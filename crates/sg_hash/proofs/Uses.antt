@@ -7,13 +7,13 @@ use Rattle.std.proofs.lemmas.List.{length-set, get_or-set_same, get_or-set_other
 use Rattle.sg_hash.specs.Tables.{place, HoldsOther, Passes, IsTable, AreBeside, beside, IsAbsent, IsFull}
 use Rattle.sg_hash.proofs.Turns.{place_below, place_once, place_comes}
 
--- where all of a key's turns pass, every place holds another key
+-- if all of a key's turns pass, every place holds another key
 pub full_by_turns : (keys : List ℕ) (key : ℕ) → Passes keys key (length keys) → IsFull keys key
 full_by_turns keys key passes p below =
     let at = place_comes (length keys) key p below in
     subst (λ q. HoldsOther (get_or keys q 0) key) at.2 (passes at.0 at.1)
 
--- where every place holds another key, the key stands nowhere
+-- if every place holds another key, the key stands nowhere
 pub absent_by_full : (keys : List ℕ) (key : ℕ) → IsFull keys key → IsAbsent keys key
 absent_by_full keys key full p below = (full p below).1
 
@@ -27,7 +27,7 @@ passes_more keys key turn p is passes other j before = elim (cases_eq j turn) [
 pub held_below : (keys : List ℕ) (key p turn : ℕ) → 0 < length keys → p ≡ place (length keys) key turn → p < length keys
 held_below keys key p turn some is = subst (λ q. q < length keys) (sym is) (place_below (length keys) key turn some)
 
--- where the key is absent, its probe ends at an empty place
+-- if the key is absent, its probe ends at an empty place
 pub put_empty : (keys : List ℕ) (key p : ℕ) → p < length keys → IsAbsent keys key → (get_or keys p 0 ≡ 0) ⊎ (get_or keys p 0 ≡ key + 1) → get_or keys p 0 ≡ 0
 put_empty keys key p below absent (inl empty) = empty
 put_empty keys key p below absent (inr holds) = absurd (absent p below holds)
@@ -48,7 +48,7 @@ stands_once keys table key p q first second at also =
       ]
     ]
 
--- an empty place behind places with other keys: the key stands nowhere
+-- an empty place after places with other keys: the key stands nowhere
 pub absent_by_empty : (keys : List ℕ) (key p turn : ℕ) → IsTable keys → turn < length keys → p ≡ place (length keys) key turn → Passes keys key turn → get_or keys p 0 ≡ 0 → IsAbsent keys key
 absent_by_empty keys key p turn table below is passes empty q there holds =
     let n : ℕ = length keys in

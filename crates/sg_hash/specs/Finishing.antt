@@ -28,7 +28,7 @@ pub record Settled (old stock : List ℕ) (v : Worker) (new : List ℕ) : Type 0
   pub once : (i j : ℕ) → slice_index old i ≡ 0 → 0 < slice_index new i → slice_index new i ≡ slice_index new j → i ≡ j
   pub filled : (c : ℕ) → length stock + full_words old ≡ c + 17 → is_dry v ≡ true → c < full_words new
 
--- The key words at the end: old keys stay; what was found is there; a new key was put; each stands behind other keys of its order. Where
+-- The key words at the end: old keys stay; what was found is there; a new key was put; each stands after other keys of its order. Where
 -- the last seat is full, every place holds a key
 pub record KeysSettled (old : List ℕ) (v : Worker) (new : List ℕ) (full : Bool) : Type 0 where
   pub long : length new ≡ length old

@@ -13,7 +13,7 @@ use Rattle.sg_hash.specs.steps.Searching.{after_look_key}
 abbrev pub IsEvent : Start → List ℕ → List Worker → Event → List ℕ → List Worker → Type 0
 IsEvent start words views e words' views' = Needs (setting_of start) (race_of start words views) e × (state_after (setting_of start) e (race_of start words views) ≡ race_of start words' views')
 
--- the view of the worker with this number, or of nobody, whose share is 0, where there is none
+-- the view of the worker with this number, or of nobody, whose share is 0, if there is none
 abbrev pub at : List Worker → ℕ → Worker
 at views id = worker (record { slots = []; keys = []; masks = []; lengths = []; cells = []; counts = []; workers = views }) id
 
@@ -48,7 +48,7 @@ abbrev pub FindIsEvent : Start → List ℕ → List Worker → ℕ → ℕ → 
 FindIsEvent start words views id p = IsWide start words → 0 < (at views id).share → p < length start.links → slice_index words (length start.links + p) ≢ 0
     → IsEvent start words views (key id p (slice_index words (length start.links + p) - 1)) words (slice_set views id (after_look_key p (slice_index words (length start.links + p)) (at views id)))
 
--- an exchange of 0 for key k at a place of its order, behind other keys, puts it, or finds the key that stands there
+-- an exchange of 0 for key k at a place of its order, after other keys, puts it, or finds the key that stands there
 abbrev pub PutIsEvent : Start → List ℕ → List Worker → ℕ → ℕ → ℕ → Type 0
 PutIsEvent start words views id p k = IsWide start words → 0 < (at views id).share → p < length start.links → MayPut (length start.links) p k (at views id)
     → IsEvent start words views (key id p k) (slice_set words (length start.links + p) (key_word k (slice_index words (length start.links + p))))
@@ -58,7 +58,7 @@ PutIsEvent start words views id p k = IsWide start words → 0 < (at views id).s
 abbrev pub SplitIsEvent : Start → List ℕ → List Worker → ℕ → Type 0
 SplitIsEvent start words views id = 2 ≤ (at views id).share → IsEvent start words views (enrol id) words (slice_set views id (after_split (at views id)) ++ other_half (at views id) ∷ [])
 
--- where both have a share, a join of another worker into a worker is an event, and leaves nobody in the other's place
+-- if both have a share, a join of another worker into a worker is an event, and leaves nobody in the other's place
 abbrev pub JoinIsEvent : Start → List ℕ → List Worker → ℕ → ℕ → Type 0
 JoinIsEvent start words views id other = 0 < (at views id).share → 0 < (at views other).share → other ≢ id
     → IsEvent start words views (join id other) words (slice_set (slice_set views id (after_join (at views id) (at views other))) other nobody)

@@ -19,7 +19,7 @@ stock_of p = p.start.stock
 abbrev pub worker_of : HashSeat → Worker
 worker_of s = s.seat.me.0
 
--- the key words with which a pass started: 0 where a place was empty, else one more than its key
+-- the key words with which a pass started: 0 if a place was empty, else one more than its key
 abbrev pub old_keys : HashPass → List ℕ
 old_keys p = p.start.keys
 
@@ -33,7 +33,7 @@ pub record IsSeatAt (p : HashPass) (s : HashSeat) : Type 0 where
   pub told : (worker_of s).told ≡ length (stock_of p) ∷ length (old_links p) ∷ []
   pub spare : (t : ℕ) → 0 < pairs 0 t (worker_of s).spare → t < length (stock_of p)
 
--- a seat of this pass: where it is full, it found another key in every place of some key's order; and its links stand beside keys
+-- a seat of this pass: if it is full, it found another key in every place of some key's order; and its links stand beside keys
 pub record IsSeatOf (p : HashPass) (s : HashSeat) : Type 0 where
   pub at : IsSeatAt p s
   pub others : is_full s ≡ true → (k : ℕ) × HasOthersBefore (length (old_links p)) k (length (old_links p)) (worker_of s)

@@ -1,4 +1,4 @@
--- Tables of keys by linear probing: a key word is 0 where its place is empty, else one more than a key.
+-- Tables of keys by linear probing: a key word is 0 if its place is empty, else one more than a key.
 use Rattle.std.specs.Prelude.{◌≡◌, ◌≢◌, ℕ, ◌+◌, ◌-◌, ◌<◌, ◌≤◌, ◌^◌, ◌%◌, ◌==◌, if◌then◌else◌, Option, Some, None, List, [], ◌∷◌, length, slice_index}
 use Rattle.sg_words.specs.RaceMachine.{home}
 
@@ -20,7 +20,7 @@ abbrev pub IsTable : List ℕ → Type 0
 IsTable keys = (key turn : ℕ) → turn < length keys →
     slice_index keys (place (length keys) key turn) ≡ key + 1 → Passes keys key turn
 
--- a link, one more than a number, stands exactly where a key stands
+-- a link, one more than a number, stands exactly when a key stands
 pub record AreBeside (keys links : List ℕ) : Type 0 where
   pub many : length keys ≡ length links
   pub linked : (p : ℕ) → p < length keys → slice_index keys p ≢ 0 → (0 < slice_index links p) × (slice_index links p ≤ 2 ^ 32)

@@ -82,7 +82,7 @@ impl HashPass {
         }
     }
 
-    // The place where the key stands, which it gets if it stands nowhere. None where every place holds another key.
+    // The place where the key stands, which it gets if it stands nowhere. None if every place holds another key.
     fn search(&self, seat: &mut HashSeat, key: u32) -> Option<usize>
         requires own { IsSeatAt self.now seat.old }
         ensures own { IsSeatAt self.now seat.new }
@@ -105,7 +105,7 @@ impl HashPass {
         None
     }
 
-    // The key word that stands at a place after this probe, which puts the key where none stood.
+    // The key word that stands at a place after this probe, which puts the key if none stood.
     fn probe(&self, seat: &mut HashSeat, place: usize, key: u32) -> u64
         requires own { IsSeatAt self.now seat.old }
         requires may { MayPut (length (old_links self.now)) place key (worker_of seat.old) }
@@ -260,7 +260,7 @@ impl HashPass {
         }
     }
 
-    // The number of a word behind the slots.
+    // The number of a word after the slots.
     fn word_at(&self, place: usize) -> usize
         requires inside { place ≤ length (old_links self.now) }
         ensures { result ≡ length (old_links self.now) + place }

@@ -3,7 +3,7 @@ ghost use Rattle.sg_words.specs.RaceMachine.{home};
 ghost use Rattle.sg_hash.specs.Tables.{IsTable, AreBeside, beside, IsAbsent, IsFull};
 ghost use Rattle.sg_hash.specs.steps.Probing.{IsProbe};
 
-/// The number that stands beside the key. None where the key is absent. Constant time is expected while half of the
+/// The number that stands beside the key. None if the key is absent. Constant time is expected while half of the
 /// places are empty.
 pub fn find(keys: &[u64], links: &[u64], key: u32) -> Option<u32>
     requires some { 0 < length keys.now }
@@ -48,7 +48,7 @@ pub fn put(keys: &mut [u64], links: &mut [u64], key: u32, number: u32) -> bool
     }
 }
 
-/// The first place in the key's order that is empty or holds it. None where every place holds another key.
+/// The first place in the key's order that is empty or holds it. None if every place holds another key.
 fn probe(keys: &[u64], key: u32) -> Option<usize>
     requires { 0 < length keys.now }
     ensures { IsProbe keys.now key result }

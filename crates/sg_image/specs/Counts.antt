@@ -12,7 +12,7 @@ use Rattle.sg_store.specs.WellFormed.{kind_has_cap}
 abbrev pub live_text : (number live : ℕ) → List ℕ
 live_text number live = codes " node " ++ decimal number ++ codes " live " ++ decimal live
 
--- a node with a number: what it needs for the active coordinates, where it is a pointer, hash or dynamic node
+-- a node with a number: what it needs for the active coordinates, if it is a pointer, hash or dynamic node
 abbrev pub node_text : Shape → List Coord → ℕ → NodeShape → List ℕ
 node_text shape active number node =
     if kind_has_cap node.kind then live_text number (need_of shape active number node) else []

@@ -7,11 +7,11 @@ use Rattle.sg_image.specs.Limits.{values_of_a_line}
 abbrev pub pgm_head : (width height : ℕ) → List ℕ
 pgm_head width height = codes "P2\n" ++ decimal width ++ codes " " ++ decimal height ++ codes "\n255\n"
 
--- a line ends behind the last value of a row, and where it has as many values as a line may have
+-- a line ends after the last value of a row, and if it has as many values as a line may have
 abbrev pub ends_line : (width column : ℕ) → Bool
 ends_line width column = (column + 1 == width) || ((column + 1) % values_of_a_line == 0)
 
--- what stands behind the value in a column: a newline or a space
+-- what stands after the value in a column: a newline or a space
 abbrev pub behind : (width column : ℕ) → ℕ
 behind width column = if ends_line width column then 10 else 32
 

@@ -52,7 +52,7 @@ fn push_nodes(text: &mut String, store: &Store) -> Result<(), AllocError>
     Ok(())
 }
 
-/// Adds the live count of the node with this index, from 0, where it has one.
+/// Adds the live count of the node with this index, from 0, if it has one.
 fn push_node(text: &mut String, store: &Store, index: usize) -> Result<(), AllocError>
     requires there { index < length store.now.shape.nodes }
     requires few { index < most_nodes }

@@ -102,7 +102,7 @@ fn push_row(
     Ok(())
 }
 
-/// Adds a value, with a newline behind it where it ends its line, else a space.
+/// Adds a value, with a newline after it if it ends its line, else a space.
 fn push_value(text: &mut String, value: u64, ends: bool) -> Result<(), AllocError>
     ensures { OnOk result (string_bytes text.new
         ≡ string_bytes text.old ++ decimal value ++ (if ends then 10 else 32) ∷ []) }
@@ -114,7 +114,7 @@ fn push_value(text: &mut String, value: u64, ends: bool) -> Result<(), AllocErro
     }
 }
 
-/// Whether a line ends behind the value in a column: it is the last of the row, or the line is full.
+/// Whether a line ends after the value in a column: it is the last of the row, or the line is full.
 fn ends_line(width: u32, column: u32) -> bool
     requires { column < width }
     ensures { result ≡ ends_line width column }
@@ -132,7 +132,7 @@ fn type_of_field(layout: &Layout, place: u32) -> Ty
     }
 }
 
-/// The word that the store keeps of a field at a coordinate; 0 where it has no cell.
+/// The word that the store keeps of a field at a coordinate; 0 if it has no cell.
 fn kept_word(store: &Store, place: u32, at: Coord) -> u32
     requires { place < length store.now.shape.fields }
     ensures { result ≡ kept_word store.now place at }

@@ -85,7 +85,7 @@ root-adds shapes layout to old new a b puts there = record {
       (ap (λ ss. flat_map var_number (ss ++ [])) (fold-Root sets_step to layout)) (ap (λ us. us ++ []) (fold-Root uses_step to layout));
 }
 
--- what is behind a place that goes on from one that is known
+-- what comes after a place that goes on from one that is known
 goes_on-kept : (to passed : ℕ) (from : Option KnownPlace) (scope : Scope) → ((p : ℕ) → p < to → (goes_on to passed from scope).places p ≡ scope.places p) × (((goes_on to passed from scope).regs ≡ scope.regs) × ((goes_on to passed from scope).vars ≡ scope.vars))
 goes_on-kept to passed None scope = ((λ p below. refl), (refl, refl))
 goes_on-kept to passed (Some known) scope = ((λ p below. put-other to p (Some (record { layout = known.layout; passed = passed })) scope.places below), (refl, refl))

@@ -30,7 +30,7 @@ grows-place to old new adds =
     let places = adds.places in
     (record { regs = omega arith; places = omega arith }, omega arith)
 
--- where an instruction sets one register, the block with it computes the word
+-- if an instruction sets one register, the block with it computes the word
 pub computes : (ty : Ty) (word : Seen → Moved → ℕ) (inst : ℕ → Inst) (to : ℕ) (old new : Names) (before after : List Inst) →
     ((seen : Seen) (now : Moved) → does seen (inst to) now ≡ set_reg to (word seen now) now) →
     PutsReg ty inst to old new before after → (shapes : List Shape) → Computes shapes word to old new before after
@@ -54,7 +54,7 @@ computes ty word inst to old new before after step puts shapes =
       value = λ seen same start. ap (λ (m : Moved). m.regs to) (ran seen start) ∙ put-same to (word seen (runs seen before start)) (runs seen before start).regs;
     }
 
--- where an instruction sets one place, the block with it reaches the place
+-- if an instruction sets one place, the block with it reaches the place
 pub reaches : (place : Seen → Moved → Option Place) (inst : ℕ → Inst) (to : ℕ) (old new : Names) (before after : List Inst) →
     ((seen : Seen) (now : Moved) → does seen (inst to) now ≡ set_place to (place seen now) now) →
     PutsPlace inst to old new before after → (shapes : List Shape) → Reaches shapes place to old new before after

@@ -76,7 +76,7 @@ module _ (at : Frame) where
   pub judges-For : (var : ℕ) (lo hi : ℤ) (body : List Inst) (scope : Scope) → judges at (v.For var lo hi body) scope ≡ inst_fits at (i.For var lo hi (map (judges at) body)) scope
   judges-For var lo hi body scope = ap (λ (judge : Judge). judge scope) (fold-For (inst_fits at) var lo hi body)
 
-  -- a block and one more instruction: good where both are, and the scope behind it
+  -- a block and one more instruction: good if both are, and the scope after it
   fold-more : (judges_of : List Judge) (judge : Judge) (reached : Bool × Scope) → fold judge_step reached (judges_of ++ judge ∷ []) ≡ judge_step (fold judge_step reached judges_of) judge
   fold-more [] judge reached = refl
   fold-more (first ∷ more) judge reached = fold-more more judge (judge_step reached first)

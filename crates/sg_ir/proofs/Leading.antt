@@ -45,7 +45,7 @@ nested true b x = refl
 nested false true x = refl
 nested false false x = refl
 
--- the checks of words, as many as there are axes, pass exactly where their coordinate is inside
+-- the checks of words, as many as there are axes, pass exactly when their coordinate is inside
 pub inside-checks : (bounds : Bounds) (words : List ℕ) → length words ≡ bounds.n → IsBounds bounds → (x : Option Place) → checks (extents_in bounds) words x ≡ cond (is_inside bounds (coord_of words)) x None
 inside-checks bounds [] long good x = let some = good.some_axis in absurd (omega arith)
 inside-checks bounds (w ∷ []) long good x =

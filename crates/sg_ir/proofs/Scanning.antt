@@ -1,4 +1,4 @@
--- The last instruction behind which something is set, and what is known of a place there.
+-- The last instruction after which something is set, and what is known of a place there.
 use Rattle.std.proofs.Common.{◌++◌, ◌≡◌, ℕ, zero, suc, ◌<◌, length, get_or, is_some, MatchOption, Bool, true, false, ◌||◌, ◌==◌, List, [], ◌∷◌, Option, Some, None, take, drop, slice_get, refl, sym, ap, ◌∙◌, arith}
 use Rattle.std.specs.List.{list_any}
 use Rattle.std.proofs.lemmas.Bool.Decides.{nat_tests}

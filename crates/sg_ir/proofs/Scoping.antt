@@ -1,4 +1,4 @@
--- The scope behind instructions, by what each leaves set.
+-- The scope after instructions, by what each leaves set.
 use Rattle.std.proofs.Common.{zero, suc, take, slice_get, ◌++◌, Bor, ◌≡◌, ℕ, Bool, true, false, ◌&&◌, ◌||◌, ◌==◌, List, [], ◌∷◌, map, Option, Some, None, refl, sym, ap, ◌∙◌, ℤ, arith}
 use Rattle.std.specs.List.{list_any, fold}
 use Rattle.std.specs.Prelude.{if◌then◌else◌}
@@ -28,7 +28,7 @@ use Rattle.sg_ir.proofs.Folds.{fold-Const, fold-Var, fold-Set, fold-Bin, fold-Un
 use Rattle.sg_ir.proofs.Judging.{judged-more, judges-Const, judges-Var, judges-Set, judges-Bin, judges-Un, judges-Mulq, judges-Root, judges-Check, judges-Extract, judges-Offset, judges-Child, judges-HashChild, judges-MaskBit, judges-DynCell, judges-ReadCell, judges-OwnRead, judges-OwnWrite, judges-Acc, judges-Want, judges-If, judges-For}
 use Rattle.sg_ir.proofs.Cases.{by_inst}
 
--- the scope behind an instruction that leaves this, where a place comes from there
+-- the scope after an instruction that leaves this, where a place comes from there
 abbrev after : (ℕ → Bool) → KnownPlaces → (ℕ → Bool) → Option Target → Option Origin → Scope
 after regs places vars set from = scope_with
     (λ r. list_any (is_setting (t.Reg r)) (settings_of set) || regs r)
@@ -189,7 +189,7 @@ module _ (at : Frame) (regs : ℕ → Bool) (places : KnownPlaces) (vars : ℕ �
   pub behind : (inst : Inst) → Behind inst
   behind inst = by_inst Behind on_const on_var on_set on_bin on_un on_mulq on_root on_check on_extract on_offset on_child on_hashchild on_maskbit on_dyncell on_readcell on_ownread on_ownwrite on_acc on_want on_if on_for inst
 
--- the scope behind a block, and behind what stands before a point of code
+-- the scope after a block, and after what stands before a point of code
 fold-scope : (judges_of : List Judge) (good other : Bool) (scope : Scope) → (fold judge_step (good, scope) judges_of).1 ≡ (fold judge_step (other, scope) judges_of).1
 fold-scope [] good other scope = refl
 fold-scope (first ∷ more) good other scope = fold-scope more (good && (first scope).0) (other && (first scope).0) (first scope).1
@@ -263,7 +263,7 @@ scope-Start free =
     or-no true = refl
     or-no false = refl
 
--- a block is good as far as it goes, where it is good
+-- a block is good as far as it goes, if it is good
 bad-stays : (judges_of : List Judge) (scope : Scope) → (fold judge_step (false, scope) judges_of).0 ≡ false
 bad-stays [] scope = refl
 bad-stays (first ∷ more) scope = bad-stays more (first scope).1

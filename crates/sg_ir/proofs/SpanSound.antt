@@ -23,7 +23,7 @@ use Rattle.sg_ir.specs.SpanLaws.{Lies, HasConstantWord, WhereTest, EachTurn, Spa
 use Rattle.sg_ir.specs.steps.Scoped.{RunMoment, Room, room_reg, room_place, op_word, step_place, moment_after_act, at_turn, run}
 use Rattle.sg_ir.proofs.SpanWords.{lies_whole, range_lies, op_lies, all_one}
 
--- the spans hold along a run, and what is known holds behind it
+-- the spans hold along a run, and what is known holds after it
 pub record Sound (seen : Seen) (spans : Spans) (block : Block) (room : Room) (now : RunMoment) : Type 0 where
   pub holds : SpansHold seen spans block room now
   pub fits : FitsSpans spans (run seen block room now)

@@ -41,7 +41,7 @@ copy_is_good = simp (judges-Var frame, judges-Root frame, judges-Check frame, ju
 other_extent_is_not : verdict (judged frame (v.Var 2 0 ∷ v.Root 0 0 ∷ v.Check 1 0 0 8 2 ∷ []) start) ≡ false
 other_extent_is_not = simp (judges-Var frame, judges-Root frame, judges-Check frame) (verdict-is _)
 
--- a register that one branch of an `if` alone sets, used behind it
+-- a register that one branch of an `if` alone sets, used after it
 branch_register_is_not : verdict (judged frame (v.Const 0 1 ∷ v.If 0 (v.Const 2 5 ∷ []) [] ∷ v.OwnWrite 0 0 2 1 ∷ []) start) ≡ false
 branch_register_is_not = simp (judges-Const frame, judges-If frame, judges-OwnWrite frame) (verdict-is _)
 

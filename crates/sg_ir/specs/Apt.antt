@@ -1,4 +1,4 @@
--- Apt kernel code: its slice wants exactly where the writes of its code that may activate go, and fields are used in one way.
+-- Apt kernel code: its slice wants exactly when the writes of its code that may activate go, and fields are used in one way.
 use Rattle.std.specs.Prelude.{◌≡◌, ℕ, ◌≤◌, ◌<◌, ◌^◌, Bool, not, ◌&&◌, ◌⊎◌, ◌==◌, false, List, [], ◌∷◌, ◌++◌, length, filter, slice_get, Option, Some, None, option_map, Contains}
 use Rattle.std.specs.List.{flat_map, AllZip}
 use Rattle.sg_words.specs.declared.operators.AccOp.{AccOp}

@@ -86,7 +86,7 @@ variable_set_once = refl
 abbrev led_down : ℕ → ℕ → ℕ → Block → Block
 led_down place index to rest = Word (10 + to) (op.Extract 1 8 index) (Spot to (step.Down by.Child place 1 (10 + to)) rest)
 
--- reads at i, and at i - 1 behind the check of its axis
+-- reads at i, and at i - 1 after the check of its axis
 abbrev pub two_reads : Block
 two_reads =
     Word 0 (op.Var 0) (Spot 0 (step.Root 0) (led_down 0 0 1 (Cell 1 1 0 0 (0 ∷ [])

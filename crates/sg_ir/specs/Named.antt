@@ -10,7 +10,7 @@ use Rattle.sg_ir.specs.declared.code.Inst.{Inst}
 use Rattle.sg_ir.specs.Runs.{Access, iteration}
 use Rattle.sg_ir.specs.Places.{place_at}
 
--- the access had the place of the coordinate that its index registers named: none where that is outside
+-- the access had the place of the coordinate that its index registers named: none if that is outside
 abbrev pub IsNamedAccess : List Shape → Access → Type 0
 IsNamedAccess shapes access = access.place ≡ place_at shapes access.layout access.at
 

@@ -8,7 +8,7 @@ use Rattle.sg_layout.specs.Axes.{bounds_of_shape}
 use Rattle.sg_layout.specs.Path.{offsets}
 use Rattle.sg_ir.specs.Runs.{Place}
 
--- the place of a coordinate in a layout that may be there: its whole path where it is inside, else none
+-- the place of a coordinate in a layout that may be there: its whole path if it is inside, else none
 abbrev pub place_of_coord : ℕ → Coord → Option Shape → Option Place
 place_of_coord layout at None = None
 place_of_coord layout at (Some shape) =

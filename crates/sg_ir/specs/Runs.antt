@@ -75,15 +75,15 @@ set_place to place now = record { regs = now.regs; places = put to place now.pla
 abbrev pub set_var_word : ℕ → ℕ → Moved → Moved
 set_var_word var word now = record { regs = now.regs; places = now.places; vars = put var word now.vars; writes = now.writes; wants = now.wants; accesses = now.accesses }
 
--- how far a run has come once it has told this write too, behind those so far; all else is as it was
+-- how far a run has come once it has told this write too, after those so far; all else is as it was
 abbrev pub add_code_write : CodeWrite → Moved → Moved
 add_code_write write now = record { regs = now.regs; places = now.places; vars = now.vars; writes = now.writes ++ write ∷ []; wants = now.wants; accesses = now.accesses }
 
--- how far a run has come once it has told this want too, behind those so far; all else is as it was
+-- how far a run has come once it has told this want too, after those so far; all else is as it was
 abbrev pub add_want : CodeWant → Moved → Moved
 add_want want now = record { regs = now.regs; places = now.places; vars = now.vars; writes = now.writes; wants = now.wants ++ want ∷ []; accesses = now.accesses }
 
--- how far a run has come once it has told this access too, behind those so far; all else is as it was
+-- how far a run has come once it has told this access too, after those so far; all else is as it was
 abbrev pub add_access : Access → Moved → Moved
 add_access access now = record { regs = now.regs; places = now.places; vars = now.vars; writes = now.writes; wants = now.wants; accesses = now.accesses ++ access ∷ [] }
 
@@ -109,11 +109,11 @@ abbrev pub node_in : List NodeShape → ℕ → Option NodeShape
 node_in nodes zero = None
 node_in nodes (suc before) = slice_get nodes before
 
--- the node with this number, from 1, of the layout with that number, counted from 0; none where either isn't there
+-- the node with this number, from 1, of the layout with that number, counted from 0; none if either isn't there
 abbrev pub node_of : List Shape → ℕ → ℕ → Option NodeShape
 node_of shapes layout number = option_and_then (λ (shape : Shape). node_in shape.nodes number) (slice_get shapes layout)
 
--- one step down at a node that may be there: none where it isn't, and where the offset isn't below the node's size
+-- one step down at a node that may be there: none if it isn't, and where the offset isn't below the node's size
 abbrev pub add_offset : ℕ → Place → Option NodeShape → Option Place
 add_offset offset place None = None
 add_offset offset place (Some node) =
@@ -127,7 +127,7 @@ down shapes node offset place = option_and_then (λ (there : Place). add_offset 
 abbrev pub at_of : List Shape → Option Place → Option Coord
 at_of shapes place = option_and_then (λ (there : Place). option_map (λ shape. coordinate_of shape there.path) (slice_get shapes there.layout)) place
 
--- the value of a field at a coordinate that may be there; 0 where it isn't
+-- the value of a field at a coordinate that may be there; 0 if it isn't
 abbrev pub cell_value : Seen → ℕ → ℕ → Option Coord → ℕ
 cell_value seen layout field None = 0
 cell_value seen layout field (Some at) = flat.value_of seen.shapes seen.state layout field at
@@ -141,7 +141,7 @@ is_own (Acc op) = false
 abbrev pub own_write : ℕ → ℕ → List CodeWrite → Option CodeWrite
 own_write layout field writes = find (λ write. is_own write.way && ((write.layout == layout) && (write.field == field))) (reverse writes)
 
--- the value of an own write, or the given value where there is no such write
+-- the value of an own write, or the given value if there is no such write
 abbrev pub value_or_own : Option CodeWrite → ℕ → ℕ
 value_or_own None value = value
 value_or_own (Some write) value = write.value

@@ -30,8 +30,8 @@ is_pure single (op.Extract div size from) = true
 is_pure single (op.Offset high size low) = true
 is_pure single (op.Read place layout field) = true
 
--- In a block behind these operations and steps, of which none is a pure one that an earlier one equals. Reads of cells are pure; two of
--- one field at one place are equal whatever registers name their coordinate. What a block inside has, is not behind what follows it.
+-- In a block after these operations and steps, of which none is a pure one that an earlier one equals. Reads of cells are pure; two of
+-- one field at one place are equal whatever registers name their coordinate. What a block inside has, is not after what follows it.
 abbrev pub shares : (ℕ → Bool) → List Op → List Step → Block → Bool
 shares single ops steps End = true
 shares single ops steps (Word to how rest) = not (is_pure single how && list_any (same_op how) ops) && shares single (how ∷ ops) steps rest

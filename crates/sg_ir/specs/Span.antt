@@ -28,7 +28,7 @@ whole_i32 = record { lo = negsuc 2147483647; hi = pos 2147483647 }
 abbrev pub fits_i32 : ℤ → Bool
 fits_i32 z = int_le (negsuc 2147483647) z && int_le z (pos 2147483647)
 
--- the interval where both ends fit I32, else all of I32
+-- the interval if both ends fit I32, else all of I32
 abbrev pub cut_to_i32 : ℤ → ℤ → Span
 cut_to_i32 lo hi = if fits_i32 lo && fits_i32 hi then record { lo = lo; hi = hi } else whole_i32
 
@@ -53,7 +53,7 @@ bin_span bin.Sub ty.I32 x y = cut_to_i32 (x.lo -ℤ y.hi) (x.hi -ℤ y.lo)
 bin_span bin.Mul ty.I32 x y = product_span x y
 bin_span how given x y = whole_i32
 
--- the numbers from `lo` up to below `hi`; 0 alone where there are none
+-- the numbers from `lo` up to below `hi`; 0 alone if there are none
 abbrev pub range_span : ℤ → ℤ → Span
 range_span lo hi = if int_lt lo hi then cut_to_i32 lo (hi -ℤ pos 1) else only (pos 0)
 
@@ -73,7 +73,7 @@ held other (entry ∷ entries) key = if key == entry.0 then entry.1 else held ot
 abbrev pub reg_span : Spans → ℕ → Span
 reg_span spans r = held whole_i32 spans.regs r
 
--- where a variable's word lies: in the numbers of the innermost loop round here with this variable, or by `others` where none is
+-- where a variable's word lies: in the numbers of the innermost loop round here with this variable, or by `others` if none is
 abbrev pub var_span : Spans → ℕ → Span
 var_span spans var = held (spans.others var) spans.loops var
 
@@ -89,7 +89,7 @@ op_span spans (op.Offset high size low) = whole_i32
 op_span spans (op.Read place layout field) = whole_i32
 op_span spans (op.OwnRead layout field) = whole_i32
 
--- what is known behind a register that is set, and in an inner loop
+-- what is known after a register that is set, and in an inner loop
 abbrev pub with_span : ℕ → Span → Spans → Spans
 with_span to span spans = record { regs = (to, span) ∷ spans.regs; loops = spans.loops; others = spans.others }
 
@@ -122,7 +122,7 @@ abbrev pub walk_span : Option Shape → ℕ → Span
 walk_span None var = whole_i32
 walk_span (Some shape) var = extent_span (get_or (extents_in (bounds_of_shape shape)) var 1)
 
--- the parts on an axis of a box from `lo` up to below `hi`; 0 alone past its axes, and where it has none
+-- the parts on an axis of a box from `lo` up to below `hi`; 0 alone past its axes, and if it has none
 abbrev pub box_span : Coord → Coord → ℕ → Span
 box_span lo hi zero = if nat_le 1 lo.n then range_span lo.a hi.a else only (pos 0)
 box_span lo hi (suc zero) = if nat_le 2 lo.n then range_span lo.b hi.b else only (pos 0)

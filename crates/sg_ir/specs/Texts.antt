@@ -56,7 +56,7 @@ acc_text acc.Add = codes "add"
 acc_text acc.Min = codes "min"
 acc_text acc.Max = codes "max"
 
--- a register and a place, and a number behind a space
+-- a register and a place, and a number after a space
 abbrev pub reg : ℕ → List ℕ
 reg r = 114 ∷ decimal r
 
@@ -64,15 +64,15 @@ reg r = 114 ∷ decimal r
 abbrev pub place_text : ℕ → List ℕ
 place_text p = 112 ∷ decimal p
 
--- a number in decimal behind a space
+-- a number in decimal after a space
 abbrev pub then_number : ℕ → List ℕ
 then_number n = 32 ∷ decimal n
 
--- a register behind a space
+-- a register after a space
 abbrev pub then_reg : ℕ → List ℕ
 then_reg r = 32 ∷ reg r
 
--- index registers, each behind a space
+-- index registers, each after a space
 abbrev pub index_text : List ℕ → List ℕ
 index_text index = flat_map then_reg index
 
@@ -136,7 +136,7 @@ want_line layout index = codes "want" ++ then_number layout ++ index_text index
 abbrev pub else_lines : List ℕ → Lines
 else_lines lines indent = line indent (codes "else") ++ lines ++ line indent (codes "end")
 
--- the lines of an `if`: its condition's register, the block, `else` (also where nothing follows it), the other block, and `end`
+-- the lines of an `if`: its condition's register, the block, `else` (also if nothing follows it), the other block, and `end`
 abbrev pub if_lines : ℕ → Lines → Lines → Lines
 if_lines cond block otherwise indent = line indent (codes "if" ++ then_reg cond) ++ block (deeper indent) ++ else_lines (otherwise (deeper indent)) indent
 

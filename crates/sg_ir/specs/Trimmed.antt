@@ -36,7 +36,7 @@ way_behind ways to (step.Root layout) = []
 way_behind ways to (step.Check place axis extent index) = way_to ways place ++ record { axis = axis; index = index; place = to } ∷ []
 way_behind ways to (step.Down descent place node offset) = way_to ways place
 
--- one check more where it is needed
+-- one check more if it is needed
 abbrev pub and_check : Bool → ℕ → ℕ → List (ℕ × ℕ) → List (ℕ × ℕ)
 and_check true axis r checks = checks
 and_check false axis r checks = (axis, r) ∷ checks

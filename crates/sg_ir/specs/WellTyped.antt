@@ -123,12 +123,12 @@ goes_down ByBit Bitmasked = true
 goes_down ByLength Dynamic = true
 goes_down _ _ = false
 
--- a test of what may be there; false where it isn't
+-- a test of what may be there; false if it isn't
 abbrev pub holds_of : {A : Type 0} → (A → Bool) → Option A → Bool
 holds_of test None = false
 holds_of test (Some it) = test it
 
--- one judgement: whether an instruction is good in a scope, and the scope behind it
+-- one judgement: whether an instruction is good in a scope, and the scope after it
 abbrev pub Judge : Type 0
 Judge = Scope → Bool × Scope
 
@@ -136,7 +136,7 @@ Judge = Scope → Bool × Scope
 abbrev pub judge_step : Bool × Scope → Judge → Bool × Scope
 judge_step reached judge = let next = judge reached.1 in (reached.0 && next.0, next.1)
 
--- judgements one after the other: whether all are good, and the scope behind the last
+-- judgements one after the other: whether all are good, and the scope after the last
 abbrev pub judge_all : List Judge → Judge
 judge_all judges scope = fold judge_step (true, scope) judges
 
@@ -158,7 +158,7 @@ is_cell at layout known = (known.layout == layout) && holds_of (λ (shape : Shap
 abbrev pub field_type_at : Frame → ℕ → ℕ → Option Ty
 field_type_at at layout field = option_and_then (λ (shape : Shape). slice_get shape.fields field) (slice_get at.shapes layout)
 
--- the scope behind a place that goes on from another
+-- the scope after a place that goes on from another
 abbrev pub goes_on : ℕ → ℕ → Option KnownPlace → Scope → Scope
 goes_on to passed None scope = scope
 goes_on to passed (Some known) scope = with_place to (record { layout = known.layout; passed = passed }) scope
@@ -207,7 +207,7 @@ inst_fits at (i.For var lo hi body) scope =
 abbrev pub judges : Frame → Inst → Judge
 judges at = fold-Inst Judge (inst_fits at)
 
--- whether each instruction of a block is good in the scope behind those before it, and the scope behind the whole block
+-- whether each instruction of a block is good in the scope after those before it, and the scope after the whole block
 abbrev pub judged : Frame → List Inst → Judge
 judged at block = judge_all (map (judges at) block)
 
@@ -249,17 +249,17 @@ sets_step (i.For var lo hi body) = SetsVar var ∷ in_order body
 abbrev pub settings : List Inst → List SetName
 settings block = flat_map (fold-Inst (List SetName) sets_step) block
 
--- the number of the register that is set; nothing where a place or a variable is
+-- the number of the register that is set; nothing if a place or a variable is
 abbrev pub reg_number : SetName → List ℕ
 reg_number (SetsReg r) = r ∷ []
 reg_number _ = []
 
--- the number of the place that is set; nothing where a register or a variable is
+-- the number of the place that is set; nothing if a register or a variable is
 abbrev pub place_number : SetName → List ℕ
 place_number (SetsPlace p) = p ∷ []
 place_number _ = []
 
--- the number of the variable that is set; nothing where a register or a place is
+-- the number of the variable that is set; nothing if a register or a place is
 abbrev pub var_number : SetName → List ℕ
 var_number (SetsVar v) = v ∷ []
 var_number _ = []
@@ -294,7 +294,7 @@ abbrev pub frame_of : List Shape → Code → Frame
 frame_of shapes code = record { shapes = shapes; regs = code.regs; places = code.places; vars = code.vars; setters = setters_in code.body }
 
 -- At the start nothing is set, and the variables of the kernel's loop may be read. A variable that no instruction sets is one of these
--- where its number is below 3; any other may be read only behind what sets it.
+-- where its number is below 3; any other may be read only after what sets it.
 abbrev pub first_scope : List Inst → Scope
 first_scope block = record { regs = λ r. false; places = λ p. None; vars = λ v. nat_lt v most_loop_vars && (setters_in block v == 0) }
 

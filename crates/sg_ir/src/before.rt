@@ -13,7 +13,7 @@ use crate::settings::{Target, left_by};
 pub enum Before<'a> {
     /// Nothing: the code begins there.
     Start,
-    /// These instructions of the same block, behind what stands before the block.
+    /// These instructions of the same block, after what stands before the block.
     Block {
         done: &'a [Inst],
         outer: &'a Before<'a>,
@@ -43,14 +43,14 @@ fn is_same(one: Target, what: Target) -> bool
     one == what
 }
 
-/// Whether this is set behind one of these instructions.
+/// Whether this is set after one of these instructions.
 fn sets(done: &[Inst], what: Target) -> bool
     ensures { result ≡ list_any (leaves what) done.now }
 {
     last_setter(done, what).is_some()
 }
 
-/// The index of the last instruction behind which this is set.
+/// The index of the last instruction after which this is set.
 fn last_setter(done: &[Inst], what: Target) -> Option<usize>
     ensures { MatchOption result (list_any (leaves what) done.now ≡ false) (λ at. IsLast what done.now at) }
 {
@@ -63,7 +63,7 @@ fn last_setter(done: &[Inst], what: Target) -> Option<usize>
     None
 }
 
-/// Whether this is set behind an instruction.
+/// Whether this is set after an instruction.
 fn leaves(inst: &Inst, what: Target) -> bool
     ensures { result ≡ leaves what inst.now }
 {

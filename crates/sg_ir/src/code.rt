@@ -65,7 +65,7 @@ pub enum Inst {
         to: u32,
         layout: u32,
     },
-    /// The place, or none where the index, as an i32, isn't from 0 to below the extent of the axis.
+    /// The place, or none if the index, as an i32, isn't from 0 to below the extent of the axis.
     Check {
         to: u32,
         place: u32,
@@ -87,7 +87,7 @@ pub enum Inst {
         size: u32,
         low: u32,
     },
-    /// The slot of a dense or a pointer node; none where a pointer has no child.
+    /// The slot of a dense or a pointer node; none if a pointer has no child.
     Child {
         to: u32,
         place: u32,
@@ -101,7 +101,7 @@ pub enum Inst {
         node: u32,
         offset: u32,
     },
-    /// The slot, or none where its bit is off.
+    /// The slot, or none if its bit is off.
     MaskBit {
         to: u32,
         place: u32,

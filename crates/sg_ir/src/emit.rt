@@ -157,7 +157,7 @@ pub fn root(names: &mut Names, block: &mut Items<Inst>, layout: u32) -> Result<u
     Ok(to)
 }
 
-/// The place, or none where the index isn't in the extent of an axis, from 0.
+/// The place, or none if the index isn't in the extent of an axis, from 0.
 pub fn checked(
     names: &mut Names,
     block: &mut Items<Inst>,

@@ -315,7 +315,7 @@ fn push_want(layout: u32, index: &[u32], indent: &str, text: &mut String) -> Res
     text.push_str("\n")
 }
 
-/// Adds index registers, each behind a space.
+/// Adds index registers, each after a space.
 fn push_index(index: &[u32], text: &mut String) -> Result<(), AllocError>
     ensures { OnOk result (string_bytes text.new ≡ string_bytes text.old ++ spec.index_text index.now) }
 {

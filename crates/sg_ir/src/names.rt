@@ -23,7 +23,7 @@ impl Names {
         }
     }
 
-    /// A new register of a type. Want of memory where the numbers of a u32 are used up.
+    /// A new register of a type. Running out of memory where the numbers of a u32 are used up.
     pub fn reg(&mut self, ty: Ty) -> Result<u32, Memory>
         ensures { IfOk result (λ to. AddsReg ty to self.old self.new) }
     {
@@ -34,7 +34,7 @@ impl Names {
         Ok(to)
     }
 
-    /// A new place. Want of memory where the numbers of a u32 are used up.
+    /// A new place. Running out of memory where the numbers of a u32 are used up.
     pub fn place(&mut self) -> Result<u32, Memory>
         ensures { IfOk result (λ to. AddsPlace to self.old self.new) }
     {

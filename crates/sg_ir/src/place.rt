@@ -19,7 +19,7 @@ use sg_coord::{Extents, numbering};
 use sg_layout::{Layout, NodeShape, extent_in, paths_tell};
 use sg_words::{Items, Memory};
 
-/// The place of the access to the layout with this number whose coordinate the index registers name: its root, behind a check of
+/// The place of the access to the layout with this number whose coordinate the index registers name: its root, after a check of
 /// each axis, and down all nodes.
 pub fn place(
     layout: &Layout,
@@ -46,7 +46,7 @@ pub fn place(
     descend(1, nodes, index, inside, names, block)
 }
 
-/// The place behind the checks of the axes from this one on, counted from 0.
+/// The place after the checks of the axes from this one on, counted from 0.
 fn check_from(
     axis: u32,
     extents: Extents,

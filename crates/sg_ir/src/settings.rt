@@ -14,7 +14,7 @@ pub enum Target {
     Var(u64),
 }
 
-/// What is set behind an instruction: nothing behind a block of its own.
+/// What is set after an instruction: nothing after a block of its own.
 pub(crate) fn left_by(inst: &Inst) -> Option<Target>
     ensures { result ≡ left inst.now }
 {
@@ -192,7 +192,7 @@ pub(crate) struct Next {
     pub(crate) place: u64,
 }
 
-/// The numbers behind a block that sets registers and places in order of their numbers, from these on. None where it doesn't.
+/// The numbers after a block that sets registers and places in order of their numbers, from these on. None if it doesn't.
 #[cycle(ascend)]
 pub(crate) fn ascend(block: &[Inst], from: Next) -> Option<Next>
     ensures { OnSome result (ascends from (settings block.now) ≡ result) }
@@ -227,7 +227,7 @@ fn ascend_inst(inst: &Inst, from: Next) -> Option<Next>
     }
 }
 
-/// The numbers behind what is set.
+/// The numbers after what is set.
 fn pass(set: Option<Target>, from: Next) -> Option<Next>
     ensures { OnSome result (ascends from (settings_of set) ≡ result) }
 {
@@ -249,7 +249,7 @@ fn pass(set: Option<Target>, from: Next) -> Option<Next>
     }
 }
 
-/// The number behind this one, which is to be at least the next.
+/// The number after this one, which is to be at least the next.
 fn past(number: u32, next: u64) -> Option<u64>
     ensures { result ≡ past number next }
 {
@@ -294,7 +294,7 @@ fn is_once(inst: &Inst, whole: &[Inst]) -> bool
     }
 }
 
-/// Whether this, where it is no variable, is set once.
+/// Whether this, if it is no variable, is set once.
 fn is_set_once(set: Option<Target>, whole: &[Inst]) -> bool
     ensures { result ≡ list_all (once_in (settings whole.now)) (settings_of set) }
 {

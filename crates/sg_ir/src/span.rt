@@ -33,7 +33,7 @@ impl Span {
         }
     }
 
-    /// The numbers from `lo` up to below `hi`; 0 alone where there are none.
+    /// The numbers from `lo` up to below `hi`; 0 alone if there are none.
     pub fn range(lo: i32, hi: i32) -> Span
         ensures { result ≡ spec.range_span lo hi }
     {
@@ -77,7 +77,7 @@ impl Span {
     }
 }
 
-/// The interval where both ends are numbers of an i32, else all of them.
+/// The interval if both ends are numbers of an i32, else all of them.
 fn cut(lo: i64, hi: i64) -> Span
     ensures { result ≡ spec.cut_to_i32 lo hi }
 {

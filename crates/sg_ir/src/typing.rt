@@ -91,7 +91,7 @@ pub(crate) struct Typing<'a> {
 }
 
 impl Typing<'_> {
-    /// Whether all instructions of a block are good, behind what stands before it.
+    /// Whether all instructions of a block are good, after what stands before it.
     #[cycle(judge)]
     fn block_fits<'x>(&self, block: &'x [Inst], before: &'x Before<'x>) -> bool
         ensures { result ≡ are_good self.now before.now block.now }
@@ -108,7 +108,7 @@ impl Typing<'_> {
         true
     }
 
-    /// Whether an instruction is good, behind what stands before it.
+    /// Whether an instruction is good, after what stands before it.
     #[cycle(judge)]
     fn inst_fits<'x>(&self, inst: &'x Inst, before: &'x Before<'x>) -> bool
         ensures { result ≡ is_good self.now before.now inst.now }

@@ -25,7 +25,7 @@ is_active shape written at = is_live shape written (last_sparse shape.nodes) (pa
 abbrev Activates : Shape → Coord → Coord → Type 0
 Activates shape by at = MakesLive shape (last_sparse shape.nodes) (path shape at (last_sparse shape.nodes)) by
 
--- a coordinate is closed in a list where it is inside, and all nodes are dense or one of the list activates it
+-- a coordinate is closed in a list if it is inside, and all nodes are dense or one of the list activates it
 abbrev ByOne : Shape → List Coord → Coord → Type 0
 ByOne shape written at = (by : Coord) × Contains written by × Activates shape by at
 

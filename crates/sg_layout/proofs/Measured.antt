@@ -38,7 +38,7 @@ left_fits x y some = omega (arith, mul-le x 1 x y (omega arith) some)
 three_fit : (a b c d e f : ℕ) → a ≤ d → b ≤ e → c ≤ f → a * b * c ≤ d * e * f
 three_fit a b c d e f p q r = mul-le (a * b) c (d * e) f (mul-le a b d e p q) r
 
--- the nodes below a node fit where it fits with them
+-- the nodes below a node fit if it fits with them
 pub fits_below : (axes number : ℕ) (node : NodeShape) (later : List NodeShape) → AreMeasurable axes number (node ∷ later) → AreMeasurable axes (suc number) later
 fits_below axes number node later fit =
     let a = right_fits (extent_in node.sizes 1) (extent_over later 1) (own_some axes number 1 node later fit) in

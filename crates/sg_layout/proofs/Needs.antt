@@ -164,7 +164,7 @@ pub full_is_of_members : (shape : Shape) → FullIsOfMembers shape
 full_is_of_members shape left right same =
     full_same shape left right 1 shape.nodes (λ k node there. need_is_of_members shape left right same (1 + k) node)
 
--- a slot and one that it makes live agree but for the last offset, which isn't greater
+-- a slot and one that it makes live agree except for the last offset, which isn't greater
 pub below_take : (x y : List ℕ) (m : ℕ) → is_at_or_below x y ≡ true → m < length x → take m x ≡ take m y
 below_take x y zero below short = refl
 below_take [] y (suc m) below short = absurd (omega arith)

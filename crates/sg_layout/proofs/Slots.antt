@@ -64,7 +64,7 @@ live_onward Dynamic x y z p q = below_below x y z p q
 abbrev pub MakesLive : Shape → ℕ → List ℕ → Coord → Type 0
 MakesLive shape number slot at = makes_live (kind_at shape.nodes number) (path shape at number) slot ≡ true
 
--- a slot is live exactly where a coordinate of the list makes it so
+-- a slot is live exactly when a coordinate of the list makes it so
 pub from_live : (shape : Shape) (written : List Coord) (number : ℕ) (slot : List ℕ) → is_live shape written number slot ≡ true → (at : Coord) × Contains written at × MakesLive shape number slot at
 from_live shape written number slot live =
     let found = Any-from_list_any (λ (at : Coord). makes_live (kind_at shape.nodes number) (path shape at number) slot) written live in

@@ -1,13 +1,13 @@
 -- The extents of nodes and of axes.
 use Rattle.std.specs.Prelude.{ℕ, ◌*◌, List, [], ◌∷◌, map, if◌then◌else◌, ◌==◌}
 use Rattle.sg_coord.specs.Bounds.{Bounds}
--- a number as a count: 0 where it is negative
+-- a number as a count: 0 if it is negative
 pub use Rattle.sg_coord.specs.Coord.{count_of}
 use Rattle.sg_layout.specs.declared.shape.Size.{Size}
 use Rattle.sg_layout.specs.declared.shape.NodeShape.{NodeShape}
 use Rattle.sg_layout.specs.declared.shape.Shape.{Shape}
 
--- the extent that a node's sizes give an axis; 1 where they don't name it
+-- the extent that a node's sizes give an axis; 1 if they don't name it
 abbrev pub extent_in : List Size → ℕ → ℕ
 extent_in [] axis = 1
 extent_in (size ∷ sizes) axis = if size.axis == axis then count_of size.extent else extent_in sizes axis

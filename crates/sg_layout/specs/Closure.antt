@@ -20,7 +20,7 @@ is_dense Pointer = false
 is_dense Hash = false
 is_dense Dynamic = false
 
--- the number of the last node that isn't dense, counted from 1; 0 where all are
+-- the number of the last node that isn't dense, counted from 1; 0 if all are
 abbrev pub last_sparse : List NodeShape → ℕ
 last_sparse [] = 0
 last_sparse (node ∷ later) =

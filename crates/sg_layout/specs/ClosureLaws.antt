@@ -27,7 +27,7 @@ PointsAreNumbered bounds =
 abbrev pub PointsAreInOrder : Bounds → Type 0
 PointsAreInOrder bounds = AllPairs ComesBefore (points bounds)
 
--- a coordinate is in the closure exactly where the test says so
+-- a coordinate is in the closure exactly when the test says so
 abbrev pub ClosureIsTested : Shape → Type 0
 ClosureIsTested shape =
     (written : List Coord) (at : Coord) →
@@ -49,7 +49,7 @@ ClosureExtends shape =
     (written : List Coord) (at : Coord) → Contains written at → Inside (bounds_of_shape shape) at →
     Contains (closure shape written) at
 
--- where one list has all that another has, so have their closures
+-- if one list has all that another has, so have their closures
 abbrev pub ClosureGrows : Shape → Type 0
 ClosureGrows shape =
     (few more : List Coord) → ((at : Coord) → Contains few at → Contains more at) → (at : Coord) →
@@ -70,7 +70,7 @@ abbrev pub ClosureAbsorbs : Shape → Type 0
 ClosureAbsorbs shape =
     (written more : List Coord) → closure shape (closure shape written ++ more) ≡ closure shape (written ++ more)
 
--- where all nodes are dense, every closure is all points, and no node is ever too full
+-- if all nodes are dense, every closure is all points, and no node is ever too full
 abbrev pub DenseIsFull : Shape → Type 0
 DenseIsFull shape =
     IsTrue (all_dense shape.nodes) → (written : List Coord) →

@@ -14,7 +14,7 @@ pub record IsSparseNode (shape : Shape) (number : ℕ) : Type 0 where
   pub within : number ≤ length shape.nodes
   pub sparse : kind_at shape.nodes number ≢ Dense
 
--- where one list has all that another has, it makes live what the other does
+-- if one list has all that another has, it makes live what the other does
 abbrev pub LiveGrows : Shape → Type 0
 LiveGrows shape =
     (few more : List Coord) → ((at : Coord) → Contains few at → Contains more at) → (number : ℕ) (slot : List ℕ) →

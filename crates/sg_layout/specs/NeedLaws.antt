@@ -19,7 +19,7 @@ pub record IsNumberedNode (shape : Shape) (number : ℕ) (node : NodeShape) : Ty
 abbrev pub AllInside : Shape → List Coord → Type 0
 AllInside shape written = (at : Coord) → Contains written at → Inside (bounds_of_shape shape) at
 
--- where one list has all that another has, each need is as great or greater
+-- if one list has all that another has, each need is as great or greater
 abbrev pub NeedGrows : Shape → Type 0
 NeedGrows shape =
     (few more : List Coord) → ((at : Coord) → Contains few at → Contains more at) → (number : ℕ) (node : NodeShape) →

@@ -22,7 +22,7 @@ abbrev pub CoordinateOfPath : Shape → Type 0
 CoordinateOfPath shape =
     (at : Coord) → Inside (bounds_of_shape shape) at → coordinate_of shape (offsets shape.nodes at) ≡ at
 
--- coordinates inside have the same whole path exactly where they are equal
+-- coordinates inside have the same whole path exactly when they are equal
 abbrev pub PathTellsCoordinate : Shape → Type 0
 PathTellsCoordinate shape =
     (x y : Coord) → Inside (bounds_of_shape shape) x → Inside (bounds_of_shape shape) y →
@@ -72,11 +72,11 @@ SlotsAreListed nodes = (slot : List ℕ) → Contains (slots nodes) slot ↔ IsS
 abbrev pub SlotsAreCounted : List NodeShape → Type 0
 SlotsAreCounted nodes = length (slots nodes) ≡ slots_of nodes
 
--- a slot in the list has a smaller number than each slot behind it, so none stands there twice
+-- a slot in the list has a smaller number than each slot after it, so none stands there twice
 abbrev pub SlotsAreInOrder : List NodeShape → Type 0
 SlotsAreInOrder nodes = AllPairs (λ x y. slot_number nodes x < slot_number nodes y) (slots nodes)
 
--- no node decides what is active exactly where all are dense
+-- no node decides what is active exactly when all are dense
 abbrev pub NoneDecides : Shape → Type 0
 NoneDecides shape = (last_sparse shape.nodes ≡ 0) ↔ IsTrue (all_dense shape.nodes)
 

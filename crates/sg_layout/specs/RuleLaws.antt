@@ -26,7 +26,7 @@ KeepBefore shape end =
     (place : ℕ) (node : NodeShape) → place < end → slice_get shape.nodes place ≡ Some node →
     KeepsRules shape.axes (suc place) node (drop (suc place) shape.nodes)
 
--- a shape is accepted exactly where all nodes keep the rules and the layout is small
+-- a shape is accepted exactly when all nodes keep the rules and the layout is small
 abbrev pub AcceptedKeepsRules : Shape → Type 0
 AcceptedKeepsRules shape = (checked_shape shape ≡ Ok shape) ↔ (AllKeep shape × IsTrue (is_small (bounds_of_shape shape)))
 
@@ -52,7 +52,7 @@ pub record IsFirstFault (shape : Shape) (fault : LayoutFault) (place : ℕ) (nod
   pub before : KeepBefore shape place
   pub has : HasFault shape.axes (suc place) node (drop (suc place) shape.nodes) fault
 
--- where all nodes keep the rules, the layout is too large
+-- if all nodes keep the rules, the layout is too large
 pub record IsTooLarge (shape : Shape) (fault : LayoutFault) : Type 0 where
   pub same : fault ≡ TooLarge
   pub keep : AllKeep shape

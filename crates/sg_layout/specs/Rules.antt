@@ -91,7 +91,7 @@ is_small bounds =
 abbrev pub checked_by : Option LayoutFault → Shape → Result Shape LayoutFault
 checked_by fault shape = fault_or fault (if is_small (bounds_of_shape shape) then Ok shape else Err TooLarge)
 
--- the shape where it keeps all rules, else the fault: of the first node that has one, and after all nodes rule 4
+-- the shape if it keeps all rules, else the fault: of the first node that has one, and after all nodes rule 4
 abbrev pub checked_shape : Shape → Result Shape LayoutFault
 checked_shape shape = checked_by (first_node_fault shape.axes 1 shape.nodes) shape
 

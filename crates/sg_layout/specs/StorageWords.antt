@@ -20,7 +20,7 @@ ends_segment Dense = false
 ends_segment Bitmasked = false
 ends_segment Dynamic = false
 
--- a node before nodes that are cut already: a segment of its own where it ends one, else the first of the first
+-- a node before nodes that are cut already: a segment of its own if it ends one, else the first of the first
 -- segment
 abbrev pub put_before : Bool → NodeShape → List (List NodeShape) → List (List NodeShape)
 put_before true node cut = (node ∷ []) ∷ cut

@@ -16,7 +16,7 @@ use std::alloc::Global;
 /// The greatest number of points of a layout.
 const MOST_POINTS: u64 = 1 << 30;
 
-/// The extents of a shape whose nodes have no fault. None where an axis or their product is too large.
+/// The extents of a shape whose nodes have no fault. None if an axis or their product is too large.
 pub(crate) fn extents_of(shape: &Shape) -> Option<Extents>
     requires declared { IsTrue (is_declared shape.now) }
     requires no_fault { first_node_fault shape.now.axes 1 shape.now.nodes ≡ None }
@@ -39,7 +39,7 @@ pub(crate) fn extents_of(shape: &Shape) -> Option<Extents>
     })
 }
 
-/// The extent of an axis over all nodes. None where it is too large.
+/// The extent of an axis over all nodes. None if it is too large.
 fn extent_over(nodes: &[NodeShape], axis: u32) -> Option<u32>
     requires { IsTrue (list_all has_good_extents nodes.now) }
     ensures { MatchOption result (2 ^ 15 < extent_over nodes.now axis)
@@ -55,7 +55,7 @@ fn extent_over(nodes: &[NodeShape], axis: u32) -> Option<u32>
     Some(extent)
 }
 
-/// The extent that a node's sizes give an axis, from 1: 1 where they do not name it.
+/// The extent that a node's sizes give an axis, from 1: 1 if they do not name it.
 pub fn extent_in(sizes: &[Size], axis: u32) -> u32
     requires { IsTrue (list_all (λ size. is_extent size.extent) sizes.now) }
     ensures value { result ≡ extent_in sizes.now axis }

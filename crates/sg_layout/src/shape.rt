@@ -22,7 +22,7 @@ pub struct Size {
     pub extent: i32,
 }
 
-/// A node of a layout. `cap` and `chunk` are 0 where the node's kind has none.
+/// A node of a layout. `cap` and `chunk` are 0 if the node's kind has none.
 #[derive(Debug, Drop)]
 pub struct NodeShape {
     pub kind: Kind,

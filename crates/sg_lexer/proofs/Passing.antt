@@ -1,4 +1,4 @@
--- One piece passed: what `tokens_from` is before and behind it.
+-- One piece passed: what `tokens_from` is before and after it.
 use Rattle.std.proofs.Common.{◌≡◌, ℕ, zero, suc, ◌+◌, ◌-◌, ◌<◌, ◌≤◌, ◌==◌, cond, ap₂, List, [], ◌∷◌, ◌++◌, length, take, drop, Option, Some, None, Result, Ok, count_by, refl, sym, ap, ◌∙◌, arith, append_assoc, append-nil}
 use Rattle.std.proofs.lemmas.List.{drop-drop, length-drop}
 use Rattle.std.proofs.lemmas.List.Sums.{sum_by-append}
@@ -28,7 +28,7 @@ goes before done (b ∷ bytes) (suc n) t e some within =
     ∙ pass n (before ++ b ∷ []) (with_piece before done (suc n, t)) bytes
     ∙ ap (λ (x : List ℕ). tokens_from 0 x (with_piece before done (suc n, t)) (drop n bytes)) (append_assoc before (b ∷ []) (take n bytes))
 
--- the line behind a piece
+-- the line after a piece
 pub line_more : (bytes : List ℕ) (at n : ℕ) → line_after (take at bytes) + count_by (λ b. b == 10) (take n (drop at bytes)) ≡ line_after (take (at + n) bytes)
 line_more bytes at n =
     let both : count_by (λ b. b == 10) (take at bytes ++ take n (drop at bytes)) ≡ count_by (λ b. b == 10) (take at bytes) + count_by (λ b. b == 10) (take n (drop at bytes)) = sum_by-append (λ (b : ℕ). cond (b == 10) 1 0) (take at bytes) (take n (drop at bytes)) in

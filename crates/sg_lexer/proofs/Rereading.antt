@@ -29,7 +29,7 @@ text_some t good =
           omega arith)
     ]
 
--- a run begins no comment, whatever stands behind it
+-- a run begins no comment, whatever stands after it
 run_no_comment : (bytes : List ℕ) → is_inner (slice_index bytes 0) ≡ true → starts_with nat_eq bytes (codes "//") ≡ false
 run_no_comment bytes inner = false_from_ne_true (starts_with nat_eq bytes (codes "//")) (λ starts. both_ways (is_inner (slice_index bytes 0)) (ap is_inner (comment_slash bytes starts)) inner)
 

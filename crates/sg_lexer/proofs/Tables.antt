@@ -35,7 +35,7 @@ found_passes {X} p (y ∷ ys) x e =
       | inr h ↦ found_passes p ys x h.1
     ]
 
--- where none is found, none passes
+-- if none is found, none passes
 pub none_passes : {X : Type 0} (p : X → Bool) (xs : List X) (x : X) → find p xs ≡ None → Stands x xs → p x ≡ false
 none_passes p [] x e at = absurd at
 none_passes {X} p (y ∷ ys) x e (inl same) =
@@ -152,7 +152,7 @@ pub word_found : (text : List ℕ) (w : Word) → reserved_word text ≡ Some w 
 unfolding reserved_word
 word_found text w e = (bytes_eq-Decides (word_text w) text).0 (found_passes (λ v. bytes_eq (word_text v) text) reserved_words w e)
 
--- where none is found, no word has the spelling
+-- if none is found, no word has the spelling
 pub no_word_found : (text : List ℕ) → reserved_word text ≡ None → (w : Word) → word_text w ≡ text → ⊥
 unfolding reserved_word
 no_word_found text e w same = both_ways (bytes_eq (word_text w) text) (none_passes (λ v. bytes_eq (word_text v) text) reserved_words w e (each_word w)) ((bytes_eq-Decides (word_text w) text).1 same)
@@ -178,7 +178,7 @@ pub not_reserved : (text : List ℕ) → ((w : Word) → word_text w ≡ text �
 unfolding is_reserved
 not_reserved text other = any_none (λ v. bytes_eq (word_text v) text) reserved_words (λ w. false_from_ne_true (bytes_eq (word_text w) text) (λ e. other w ((bytes_eq-Decides (word_text w) text).0 e)))
 
--- one is found exactly where one passes
+-- one is found exactly when one passes
 find_any : {X : Type 0} (p : X → Bool) (xs : List X) → is_some (find p xs) ≡ list_any p xs
 find_any p [] = refl
 find_any p (y ∷ ys) = elim (cases_Bool (p y)) [ inl e ↦ rw e refl | inr e ↦ rw e (find_any p ys) ]
@@ -286,7 +286,7 @@ sign_without_spaces = for_sign (λ s. list_all (λ b. not (b == 32)) (sign_text 
 pub sign_some : (s : Sign) → nat_le 1 (length (sign_text s)) ≡ true
 sign_some = for_sign (λ s. nat_le 1 (length (sign_text s))) refl
 
--- no sign begins a comment, alone or with a space behind it
+-- no sign begins a comment, alone or with a space after it
 pub sign_alone_no_comment : (s : Sign) → not (starts_with nat_eq (sign_text s) (codes "//")) ≡ true
 sign_alone_no_comment = for_sign (λ s. not (starts_with nat_eq (sign_text s) (codes "//"))) refl
 
@@ -302,7 +302,7 @@ pub sign_longest : (bytes : List ℕ) (s t : Sign) → sign_at bytes ≡ Some s 
 unfolding sign_at
 sign_longest bytes s t e there = first_is_greatest (λ v. length (sign_text v)) (λ v. starts_with nat_eq bytes (sign_text v)) signs s t refl e (each_sign t) there
 
--- where none is found, none stands there
+-- if none is found, none stands there
 pub no_sign_found : (bytes : List ℕ) → sign_at bytes ≡ None → (s : Sign) → starts_with nat_eq bytes (sign_text s) ≡ false
 unfolding sign_at
 no_sign_found bytes e s = none_passes (λ v. starts_with nat_eq bytes (sign_text v)) signs s e (each_sign s)

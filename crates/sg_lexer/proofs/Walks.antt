@@ -46,7 +46,7 @@ pub record Held (whole : List ℕ) (done : List Spanned) (at : ℕ) : Type 0 whe
   pub few : length done ≤ most_tokens
   pub within : at ≤ length whole
 
--- a token at the front of what stands behind `before`
+-- a token at the front of what stands after `before`
 token_of : (whole before bytes : List ℕ) (n : ℕ) (t : Token) → before ++ bytes ≡ whole → Takes bytes n t → IsTokenOf whole (record { token = t; start = length before; end = length before + n; line = line_after before })
 token_of whole before bytes n t e at =
     let rest : drop (length before) whole ≡ bytes = ap (drop (length before)) (sym e) ∙ drop-append_seam before bytes in

@@ -76,7 +76,7 @@ signs =
 unfoldable pub sign_at : List ℕ → Option Sign
 sign_at bytes = find (λ s. starts_with nat_eq bytes (sign_text s)) signs
 
--- what stands behind the digits of a number
+-- what stands after the digits of a number
 abbrev pub suffix : Bool → List ℕ
 suffix unsigned = if unsigned then codes "u" else []
 

@@ -34,7 +34,7 @@ pub record IsTokenOf (bytes : List ℕ) (t : Spanned) : Type 0 where
   pub line : t.line ≡ line_after (take t.start bytes)
   pub longest : (end : ℕ) → t.end < end → end ≤ length bytes → IsLexeme (slice_range bytes t.start end) → ⊥
 
--- The tokens of the bytes from one place to another: in order, with only white space and comments before, between and behind them.
+-- The tokens of the bytes from one place to another: in order, with only white space and comments before, between and after them.
 abbrev pub AreTokens : List ℕ → ℕ → List Spanned → ℕ → Type 0
 AreTokens bytes from [] to = Blank (drop from bytes) (drop to bytes)
 AreTokens bytes from (t ∷ ts) to = (from ≤ t.start) × Blank (drop from bytes) (drop t.start bytes) × IsTokenOf bytes t × AreTokens bytes t.end ts to

@@ -41,7 +41,7 @@ unfoldable pub number_as : ℕ → Bool → List ℕ → Result Token LexFault
 number_as line unsigned digits =
     if is_decimal digits && is_number (decimal_value digits) unsigned then Ok (token.Number (decimal_value digits) unsigned) else Err (fault.BadNumber line)
 
--- what a run is that begins with a digit: a number, where a `u` may stand behind the digits
+-- what a run is that begins with a digit: a number, where a `u` may stand after the digits
 unfoldable pub number_token : ℕ → List ℕ → Result Token LexFault
 number_token line run = if ends_with nat_eq run (codes "u") then number_as line true (take (length run - 1) run) else number_as line false run
 
@@ -55,7 +55,7 @@ run_token line run = if is_ascii_digit (slice_index run 0) then number_token lin
 abbrev pub Piece : Type 0
 Piece = ℕ × Option Token
 
--- a token's answer, where there is room for one more token
+-- a token's answer, if there is room for one more token
 abbrev pub if_room : ℕ → Result Piece LexFault → Result Piece LexFault
 if_room count answer = if nat_lt count most_tokens then answer else Err fault.TooManyTokens
 
@@ -94,7 +94,7 @@ with_piece before done (n, Some t) =
     done ++ record { token = t; start = length before; end = length before + n; line = line_after before } ∷ []
 
 -- The tokens of `before` and of the bytes after it, where `done` are those of `before`, and its last piece goes on for `left` more bytes.
--- The code counts an offset and a line in place of `before`.
+-- The code counts an offset and a line instead of `before`.
 abbrev pub tokens_from : ℕ → List ℕ → List Spanned → List ℕ → Result (List Spanned) LexFault
 tokens_from left before done [] = Ok done
 tokens_from (suc left) before done (b ∷ bytes) = tokens_from left (before ++ b ∷ []) done bytes
@@ -148,7 +148,7 @@ a_long_name : token_list (codes "//\nabcdefghijklmnopqrstuvwxyz_234567") ≡ Err
 unfolding token_list piece run_token name_token number_token number_as reserved_word sign_at
 a_long_name = refl
 
--- behind the last token that there is room for, a run is one too many even if it is bad
+-- after the last token that there is room for, a run is one too many even if it is bad
 bad_number_behind : piece 3 16384 (codes "07") ≡ Err fault.TooManyTokens
 unfolding piece run_token number_token number_as
 bad_number_behind = refl

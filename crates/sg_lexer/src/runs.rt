@@ -29,7 +29,7 @@ fn name_token(alloc: Global, line: u32, run: &[u8]) -> Result<Token, Stop<LexFau
     }
 }
 
-/// The greatest number, by whether a `u` stands behind it.
+/// The greatest number, by whether a `u` stands after it.
 fn limit(unsigned: bool) -> u64
     ensures { result ≡ max_number unsigned }
 {
@@ -40,7 +40,7 @@ fn limit(unsigned: bool) -> u64
     }
 }
 
-/// The number of these digits, where it is within its limit.
+/// The number of these digits, if it is within its limit.
 #[tactic(auto, unfolding(crate::specs::Lexing::number_as))]
 fn number_as(line: u32, unsigned: bool, digits: &[u8]) -> Result<Token, Stop<LexFault>>
     ensures { Answers result (spec.number_as line unsigned digits.now) }

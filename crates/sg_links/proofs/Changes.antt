@@ -220,7 +220,7 @@ popped_none l next heads head old kept there is none =
     let nothing : list_of l head ≡ [] = empty_is (list_of l head) (sym (long_is l next heads head old kept there is) ∙ none) in
     same_list l head (drop 1 (list_of l head)) (ap (drop 1) nothing ∙ sym nothing)
 
--- ── One list behind another ──
+-- ── One list after another ──
 
 emptied : (next : List ℕ) (heads : List Head) (lists : List (List ℕ)) (from : ℕ) (empty : Head) → AreLinked next heads lists → from < length lists → empty ≡ record { first = length next; last = length next; len = 0 } → AreLinked next (set heads from empty) (set lists from [])
 emptied next heads lists from empty linked there is =
@@ -289,7 +289,7 @@ both_short l next heads head from old more kept there from_there apart is more_i
     let some = longer l next heads head (list_of l from) kept there (λ x. omega (arith, times_two x l.lists head from there from_there apart, kept.linked.disjoint.once x)) (λ x has. omega (arith, kept.numbers, kept.linked.disjoint.below x (omega (arith, times_at x l.lists from from_there)))) in
     omega (arith, long_is l next heads head old kept there is, long_is l next heads from more kept from_there more_is, some)
 
--- ── Numbers behind numbers ──
+-- ── Numbers after numbers ──
 
 path_after : (next : List ℕ) (x : ℕ) (xs : List ℕ) (end k y : ℕ) → IsPath next x xs end → slice_get xs k ≡ Some y → ((slice_get xs (suc k) ≡ None) × (get_or next y 0 ≡ end)) ⊎ ((w : ℕ) × (slice_get xs (suc k) ≡ Some w) × (get_or next y 0 ≡ w))
 path_after next x [] end k y path is = cc

@@ -1,4 +1,4 @@
--- Lists that a row and heads keep, and how one list more stands behind another.
+-- Lists that a row and heads keep, and how one list more stands after another.
 use Rattle.std.proofs.Common.{◌≡◌, ◌≢◌, ℕ, ◌+◌, ◌-◌, ◌<◌, ◌≤◌, Bool, false, List, [], ◌∷◌, ◌++◌, length, set, get_or, take, refl, sym, ap, ◌∙◌, subst, arith, inl, inr, append_assoc}
 use Rattle.std.proofs.lemmas.Bool.{cases_eq}
 use Rattle.std.proofs.lemmas.List.{length-set, length-append, length-map, get_or-map, get_or-set_same, get_or-set_other, get_or-append-add, ext_get_or}
@@ -78,7 +78,7 @@ changed next rest heads lists head h list linked same there one others once belo
   few_heads = omega (arith, linked.few_heads, length-set heads head h);
 }
 
--- what comes behind a number of no list changes
+-- what comes after a number of no list changes
 pub untouched : (next : List ℕ) (heads : List Head) (lists : List (List ℕ)) (y v : ℕ) → AreLinked next heads lists → times_in_lists y lists ≡ 0 → AreLinked (set next y v) heads lists
 untouched next heads lists y v linked free = record {
   as_many = linked.as_many;
@@ -107,7 +107,7 @@ elsewhere n lists i head y disjoint within there other one =
     let least : times_in_lists y lists ≤ 1 = disjoint.once y in
     omega (arith, times_two y lists i head within there other)
 
--- ── One list behind another ──
+-- ── One list after another ──
 
 nothing : (list ys : List ℕ) → length list ≡ 0 → list ++ ys ≡ ys
 nothing [] ys none = refl
@@ -129,7 +129,7 @@ started next heads lists head more ys linked there none one once below =
     subst (λ xs. AreLinked next (set heads head more) (set lists head xs)) (sym alone)
     (changed next next heads lists head more ys linked refl there one (λ i within other. linked.linked i within) (λ x. omega (arith, count x, once x)) (λ x has. within_of next lists x ys linked.disjoint (omega (arith, count x)) below))
 
--- more numbers, in no list, go behind the last of a list
+-- more numbers, in no list, go after the last of a list
 pub joined : (next : List ℕ) (heads : List Head) (lists : List (List ℕ)) (head : ℕ) (old more both : Head) (ys : List ℕ) → AreLinked next heads lists → head < length lists → old ≡ get_or heads head no_head → 0 < length (get_or lists head []) → IsLinked next more ys → 0 < length ys → ((x : ℕ) → times_in_lists x lists + times x ys ≤ 1) → ((x : ℕ) → 0 < times x ys → x < length next) → both ≡ record { first = old.first; last = more.last; len = old.len + more.len } → AreLinked (set next old.last more.first) (set heads head both) (set lists head (get_or lists head [] ++ ys))
 joined next heads lists head old more both ys linked there is some one many once below made =
     let list : List ℕ = get_or lists head [] in

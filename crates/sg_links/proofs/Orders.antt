@@ -1,4 +1,4 @@
--- Lists laid one behind the other.
+-- Lists laid one after the other.
 use Rattle.std.proofs.Common.{◌≡◌, ◌≢◌, ℕ, ◌+◌, ◌<◌, ◌≤◌, List, [], length, set, get_or, take, refl, sym, ap, ◌∙◌, subst, arith, inl, inr}
 use Rattle.std.specs.Prelude.{Some, slice_get, sum_by}
 use Rattle.std.proofs.lemmas.Option.{slice_get-get_or}
@@ -33,7 +33,7 @@ front_more old order start at x front behind k below = get_or-set_other order at
 
 -- ── List after list ──
 
--- one list more, behind the others
+-- one list more, after the others
 pub laid_list : (head : ℕ) (lists : List (List ℕ)) (starts rest order after : List ℕ) (end more : ℕ) → AreLaid head lists starts order end → head < length starts → rest ≡ set starts head end → IsLaid (get_or lists head []) end after → ((k : ℕ) → k < end → get_or after k 0 ≡ get_or order k 0) → more ≡ end + length (get_or lists head []) → AreLaid (head + 1) lists rest after more
 laid_list head lists starts rest order after end more laid there rest_is last front more_is = record {
   laid = λ i within. elim (cases_eq i head) [

@@ -5,7 +5,7 @@ use Rattle.sg_links.specs.Lists.{times}
 use Rattle.sg_links.specs.steps.Rows.{IsPath, numbers_along}
 use Rattle.sg_links.proofs.Times.{none_apart}
 
--- a change of what comes behind a number that is not on the path
+-- a change of what comes after a number that is not on the path
 pub path_set : (next : List ℕ) (x : ℕ) (xs : List ℕ) (end y v : ℕ) → IsPath next x xs end → times y xs ≡ 0 → IsPath (set next y v) x xs end
 path_set next x [] end y v path none = path
 path_set next x (z ∷ zs) end y v path none =
@@ -36,7 +36,7 @@ path_drop next x (y ∷ ys) end zero path within =
     (refl, subst (λ s. IsPath next (get_or next s 0) ys end) (sym path.0) path.1)
 path_drop next x (y ∷ ys) end (suc k) path within = path_drop next (get_or next x 0) ys end k path.1 (omega arith)
 
--- where a list has numbers, it is what stands before the last, and the last
+-- if a list has numbers, it is what stands before the last, and the last
 pub split_last : (xs : List ℕ) → 0 < length xs → xs ≡ take (length xs - 1) xs ++ get_or xs (length xs - 1) 0 ∷ []
 split_last xs some =
     let n : ℕ = length xs - 1 in

@@ -9,7 +9,7 @@ use std::alloc::Global;
 use std::marker::Model;
 
 /// Lists over the numbers from 0 to below a bound, each number in one list at most. Contracts see the lists. Where they are arranged, `order`
-/// has them one behind the other, each from its place in `starts` on.
+/// has them one after the other, each from its place in `starts` on.
 #[derive(Debug, Drop)]
 pub struct Links {
     next: Items<u32>,
@@ -85,7 +85,7 @@ impl Links {
         }
     }
 
-    /// Puts a number that is in no list behind the last of a list.
+    /// Puts a number that is in no list after the last of a list.
     pub fn push_back(&mut self, head: u32, number: u32)
         requires there { head < length self.old.lists }
         requires below { number < self.old.numbers }
@@ -108,7 +108,7 @@ impl Links {
         }
     }
 
-    /// Takes the first number out of a list. None where the list is empty.
+    /// Takes the first number out of a list. None if the list is empty.
     pub fn pop_front(&mut self, head: u32) -> Option<u32>
         requires { head < length self.old.lists }
         ensures value { result ≡ slice_get (list_of self.old head) 0 }
@@ -175,7 +175,7 @@ impl Links {
         self.arranged = true;
     }
 
-    /// The number at a place of a list, the first at 0. None where the list is not as long. In constant time where the lists are arranged, else
+    /// The number at a place of a list, the first at 0. None if the list is not as long. In constant time where the lists are arranged, else
     /// by a walk along the list.
     pub fn nth(&self, head: u32, place: u32) -> Option<u32>
         requires { head < length self.now.lists }
@@ -206,7 +206,7 @@ impl Links {
         self.heads.as_slice()[head as usize].len
     }
 
-    /// The first number of a list. None where the list is empty.
+    /// The first number of a list. None if the list is empty.
     pub fn first(&self, head: u32) -> Option<u32>
         requires { head < length self.now.lists }
         ensures { result ≡ slice_get (list_of self.now head) 0 }
@@ -219,7 +219,7 @@ impl Links {
         }
     }
 
-    /// The number behind a number of some list. None where that is the last one.
+    /// The number after a number of some list. None if that is the last one.
     pub fn next(&self, number: u32) -> Option<u32>
         requires { 0 < times_in_lists number self.now.lists }
         ensures { (head place : ℕ) → slice_get (list_of self.now head) place ≡ Some number → result ≡ slice_get (list_of self.now head) (place + 1) }

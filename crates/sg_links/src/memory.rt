@@ -1,6 +1,6 @@
 use std::alloc::{AllocError, AllocFailed};
 
-/// Want of memory: an allocation for lists was refused.
+/// Running out of memory: an allocation for lists was refused.
 #[derive(Clone, Copy, Debug, PartialEq, Eq)]
 pub struct LinkMemory;
 

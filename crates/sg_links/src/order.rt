@@ -4,7 +4,7 @@ ghost use Rattle.sg_links.specs.steps.Rows.{list_at, lists_of, AreLinked, AreLai
 use crate::head::Head;
 use sqlite_items::Items;
 
-/// Lays the lists one behind the other: each goes into `order` from its place in `starts` on.
+/// Lays the lists one after the other: each goes into `order` from its place in `starts` on.
 pub fn lay_all(next: &[u32], heads: &[Head], starts: &mut Items<u32>, order: &mut Items<u32>)
     requires linked { AreLinked next.now heads.now (lists_of next.now heads.now) }
     requires starts { length starts.old ≡ length heads.now }

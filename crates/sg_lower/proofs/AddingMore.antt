@@ -28,7 +28,7 @@ new_word to given wanted at scope same there =
     (ap (λ (truth : Bool). is_truth_as truth (slice_get at.regs to)) (sym same) ∙ (ap (is_truth_as (is_truth given)) there ∙ of_itself given))
 
 module _ (shapes : List Shape) where
-  -- what holds before and is kept holds behind it too
+  -- what holds before and is kept holds after it too
   pub adds-keeping : (needs gains kept : Frame → Scope → Type 0) (old new : Names) (a b : List Inst) → Adds shapes needs gains old new a b
       → ((at : Frame) (first second : Scope) → kept at first → KeepsScope old first second → kept at second)
       → Adds shapes (λ at scope. needs at scope × kept at scope) (λ at scope. gains at scope × kept at scope) old new a b
@@ -60,7 +60,7 @@ module _ (shapes : List Shape) where
       adds-trans shapes (Ready setting) one (λ at scope. Ready setting at scope × one at scope) (λ at scope. two at scope × one at scope) old mid new a b c first
       (adds-keeping (Ready setting) two one mid new b c second stays) (λ at s t ready got keeps. (ready-kept setting old at s t ready keeps, got))
 
-  -- an instruction behind what it takes
+  -- an instruction after what it takes
   pub adds-last : (setting : Surroundings) (takes : Frame → Scope → Type 0) (given wanted : Ty) (inst : ℕ → Inst) (test : Frame → Scope → Bool) (to : ℕ) (old mid new : Names) (a b c : List Inst)
       → Adds shapes (Ready setting) takes old mid a b → PutsReg given inst to mid new b c → fold-Inst (List ir.SetName) sets_step (inst to) ≡ ir.SetsReg to ∷ []
       → ((at : Frame) (scope : Scope) → judges at (inst to) scope ≡ (test at scope, with_reg to scope))

@@ -100,7 +100,7 @@ module _ (basis : Basis) where
       ap (λ (c : Coord). value_or_own (own_write layout place now.writes) (flat.value_of world.shapes world.state layout place c)) (sym here) ∙ sym value in
       (same ∙ is_word, subst IsWord is_word (own_small layout place now.writes cell (agrees.small_writes keeps.0) (is.small layout place at))))
 
-  -- an access behind its place: what the registers hold, and that the place is that of the coordinate that they name
+  -- an access after its place: what the registers hold, and that the place is that of the coordinate that they name
   pub record Placed (at : Coord) (now : Moment) (moved : Moved) (regs words : List ℕ) (layout p : ℕ) : Type 0 where
     pub shows : ShowsAll basis at now moved regs words
     pub place : moved.places p ≡ place_at basis.shapes layout (coord_of words)

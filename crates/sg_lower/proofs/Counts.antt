@@ -106,7 +106,7 @@ there_in_range v a (suc n) low high = by_test (a == v) refl (λ past. there_in_r
         differs : (a ≡ v → ⊥) → a + 1 ≤ v
         differs other = omega (arith, low, other)
 
--- Numbers behind those of a range, where all together are a range: each stands once, and those of the first range don't stand there.
+-- Numbers after those of a range, where all together are a range: each stands once, and those of the first range don't stand there.
 pub once_behind : (v n m : ℕ) (rest : List ℕ) → range_with_len 0 n ++ rest ≡ range_with_len 0 m → times v rest ≤ 1
 once_behind v n m rest same = last (times v (range_with_len 0 n)) (times v rest) (times v (range_with_len 0 m)) (sym (times-append v (range_with_len 0 n) rest) ∙ ap (times v) same) (once_in_range v 0 m)
   where

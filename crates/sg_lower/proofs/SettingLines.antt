@@ -20,7 +20,7 @@ use Rattle.sg_lower.proofs.Stepping.{of_kind}
 use Rattle.sg_lower.proofs.TypingBlocks.{if_sets, for_sets}
 use Rattle.sg_lower.proofs.UsingLines.{lines_more}
 
--- an instruction behind what sets no variable
+-- an instruction after what sets no variable
 inst_sets : (vars : List ℕ) (inst : Inst) (a b z : List Inst) → set_vars b ≡ set_vars a → z ≡ b ++ inst ∷ [] → set_vars (inst ∷ []) ≡ vars → set_vars z ≡ set_vars a ++ vars
 inst_sets vars inst a b z same pushed is =
     ap set_vars pushed ∙ (set_vars-append b (inst ∷ []) ∙ (ap (λ (l : List ℕ). l ++ set_vars (inst ∷ [])) same ∙ ap (λ (l : List ℕ). set_vars a ++ l) is))

@@ -10,7 +10,7 @@ use Rattle.sg_ir.specs.steps.Types.{GoesOn, Begins, IsFinal, Adds}
 use Rattle.sg_ir.proofs.Uses.{goes_on-same, goes_on-trans, final-before, judged-more, set_regs-append, set_places-append}
 use Rattle.sg_lower.specs.steps.Typing.{KeepsNames, AddsSet}
 
--- a list that goes on, behind another
+-- a list that goes on, after another
 pub goes_behind : (from to : ℕ) (xs ys zs : List ℕ) → GoesOn from to [] ys → zs ≡ xs ++ ys → GoesOn from to xs zs
 goes_behind from to xs ys zs more is = record { count = more.count; to_is = more.to_is; list = is ∙ ap (λ (l : List ℕ). xs ++ l) more.list }
 

@@ -75,7 +75,7 @@ module _ (shapes : List Shape) where
       set_needs shapes (at_start types visible lines) (λ at scope. Ready (setting shapes types visible) at scope × at_start types visible lines at scope) (λ at scope. gains at scope × at_start types visible lines at scope) old mid a b (λ at scope need. (need.0, need))
       (set_from shapes _ _ old mid a b (adds-keeping shapes (Ready (setting shapes types visible)) gains (at_start types visible lines) old mid a b it (λ at f s need keeps. (ready-kept (setting shapes types visible) old at f s need.0 keeps, need.1))))
 
-  -- an instruction that sets no register and no place, behind what it takes
+  -- an instruction that sets no register and no place, after what it takes
   inst_behind : (needs takes gains : Frame → Scope → Type 0) (inst : Inst) (old mid : Names) (a b z : List Inst) → AddsSet shapes needs takes old mid a b → z ≡ b ++ inst ∷ []
       → set_regs (inst ∷ []) ≡ [] → set_places (inst ∷ []) ≡ [] → (behind : Scope → Scope) → ((at : Frame) (scope : Scope) → (judges at inst scope).1 ≡ behind scope) → ((scope : Scope) → KeepsNames mid scope (behind scope))
       → ((at : Frame) → at.shapes ≡ shapes → IsFinal mid at → (scope : Scope) → takes at scope → (judges at inst scope).0 ≡ true)
@@ -99,7 +99,7 @@ module _ (shapes : List Shape) where
       (λ at same final scope need. ap (λ (q : Bool × Scope). q.0) (judges-Set at var r scope) ∙ joined_word at scope r value.ty (slice_get at.vars var) (ap (λ (ts : List Ty). slice_get ts var) need.1.0.0 ∙ ty_is (slice_get types var) value.ty p.1) need.0)
       (λ at scope need. with_var_ready shapes types visible var false at scope need.1.0)))
 
-  -- what may be read may be read behind a variable that is set
+  -- what may be read may be read after a variable that is set
   set_ready : (types : List Ty) (visible : List Visible) (var : ℕ) (at : Frame) (scope : Scope) → Ready (setting shapes types visible) at scope → Ready (setting shapes types visible) at (with_var var scope)
   set_ready types visible var at scope ready = (ready.0, λ other seen. (with_var_keeps (record { regs = []; places = 0 }) var scope).vars other (ready.1 other seen))
 

@@ -36,7 +36,7 @@ pub uses-one : (us : List Use) (inst : Inst) (a b : List Inst) → fold-Inst (Li
 uses-one us inst a b is pushed =
     ap uses_in pushed ∙ (uses-append a (inst ∷ []) ∙ ap (λ (l : List Use). uses_in a ++ l) (append-nil (fold-Inst (List Use) uses_step inst) ∙ is))
 
--- an emitted instruction behind what is used so far
+-- an emitted instruction after what is used so far
 pub put_uses : (more us : List Use) (given : Ty) (inst : ℕ → Inst) (to : ℕ) (mid new : Names) (a b z : List Inst) → fold-Inst (List Use) uses_step (inst to) ≡ us → Uses more a b
     → PutsReg given inst to mid new b z → Uses (more ++ us) a z
 put_uses more us given inst to mid new a b z is before puts = uses-trans more us a b z before (uses-one us (inst to) b z is puts.block)

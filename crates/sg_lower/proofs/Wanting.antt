@@ -28,7 +28,7 @@ walks_same : (d : TypedDomain) (layout : ℕ) → walks (domain_of nowhere d) la
 walks_same (domain.Walk walked) layout = refl
 walks_same (domain.Ranges ranges) layout = refl
 
--- a write may activate exactly where the code's may
+-- a write may activate exactly when the code's may
 activate_same : (shapes : List Shape) (d : TypedDomain) (write : Write) → apt.may_activate (domain_of nowhere d) (code_write shapes write) ≡ admit.may_activate (walked_by d) write.layout write.way
 activate_same shapes d write =
     ap (λ (b : Bool). not (b && walks (domain_of nowhere d) write.layout)) (own_same write.way) ∙ ap (λ (b : Bool). not (is_own write.way && b)) (walks_same d write.layout)

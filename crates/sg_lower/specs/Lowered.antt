@@ -17,7 +17,7 @@ use Rattle.sg_ir.specs.declared.code.Inst.{Inst}
 use Rattle.sg_ir.specs.Runs.{CodeWrite, CodeWant, Moved, iteration}
 use Rattle.sg_ir.specs.Named.{AreNamed}
 
--- where code writes: an own write at its coordinate, a contribution at none where its coordinate is outside
+-- if code writes: an own write at its coordinate, a contribution at none if its coordinate is outside
 abbrev pub code_at : Bool → Bool → Coord → Option Coord
 code_at own inside at = if own then Some at else if inside then Some at else None
 

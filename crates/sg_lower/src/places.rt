@@ -40,7 +40,7 @@ pub(crate) fn named_place(
     }
 }
 
-/// The layout with this number, where it has so many axes.
+/// The layout with this number, if it has so many axes.
 fn layout_of(layouts: &Layouts, layout: u32, axes: usize) -> Option<&Layout>
     ensures there { IfSome result (λ it. slice_get layouts.now.list layout ≡ Some it.now) }
     ensures axes { IfSome result (λ it. it.now.axes ≡ axes) }

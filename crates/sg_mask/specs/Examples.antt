@@ -74,7 +74,7 @@ mark_event = ((lit< tt, lit< tt, inl refl), refl)
 pub join_event : IsEvent two_words (9 ∷ 4 ∷ []) both_marked (join 0 1) (9 ∷ 4 ∷ []) one_again
 join_event = ((lit< tt, lit< tt, λ same. omega arith), refl)
 
--- neither one that was joined nor one that never came has a share, and nobody marks without one or behind the words
+-- neither one that was joined nor one that never came has a share, and nobody marks without one or after the words
 pub nobody_has_a_share : (at one_again 1).share + (at one_again 2).share ≡ 0
 nobody_has_a_share = refl
 

@@ -96,7 +96,7 @@ module _ {X : Type 0} (name_of : X → Name) where
   apart_at name (y ∷ xs) (suc number) x there none =
       apart_at name xs number x there (neither_holds (same_name name (name_of y)) (list_any (same_name name) (map name_of xs)) none).1
 
-  -- where no name stands twice, the thing of a number is looked up by its name
+  -- if no name stands twice, the thing of a number is looked up by its name
   number_at : (xs : List X) (number : ℕ) (x : X) → has_repeat (map name_of xs) ≡ false → slice_get xs number ≡ Some x
       → (numbered (λ y. same_name (name_of x) (name_of y)) xs ≡ Some number) × (find (λ y. same_name (name_of x) (name_of y)) xs ≡ Some x)
   number_at [] number x distinct there = absurd (cc)

@@ -116,7 +116,7 @@ module _ (whole : Result Tables NameFault) (items : List Item) (tables : Tables)
       let small : commands_in given ≤ 2 ^ 32 - 1 = omega (arith, few) in
       is ∙ min-eq_left small
 
--- want of memory is no answer
+-- running out of memory is no answer
 pub want_of_memory : {A E : Type 0} (result : Result A (Stop E)) (meaning : Result A E) → IsErrAnd result (λ error. error ≡ stop.Memory) → Answers result meaning
 want_of_memory (Ok value) meaning h = absurd h
 want_of_memory (Err error) meaning h = subst (λ given. Answers (Err given) meaning) (sym h) tt

@@ -37,7 +37,7 @@ abbrev pub NoFaultBefore : List Item → ℕ → Type 0
 NoFaultBefore items end =
     (place : ℕ) (item : Item) → place < end → slice_get items place ≡ Some item → item_fault items place item ≡ None
 
--- a program has tables exactly where none of its items has a fault, and they are what its items declare, one after
+-- a program has tables exactly when none of its items has a fault, and they are what its items declare, one after
 -- the other
 abbrev pub AcceptedIsFaultless : Program → Type 0
 AcceptedIsFaultless program =
@@ -50,7 +50,7 @@ pub record IsFirstItemFault (items : List Item) (fault : NameFault) (place : ℕ
   pub before : NoFaultBefore items place
   pub has : item_fault items place item ≡ Some fault
 
--- a program is refused with a fault exactly where that is the fault of its first item that has one
+-- a program is refused with a fault exactly when that is the fault of its first item that has one
 abbrev pub RefusedIsFirst : Program → Type 0
 RefusedIsFirst program =
     (fault : NameFault) →
@@ -147,7 +147,7 @@ NamesStandOnce program =
     (tables : Tables) → tables_of program ≡ Ok tables → (name : Name) (place other : ℕ) →
     slice_get (all_names tables) place ≡ Some name → slice_get (all_names tables) other ≡ Some name → place ≡ other
 
--- a name stands for a constant exactly where the constant has this name
+-- a name stands for a constant exactly when the constant has this name
 abbrev pub ConstantsAreFound : Program → Type 0
 ConstantsAreFound program =
     (tables : Tables) → tables_of program ≡ Ok tables → (name : Name) (constant : Constant) →
@@ -155,33 +155,33 @@ ConstantsAreFound program =
     ↔ ((number : ℕ) × (constant_number_of tables name ≡ Some number)
     × (slice_get tables.constants number ≡ Some (record { name = name; constant = constant })))
 
--- a name has a constant's number exactly where the constant of this number has the name
+-- a name has a constant's number exactly when the constant of this number has the name
 abbrev pub ConstantsAreNumbered : Program → Type 0
 ConstantsAreNumbered program =
     (tables : Tables) → tables_of program ≡ Ok tables → (name : Name) (number : ℕ) →
     (constant_number_of tables name ≡ Some number)
     ↔ ((constant : Constant) × (slice_get tables.constants number ≡ Some (record { name = name; constant = constant })))
 
--- a name has a layout's number exactly where the number has the name
+-- a name has a layout's number exactly when the number has the name
 abbrev pub LayoutsAreFound : Program → Type 0
 LayoutsAreFound program =
     (tables : Tables) → tables_of program ≡ Ok tables → (name : Name) (number : ℕ) →
     (layout_named tables name ≡ Some number) ↔ (layout_name_of tables number ≡ Some name)
 
--- a name is that of a field exactly where the field of its number has the name
+-- a name is that of a field exactly when the field of its number has the name
 abbrev pub FieldsAreFound : Program → Type 0
 FieldsAreFound program =
     (tables : Tables) → tables_of program ≡ Ok tables → (name : Name) (at : FieldAt) →
     (field_named tables name ≡ Some at) ↔ (slice_get tables.fields at.number ≡ Some (record { name = name; at = at }))
 
--- a number has a field's name exactly where the name is that of the field of this number
+-- a number has a field's name exactly when the name is that of the field of this number
 abbrev pub FieldsAreNumbered : Program → Type 0
 FieldsAreNumbered program =
     (tables : Tables) → tables_of program ≡ Ok tables → (name : Name) (number : ℕ) →
     (field_name_of tables number ≡ Some name)
     ↔ ((at : FieldAt) × (field_named tables name ≡ Some at) × (at.number ≡ number))
 
--- a name has a kernel's number exactly where the number has the name
+-- a name has a kernel's number exactly when the number has the name
 abbrev pub KernelsAreFound : Program → Type 0
 KernelsAreFound program =
     (tables : Tables) → tables_of program ≡ Ok tables → (name : Name) (number : ℕ) →

@@ -19,7 +19,7 @@ use Rattle.sg_names.specs.declared.tables.Constant.{Constant}
 use Rattle.sg_ast.specs.Token.{same_name}
 use Rattle.sg_names.specs.Tables.{Tables, constant_named}
 
--- the number of a constant as a size: its word read as I32; 0 where there is none
+-- the number of a constant as a size: its word read as I32; 0 if there is none
 abbrev pub number_of : Option Constant → ℤ
 number_of None = pos 0
 number_of (Some constant) = number ty.I32 constant.word
@@ -29,7 +29,7 @@ abbrev pub size_number : Tables → SizeDecl → ℤ
 size_number tables (size.Number value) = number ty.I32 value
 size_number tables (size.Name name) = number_of (constant_named tables name)
 
--- the number of a cap or chunk: 0 where there is none
+-- the number of a cap or chunk: 0 if there is none
 abbrev pub optional_number : Tables → Option SizeDecl → ℤ
 optional_number tables None = pos 0
 optional_number tables (Some given) = size_number tables given
@@ -39,7 +39,7 @@ abbrev pub axis_at : Option ℕ → ℕ
 axis_at None = 0
 axis_at (Some place) = suc place
 
--- the number of an axis in a layout's list: 0 where the list doesn't have it
+-- the number of an axis in a layout's list: 0 if the list doesn't have it
 abbrev pub axis_number : List Name → Name → ℕ
 axis_number axes name = axis_at (position (same_name name) axes)
 

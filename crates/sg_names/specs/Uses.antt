@@ -40,7 +40,7 @@ reads_of = fold-Expr (List Name) reads_step
 abbrev pub range_reads : RangeDecl → List Name
 range_reads range = reads_of range.lo ++ reads_of range.hi
 
--- the fields of the statements after an `else`, where there is one
+-- the fields of the statements after an `else`, if there is one
 abbrev pub else_fields : Option (List (List Name)) → List Name
 else_fields None = []
 else_fields (Some parts) = joined_lists parts
@@ -72,7 +72,7 @@ abbrev pub size_names : SizeDecl → List Name
 size_names (size.Number value) = []
 size_names (size.Name name) = name ∷ []
 
--- the constant that a cap or chunk names, where there is one
+-- the constant that a cap or chunk names, if there is one
 abbrev pub optional_size_names : Option SizeDecl → List Name
 optional_size_names None = []
 optional_size_names (Some given) = size_names given

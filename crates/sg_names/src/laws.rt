@@ -1,7 +1,7 @@
 ghost use Rattle.sg_ast.specs.declared.program.Program.{Program};
 ghost use Rattle.sg_names.specs.Laws.{AcceptedIsFaultless, RefusedIsFirst, ConstantsAreDeclared, LayoutsAreDeclared, KernelsAreDeclared, FieldsAreDeclared, FieldsArePlaced, NamesAreDistinct, NamesStandOnce, ConstantsAreFound, ConstantsAreNumbered, LayoutsAreFound, FieldsAreFound, FieldsAreNumbered, KernelsAreFound};
 
-/// Every program either has tables, where no item has a fault, or the fault of its first item that has one.
+/// Every program either has tables, if no item has a fault, or the fault of its first item that has one.
 pub fn faults_decide()
     ensures accepted { (program : Program) → AcceptedIsFaultless program }
     ensures refused { (program : Program) → RefusedIsFirst program }

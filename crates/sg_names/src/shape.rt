@@ -77,7 +77,7 @@ impl Names {
     }
 }
 
-/// The number of an axis in a layout's list, from 1; 0 where it is not there.
+/// The number of an axis in a layout's list, from 1; 0 if it is not there.
 fn axis_number(axes: &[Name], name: &Name) -> Result<u32, Memory>
     ensures { IfOk result (λ number. number ≡ axis_number axes.now name.now) }
 {

@@ -5,7 +5,7 @@ use Rattle.sg_outside.specs.declared.files.Got.TheVariants as got
 use Rattle.sg_outside.specs.Files.{Reading, Bytes, TooMany, Missing, reading_at}
 use Rattle.sg_outside.specs.MemFiles.{ReadsExactly}
 
--- an answer that is exactly a read's meaning is a failure just where there is no file
+-- an answer that is exactly a read's meaning is a failure just when there is no file
 fails_at : (answer : Got) (bytes : List ℕ) (room : ℕ) (meaning : Reading) → ReadsExactly answer bytes room meaning → (answer ≡ got.Failed) ↔ (meaning ≡ Missing)
 fails_at got.All bytes room meaning e = (λ f. absurd (cc), λ m. absurd (cc))
 fails_at got.TooLong bytes room meaning e = (λ f. absurd (cc), λ m. absurd (cc))
@@ -19,7 +19,7 @@ reading_at-Some : (xs : List ℕ) (limit : ℕ) (fits : Bool) → (if fits then 
 reading_at-Some xs limit true e = cc
 reading_at-Some xs limit false e = cc
 
--- the meaning is that of no file just where the read is listed or the name is absent
+-- the meaning is that of no file just when the read is listed or the name is absent
 missing_at : (listed : Bool) (found : Option (List ℕ)) (limit : ℕ) → ((if listed then Missing else reading_at found limit) ≡ Missing) ↔ ((listed ≡ true) ⊎ (found ≡ None))
 missing_at true found limit = (λ _. inl refl, λ _. refl)
 missing_at false None limit = (λ _. inr refl, λ _. refl)

@@ -61,7 +61,7 @@ ReadCause got.TooLong before now = now ≡ before
 ReadCause got.Failed before now = Rose before now
 ReadCause got.Memory before now = now ≡ before
 
--- the names that were read so far, in order, with one more; where nothing is told, nothing is
+-- the names that were read so far, in order, with one more; if nothing is told, nothing is
 abbrev pub asked_too : Option (List (List ℕ)) → List ℕ → Option (List (List ℕ))
 asked_too asked name = option_map (λ names. names ++ name ∷ []) asked
 

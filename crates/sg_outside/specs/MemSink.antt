@@ -12,7 +12,7 @@ pub record SinkInMemory : Type 0 where
   pub puts : ℕ
   pub faults : ℕ
 
--- a put fails exactly where it is listed, and has then taken this much; either kind may want memory
+-- a put fails exactly when it is listed, and has then taken this much; either kind may want memory
 abbrev pub PutsExactly : Put → Bool → ℕ → Type 0
 PutsExactly put.All listed part = listed ≡ false
 PutsExactly (put.Failed taken) listed part = (listed ≡ true) × (taken ≡ part)

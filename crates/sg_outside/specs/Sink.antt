@@ -5,7 +5,7 @@ use Rattle.sg_outside.specs.declared.sink.Put.TheVariants as put
 use Rattle.std.proofs.Common.{lit<}
 use Rattle.sg_outside.specs.Counts.{one_more, Rose}
 
--- the told bytes with a piece after them; where nothing is told, nothing is
+-- the told bytes with a piece after them; if nothing is told, nothing is
 abbrev pub followed_by : Option (List ℕ) → List ℕ → Option (List ℕ)
 followed_by told piece = option_map (λ bytes. bytes ++ piece) told
 

@@ -9,7 +9,7 @@ pub enum Got {
     All,
     /// The file has more bytes than the limit.
     TooLong,
-    /// The read failed, for another cause than want of memory.
+    /// The read failed, for another cause than running out of memory.
     Failed,
     /// There was no memory for the bytes.
     Memory,

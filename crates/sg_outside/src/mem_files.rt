@@ -129,7 +129,7 @@ fn read_named(files: &[NamedBytes], name: &str, limit: u64, into: &mut Vec<u8>) 
     }
 }
 
-/// Puts the bytes into the buffer, in place of what it has.
+/// Puts the bytes into the buffer, instead of what it has.
 fn copy_into(bytes: &[u8], into: &mut Vec<u8>) -> Got
     ensures { ReadsExactly result into.new.items (vec_capacity into.old) (Bytes bytes.now) }
 {

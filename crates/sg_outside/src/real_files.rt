@@ -84,7 +84,7 @@ fn read_named<R: rt::Files>(rt: &R, name: &str, limit: u64, into: &mut Vec<u8>) 
     read_whole(fs::open(rt, name)?, limit, into)
 }
 
-/// Reads all bytes of a file, or one more than the limit, in place of what the buffer has.
+/// Reads all bytes of a file, or one more than the limit, instead of what the buffer has.
 fn read_whole<F: Read + Drop>(file: F, limit: u64, into: &mut Vec<u8>) -> io::Result<Got>
     ensures told { IfOk result (λ got. (bytes : List ℕ) → F.remaining file ≡ Some bytes →
         Reads got into.new.items (reading_at (Some bytes) limit)) }

@@ -27,7 +27,7 @@ impl Put {
 
 /// Where output is written, a piece at a time.
 ///
-/// `has` is what was written so far, where that is told, and `faults` counts the puts that failed,
+/// `has` is what was written so far, if that is told, and `faults` counts the puts that failed,
 /// staying at its last value, 2^64 - 1.
 pub trait Sink {
     ghost has: { Self → Option (List ℕ) };

@@ -29,7 +29,7 @@ use Rattle.sg_parser.proofs.StepLemmas.{only_if_true, next_op-at, op-no_bracket,
 use Rattle.sg_parser.proofs.ListLemmas.{listed_complete}
 use Rattle.sg_parser.proofs.ExprSound.{Fit}
 
--- what may stand behind an expression of at least a level: no operator that would go on with it, and no `[`
+-- what may stand after an expression of at least a level: no operator that would go on with it, and no `[`
 pub record Ends (least : ℕ) (rest : List Token) : Type 0 where
   pub no_op : (op : BinOp) (after : List Token) → next_op rest ≡ Some (op, after) → op_level op < least
   pub no_bracket : after_sign s.OpenBracket rest ≡ None
@@ -37,7 +37,7 @@ pub record Ends (least : ℕ) (rest : List Token) : Type 0 where
 abbrev pub IsComplete : ℕ → (ℕ → Reader Expr) → Type 0
 IsComplete limit expr = (least : ℕ) (a : Expr) (rest : List Token) → least ≤ un_level → Fit least limit a → Ends least rest → expr least (tokens_of a ++ rest) ≡ Some (a, rest)
 
--- what may stand behind one of a level may behind one of a lower
+-- what may stand after one of a level may after one of a lower
 ends_more : (least more : ℕ) (rest : List Token) → least ≤ more → Ends least rest → Ends more rest
 ends_more least more rest h ends = record {
   no_op = λ op after is. let below = ends.no_op op after is in omega arith;

@@ -49,7 +49,7 @@ domain_sound tokens a rest h = go (lone_name tokens) refl h where
       made_is (λ (a : DomainDecl) (rest : List Token). (is_domain a ≡ true) × (tokens ≡ domain_tokens a ++ rest)) (domain.Layout name.0) a name.1 rest
       (subst (λ (q : Name × List Token). (is_name q.0 ≡ true) × (tokens ≡ t.Name q.0 ∷ q.1)) same (read.1, read.0)) h
 
--- `NAME { for VARIABLES in`, and what is behind it
+-- `NAME { for VARIABLES in`, and what comes after it
 abbrev IsKernelHead : List Token → Name → List Name → List Token → Type 0
 IsKernelHead tokens name vars rest = (is_name name ≡ true) × (1 ≤ length vars) × AllByRecursion (IsGood is_name) vars
     × (tokens ≡ t.Name name ∷ t.Sign s.OpenBrace ∷ t.Word w.For ∷ (with_commas (map name_token vars) ++ t.Word w.In ∷ rest))
@@ -75,7 +75,7 @@ kernel_head_sound tokens name vars rest h =
           (list.2 ∙ ap (λ k. with_commas (map name_token o.0.0) ++ k) over))),
     ) u.2
 
--- `DOMAIN BLOCK }`, and what is behind it
+-- `DOMAIN BLOCK }`, and what comes after it
 abbrev IsKernelLoop : List Token → DomainDecl → List Stmt → List Token → Type 0
 IsKernelLoop tokens domain body rest = (is_domain domain ≡ true) × GoodBlock max_nesting body
     × (tokens ≡ domain_tokens domain ++ (block_tokens body ++ t.Sign s.CloseBrace ∷ rest))

@@ -60,7 +60,7 @@ kind_sound (t.Word w.Hash ∷ more) rest k h = kind_given w.Hash kind.Hash k mor
 kind_sound (t.Word w.Dynamic ∷ more) rest k h = kind_given w.Dynamic kind.Dynamic k more rest refl h
 kind_sound (_ ∷ more) rest k h = absurd (cc)
 
--- a bound where the kind has one, and none where it has none
+-- a bound where the kind has one, and none if it has none
 abbrev pub fits_bound : Bool → Option SizeDecl → Bool
 fits_bound true (Some size) = is_size size
 fits_bound false None = true
@@ -83,7 +83,7 @@ bound_sound word true tokens rest x h =
     let size = size_sound p.0 q.0.1 q.0.0 q.1 in
     made_is (λ (x : Option SizeDecl) (rest : List Token). (fits_bound true x ≡ true) × (tokens ≡ bound_by word x ++ rest)) (Some q.0.0) x q.0.1 rest (size.0, cc (is, size.1)) q.2
 
--- `KIND(AXES)`, and what is behind it
+-- `KIND(AXES)`, and what comes after it
 abbrev IsNodeHead : List Token → NodeKind → List AxisDecl → List Token → Type 0
 IsNodeHead tokens k axes rest = (1 ≤ length axes) × AllByRecursion (IsGood is_axis) axes
     × (tokens ≡ kind_token k ∷ t.Sign s.OpenParen ∷ (with_commas (map axis_tokens axes) ++ t.Sign s.CloseParen ∷ rest))
@@ -102,7 +102,7 @@ node_head_sound tokens k axes rest h =
     made_two (IsNodeHead tokens) p.0.0 k r.0.0 axes o.0 rest
     (list.0, list.1, kind ∙ ap (λ r. kind_token p.0.0 ∷ r) (behind ∙ ap (λ r. t.Sign s.OpenParen ∷ r) (list.2 ∙ ap (λ more. with_commas (map axis_tokens r.0.0) ++ more) close))) o.2
 
--- `chunk SIZE cap SIZE;`, and what is behind it
+-- `chunk SIZE cap SIZE;`, and what comes after it
 abbrev IsNodeBounds : NodeKind → List Token → Option SizeDecl → Option SizeDecl → List Token → Type 0
 IsNodeBounds k tokens chunk cap rest = (has_bounds k chunk cap ≡ true) × (tokens ≡ bound_by w.Chunk chunk ++ (bound_by w.Cap cap ++ t.Sign s.Semicolon ∷ rest))
 
@@ -162,7 +162,7 @@ before_field_is tokens rest h = go (after_word w.Field tokens) h where
   go None h = absurd (cc)
   go (Some behind) h = same_Some tokens rest h
 
--- `NAME(AXES) {`, and what is behind it
+-- `NAME(AXES) {`, and what comes after it
 abbrev IsLayoutHead : List Token → Name → List Name → List Token → Type 0
 IsLayoutHead tokens name axes rest = (is_name name ≡ true) × (1 ≤ length axes) × AllByRecursion (IsGood is_name) axes
     × (tokens ≡ t.Name name ∷ t.Sign s.OpenParen ∷ (with_commas (map name_token axes) ++ t.Sign s.CloseParen ∷ t.Sign s.OpenBrace ∷ rest))
@@ -188,7 +188,7 @@ layout_head_sound tokens name axes rest h =
           (list.2 ∙ ap (λ k. with_commas (map name_token r.0.0) ++ k) (close ∙ ap (λ k. t.Sign s.CloseParen ∷ k) brace))),
     ) u.2
 
--- `NODES FIELDS }`, and what is behind it
+-- `NODES FIELDS }`, and what comes after it
 abbrev IsLayoutBody : List Token → List NodeDecl → List FieldDecl → List Token → Type 0
 IsLayoutBody tokens nodes fields rest = AllByRecursion (IsGood is_node) nodes × AllByRecursion (IsGood is_field_decl) fields
     × (tokens ≡ joined_lists (map node_tokens nodes) ++ (joined_lists (map field_tokens fields) ++ t.Sign s.CloseBrace ∷ rest))

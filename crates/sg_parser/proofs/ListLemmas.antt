@@ -110,7 +110,7 @@ some_separated : {A : Type 0} (spelled : A → List Token) (items : List A) (res
 some_separated spelled [] rest h = omega arith
 some_separated spelled (x ∷ items) rest h = omega (arith, some_each_more spelled items, length-append (spelled x) (each_more (map spelled items)), length-append (spelled x ++ each_more (map spelled items)) rest)
 
--- where a reader takes the tokens of each of its values, if what follows them is as it wants
+-- if a reader takes the tokens of each of its values, if what follows them is as it wants
 module _ (A : Type 0) (one : Reader A) (spelled : A → List Token) (Good : A → Type 0) (Stops : List Token → Type 0)
     (complete : (x : A) (rest : List Token) → Good x → Stops rest → one (spelled x ++ rest) ≡ Some (x, rest)) where
   pub listed_from_complete : ((more : List Token) → Stops (t.Sign s.Comma ∷ more)) → (turns : ℕ) (found items : List A) (rest : List Token)

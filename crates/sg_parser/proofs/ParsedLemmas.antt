@@ -84,7 +84,7 @@ nothing_spelled : (a : Item) → item_of [] ≡ Some a → ⊥
 unfolding read_item
 nothing_spelled a h = absurd (cc)
 
--- an item at the front, and the program goes on behind it
+-- an item at the front, and the program goes on after it
 pub parsed_turn : (number : ℕ) (items : List Item) (lines : List ℕ) (x : Spanned) (xs : List Spanned) (a : Item) (rest : List Token) (n : ℕ)
     → read_item (kinds (x ∷ xs)) ≡ Some (a, rest) → n + length rest ≡ length (x ∷ xs)
     → program_from number items lines (items_of (x ∷ xs)) ≡ program_from (number + 1) (items ++ a ∷ []) (lines ++ x.line ∷ []) (items_of (drop n (x ∷ xs)))

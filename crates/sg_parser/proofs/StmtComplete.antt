@@ -29,7 +29,7 @@ use Rattle.sg_parser.proofs.ExprComplete.{Ends, expr_at_complete, indices_comple
 use Rattle.sg_parser.proofs.ListLemmas.{repeated_complete}
 use Rattle.sg_parser.proofs.StmtSound.{GoodExpr, GoodRange, GoodStmt, GoodBlock, range_parts, let_parts, assign_parts, write_parts, if_parts, for_parts, block_parts}
 
--- what may stand behind a statement: no `else`
+-- what may stand after a statement: no `else`
 abbrev pub NoElse : List Token → Type 0
 NoElse rest = after_word w.Else rest ≡ None
 

@@ -200,7 +200,7 @@ placed_sound d name tokens a rest h =
           let taken = write_sound d name behind a rest good h in
           (taken.0, cc (bracket, taken.1))
 
--- `NAME in LO..HI`, and what is behind it
+-- `NAME in LO..HI`, and what comes after it
 abbrev IsForHead : List Token → Name → RangeDecl → List Token → Type 0
 IsForHead tokens name range rest = (is_name name ≡ true) × GoodRange range × (tokens ≡ t.Name name ∷ t.Word w.In ∷ (range_tokens range ++ rest))
 

@@ -11,7 +11,7 @@ use Rattle.sg_ast.specs.Expr.{depth, largest, right_needs}
 use Rattle.sg_parser.specs.steps.Front.{Reader, after_sign, next_op, comma_list_from, list_to_end_from}
 use Rattle.sg_parser.specs.steps.ReadExpr.{operator_goes_on, climb}
 
--- a list with commas: on behind a comma, done where there is none, stuck where no item is read
+-- a list with commas: on after a comma, done if there is none, stuck if no item is read
 pub listed_turn : {A : Type 0} (one : Reader A) (m n : ℕ) (found : List A) (tokens : List Token) (x : A) (mid behind : List Token)
     → m ≡ suc n → one tokens ≡ Some (x, mid) → after_sign s.Comma mid ≡ Some behind → comma_list_from one m found tokens ≡ comma_list_from one n (found ++ x ∷ []) behind
 unfolding comma_list_from
@@ -35,7 +35,7 @@ pub deepest-push : (trees : List Expr) (tree : Expr) → largest (map depth (tre
 deepest-push [] tree = omega arith
 deepest-push (first ∷ trees) tree = omega (arith, deepest-push trees tree)
 
--- an operator behind what was read so far
+-- an operator after what was read so far
 module _ (expr : ℕ → Reader Expr) (limit least : ℕ) where
   pub climb_turn : (m n : ℕ) (left right : Expr) (op : BinOp) (tokens behind rest : List Token)
       → m ≡ suc n → next_op tokens ≡ Some (op, behind) → operator_goes_on least left op ≡ true → depth left < limit → expr (right_needs op) behind ≡ Some (right, rest)

@@ -32,7 +32,7 @@ pub record IsFirstUnspelled (tokens : List Spanned) (number line : ℕ) : Type 0
   pub spelled : AllByRecursion SpellsItem before
   pub none : SpellsItem here → ⊥
 
--- A program is accepted exactly where the tokens spell it: what is accepted is spelled
+-- A program is accepted exactly when the tokens spell it: what is accepted is spelled
 abbrev pub ParsedIsSpelled : Type 0
 ParsedIsSpelled = (tokens : List Spanned) (program : Program) → program_of tokens ≡ Ok program → Spells tokens program
 
@@ -46,7 +46,7 @@ FirstFaultIsNamed =
     (tokens : List Spanned) (number line : ℕ) → program_of tokens ≡ Err (fault.Syntax number line)
     → IsFirstUnspelled tokens number line
 
--- no two programs of the grammar have the same tokens, but for their lines
+-- no two programs of the grammar have the same tokens, except for their lines
 abbrev pub TreeIsOne : Type 0
 TreeIsOne =
     (a b : Program) → IsTrue (is_program a) → IsTrue (is_program b) → program_tokens a ≡ program_tokens b

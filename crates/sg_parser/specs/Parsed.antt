@@ -9,7 +9,7 @@ use Rattle.sg_parser.specs.declared.program.ParseFault.{ParseFault}
 use Rattle.sg_parser.specs.declared.program.ParseFault.TheVariants as fault
 use Rattle.sg_parser.specs.steps.ReadItem.{read_item}
 
--- an item, where no token is left behind it
+-- an item, if no token is left after it
 abbrev pub if_whole : Option (Item × List Token) → Option Item
 if_whole None = None
 if_whole (Some (item, [])) = Some item
@@ -24,7 +24,7 @@ abbrev pub item_or_fault : ℕ → ℕ → (Item → Result Program ParseFault) 
 item_or_fault number line more None = Err (fault.Syntax number line)
 item_or_fault number line more (Some item) = more item
 
--- the items of the cuts behind those found so far, where the next one has this number
+-- the items of the cuts after those found so far, where the next one has this number
 unfoldable pub program_from : ℕ → List Item → List ℕ → List (List Spanned) → Result Program ParseFault
 program_from number items lines [] = Ok (record { items = items; lines = lines })
 program_from number items lines (tokens ∷ cuts) =

@@ -13,7 +13,7 @@ use sg_ast::{Command, Name, Sign, Spanned, Token, Word};
 use sg_words::Stop;
 use std::alloc::Global;
 
-/// Whether a number of a bound has a `u` exactly where it is past the limit without one.
+/// Whether a number of a bound has a `u` exactly when it is past the limit without one.
 fn is_marked(unsigned: bool, value: u32) -> bool
     ensures { result ≡ read.has_right_suffix unsigned value }
 {
@@ -67,7 +67,7 @@ fn read_named(alloc: Global, tokens: &[Spanned]) -> Result<(Name, &[Spanned]), S
     Ok((name, rest))
 }
 
-/// `image NAME LO HI;`, behind its word.
+/// `image NAME LO HI;`, after its word.
 #[tactic(auto, unfolding(crate::specs::steps::ReadItem::read_image))]
 fn read_image(alloc: Global, tokens: &[Spanned]) -> Result<(Command, &[Spanned]), Stop<Unread>>
     ensures { Gives (λ x. (x.0, kinds x.1.now)) result (read.read_image (kinds tokens.now)) }
@@ -85,7 +85,7 @@ fn read_image(alloc: Global, tokens: &[Spanned]) -> Result<(Command, &[Spanned])
     Ok((Command::Image { field, lo, hi }, rest))
 }
 
-/// A command that is no `times`, behind its word.
+/// A command that is no `times`, after its word.
 pub(crate) fn word_simple(
     alloc: Global,
     word: Word,
@@ -145,7 +145,7 @@ impl Front for Command {
     }
 }
 
-/// Commands in a `times` stand up to the `}` behind them.
+/// Commands in a `times` stand up to the `}` after them.
 impl Listed for Command {
     ghost end = { steps.after_sign s.CloseBrace };
 
@@ -154,7 +154,7 @@ impl Listed for Command {
     }
 }
 
-/// `times NUMBER { COMMANDS }`, behind its word.
+/// `times NUMBER { COMMANDS }`, after its word.
 #[tactic(auto, unfolding(crate::specs::steps::ReadItem::read_times))]
 pub(crate) fn read_times(
     alloc: Global,

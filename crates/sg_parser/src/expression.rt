@@ -15,7 +15,7 @@ use sg_ast::{Callee, Expr, Name, Sign, Spanned, Token, Word};
 use sg_words::{BinOp, Boxed, Items, Stop, UnOp};
 use std::alloc::{AllocError, Global};
 
-/// An expression with its depth, and the tokens behind it.
+/// An expression with its depth, and the tokens after it.
 #[derive(Drop)]
 pub(crate) struct Reading<'a> {
     pub tree: Expr,
@@ -23,7 +23,7 @@ pub(crate) struct Reading<'a> {
     pub rest: &'a [Spanned],
 }
 
-/// Expressions with the depth of the deepest, and the tokens behind them.
+/// Expressions with the depth of the deepest, and the tokens after them.
 #[derive(Drop)]
 pub(crate) struct Readings<'a> {
     pub trees: Items<Expr>,
@@ -81,7 +81,7 @@ fn goes_on(least: u8, left: &Expr, op: BinOp) -> bool
     least <= op_level(op) && left_needs(op) <= level(left)
 }
 
-/// Two expressions with an operator between them. Fails where memory runs out.
+/// Two expressions with an operator between them. Fails if memory runs out.
 fn joined(alloc: Global, op: BinOp, left: Expr, right: Expr) -> Result<Expr, AllocError>
     ensures { IfOk result (λ tree. tree ≡ e.Bin op left right) }
 {
@@ -132,7 +132,7 @@ pub(crate) fn items(
     Err(Stop::Refused(Unread))
 }
 
-/// The indices of an access, behind its `[`.
+/// The indices of an access, after its `[`.
 #[cycle(reading)]
 #[tactic(auto, unfolding(crate::specs::steps::ReadExpr::read_indices))]
 pub(crate) fn read_indices(
@@ -194,7 +194,7 @@ fn read_name_expr<'a>(
     })
 }
 
-/// A call, behind its word.
+/// A call, after its word.
 #[cycle(reading)]
 #[tactic(auto, unfolding(crate::specs::steps::ReadExpr::read_call_expr))]
 fn read_call_expr(
@@ -229,7 +229,7 @@ fn read_call_expr(
     })
 }
 
-/// An expression in parentheses, behind the `(`.
+/// An expression in parentheses, after the `(`.
 #[cycle(reading)]
 #[tactic(auto, unfolding(crate::specs::steps::ReadExpr::paren_expr))]
 fn paren_expr(alloc: Global, inner: usize, tokens: &[Spanned]) -> Result<Reading<'_>, Stop<Unread>>
@@ -250,7 +250,7 @@ fn paren_expr(alloc: Global, inner: usize, tokens: &[Spanned]) -> Result<Reading
     })
 }
 
-/// An operator before its operand, behind its sign.
+/// An operator before its operand, after its sign.
 #[cycle(reading)]
 #[tactic(auto, unfolding(crate::specs::steps::ReadExpr::unary_expr))]
 fn unary_expr(
@@ -366,7 +366,7 @@ fn prefix(alloc: Global, inner: usize, tokens: &[Spanned]) -> Result<Reading<'_>
     }
 }
 
-/// What was read so far, with all operators of at least a level behind it.
+/// What was read so far, with all operators of at least a level after it.
 #[cycle(reading)]
 #[tactic(auto, unfolding(crate::specs::steps::ReadExpr::climb))]
 fn climb(

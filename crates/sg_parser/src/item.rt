@@ -13,7 +13,7 @@ use sg_ast::{ConstDecl, Item, Name, Sign, Spanned, Token, Word};
 use sg_words::Stop;
 use std::alloc::Global;
 
-/// The value of a constant, behind its `-` if it has one.
+/// The value of a constant, after its `-` if it has one.
 fn read_const_value(name: Name, minus: bool, tokens: &[Spanned]) -> Option<(Item, &[Spanned])>
     ensures { option_map (λ x. (x.0, kinds x.1.now)) result ≡ read.read_const_value name minus (kinds tokens.now) }
 {
@@ -32,7 +32,7 @@ fn read_const_value(name: Name, minus: bool, tokens: &[Spanned]) -> Option<(Item
     Some((Item::Const(decl), rest))
 }
 
-/// `const NAME = -NUMBER;`, behind its word.
+/// `const NAME = -NUMBER;`, after its word.
 #[tactic(auto, unfolding(crate::specs::steps::ReadItem::read_const))]
 fn read_const(alloc: Global, tokens: &[Spanned]) -> Result<(Item, &[Spanned]), Stop<Unread>>
     ensures { Gives (λ x. (x.0, kinds x.1.now)) result (read.read_const (kinds tokens.now)) }
@@ -53,7 +53,7 @@ fn read_const(alloc: Global, tokens: &[Spanned]) -> Result<(Item, &[Spanned]), S
     }
 }
 
-/// An item, behind its first word.
+/// An item, after its first word.
 fn word_item(
     alloc: Global,
     word: Word,

@@ -13,7 +13,7 @@ use sg_ast::{DomainDecl, Item, KernelDecl, Name, RangeDecl, Sign, Spanned, Stmt,
 use sg_words::{Items, Stop};
 use std::alloc::Global;
 
-/// A name behind which a block begins, and what follows it.
+/// A name after which a block begins, and what follows it.
 fn lone_name(alloc: Global, tokens: &[Spanned]) -> Result<(Name, &[Spanned]), Stop<Unread>>
     ensures { Gives (λ x. (x.0, kinds x.1.now)) result (read.lone_name (kinds tokens.now)) }
 {
@@ -50,7 +50,7 @@ fn read_domain(alloc: Global, tokens: &[Spanned]) -> Result<(DomainDecl, &[Spann
     }
 }
 
-/// `NAME { for VARIABLES in`, behind the word `kernel`.
+/// `NAME { for VARIABLES in`, after the word `kernel`.
 #[tactic(auto, unfolding(crate::specs::steps::ReadItem::kernel_head))]
 fn kernel_head(
     alloc: Global,
@@ -88,7 +88,7 @@ fn kernel_loop(
     Ok((domain, body, rest))
 }
 
-/// `kernel NAME { for VARIABLES in DOMAIN BLOCK }`, behind its word.
+/// `kernel NAME { for VARIABLES in DOMAIN BLOCK }`, after its word.
 #[tactic(auto, unfolding(crate::specs::steps::ReadItem::read_kernel))]
 pub(crate) fn read_kernel(
     alloc: Global,

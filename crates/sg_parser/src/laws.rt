@@ -17,7 +17,7 @@ pub fn first_fault_is_named()
     ensures { FirstFaultIsNamed }
 {}
 
-/// No two programs of the grammar have the same tokens, but for the lines of their items.
+/// No two programs of the grammar have the same tokens, except for the lines of their items.
 pub fn tree_is_one()
     ensures { TreeIsOne }
 {}

@@ -246,7 +246,7 @@ impl Front for FieldDecl {
     }
 }
 
-/// Fields stand up to the `}` behind them.
+/// Fields stand up to the `}` after them.
 impl Listed for FieldDecl {
     ghost end = { steps.after_sign s.CloseBrace };
 
@@ -255,7 +255,7 @@ impl Listed for FieldDecl {
     }
 }
 
-/// `NAME(AXES) {`, behind the word `layout`.
+/// `NAME(AXES) {`, after the word `layout`.
 #[tactic(auto, unfolding(crate::specs::steps::ReadItem::layout_head))]
 fn layout_head(
     alloc: Global,
@@ -290,7 +290,7 @@ fn layout_body(
     Ok((nodes, fields, rest))
 }
 
-/// `layout NAME(AXES) { NODES FIELDS }`, behind its word.
+/// `layout NAME(AXES) { NODES FIELDS }`, after its word.
 #[tactic(auto, unfolding(crate::specs::steps::ReadItem::read_layout))]
 pub(crate) fn read_layout(
     alloc: Global,

@@ -30,7 +30,7 @@ fn front_item(alloc: Global, tokens: &[Spanned]) -> Result<(Item, usize), Stop<U
     Ok((item, tokens.len() - rest.len()))
 }
 
-/// What stands behind so many tokens.
+/// What stands after so many tokens.
 fn behind(tokens: &[Spanned], taken: usize) -> &[Spanned]
     requires { taken ≤ length tokens.now }
     ensures { result.now ≡ drop taken tokens.now }

@@ -68,7 +68,7 @@ fn assigned_value(alloc: Global, tokens: &[Spanned]) -> Result<(Expr, &[Spanned]
     value_to_end(alloc, equal)
 }
 
-/// `=` behind the word `min` or `max`, and what follows it.
+/// `=` after the word `min` or `max`, and what follows it.
 fn behind_equal(how: WayDecl, tokens: &[Spanned]) -> Option<(WayDecl, &[Spanned])>
     ensures { option_map (λ x. (x.0, kinds x.1.now)) result ≡ read.behind_equal how (kinds tokens.now) }
 {
@@ -94,7 +94,7 @@ fn next_way(tokens: &[Spanned]) -> Option<(WayDecl, &[Spanned])>
     }
 }
 
-/// `let NAME = VALUE;`, behind its word.
+/// `let NAME = VALUE;`, after its word.
 #[tactic(auto, unfolding(crate::specs::steps::ReadStmt::read_let))]
 fn read_let(alloc: Global, tokens: &[Spanned]) -> Result<(Stmt, &[Spanned]), Stop<Unread>>
     ensures { Gives (λ x. (x.0, kinds x.1.now)) result (read.read_let (kinds tokens.now)) }
@@ -104,7 +104,7 @@ fn read_let(alloc: Global, tokens: &[Spanned]) -> Result<(Stmt, &[Spanned]), Sto
     Ok((Stmt::Let { name, value }, rest))
 }
 
-/// A write, behind the `[` of its access.
+/// A write, after the `[` of its access.
 #[tactic(auto, unfolding(crate::specs::steps::ReadStmt::read_write))]
 fn read_write(
     alloc: Global,
@@ -149,7 +149,7 @@ fn assign_or_write<'a>(
     read_write(alloc, own, behind)
 }
 
-/// `NAME in LO..HI`, behind the word `for`.
+/// `NAME in LO..HI`, after the word `for`.
 #[tactic(auto, unfolding(crate::specs::steps::ReadStmt::for_head))]
 fn for_head(
     alloc: Global,
@@ -165,7 +165,7 @@ fn for_head(
     Ok((name, range, rest))
 }
 
-/// `if CONDITION BLOCK else BLOCK`, behind its word.
+/// `if CONDITION BLOCK else BLOCK`, after its word.
 #[cycle(blocks)]
 #[tactic(auto, unfolding(crate::specs::steps::ReadStmt::read_if))]
 fn read_if(
@@ -198,7 +198,7 @@ fn read_if(
     ))
 }
 
-/// `for NAME in LO..HI BLOCK`, behind its word.
+/// `for NAME in LO..HI BLOCK`, after its word.
 #[cycle(blocks)]
 #[tactic(auto, unfolding(crate::specs::steps::ReadStmt::read_for))]
 fn read_for(
@@ -235,7 +235,7 @@ fn statement(
     }
 }
 
-/// The statements of a block, behind its `{`, up to its `}`.
+/// The statements of a block, after its `{`, up to its `}`.
 #[cycle(blocks)]
 #[tactic(auto, unfolding(crate::specs::steps::Front::list_to_end_from))]
 fn statements(

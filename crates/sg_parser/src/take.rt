@@ -108,14 +108,14 @@ pub(crate) const MAX_SIGNED: u32 = 2_147_483_648;
 /// The most axes of a layout or node, variables of a kernel, and ranges of its box.
 pub(crate) const MOST_AXES: usize = 3;
 
-/// Whether a number is within its limit, which is greater where a `u` stands behind it.
+/// Whether a number is within its limit, which is greater where a `u` stands after it.
 pub(crate) fn is_number(value: u32, unsigned: bool) -> bool
     ensures { result ≡ spec.is_number value unsigned }
 {
     unsigned || value <= MAX_SIGNED
 }
 
-/// A number, whether a `u` stands behind it, and what follows.
+/// A number, whether a `u` stands after it, and what follows.
 pub(crate) fn next_number(tokens: &[Spanned]) -> Option<((u32, bool), &[Spanned])>
     ensures { option_map (λ x. (x.0, kinds x.1.now)) result ≡ numbers.next_number (kinds tokens.now) }
 {

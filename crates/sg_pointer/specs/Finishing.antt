@@ -15,7 +15,7 @@ taken_of (o ∷ os) [] = []
 taken_of (o ∷ os) (n ∷ ns) = if (o == 0) && not (n == 0) then ((n - 1) ∷ taken_of os ns) else taken_of os ns
 
 -- The slot words at the end, by what the last seat has done and seen: old links stay; what was seen is there; the new links are those that
--- were made, of the stock, each number in one slot. It ran dry where it holds a ticket past the stock, and then, where the stock had 17 more
+-- were made, of the stock, each number in one slot. It ran dry if it holds a ticket past the stock, and then, where the stock had 17 more
 -- numbers than the free places of a pool of c, more than c slots are linked
 pub record Settled (old stock : List ℕ) (v : Worker) (new : List ℕ) (dry : Bool) : Type 0 where
   pub long : length new ≡ length old

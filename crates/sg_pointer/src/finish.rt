@@ -127,7 +127,7 @@ fn set_of(alloc: Global, numbers: &[u32]) -> Result<Items<bool>, Memory>
     Ok(set)
 }
 
-// One more than the greatest of these numbers, 0 where there is none.
+// One more than the greatest of these numbers, 0 if there is none.
 fn places_for(numbers: &[u32]) -> usize
     ensures { (i : ℕ) → i < length numbers.now → slice_index numbers.now i < result }
 {

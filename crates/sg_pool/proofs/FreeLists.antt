@@ -64,7 +64,7 @@ something (y ∷ ys) (suc i) below none = something ys i (omega arith) none
 
 -- ── One turn ──
 
--- what is left where the number is put back, and where it isn't
+-- what is left if the number is put back, and if it isn't
 pub turned_back : (live : List Bool) (l now new : Lists) (x : ℕ) → 0 < length l.lists → slice_get (list_of l 0) 0 ≡ Some x → get_or live x false ≡ false → now ≡ with_list l 0 (drop 1 (list_of l 0)) → new ≡ with_list now 0 (list_of now 0 ++ x ∷ [])
     → (number : ℕ) (rest : List ℕ) → list_of l 0 ≡ number ∷ rest → new ≡ with_list l 0 (rest ++ dead_in live (number ∷ []))
 turned_back live l now new x there at off popped pushed number rest is =
@@ -171,7 +171,7 @@ put_absent live l now from n there above is absent =
     let none : times n range ≡ 0 = range_past n from (n - from) (omega arith) in
     ap (λ (j : Lists). times_in_lists n j.lists) is ∙ omega (arith, count, both, few, none, absent)
 
--- where the number is put, and where it is live
+-- if the number is put, and if it is live
 pub put_one : (live : List Bool) (l new : Lists) (n : ℕ) → get_or live n false ≡ false → new ≡ with_list l 0 (list_of l 0 ++ n ∷ []) → new ≡ with_list l 0 (list_of l 0 ++ dead_in live (n ∷ []))
 put_one live l new n off is = is ∙ ap (λ xs. with_list l 0 (list_of l 0 ++ xs)) (sym (ap (λ b. cond (not b) (n ∷ []) []) off))
 

@@ -74,7 +74,7 @@ listed_is_free pool n parted stands =
     let listed = parted_listed pool n parted stands in
     record { below = omega (arith, listed.1, parted.within); not_live = listed.2 }
 
--- how often a number stands in the stock: once where it is free
+-- how often a number stands in the stock: once if it is free
 stock_times : (pool : PoolNumbers) (n : ℕ) → times n (stock_in_order pool) ≡ times n pool.free + times n (range_with_len pool.mark (place_count pool - pool.mark))
 stock_times pool n = times-append n pool.free (range_with_len pool.mark (place_count pool - pool.mark))
 
@@ -153,7 +153,7 @@ made_parted live none = record {
       result;
 }
 
--- where nothing is on the free list and the mark is at the end all numbers are live
+-- if nothing is on the free list and the mark is at the end all numbers are live
 pub full_is_live : (pool : PoolNumbers) → IsParted pool → pool.free ≡ [] → place_count pool ≤ pool.mark → live_count pool ≡ place_count pool
 full_is_live pool parted empty past = all_live_counted pool (λ n below. elim (cases_Bool (is_live_number pool n)) [
   | inl live ↦ live

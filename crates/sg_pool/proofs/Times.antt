@@ -79,7 +79,7 @@ times_has x (y ∷ ys) stands = elim (cases_eq y x) [
   | inr other ↦ contains_rest x y ys (times_has x ys (omega (arith, times_other x y ys other)))
 ]
 
--- where no number stands twice each stands once
+-- if no number stands twice each stands once
 pub once_by_times : (xs : List ℕ) → ((x : ℕ) → times x xs ≤ 1) → AllPairs (λ x y. x ≢ y) xs
 once_by_times [] few i j d before below = absurd (omega arith)
 once_by_times (y ∷ ys) few zero zero d before below = absurd (omega arith)

@@ -48,7 +48,7 @@ none_passes test [] i name h is e = absurd (omega arith)
 none_passes test (first ∷ names) zero name h is e = ap test is ∙ (or_parts (test first) (list_any test names) e).0
 none_passes test (first ∷ names) (suc i) name h is e = none_passes test names i name (omega arith) is (or_parts (test first) (list_any test names) e).1
 
--- a name isn't among those before it, where none stands twice
+-- a name isn't among those before it, if none stands twice
 earlier_differ : (names : List Name) (i : ℕ) (name : Name) → i < length names → name ≡ get_or names i name → has_repeat names ≡ false → list_any (same_name name) (take i names) ≡ false
 earlier_differ [] i name h is r = absurd (omega arith)
 earlier_differ (first ∷ names) zero name h is r = refl

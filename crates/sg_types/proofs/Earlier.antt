@@ -44,7 +44,7 @@ module _ {X : Type 0} (test : X → Bool) (xs : List X) where
   no_place_at false e h = grind (arith, nat_tests)
 
 module _ {X : Type 0} (test : X → Bool) (n : ℕ) (xs : List X) where
-  -- it is found among the first n exactly where its place is below n
+  -- it is found among the first n exactly when its place is below n
   pub find-take_below : (k : ℕ) → position test xs ≡ Some k → k < n → find test (take n xs) ≡ find test xs
   find-take_below k h below =
       find-take_before test n xs (omega (arith, place_at test xs k (nat_lt (position_or_len test xs) (length xs)) refl h))

@@ -90,7 +90,7 @@ declared_sees types visible var given is_loop h = record {
 }
 
 module _ (known : Known) (shapes : List Shape) (fit : TablesFit known.tables shapes) (types : List Ty) where
-  -- behind a declaration all names are seen
+  -- after a declaration all names are seen
   declares_seen : (visible : List Visible) (at : Reached) (name : Name) (given : Ty) (is_loop : Bool) (more : List Ty) → types ≡ (at.types ++ given ∷ []) ++ more → AllSeen types visible at.scope
       → (slice_get types (length at.types) ≡ Some given) × AllSeen types (record { var = length at.types; is_loop = is_loop } ∷ visible) (with_variable name given is_loop at).scope
   declares_seen visible at name given is_loop more is all =
@@ -102,7 +102,7 @@ module _ (known : Known) (shapes : List Shape) (fit : TablesFit known.tables sha
             (all_seen_more types visible seen at.scope all) (declared_sees types visible (length at.types) given is_loop there),
       )
 
-  -- what typing a statement gives is well typed, and all names behind it are seen
+  -- what typing a statement gives is well typed, and all names after it are seen
   abbrev Passes : Fitting → List Visible → Reached → Type 0
   Passes step visible after = ((step visible).0 ≡ true) × AllSeen types (step visible).1 after.scope
 
@@ -200,7 +200,7 @@ module _ (known : Known) (shapes : List Shape) (fit : TablesFit known.tables sha
       (and_from (is_signed low.ty) (is_well_typed_expr (setting shapes types visible) low) low_is.1 (expr_fits known shapes fit types scope visible all range.lo low low_is.0 parts.0))
       (and_from (is_signed high.ty) (is_well_typed_expr (setting shapes types visible) high) high_is.1 (expr_fits known shapes fit types scope visible all range.hi high high_is.0 parts.1))
 
-  -- a block behind a condition is well typed, and behind it the names of before are seen
+  -- a block after a condition is well typed, and after it the names of before are seen
   block_fits : (at mid : Reached) (block : List Stmt) (ys : List TypedStmt) (visible : List Visible) (more : List Ty) → AllWellDone block (next_statement at) ys mid
       → types ≡ mid.types ++ more → AllSeen types visible at.scope → (all_fit (map (fitting shapes types) ys) visible).0 ≡ true
   block_fits at mid block ys visible more inside is all = (inside visible more is all).0

@@ -100,7 +100,7 @@ for_done known name range body at start after bounds typed var n scope part is h
     ∙ (ap (λ (k : ℕ). Ok (record { number = at.number; kind = kind.For k bounds typed }, record { number = after.number; types = after.types; scope = at.scope })) (sym v)
     ∙ ap (λ (names : List NamedLocal). Ok (record { number = at.number; kind = kind.For var bounds typed }, record { number = after.number; types = after.types; scope = names })) (sym scope_is)))
 
--- behind the block of an `if` there is room for its `else`
+-- after the block of an `if` there is room for its `else`
 pub else_room : (known : Known) (block : List Stmt) (more : ℕ) (at start after : Reached) (typed : List TypedStmt)
     → start ≡ record { number = at.number + 1; types = at.types; scope = at.scope }
     → in_block (map (typed_stmt known) block) start ≡ Ok (typed, after) → HasRoom at (1 + (block_count block + more)) → HasRoom after more

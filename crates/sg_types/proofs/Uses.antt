@@ -8,5 +8,5 @@ pub use Rattle.sg_types.proofs.Uses.Folds.{fold-Let, fold-Assign, fold-Write, fo
 -- the word of an expression at each form, and what a statement does at each kind
 pub use Rattle.sg_types.proofs.FormWords.{value-Literal, value-Constant, value-Var, value-Read, value-Paren, value-Un, value-Bin, value-Mulq, value-Convert}
 pub use Rattle.sg_types.proofs.FormWords.{action-Let, action-Assign, action-Write, action-If, action-For, effect_equations}
--- a claim on every expression or statement, from the claim on each form or kind where it holds of the parts
+-- a claim on every expression or statement, from the claim on each form or kind if it holds of the parts
 pub use Rattle.sg_types.proofs.Uses.Inductions.{by_exprs, all_exprs, by_stmts, all_stmts}

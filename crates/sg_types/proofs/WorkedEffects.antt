@@ -74,7 +74,7 @@ own_value_is_seen_body = write Own (var 0) (bin b.Mul (var 0) (var 0)) 1 ∷ wri
 own_value_is_seen : writes_at world (kernel own_value_is_seen_body) (at1 3) ≡ written 1 (at1 3) Own 9 ∷ written 2 (at1 3) Own 10 ∷ []
 own_value_is_seen = shown own_value_is_seen_body (at1 3) (written 1 (at1 3) Own 9 ∷ written 2 (at1 3) Own 10 ∷ []) (simp (value-Literal world, value-Var world, value-Read world, value-Bin world, action-Let world, action-Assign world, action-Write world, action-If world, action-For world) (seen-at _))
 
--- `F[i + 1] += F[1]; F[i] = F[i] + 1;`: both reads see the state, also behind a contribution
+-- `F[i + 1] += F[1]; F[i] = F[i] + 1;`: both reads see the state, also after a contribution
 abbrev state_is_seen_body : List TypedStmt
 state_is_seen_body = write (Acc acc.Add) (bin b.Add (var 0) (literal 1)) (read (literal 1)) 1 ∷ write Own (var 0) (bin b.Add (read (var 0)) (literal 1)) 2 ∷ []
 

@@ -9,7 +9,7 @@ abbrev pub total_of : List ℕ → ℕ
 total_of [] = 0
 total_of (n ∷ ns) = n + total_of ns
 
--- the sum of the numbers of an `else`, where there is one
+-- the sum of the numbers of an `else`, if there is one
 abbrev pub else_sum : Option (List ℕ) → ℕ
 else_sum None = 0
 else_sum (Some counts) = total_of counts
@@ -30,7 +30,7 @@ stmt_count = fold-Stmt ℕ count_step
 abbrev pub block_count : List Stmt → ℕ
 block_count block = total_of (map stmt_count block)
 
--- how many statements an `else` has, where there is one
+-- how many statements an `else` has, if there is one
 abbrev pub else_count : Option (List Stmt) → ℕ
 else_count None = 0
 else_count (Some block) = block_count block

@@ -130,7 +130,7 @@ marked_kernel known kernel = record {
 
 -- ---- the names of a kernel's variables, in the order of first tokens
 
--- the names in an `else`, where there is one
+-- the names in an `else`, if there is one
 abbrev pub else_names : Option (List (List Name)) → List Name
 else_names None = []
 else_names (Some names) = joined_lists names

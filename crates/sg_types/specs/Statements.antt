@@ -41,7 +41,7 @@ first_code wrongs =
     else (if wrongs.fixed then Some 3
     else (if wrongs.miscounted then Some 2 else None)))
 
--- a statement's part, or its code: 1 where types don't fit, only where no other code applies
+-- a statement's part, or its code: 1 if types don't fit, only if no other code applies
 abbrev pub part_or_code : {A : Type 0} → Option ℕ → Option A → Result A ℕ
 part_or_code (Some code) typed = Err code
 part_or_code None None = Err 1
@@ -220,7 +220,7 @@ simple_step known part at = do
   typed ← stmt_fault known at.number part
   Ok (numbered_stmt at typed (next_statement at))
 
--- the condition, then the block, and then what is behind `else`
+-- the condition, then the block, and then what comes after `else`
 abbrev pub if_step : Known → Expr → List TypingStep → Option (List TypingStep) → TypingStep
 if_step known condition block otherwise at = do
   typed ← stmt_fault known at.number (if_part known at.scope condition)

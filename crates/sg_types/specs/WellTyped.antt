@@ -83,7 +83,7 @@ is_well_typed_expr at expr = (judged_expr at expr).1
 
 -- ---- statements
 
--- whether a statement is well typed with the variables in scope, and the variables in scope behind it
+-- whether a statement is well typed with the variables in scope, and the variables in scope after it
 abbrev pub Fitting : Type 0
 Fitting = List Visible → Bool × List Visible
 
@@ -122,7 +122,7 @@ kind_fits shapes types (k.For var range body) scope = (
   scope,
 )
 
--- whether a statement fits, and the variables that are in scope behind it
+-- whether a statement fits, and the variables that are in scope after it
 abbrev pub fitting : List Shape → List Ty → TypedStmt → Fitting
 fitting shapes types = fold-TypedStmt Fitting Fitting (kind_fits shapes types) (λ statement. statement.kind)
 

@@ -47,7 +47,7 @@ pub(crate) fn all_signed(exprs: &[TypedExpr]) -> bool
     exprs.iter().all(|expr| is_signed(expr.ty))
 }
 
-/// A read of a field, where there is one.
+/// A read of a field, if there is one.
 pub(crate) fn read(at: Option<FieldAt>, index: Items<TypedExpr>) -> Option<TypedExpr>
     ensures { result ≡ option_and_then (λ at. spec.access_expr at index) at }
 {

@@ -20,7 +20,7 @@ use sg_names::FieldAt;
 use sg_words::{Items, Memory, Stop};
 
 impl<'a> Known<'a> {
-    /// A part of the statement with this number, where nothing is wrong with it and its types fit.
+    /// A part of the statement with this number, if nothing is wrong with it and its types fit.
     pub fn judge<T: Drop>(
         &self,
         number: u32,

@@ -62,7 +62,7 @@ key_case P p k word v full empty = go (word == 0) refl
     go true e = empty (grind (arith, nat_tests))
     go false e = full (λ z. grind (arith, nat_tests))
 
--- a worker with a share stands where it is looked up
+-- a worker with a share stands if it is looked up
 found : (s : Race) (v : ℕ) → 0 < (worker s v).share → get_elem? s.workers v ≡ some (worker s v)
 found s v h = at_where (λ (w : Worker). 0 < w.share) s.workers v nobody (λ z. omega arith) h
 

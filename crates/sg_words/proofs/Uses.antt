@@ -24,7 +24,7 @@ pub neither_holds : (a b : Bool) → (a || b) ≡ false → (a ≡ false) × (b 
 neither_holds true b h = absurd (cc)
 neither_holds false b h = (refl, h)
 
--- an answer behind a fault that isn't there
+-- an answer after a fault that isn't there
 pub fault_or-ok : {A E : Type 0} (fault : Option E) (answer : Result A E) (x : A) → fault_or fault answer ≡ Ok x → (fault ≡ None) × (answer ≡ Ok x)
 fault_or-ok None answer x ok = (refl, ok)
 fault_or-ok (Some e) answer x ok = absurd (cc)
@@ -86,7 +86,7 @@ into_filter p (y ∷ ys) x (zero, below, same) passes = head_kept p x y ys same 
 into_filter p (y ∷ ys) x (suc k, below, same) passes =
     rest_kept p x y ys (into_filter p ys x (k, omega arith, same) passes)
 
--- where all pass, all are kept
+-- if all pass, all are kept
 pub filter_all : {X : Type 0} (p : X → Bool) (xs : List X) → All (λ (x : X). p x ≡ true) xs → filter p xs ≡ xs
 filter_all p [] all = refl
 filter_all {X} p (x ∷ xs) all =

@@ -4,11 +4,11 @@ use Rattle.std.specs.Int.{bit_at}
 use mathlib.Core.Option.{some}
 use lib.ListN.{get_elem?}
 
--- 1 where a test holds, else 0
+-- 1 if a test holds, else 0
 abbrev pub one : Bool → ℕ
 one b = if b then 1 else 0
 
--- 1 where t is below n, else 0
+-- 1 if t is below n, else 0
 abbrev pub once_below : ℕ → ℕ → ℕ
 once_below t n = min 1 (n - t)
 
@@ -17,7 +17,7 @@ abbrev pub total : {A : Type 0} → (A → ℕ) → List A → ℕ
 total f [] = 0
 total f (x ∷ xs) = f x + total f xs
 
--- the greatest of a number of each element, or 0 where there is no element
+-- the greatest of a number of each element, or 0 if there is no element
 abbrev pub greatest : {A : Type 0} → (A → ℕ) → List A → ℕ
 greatest f [] = 0
 greatest f (x ∷ xs) = max (f x) (greatest f xs)

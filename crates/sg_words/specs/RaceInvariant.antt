@@ -34,7 +34,7 @@ has_made i t v = pairs i t v.made
 abbrev pub has_linked : ℕ → Worker → ℕ
 has_linked i v = firsts i v.made
 
--- a slot that was 0 at the start holds the number of the ticket with which it was made, and is 0 where nobody made it
+-- a slot that was 0 at the start holds the number of the ticket with which it was made, and is 0 if nobody made it
 pub record LinksAreMade (g : Setting) (slots : List ℕ) (workers : List Worker) : Type 0 where
   pub made : (i t : ℕ) → 0 < total (has_made i t) workers → (slice_index g.slots i ≡ 0) × (i < length slots) × (slice_index slots i ≡ ticket_number g (g.node i) t + 1)
   pub bare : (i : ℕ) → slice_index g.slots i ≡ 0 → total (has_linked i) workers ≡ 0 → slice_index slots i ≡ 0
@@ -78,7 +78,7 @@ pub record Team (workers : List Worker) : Type 0 where
   pub sizes : total (λ v. v.size) workers ≡ length workers
   pub shares : total handed_share workers ≡ all_shares workers
 
--- where key k stands at place number j of its order, each earlier place of the order holds another key
+-- if key k stands at place number j of its order, each earlier place of the order holds another key
 abbrev pub Probed : List ℕ → Type 0
 Probed keys = (k j i : ℕ) → j < length keys → slice_index keys (place_in_order (length keys) k j) ≡ k + 1 → i < j
     → (slice_index keys (place_in_order (length keys) k i) ≢ 0) × (slice_index keys (place_in_order (length keys) k i) ≢ k + 1)
@@ -108,7 +108,7 @@ raised_to q v = greatest (λ x. if x.0 == q then x.1 + 1 else 0) v.raised
 abbrev pub LengthsAreRaised : Setting → List ℕ → List Worker → Type 0
 LengthsAreRaised g lengths workers = (length lengths ≡ length g.lengths) × ((q : ℕ) → slice_index lengths q ≡ max (slice_index g.lengths q) (greatest (raised_to q) workers))
 
--- the word of cell c with one contribution, or as it was where that is to another cell
+-- the word of cell c with one contribution, or as it was if that is to another cell
 abbrev pub with_one : (ℕ → ℕ → ℕ) → ℕ → ℕ → ℕ × ℕ → ℕ
 with_one into c a x = if x.0 == c then into a x.1 else a
 

@@ -155,7 +155,7 @@ pub data Event : Type 0 where
   join : ℕ → ℕ → Event
 
 -- What must hold before an event: the worker has a share and what it takes is there. A link, a mark and a raise stand in a container
--- that the worker knows; a link takes a spare ticket of its own and an empty slot; a draw comes where it holds no ticket of the node.
+-- that the worker knows; a link takes a spare ticket of its own and an empty slot; a draw comes if it holds no ticket of the node.
 abbrev pub Needs : Setting → Race → Event → Type 0
 Needs g s first = s.workers ≡ []
 Needs g s (enrol v) = 2 ≤ (worker s v).share

@@ -30,7 +30,7 @@ floor_over (negsuc n) m = negsuc (n / m)
 abbrev pub flag : Bool → ℕ
 flag b = if b then 1 else 0
 
--- the quotient of two words' numbers in a type, rounded toward zero; 0 where the divisor is 0
+-- the quotient of two words' numbers in a type, rounded toward zero; 0 if the divisor is 0
 abbrev pub quotient : Ty → ℕ → ℕ → ℤ
 quotient t a b = if b == 0 then pos 0 else int_div (number t a) (number t b)
 

@@ -1,4 +1,4 @@
-//! Words of 32 bits and their arithmetic, and what every crate shares: want of memory, refusals, lists.
+//! Words of 32 bits and their arithmetic, and what every crate shares: running out of memory, refusals, lists.
 #![tactic(auto)]
 
 pub mod arithmetic;

@@ -1,6 +1,6 @@
 use std::alloc::{AllocError, AllocFailed};
 
-/// Want of memory: an allocation was refused.
+/// Running out of memory: an allocation was refused.
 #[derive(Clone, Copy, Debug, PartialEq, Eq)]
 pub struct Memory;
 
@@ -16,7 +16,7 @@ impl<T: Drop> From<AllocFailed<T>> for Memory {
     }
 }
 
-/// Why a call that can refuse has no answer: want of memory, or its own numbered refusal.
+/// Why a call that can refuse has no answer: out of memory, or its own numbered refusal.
 #[derive(Debug, Drop)]
 pub enum Stop<E> {
     Memory,

@@ -22,7 +22,7 @@ fn kernels_are_lowered(rt: HostRuntime) -> Result<(), Fail> {
     Ok(())
 }
 
-/// A register that is set in one branch of an `if`, and used behind the `if`, or in the branch.
+/// A register that is set in one branch of an `if`, and used after the `if`, or in the branch.
 fn branching(alloc: Global, behind: bool) -> Result<Code, Memory> {
     let mut yes = Items::new(alloc);
     yes.push(Inst::Const { to: 1, word: 5 })?;

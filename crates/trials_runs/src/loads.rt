@@ -55,7 +55,7 @@ fn stores_of(alloc: Global, compiled: &Compiled) -> Result<Stores, Memory> {
     Ok(Stores { list })
 }
 
-/// Whether a load ends with this fault, or with none, and behind it the first field of the first store has this grid text.
+/// Whether a load ends with this fault, or with none, and after it the first field of the first store has this grid text.
 fn loads<R: Threads + Sync>(
     rt: &R,
     alloc: Global,

@@ -1,4 +1,4 @@
-//! Sessions, what their stores hold behind each run of a kernel, and what they keep where a run is refused.
+//! Sessions, what their stores hold after each run of a kernel, and what they keep where a run is refused.
 
 use sg_coord::Coord;
 use sg_flat::RunFault;
@@ -28,7 +28,7 @@ enum End {
     Outside(u32, i32),
 }
 
-/// A run of a kernel, how it ends, and the grid texts of all fields of the layouts from one on behind it.
+/// A run of a kernel, how it ends, and the grid texts of all fields of the layouts from one on after it.
 #[derive(Clone, Copy)]
 struct Step(u32, End, usize, &'static str);
 
@@ -72,7 +72,7 @@ static STORIES: &[(&str, &[Step])] = &[
             ),
         ],
     ),
-    // cells in the first 65,536 of a layout and behind them, as a second layout copies them
+    // cells in the first 65,536 of a layout and after them, as a second layout copies them
     (
         "layout A(i, j) { dense(i: 512, j: 256); field x: i32; } layout B(i) { dense(i: 8); field y: i32; } kernel a { for i, j in 255..257, 254..256 { x[i, j] += 10; } } kernel b { for i, j in 256..257, 255..256 { x[i, j] += 10; } } kernel c { for i in 0..6 { y[i] = x[255 + i / 2, 254 + i % 2]; } }",
         &[

@@ -116,7 +116,7 @@ pub(crate) fn reach(alloc: Global, store: &mut Store, wanted: &[Coord]) -> Resul
     Ok(store.reach(alloc, wanted)?)
 }
 
-/// Gives a field a value at a coordinate, where that is active.
+/// Gives a field a value at a coordinate, if that is active.
 pub(crate) fn put(store: &mut Store, place: u32, at: Coord, word: u32) {
     if (place as usize) < store.layout().shape().fields.len() {
         if let Some(cell) = store.cell_of(at) {
@@ -125,7 +125,7 @@ pub(crate) fn put(store: &mut Store, place: u32, at: Coord, word: u32) {
     }
 }
 
-/// The value of a field at a coordinate, 0 where that isn't active.
+/// The value of a field at a coordinate, 0 if that isn't active.
 pub(crate) fn value_at(store: &Store, place: u32, at: Coord) -> u32 {
     if (place as usize) < store.layout().shape().fields.len() {
         if let Some(cell) = store.cell_of(at) {

@@ -86,7 +86,7 @@ impl Gate for Counter {
     }
 }
 
-/// What is seen of a round: the node that is too full, 0 where none is; how many coordinates are active; how often the gate was passed.
+/// What is seen of a round: the node that is too full, 0 if none is; how many coordinates are active; how often the gate was passed.
 type Seen = (u32, usize, u64);
 
 /// So many points at a multiple of a step are wanted.

@@ -84,7 +84,7 @@ static STORIES: [Story; 13] = [
         valued: [[5, 0, 0], [15, 0, 0]],
         told: "4 8 full 1 2: 8 | 2/4 1 3 2/4 17 | 8 12 8 12 4 7 0 0 ",
     },
-    // keys behind others
+    // keys after others
     Story {
         axes: 2,
         nodes: &[

@@ -153,7 +153,7 @@ fn raced<R: Threads + Sync>(
     pass.finish(alloc, seat)
 }
 
-// Each answer is the number that its slot holds at the end, and the pass is dry just where an answer is.
+// Each answer is the number that its slot holds at the end, and the pass is dry just when an answer is.
 fn answers_agree(linked: &Linked, answers: &[Ask]) -> bool {
     let links = linked.links.as_slice();
     let mut dry = false;

@@ -1,4 +1,4 @@
--- What the code collects of the variables that hang on others.
+-- What the code collects of the variables that depend on others.
 use Rattle.std.specs.Prelude.{◌≡◌, ℕ, ◌+◌, Bool, true, false, not, ◌&&◌, ◌||◌, List, [], ◌∷◌, length}
 use Rattle.std.specs.List.{list_all, list_any}
 use Rattle.sg_types.specs.declared.typed.TypedExpr.{TypedExpr}
@@ -64,7 +64,7 @@ has_givings fields all vars = list_all (λ giving. is_clean_giving (unclean_besi
 abbrev pub has_given : Text → PlaceSet → List Line → Bool
 has_given text places lines = has_givings (is_noted_in text.writes) (givings lines) (vars_in text places)
 
--- from the given place on, an `if` after the other is in the set exactly where its condition or one round it isn't clean
+-- from the given place on, an `if` after the other is in the set exactly when its condition or one round it isn't clean
 abbrev pub AreSettled : Text → PlaceSet → ℕ → List (List TypedExpr) → Type 0
 AreSettled text places at [] = Unit {0}
 AreSettled text places at (conditions ∷ more) = (places at ≡ not (are_clean_by text places conditions)) × AreSettled text places (at + 1) more

@@ -21,7 +21,7 @@ good_by facts reading.Accumulated = is_unaccumulated facts
 abbrev pub turns_if_constant : TypedRange → Option ℕ
 turns_if_constant range = if is_constant_range range then Some (turns_of range) else None
 
--- the turns that an inner loop makes with those round it, where there are few of both
+-- the turns that an inner loop makes with those round it, if there are few of both
 abbrev pub turns_if_few : ℕ → ℕ → Option ℕ → Option ℕ
 turns_if_few depth turns None = None
 turns_if_few depth turns (Some own) = if nat_le (depth + 1) most_loops && nat_le (own * turns) most_loop_turns then Some (own * turns) else None

@@ -7,7 +7,7 @@ use Rattle.sg_admit.specs.declared.spreads.Link.{Link}
 abbrev pub has_spread : (ℕ → Bool) → List Link → List ℕ → Bool
 has_spread places links start = list_all (λ link. not (places link.from) || places link.to) links && list_all places start
 
--- the place is marked; one behind the last of the marks isn't
+-- the place is marked; one after the last of the marks isn't
 abbrev pub bears_mark : List Bool → ℕ → Bool
 bears_mark marks place = get_or marks place false
 

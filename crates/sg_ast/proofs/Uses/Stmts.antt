@@ -109,7 +109,7 @@ module _ (P : Stmt → Type 0)
   pub by_stmt_variant : (statement : Stmt) → P statement
   by_stmt_variant statement = rw (← roll-out-Stmt statement) (by_layer (out-Stmt statement))
 
--- a claim on the statements of an `else`, where there is one
+-- a claim on the statements of an `else`, if there is one
 abbrev pub AllInElse : (Stmt → Type 0) → Option (List Stmt) → Type 0
 AllInElse P None = Unit {0}
 AllInElse P (Some block) = AllByRecursion P block

@@ -18,11 +18,11 @@ use Rattle.sg_elements.specs.declared.ways.Way.{Way}
 abbrev pub is_led : StoreWords → List ℕ → Bool
 is_led store path = is_some (cell_along store path)
 
--- those paths along which the store leads, of a path with each of these offsets behind it
+-- those paths along which the store leads, of a path with each of these offsets after it
 abbrev pub led_over : StoreWords → List ℕ → List ℕ → List (List ℕ)
 led_over store path offsets = filter (is_led store) (map (λ offset. path ++ offset ∷ []) offsets)
 
--- those paths along which the store leads, of a path with each offset below a size behind it
+-- those paths along which the store leads, of a path with each offset below a size after it
 abbrev pub led_below : StoreWords → ℕ → List ℕ → List (List ℕ)
 led_below store size path = led_over store path (range_with_len 0 size)
 
@@ -51,7 +51,7 @@ rows_upto store node count = map (row_along store.shape) (flat_map (led_below st
 abbrev pub FewBelow : StoreWords → ℕ → Type 0
 FewBelow store node = (count : ℕ) → length (rows_upto store node count) < 2 ^ 32
 
--- these are those below the paths of a level from one number up to below another, in some order: behind those before them they are all up to there
+-- these are those below the paths of a level from one number up to below another, in some order: after those before them they are all up to there
 abbrev pub AreRowsBetween : StoreWords → ℕ → ℕ → ℕ → List ℕ → Type 0
 AreRowsBetween store node from to rows = IsPermutation (rows_upto store node to) (rows_upto store node from ++ rows)
 
@@ -73,11 +73,11 @@ way_of shape node offset = record { offset = offset; share = share_row shape nod
 abbrev pub offsets_of : List Way → List ℕ
 offsets_of ways = map (λ (way : Way). way.offset) ways
 
--- behind this path the store leads on over no offset of a node from this one on
+-- after this path the store leads on over no offset of a node from this one on
 abbrev pub EndsAt : StoreWords → ℕ → ℕ → List ℕ → Type 0
 EndsAt store node end path = (offset : ℕ) → end ≤ offset → offset < node_size store node → cell_along store (path ++ offset ∷ []) ≡ None
 
--- behind each path of a node's level
+-- after each path of a node's level
 abbrev pub AreEnough : StoreWords → ℕ → ℕ → Type 0
 AreEnough store node count = (path : List ℕ) → Contains (level_at store node) path → EndsAt store node count path
 

@@ -57,7 +57,7 @@ live_points false block at = suc (row_in_block block at)
 abbrev pub longer : Option ℕ → ℕ → Option ℕ
 longer length reach = Some (max (unwrap_or length 0) reach)
 
--- how many points of the block with a number a list of coordinates makes live; none where no coordinate is in the block
+-- how many points of the block with a number a list of coordinates makes live; none if no coordinate is in the block
 abbrev pub length_at : Bounds → Bounds → Bool → List Coord → ℕ → Option ℕ
 length_at all block whole coords number =
     fold longer None (map (live_points whole block) (filter (λ at. block_number all block at == number) coords))

@@ -19,7 +19,7 @@ abbrev pub FindsRow : Result (GridRow × Bor (List ℕ)) GridFault → Result (G
 FindsRow (Ok found) meaning = meaning ≡ Ok (found.0, found.1.now)
 FindsRow (Err f) meaning = meaning ≡ Err f
 
--- more rows behind these, where there is no fault
+-- more rows after these, if there is no fault
 abbrev pub with_rows : List GridRow → Result (List GridRow) GridFault → Result (List GridRow) GridFault
 with_rows rows (Ok more) = Ok (rows ++ more)
 with_rows rows (Err f) = Err f

@@ -5,7 +5,7 @@ use Rattle.sg_store.specs.StoreWords.{StoreWords, word_in}
 use Rattle.sg_store.specs.Walks.{cell_in}
 use Rattle.sg_grid.specs.declared.grid.GridRow.{GridRow}
 
--- the word in a cell; 0 where there is none
+-- the word in a cell; 0 if there is none
 abbrev pub word_or_zero : StoreWords → ℕ → Option ℕ → ℕ
 word_or_zero store place None = 0
 word_or_zero store place (Some cell) = word_in store place cell

@@ -2,7 +2,7 @@
 use Rattle.std.specs.Prelude.{◌≡◌, ℕ, ◌+◌, ◌<◌, Option, Some, None, List, length, slice_index, ◌⊎◌}
 use Rattle.sg_hash.specs.Tables.{place, Passes, IsFull}
 
--- a place in the key's order, behind places with other keys, that is empty or holds the key; None where every place
+-- a place in the key's order, after places with other keys, that is empty or holds the key; None if every place
 -- holds another key
 abbrev pub IsProbe : List ℕ → ℕ → Option ℕ → Type 0
 IsProbe keys key None = IsFull keys key

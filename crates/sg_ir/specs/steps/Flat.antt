@@ -16,7 +16,7 @@ room_of now = record { regs = now.regs; places = now.places }
 abbrev pub moment_of : Moved → RunMoment
 moment_of now = record { vars = now.vars; writes = now.writes; wants = now.wants }
 
--- behind an act
+-- after an act
 abbrev pub moved_by : Seen → Act → Moved → Moved
 moved_by seen (SetVar var from) now = set_var_word var (now.regs from) now
 moved_by seen (WriteOwn layout field from stmt) now =
@@ -26,7 +26,7 @@ moved_by seen (Contribute how layout field place from index stmt) now =
     (add_access (record { layout = layout; place = now.places place; at = named_by index now }) now)
 moved_by seen (Wish layout index stmt) now = add_want (record { layout = layout; stmt = stmt; at = named_by index now }) now
 
--- behind a read of a cell
+-- after a read of a cell
 abbrev pub moved_by_read : Seen → ℕ → ℕ → ℕ → ℕ → List ℕ → Moved → Moved
 moved_by_read seen to place layout field index now =
     set_reg to (op_word seen (room_of now) (moment_of now) (op.Read place layout field))

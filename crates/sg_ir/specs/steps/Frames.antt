@@ -31,7 +31,7 @@ scope_in typing before = scope_at (free_in typing) before
 abbrev pub is_good : Typing → Before → Inst → Bool
 is_good typing before inst = (judges (frame_in typing) inst (scope_in typing before)).0
 
--- whether a block is good that begins at this point: each of its instructions is, behind those before it
+-- whether a block is good that begins at this point: each of its instructions is, after those before it
 abbrev pub are_good : Typing → Before → List Inst → Bool
 are_good typing before block = (judged (frame_in typing) block (scope_in typing before)).0
 

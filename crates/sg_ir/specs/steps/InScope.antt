@@ -21,7 +21,7 @@ and_reg to scope = record { regs = put to true scope.regs; places = scope.places
 abbrev pub and_place : ℕ → InScope → InScope
 and_place to scope = record { regs = scope.regs; places = put to true scope.places }
 
--- the scope where no register and no place is set
+-- the scope if no register and no place is set
 abbrev pub nothing : InScope
 nothing = record { regs = λ r. false; places = λ p. false }
 

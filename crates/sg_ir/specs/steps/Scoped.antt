@@ -48,7 +48,7 @@ step_place seen room (step.Root layout) = Some (record { layout = layout; path =
 step_place seen room (step.Check place axis extent index) = check extent (room.regs index) (room.places place)
 step_place seen room (step.Down descent place node offset) = down seen.shapes node (room.regs offset) (room.places place)
 
--- the moment behind an act
+-- the moment after an act
 abbrev pub moment_after_act : Seen → Room → Act → RunMoment → RunMoment
 moment_after_act seen room (SetVar var from) now = record { vars = put var (room.regs from) now.vars; writes = now.writes; wants = now.wants }
 moment_after_act seen room (WriteOwn layout field from stmt) now = record {

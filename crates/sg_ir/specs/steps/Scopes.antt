@@ -16,7 +16,7 @@ use Rattle.sg_ir.specs.Runs.{put}
 use Rattle.sg_ir.specs.WellTyped.{holds_of, KnownPlace, Scope}
 use Rattle.sg_ir.specs.steps.Targets.{is_setting, set_name_of, left, leaves}
 
--- the last instruction behind which this is set
+-- the last instruction after which this is set
 pub record IsLast (what : Target) (done : List Inst) (at : ℕ) : Type 0 where
   pub within : at < length done
   pub there : holds_of (leaves what) (slice_get done at) ≡ true
@@ -56,7 +56,7 @@ origin_step (i.Want layout index stmt) = None
 origin_step (i.If cond block otherwise) = None
 origin_step (i.For var lo hi body) = None
 
--- where the place comes from that an instruction sets; none where it sets no place
+-- where the place comes from that an instruction sets; none if it sets no place
 abbrev pub origin : Inst → Option Origin
 origin = fold-Inst (Option Origin) origin_step
 
@@ -64,7 +64,7 @@ origin = fold-Inst (Option Origin) origin_step
 abbrev pub KnownPlaces : Type 0
 KnownPlaces = ℕ → Option Passed
 
--- what is known of a place on from one of which this is known: its layout, and so many nodes passed; nothing where that is none
+-- what is known of a place on from one of which this is known: its layout, and so many nodes passed; nothing if that is none
 abbrev pub passed_on : ℕ → Option Passed → Option Passed
 passed_on passed None = None
 passed_on passed (Some known) = Some (record { layout = known.layout; passed = passed })
@@ -80,18 +80,18 @@ abbrev pub settled : ℕ → Option Passed → KnownPlaces → KnownPlaces
 settled to None places = places
 settled to (Some known) places = put to (Some known) places
 
--- what is known of the places behind a setting: this of a place that it sets, where it isn't none; else what was known before
+-- what is known of the places after a setting: this of a place that it sets, if it isn't none; else what was known before
 abbrev pub places_then : Option Target → Option Passed → KnownPlaces → KnownPlaces
 places_then None known places = places
 places_then (Some (t.Reg r)) known places = places
 places_then (Some (t.Place p)) known places = settled p known places
 places_then (Some (t.Var v)) known places = places
 
--- what is known of the places behind an instruction, and behind these
+-- what is known of the places after an instruction, and after these
 abbrev pub place_step : KnownPlaces → Inst → KnownPlaces
 place_step places inst = places_then (left inst) (known_from places (origin inst)) places
 
--- what is known of the places behind instructions, given what is known before them
+-- what is known of the places after instructions, given what is known before them
 abbrev pub places_after : KnownPlaces → List Inst → KnownPlaces
 places_after places done = fold place_step places done
 

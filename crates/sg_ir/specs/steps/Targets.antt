@@ -21,7 +21,7 @@ is_setting (t.Var v) (SetsReg n) = false
 is_setting (t.Var v) (SetsPlace n) = false
 is_setting (t.Var v) (SetsVar n) = n == v
 
--- what is set behind an instruction: nothing behind a block of its own
+-- what is set after an instruction: nothing after a block of its own
 abbrev pub left_step : {A : Type 0} → Inst-F A → Option Target
 left_step (i.Const to word) = Some (t.Reg to)
 left_step (i.Var to var) = Some (t.Reg to)
@@ -45,7 +45,7 @@ left_step (i.Want layout index stmt) = None
 left_step (i.If cond block otherwise) = None
 left_step (i.For var lo hi body) = None
 
--- the register, place or variable that is set behind an instruction; none behind an `if` or a `for`, and where it sets none
+-- the register, place or variable that is set after an instruction; none after an `if` or a `for`, and where it sets none
 abbrev pub left : Inst → Option Target
 left = fold-Inst (Option Target) left_step
 
@@ -55,7 +55,7 @@ set_name_of (t.Reg r) = SetsReg r
 set_name_of (t.Place p) = SetsPlace p
 set_name_of (t.Var v) = SetsVar v
 
--- a register, place or variable that may be there, as a list of settings; empty where there is none
+-- a register, place or variable that may be there, as a list of settings; empty if there is none
 abbrev pub settings_of : Option Target → List SetName
 settings_of None = []
 settings_of (Some target) = set_name_of target ∷ []
@@ -68,27 +68,27 @@ inst_settings = fold-Inst (List SetName) sets_step
 abbrev pub set_times : Target → List SetName → ℕ
 set_times target set = min 2 (count_by (is_setting target) set)
 
--- the number behind this one, where it isn't below the next
+-- the number after this one, if it isn't below the next
 abbrev pub past : ℕ → ℕ → Option ℕ
 past number next = if nat_lt number next then None else Some (number + 1)
 
--- the next numbers, where that of a register is now this one; none where there isn't one
+-- the next numbers, where that of a register is now this one; none if there isn't one
 abbrev pub with_next_reg : Next → Option ℕ → Option Next
 with_next_reg from None = None
 with_next_reg from (Some reg) = Some (record { reg = reg; place = from.place })
 
--- the next numbers, where that of a place is now this one; none where there isn't one
+-- the next numbers, where that of a place is now this one; none if there isn't one
 abbrev pub with_next_place : Next → Option ℕ → Option Next
 with_next_place from None = None
 with_next_place from (Some place) = Some (record { reg = from.reg; place = place })
 
--- the next numbers behind a setting; none where its register's or place's number is below the next; a variable changes nothing
+-- the next numbers after a setting; none if its register's or place's number is below the next; a variable changes nothing
 abbrev pub passes : SetName → Next → Option Next
 passes (SetsReg r) from = with_next_reg from (past r from.reg)
 passes (SetsPlace p) from = with_next_place from (past p from.place)
 passes (SetsVar v) from = Some from
 
--- the numbers behind settings that go up
+-- the numbers after settings that go up
 abbrev pub ascends : Next → List SetName → Option Next
 ascends from [] = Some from
 ascends from (one ∷ more) = option_and_then (λ next. ascends next more) (passes one from)
@@ -103,6 +103,6 @@ once_in all (SetsVar v) = true
 abbrev pub inst_once : List SetName → Inst → Bool
 inst_once all inst = list_all (once_in all) (inst_settings inst)
 
--- whether this is set behind an instruction
+-- whether this is set after an instruction
 abbrev pub leaves : Target → Inst → Bool
 leaves what inst = list_any (is_setting what) (settings_of (left inst))

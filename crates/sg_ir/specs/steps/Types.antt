@@ -27,14 +27,14 @@ pub record IsFinal (names : Names) (at : Frame) : Type 0 where
   pub regs : (r : ℕ) → r < length names.regs → slice_get at.regs r ≡ slice_get names.regs r
   pub places : names.places ≤ at.places
 
--- what has a name is set behind it as before it, and the same variables may be read
+-- what has a name is set after it as before it, and the same variables may be read
 pub record KeepsScope (old : Names) (before after : Scope) : Type 0 where
   pub regs : (r : ℕ) → r < length old.regs → after.regs r ≡ before.regs r
   pub places : (p : ℕ) → p < old.places → after.places p ≡ before.places p
   pub vars : after.vars ≡ before.vars
 
--- the block after sets the next registers and places, is good wherever the block before is and `needs` holds behind it, and then
--- `gains` holds behind it
+-- the block after sets the next registers and places, is good wherever the block before is and `needs` holds after it, and then
+-- `gains` holds after it
 pub record Adds (shapes : List Shape) (needs gains : Frame → Scope → Type 0) (old new : Names) (before after : List Inst) : Type 0 where
   pub begins : Begins old new
   pub set_regs : GoesOn (length old.regs) (length new.regs) (set_regs before) (set_regs after)

@@ -7,7 +7,7 @@ use Rattle.sg_layout.specs.declared.shape.Shape.{Shape}
 use Rattle.sg_layout.specs.Axes.{extent_in, extent_over}
 use Rattle.sg_ir.specs.Runs.{Place, check, down}
 
--- the place behind the checks of words against extents
+-- the place after the checks of words against extents
 abbrev pub checks : List ℕ → List ℕ → Option Place → Option Place
 checks [] words place = place
 checks (extent ∷ extents) [] place = place
@@ -28,7 +28,7 @@ abbrev pub node_offset : NodeShape → List NodeShape → List ℕ → ℕ
 node_offset node later [] = 0
 node_offset node later (word ∷ words) = offset_from node later 2 words (digit node later 1 word)
 
--- the place behind the steps down these nodes, of which the first has this number
+-- the place after the steps down these nodes, of which the first has this number
 abbrev pub led : List Shape → ℕ → List NodeShape → List ℕ → Option Place → Option Place
 led shapes number [] words place = place
 led shapes number (node ∷ later) words place = led shapes (suc number) later words (down shapes number (node_offset node later words) place)

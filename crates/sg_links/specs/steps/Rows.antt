@@ -39,7 +39,7 @@ pub record AreLinked (next : List ℕ) (heads : List Head) (lists : List (List �
 abbrev pub list_at : List ℕ → List Head → ℕ → List ℕ
 list_at next heads head = slice_index_or (lists_of next heads) head []
 
--- the numbers of a list stand in an order one behind the other, from a place on
+-- the numbers of a list stand in an order one after the other, from a place on
 abbrev pub IsLaid : List ℕ → ℕ → List ℕ → Type 0
 IsLaid list start order = (k : ℕ) → k < length list → slice_index order (start + k) ≡ slice_index list k
 

@@ -26,11 +26,11 @@ use Rattle.sg_lower.specs.steps.Basis.{Basis, is_owned}
 abbrev pub told_writes : Basis → List Write → List CodeWrite
 told_writes basis writes = if basis.slicing then [] else map (code_write basis.shapes) writes
 
--- the wants that code tells for the writes so far; none where no slice is lowered
+-- the wants that code tells for the writes so far; none if no slice is lowered
 abbrev pub told_wants : Basis → List Write → List CodeWant
 told_wants basis writes = if basis.slicing then map want_of writes else []
 
--- a coordinate's place has this coordinate, where it is inside
+-- a coordinate's place has this coordinate, if it is inside
 abbrev pub inside_or_none : List Shape → ℕ → Coord → Option Coord
 inside_or_none shapes layout at = if is_inside_of (slice_get shapes layout) at then Some at else None
 

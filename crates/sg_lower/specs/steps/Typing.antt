@@ -21,7 +21,7 @@ IsCell place layout at scope = holds_of (is_cell at layout) (scope.places place)
 abbrev pub Ready : Surroundings → Frame → Scope → Type 0
 Ready setting at scope = (at.vars ≡ setting.types) × ((var : ℕ) → is_visible setting.scope var ≡ true → scope.vars var ≡ true)
 
--- a register that may be read, and holds a truth value exactly where the type is that of one
+-- a register that may be read, and holds a truth value exactly when the type is that of one
 abbrev pub HoldsWordOf : ℕ → Ty → Frame → Scope → Type 0
 HoldsWordOf to given at scope = reads at scope (is_truth given) to ≡ true
 
@@ -39,7 +39,7 @@ abbrev pub AddsIndex : List Shape → List TypedExpr → List ℕ → Names → 
 AddsIndex shapes exprs regs old new before after = (setting : Surroundings) → setting.shapes ≡ shapes → list_all (is_part setting) exprs ≡ true
     → Adds shapes (Ready setting) (CanRead regs) old new before after
 
--- what has a name is set behind it as before it, and what may be read may be read on
+-- what has a name is set after it as before it, and what may be read may be read on
 pub record KeepsNames (old : Names) (before after : Scope) : Type 0 where
   pub regs : (r : ℕ) → r < length old.regs → after.regs r ≡ before.regs r
   pub places : (p : ℕ) → p < old.places → after.places p ≡ before.places p
@@ -100,10 +100,10 @@ deed_turns (Opens ranges) = []
 abbrev pub line_turns : List Line → List ℕ
 line_turns lines = flat_map (λ line. deed_turns line.deed) lines
 
--- behind what was set before, the code sets the variables that a statement and those in it set, in order
+-- after what was set before, the code sets the variables that a statement and those in it set, in order
 abbrev pub SetsStmt : TypedStmt → List Inst → List Inst → Type 0
 SetsStmt stmt before after = (around : Around) → set_vars after ≡ set_vars before ++ line_sets (stmt_lines stmt around)
 
--- behind what was set before, the code sets the variables that the statements of a block and those in them set, in order
+-- after what was set before, the code sets the variables that the statements of a block and those in them set, in order
 abbrev pub SetsBlock : List TypedStmt → List Inst → List Inst → Type 0
 SetsBlock stmts before after = (around : Around) → set_vars after ≡ set_vars before ++ line_sets (block_lines stmts around)

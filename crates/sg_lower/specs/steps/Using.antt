@@ -14,7 +14,7 @@ use Rattle.sg_ir.specs.Apt.{Use, Writes, Reads, ReadsOwn, uses_in}
 use Rattle.sg_lower.specs.declared.lowering.Field.{Field}
 use Rattle.sg_lower.specs.steps.Basis.{Basis, is_owned}
 
--- a read: in the own cell where the field is owned, else behind its indices
+-- a read: in the own cell where the field is owned, else after its indices
 abbrev pub read_uses : Bool → ℕ → ℕ → List Use → List Use
 read_uses owned layout place index = if owned then ReadsOwn layout place ∷ [] else index ++ Reads layout place ∷ []
 
@@ -56,7 +56,7 @@ deed_uses basis (lines.Opens ranges) = []
 abbrev pub line_uses : Basis → List Line → List Use
 line_uses basis all = flat_map (λ line. deed_uses basis line.deed) all
 
--- a block with more uses behind its own
+-- a block with more uses after its own
 abbrev pub Uses : List Use → List Inst → List Inst → Type 0
 Uses more before after = uses_in after ≡ uses_in before ++ more
 
@@ -64,6 +64,6 @@ Uses more before after = uses_in after ≡ uses_in before ++ more
 abbrev pub UsesStmt : Basis → TypedStmt → List Inst → List Inst → Type 0
 UsesStmt basis stmt before after = (around : Around) → Uses (line_uses basis (stmt_lines stmt around)) before after
 
--- the code of a block has the uses of its statements behind those before, wherever the block stands
+-- the code of a block has the uses of its statements after those before, wherever the block stands
 abbrev pub UsesBlock : Basis → List TypedStmt → List Inst → List Inst → Type 0
 UsesBlock basis stmts before after = (around : Around) → Uses (line_uses basis (block_lines stmts around)) before after

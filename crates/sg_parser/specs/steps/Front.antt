@@ -17,7 +17,7 @@ use Rattle.sg_ast.specs.declared.token.Token.{Token}
 use Rattle.sg_ast.specs.declared.token.Token.TheVariants as t
 use Rattle.sg_ast.specs.Token.{is_name}
 
--- a reader: the value that tokens at the front spell, and the tokens behind them; nothing where they spell none
+-- a reader: the value that tokens at the front spell, and the tokens after them; nothing if they spell none
 abbrev pub Reader : Type 0 → Type 0
 Reader A = List Token → Option (A × List Token)
 
@@ -69,7 +69,7 @@ abbrev pub next_op : Reader BinOp
 next_op (t.Sign sign ∷ rest) = option_map (λ op. (op, rest)) (infix_of sign)
 next_op _ = None
 
--- the list so far where no comma stands at the front, else what is read behind it
+-- the list so far if no comma stands at the front, else what is read after it
 abbrev pub comma_list_on : {A : Type 0} → List A → List Token → Reader (List A) → Option (List Token) → Option (List A × List Token)
 comma_list_on found rest more None = Some (found, rest)
 comma_list_on found rest more (Some after) = more after

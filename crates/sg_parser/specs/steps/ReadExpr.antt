@@ -27,14 +27,14 @@ operator_goes_on least left op = nat_le least (op_level op) && nat_le (left_need
 
 -- one layer of an expression, where a reader of its parts is given, by their least level
 module _ (expr : ℕ → Reader Expr) where
-  -- the indices of an access, behind its `[`
+  -- the indices of an access, after its `[`
   unfoldable pub read_indices : Reader (List Expr)
   read_indices tokens = do
     index ← comma_list (expr 1) tokens
     rest ← after_sign s.CloseBracket index.1
     Some (index.0, rest)
 
-  -- what a name begins, where what follows a `[` behind it is given
+  -- what a name begins, where what follows a `[` after it is given
   abbrev pub read_name_expr_on : Name → List Token → Option (List Token) → Option (Expr × List Token)
   read_name_expr_on name tokens None = Some (e.Name name, tokens)
   read_name_expr_on name tokens (Some behind) = do
@@ -45,7 +45,7 @@ module _ (expr : ℕ → Reader Expr) where
   unfoldable pub read_name_expr : Name → Reader Expr
   read_name_expr name tokens = only_if (is_name name) (read_name_expr_on name tokens (after_sign s.OpenBracket tokens))
 
-  -- the arguments of a call, behind its word
+  -- the arguments of a call, after its word
   unfoldable pub read_call_expr : Callee → Reader Expr
   read_call_expr callee tokens = do
     behind ← after_sign s.OpenParen tokens
@@ -53,7 +53,7 @@ module _ (expr : ℕ → Reader Expr) where
     rest ← after_sign s.CloseParen arguments.1
     only_if (length arguments.0 == arity callee) (Some (e.Call callee arguments.0, rest))
 
-  -- an expression in parentheses, behind the `(`
+  -- an expression in parentheses, after the `(`
   unfoldable pub paren_expr : Reader Expr
   paren_expr tokens = do
     inner ← expr 1 tokens
@@ -93,7 +93,7 @@ module _ (expr : ℕ → Reader Expr) where
   prefix (t.Word word ∷ rest) = word_expr word rest
   prefix (t.Sign sign ∷ rest) = sign_expr sign rest
 
-  -- what was read so far, joined with the operand behind an operator, where the tree does not get too deep
+  -- what was read so far, joined with the operand after an operator, where the tree does not get too deep
   abbrev pub climb_on : ℕ → ℕ → (Expr → Reader Expr) → Expr → List Token → Option (BinOp × List Token) → Option (Expr × List Token)
   climb_on limit least more left tokens None = Some (left, tokens)
   climb_on limit least more left tokens (Some next) =
@@ -101,7 +101,7 @@ module _ (expr : ℕ → Reader Expr) where
       then only_if (nat_lt (depth left) limit) (expr (right_needs next.0) next.1 >>= λ right. more (e.Bin next.0 left right.0) right.1)
       else Some (left, tokens)
 
-  -- all operators of at least a level behind what was read so far, in at most so many turns
+  -- all operators of at least a level after what was read so far, in at most so many turns
   unfoldable pub climb : ℕ → ℕ → ℕ → Expr → Reader Expr
   climb limit least zero left tokens = None
   climb limit least (suc turns) left tokens = climb_on limit least (climb limit least turns) left tokens (next_op tokens)

@@ -28,7 +28,7 @@ use Rattle.sg_words.specs.Options.{only_if, ◌>>=◌}
 use Rattle.sg_parser.specs.steps.ReadStmt.{read_range, read_block}
 use Rattle.sg_ast.specs.Limits.{max_number, most_listed_axes, most_listed_nodes}
 
--- a number, and whether a `u` stands behind it
+-- a number, and whether a `u` stands after it
 abbrev pub next_number : Reader (ℕ × Bool)
 next_number (t.Number value unsigned ∷ rest) = only_if (is_number value unsigned) (Some ((value, unsigned), rest))
 next_number _ = None
@@ -38,13 +38,13 @@ abbrev pub next_plain : Reader ℕ
 next_plain (t.Number value unsigned ∷ rest) = only_if (not unsigned && is_number value false) (Some (value, rest))
 next_plain _ = None
 
--- a `;`, behind a value
+-- a `;`, after a value
 abbrev pub ending : {A : Type 0} → A → Reader A
 ending value tokens = do
   rest ← after_sign s.Semicolon tokens
   Some (value, rest)
 
--- the value of a constant, behind the `-` if there is one
+-- the value of a constant, after the `-` if there is one
 abbrev pub read_const_value : Name → Bool → Reader Item
 read_const_value name minus tokens = do
   number ← next_number tokens
@@ -55,7 +55,7 @@ abbrev pub value_on : Name → List Token → Option (List Token) → Option (It
 value_on name tokens None = read_const_value name false tokens
 value_on name tokens (Some behind) = read_const_value name true behind
 
--- `const NAME = -NUMBER;`, behind its word
+-- `const NAME = -NUMBER;`, after its word
 unfoldable pub read_const : Reader Item
 read_const tokens = do
   name ← next_name tokens
@@ -152,7 +152,7 @@ read_field tokens = do
 abbrev pub before_field : List Token → Option (List Token)
 before_field tokens = option_map (λ behind. tokens) (after_word w.Field tokens)
 
--- `NAME(AXES) {`, behind the word `layout`
+-- `NAME(AXES) {`, after the word `layout`
 unfoldable pub layout_head : List Token → Option (Name × List Name × List Token)
 layout_head tokens = do
   name ← next_name tokens
@@ -169,7 +169,7 @@ layout_body tokens = do
   fields ← list_to_end (after_sign s.CloseBrace) read_field nodes.1
   Some (nodes.0, fields.0, fields.1)
 
--- `layout NAME(AXES) { NODES FIELDS }`, behind its word
+-- `layout NAME(AXES) { NODES FIELDS }`, after its word
 unfoldable pub read_layout : Reader Item
 read_layout tokens = do
   head ← layout_head tokens
@@ -177,7 +177,7 @@ read_layout tokens = do
   only_if (nat_le (length head.1) most_listed_axes && ((nat_le 1 (length body.0) && nat_le (length body.0) most_listed_nodes) && nat_le 1 (length body.1)))
       (Some (item.Layout (record { name = head.0; axes = head.1; nodes = body.0; fields = body.1 }), body.2))
 
--- a name behind which a block begins
+-- a name after which a block begins
 abbrev pub lone_name : Reader Name
 lone_name tokens = do
   name ← next_name tokens
@@ -195,7 +195,7 @@ domain_on tokens (Some name) = Some (domain.Layout name.0, name.1)
 unfoldable pub read_domain : Reader DomainDecl
 read_domain tokens = domain_on tokens (lone_name tokens)
 
--- `NAME { for VARIABLES in`, behind the word `kernel`
+-- `NAME { for VARIABLES in`, after the word `kernel`
 unfoldable pub kernel_head : List Token → Option (Name × List Name × List Token)
 kernel_head tokens = do
   name ← next_name tokens
@@ -213,14 +213,14 @@ kernel_loop tokens = do
   rest ← after_sign s.CloseBrace body.1
   Some (domain.0, body.0, rest)
 
--- `kernel NAME { for VARIABLES in DOMAIN BLOCK }`, behind its word
+-- `kernel NAME { for VARIABLES in DOMAIN BLOCK }`, after its word
 unfoldable pub read_kernel : Reader Item
 read_kernel tokens = do
   head ← kernel_head tokens
   loop ← kernel_loop head.2
   only_if (nat_le (length head.1) most_listed_axes) (Some (item.Kernel (record { name = head.0; vars = head.1; domain = loop.0; body = loop.1 }), loop.2))
 
--- whether a number of a bound has a `u` exactly where it is past the limit without one
+-- whether a number of a bound has a `u` exactly when it is past the limit without one
 abbrev pub has_right_suffix : Bool → ℕ → Bool
 has_right_suffix true value = nat_lt (max_number false) value
 has_right_suffix false value = not (nat_lt (max_number false) value)
@@ -249,7 +249,7 @@ read_named tokens = do
   name ← next_name tokens
   ending name.0 name.1
 
--- `image NAME LO HI;`, behind its word
+-- `image NAME LO HI;`, after its word
 unfoldable pub read_image : Reader Command
 read_image tokens = do
   name ← next_name tokens
@@ -263,7 +263,7 @@ name_command make tokens = do
   name ← read_named tokens
   Some (make name.0, name.1)
 
--- a command that is no `times`, behind its word
+-- a command that is no `times`, after its word
 abbrev pub word_simple : Word → Reader Command
 word_simple w.Load tokens = name_command command.Load tokens
 word_simple w.Run tokens = name_command command.Run tokens
@@ -279,7 +279,7 @@ unfoldable pub read_simple : Reader Command
 read_simple (t.Word word ∷ rest) = word_simple word rest
 read_simple _ = None
 
--- `times NUMBER { COMMANDS }`, behind its word
+-- `times NUMBER { COMMANDS }`, after its word
 unfoldable pub read_times : Reader Command
 read_times tokens = do
   number ← next_plain tokens
@@ -293,7 +293,7 @@ command_item read = do
   given ← read
   Some (item.Command given.0, given.1)
 
--- an item, behind its first word
+-- an item, after its first word
 abbrev pub word_item : Word → Reader Item
 word_item w.Const tokens = read_const tokens
 word_item w.Layout tokens = read_layout tokens

@@ -54,14 +54,14 @@ assigned_value tokens = do
   equal ← after_sign s.Equal tokens
   value_to_end equal
 
--- `let NAME = VALUE;`, behind its word
+-- `let NAME = VALUE;`, after its word
 unfoldable pub read_let : Reader Stmt
 read_let tokens = do
   name ← next_name tokens
   value ← assigned_value name.1
   Some (stmt.Let name.0 value.0, value.1)
 
--- a write, behind the `[` of its access
+-- a write, after the `[` of its access
 unfoldable pub read_write : Name → Reader Stmt
 read_write field tokens = do
   index ← read_indices (expr_at max_depth) tokens
@@ -69,7 +69,7 @@ read_write field tokens = do
   value ← value_to_end how.1
   Some (stmt.Write field index.0 how.0 value.0, value.1)
 
--- what a name begins, where what follows a `[` behind it is given
+-- what a name begins, where what follows a `[` after it is given
 abbrev pub assign_or_write_on : Name → List Token → Option (List Token) → Option (Stmt × List Token)
 assign_or_write_on name tokens None = do
   value ← assigned_value tokens
@@ -80,7 +80,7 @@ assign_or_write_on name tokens (Some behind) = read_write name behind
 unfoldable pub assign_or_write : Name → Reader Stmt
 assign_or_write name tokens = only_if (is_name name) (assign_or_write_on name tokens (after_sign s.OpenBracket tokens))
 
--- `NAME in LO..HI`, behind the word `for`
+-- `NAME in LO..HI`, after the word `for`
 unfoldable pub for_head : List Token → Option (Name × RangeDecl × List Token)
 for_head tokens = do
   name ← next_name tokens
@@ -97,14 +97,14 @@ module _ (block : Reader (List Stmt)) where
     other ← block behind
     Some (stmt.If condition chosen (Some other.0), other.1)
 
-  -- `if CONDITION BLOCK else BLOCK`, behind its word
+  -- `if CONDITION BLOCK else BLOCK`, after its word
   unfoldable pub read_if : Reader Stmt
   read_if tokens = do
     condition ← read_expr tokens
     chosen ← block condition.1
     else_on condition.0 chosen.0 chosen.1 (after_word w.Else chosen.1)
 
-  -- `for NAME in LO..HI BLOCK`, behind its word
+  -- `for NAME in LO..HI BLOCK`, after its word
   unfoldable pub read_for : Reader Stmt
   read_for tokens = do
     head ← for_head tokens

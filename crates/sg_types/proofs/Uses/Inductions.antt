@@ -24,7 +24,7 @@ all_parts : {A B : Type 0} (P : B → Type 0) (b : A → B) → ((u : A) → P (
 all_parts P b h [] = tt
 all_parts P b h (u ∷ parts) = (h u, all_parts P b h parts)
 
--- a claim on every expression, from the claim on each form where it holds of the parts
+-- a claim on every expression, from the claim on each form if it holds of the parts
 module _ (P : TypedExpr → Type 0)
     (on_literal : (ty : Ty) (word : ℕ) → P (record { ty = ty; form = form.Literal word }))
     (on_constant : (ty : Ty) (word : ℕ) → P (record { ty = ty; form = form.Constant word }))
@@ -57,7 +57,7 @@ module _ (P : TypedExpr → Type 0)
   all_exprs [] = tt
   all_exprs (expr ∷ exprs) = (by_exprs expr, all_exprs exprs)
 
--- a claim on every statement, from the claim on each kind where it holds of the statements in it
+-- a claim on every statement, from the claim on each kind if it holds of the statements in it
 module _ (P : TypedStmt → Type 0)
     (on_let : (number : ℕ) (var : ℕ) (value : TypedExpr) → P (record { number = number; kind = kind.Let var value }))
     (on_assign : (number : ℕ) (var : ℕ) (value : TypedExpr) → P (record { number = number; kind = kind.Assign var value }))

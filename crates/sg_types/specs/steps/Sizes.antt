@@ -9,7 +9,7 @@ use Rattle.sg_types.specs.Counting.{block_count}
 abbrev pub kernel_size : KernelDecl → ℕ
 kernel_size kernel = length kernel.vars + (1 + block_count kernel.body)
 
--- the variables and statements of an item: none where it is no kernel
+-- the variables and statements of an item: none if it is no kernel
 abbrev pub item_size : Item → ℕ
 item_size (item.Const decl) = 0
 item_size (item.Layout decl) = 0

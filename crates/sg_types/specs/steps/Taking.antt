@@ -13,7 +13,7 @@ use Rattle.sg_types.specs.Programs.{typed_items}
 abbrev pub behind_typed : List TypedKernel → Result (List TypedKernel) TypeFault → Result (List TypedKernel) TypeFault
 behind_typed done rest = rest >>= (λ more. Ok (done ++ more))
 
--- all kernels, where some are typed, and items are left behind a number of constants
+-- all kernels, where some are typed, and items are left after a number of constants
 abbrev pub typed_after : Tables → List TypedKernel → ℕ → List Item → Result (List TypedKernel) TypeFault
 typed_after tables done constants items = behind_typed done (typed_items tables (length done) constants items)
 

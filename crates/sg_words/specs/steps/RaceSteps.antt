@@ -3,7 +3,7 @@ use Rattle.std.specs.Prelude.{ℕ, ◌-◌, ◌==◌, if◌then◌else◌}
 use Rattle.sg_words.specs.declared.race.Worker.{Worker}
 use Rattle.sg_words.specs.RaceMachine.{Event, see, miss, link, after_see, after_miss, after_link}
 
--- a load of slot i that found a word: it was seen, or missed where it is 0
+-- a load of slot i that found a word: it was seen, or missed if it is 0
 abbrev pub after_look : ℕ → ℕ → Worker → Worker
 after_look i word v = if word == 0 then after_miss i v else after_see i (word - 1) v
 

@@ -46,7 +46,7 @@ invariant-items-loop-turn l = record {
   within : l.depth ≤ l.inner;
 }
 
--- what the operators behind what was read so far make of it is what they make of the first operand
+-- what the operators after what was read so far make of it is what they make of the first operand
 abbrev pub invariant-climb-loop-turn : goal.invariant-climb-loop-turn
 invariant-climb-loop-turn l = record {
   value : read.climb (read.expr_at l.inner) (l.inner + 1) l.least (l._turn-end - l._turn) l.tree (kinds l.rest)

@@ -6,7 +6,7 @@ use Rattle.sg_outside.proofs.Names.{get_named}
 use Rattle.sg_outside.proofs.Fails.{fails_just}
 use Rattle.sg_outside.proofs.mem_files.MemFilesFiles.read.Goals as goal
 
--- the answer is exactly the read's meaning, and so a failure just where that is no file
+-- the answer is exactly the read's meaning, and so a failure just when that is no file
 pub returns-clause-fails : goal.returns-clause-fails
 returns-clause-fails c =
     let files = c.args.self.now in
