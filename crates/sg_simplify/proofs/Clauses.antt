@@ -1,7 +1,7 @@
 -- Code that stands for what the pass puts out is simplified.
-use Rattle.std.specs.Prelude.{◌≡◌, ℕ, true, List, map, slice_get, Some}
+use Rattle.std.specs.Prelude.{◌≡◌, ℕ, ◌≤◌, true, List, map, slice_get, Some}
 use Rattle.std.specs.List.{list_all}
-use Rattle.std.proofs.Common.{sym, ap, ◌∙◌}
+use Rattle.std.proofs.Common.{sym, ap, subst, ◌∙◌}
 use Rattle.sg_words.specs.declared.operators.Ty.{Ty}
 use Rattle.sg_words.specs.declared.operators.BinOp.{BinOp}
 use Rattle.sg_words.specs.declared.operators.UnOp.{UnOp}
@@ -25,7 +25,9 @@ use Rattle.sg_ir.specs.Trimmed.{is_trimmed}
 use Rattle.sg_ir.specs.WellTyped.{is_well_typed}
 use Rattle.sg_simplify.specs.steps.Pass.{Next, given_of, first_pass, first_next, simple, simplified}
 use Rattle.sg_simplify.specs.Simplified.{IsSimplified}
-use Rattle.sg_simplify.specs.steps.Counted.{has_words}
+use Rattle.sg_simplify.specs.steps.Left.{IsSimple, IsLeft}
+use Rattle.sg_ir.specs.steps.InScope.{nothing, IsScoped}
+use Rattle.sg_simplify.specs.steps.Counted.{has_words, regs_set, places_set}
 use Rattle.sg_simplify.proofs.Laid.{are_laid}
 use Rattle.sg_simplify.proofs.Meaning.{simple_tells}
 use Rattle.sg_simplify.proofs.SettingVars.{simple_is_shared}
@@ -35,6 +37,9 @@ use Rattle.sg_simplify.proofs.UsesOfCode.{simple_only}
 use Rattle.sg_simplify.proofs.Walked.{are_walked}
 use Rattle.sg_simplify.proofs.WellRuled.{well_typed_is_ruled}
 use Rattle.sg_simplify.proofs.WholeTrim.{simple_is_trimmed}
+use Rattle.sg_simplify.proofs.Whole.{simple_scoped}
+use Rattle.sg_simplify.proofs.Numbering.{set_once}
+use Rattle.sg_simplify.proofs.KeptWhole.{left_is_simplified}
 
 module _
     (number_law : (t : Ty) (w : ℕ) → WordHasNumber t w)
@@ -54,7 +59,7 @@ module _
       → ((layout : ℕ) (shape : Shape) → slice_get shapes layout ≡ Some shape → IsAccepted shape × IsBounds (bounds_of_shape shape))
       → is_well_typed shapes code ≡ true → IsNamed shapes domain code.body → list_all (λ b. b) (map has_words code.body) ≡ true
       → (out : Block × Next) → simplified (given_of shapes domain code.regs (block_in code)) (block_in code) first_pass first_next ≡ out
-      → block_in made ≡ out.0 → made.regs ≡ out.1.types → made.places ≡ out.1.places → made.vars ≡ code.vars → IsSimplified shapes domain code made
+      → block_in made ≡ out.0 → made.regs ≡ out.1.types → made.places ≡ out.1.places → made.vars ≡ code.vars → IsSimple shapes domain code made
   simple_is_simplified shapes domain code made checked good named words out is same_block same_regs same_places same_vars =
       let whole : block_in made ≡ simple shapes domain code.regs (block_in code) = same_block ∙ ap (λ (o : Block × Next). o.0) (sym is) in
       let ruled = well_typed_is_ruled shapes domain code (are_laid shapes checked test_law slot_law whole_law) good words in
@@ -67,3 +72,18 @@ module _
         trimmed = ap (is_trimmed shapes domain) whole ∙ simple_is_trimmed shapes domain code.regs (block_in code) ruled;
         only = only_given (uses_in code.body) (uses_in made.body) (simple_only shapes domain code.regs made.regs code.body made.body whole);
       }
+
+  -- what is left of it is simplified
+  pub left_of_simple : (shapes : List Shape) (domain : Domain) (code made : Code)
+      → ((layout : ℕ) (shape : Shape) → slice_get shapes layout ≡ Some shape → IsAccepted shape × IsBounds (bounds_of_shape shape))
+      → is_well_typed shapes code ≡ true → IsNamed shapes domain code.body → list_all (λ b. b) (map has_words code.body) ≡ true
+      → (out : Block × Next) → simplified (given_of shapes domain code.regs (block_in code)) (block_in code) first_pass first_next ≡ out
+      → block_in made ≡ out.0 → made.regs ≡ out.1.types → made.places ≡ out.1.places → made.vars ≡ code.vars → (left : Code) → IsLeft made left → IsSimplified shapes domain code left
+  left_of_simple shapes domain code made checked good named words out is same_block same_regs same_places same_vars left kept =
+      let whole : block_in made ≡ simple shapes domain code.regs (block_in code) = same_block ∙ ap (λ (o : Block × Next). o.0) (sym is) in
+      let ruled = well_typed_is_ruled shapes domain code (are_laid shapes checked test_law slot_law whole_law) good words in
+      let scoped : IsScoped nothing (block_in made) = subst (λ (b : Block). IsScoped nothing b) (sym whole) (simple_scoped shapes domain code.regs (block_in code) ruled) in
+      let once : (n : ℕ) → (regs_set n (block_in made) ≤ 1) × (places_set n (block_in made) ≤ 1) =
+      λ n. subst (λ (b : Block). (regs_set n b ≤ 1) × (places_set n b ≤ 1)) (sym whole) (set_once (given_of shapes domain code.regs (block_in code)) (block_in code) first_pass first_next n) in
+      left_is_simplified shapes domain code made left (simple_is_simplified shapes domain code made checked good named words out is same_block same_regs same_places same_vars) scoped once
+      kept.marks kept.spread kept.block kept.regs kept.places kept.vars

@@ -45,7 +45,7 @@ grown_reg scope start next type span h = let m = h.regs in let p = h.places in l
 grown_place : (scope : InScope) (start next : Next) → Grown scope start next → Grown scope start (next_with_place next)
 grown_place scope start next h = let p = h.places in record { regs = h.regs; places = omega arith; spans = h.spans; names = h.names }
 
--- the name of a register, and of the others, behind one that is given
+-- the name of a register, and of the others, after one that is given
 pub name_here : (next : Next) (to t : ℕ) → made_name (with_name to t next) to ≡ t
 name_here next to t = ap (λ o. unwrap_or o to) (names_put next.names to t to) ∙ by_test (to == to) (grind arith)
   where

@@ -1,4 +1,4 @@
--- What holds of each instruction where it holds of the instructions in it holds of all.
+-- What holds of each instruction if it holds of the instructions in it holds of all.
 use Rattle.std.specs.Prelude.{ℕ, zero, suc, ◌<◌, max, List, [], ◌∷◌, map, ℤ}
 use Rattle.std.proofs.Common.{arith, subst}
 use Rattle.sg_words.specs.declared.operators.Ty.{Ty}

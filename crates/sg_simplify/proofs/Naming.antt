@@ -1,4 +1,4 @@
--- Accesses are named along a run over one file of registers exactly where they are along the scoped run.
+-- Accesses are named along a run over one file of registers exactly when they are along the scoped run.
 use Rattle.std.specs.Prelude.{◌≡◌, refl, ℕ, ◌==◌, Bool, true, false, if◌then◌else◌, List, [], ◌∷◌, ◌++◌, map, fold, ℤ, All}
 use Rattle.std.proofs.Common.{arith, sym, ap, subst, ◌∙◌, append_assoc}
 use Rattle.std.proofs.lemmas.List.{append-nil}
@@ -43,7 +43,7 @@ each_second : {X : Type 0} (P : X → Type 0) (xs ys : List X) → EachByRecursi
 each_second P [] ys all = all
 each_second P (x ∷ xs) ys all = each_second P xs ys all.1
 
--- the accesses after are those before and more, which are named exactly where a fact holds
+-- the accesses after are those before and more, which are named exactly when a fact holds
 record Tells (shapes : List Shape) (fact : Type 0) (before after : List Access) : Type 0 where
   more : List Access
   is : after ≡ before ++ more

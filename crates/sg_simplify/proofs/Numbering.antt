@@ -206,7 +206,7 @@ module _ (given : Given) (n : ℕ) where
           stepped_numbers (step.Root layout) (λ r. checks_made 0 (extents_in (bounds_of_shape shape)) index r (λ p. descended given shape.nodes 1 index p go))
           (λ r. checked_numbers (extents_in (bounds_of_shape shape)) 0 index r (λ p. descended given shape.nodes 1 index p go) (λ p. descended_numbers shape.nodes 1 index p go goes)) known next
 
-  -- behind a name that is given
+  -- after a name that is given
   unnamed_numbers : (next : Next) (to t : ℕ) (made : Block × Next) → Numbers (with_name to t next) made → Numbers next made
   unnamed_numbers next to t made h = record { regs = h.regs; places = h.places }
 

@@ -73,7 +73,7 @@ other_reg scope n r free is = by_test (r == n) refl
     by_test true e = differ (sym is ∙ (ap scope.regs (eqb-true r n e) ∙ free))
     by_test false e = e
 
--- the way behind a step isn't changed either
+-- the way after a step isn't changed either
 pub behind_kept : (scope : InScope) (ways : Ways) (n to : ℕ) (way : List AxisCheck) (how : Step) → scope.places n ≡ false → AreSet scope.places (step_places how) → way_behind ((n, way) ∷ ways) to how ≡ way_behind ways to how
 behind_kept scope ways n to way (step.Root layout) free set = refl
 behind_kept scope ways n to way (step.Check place axis extent index) free set = ap (λ (before : List AxisCheck). before ++ record { axis = axis; index = index; place = to } ∷ []) (way_kept ways n place way (other_place scope n place free set.0))

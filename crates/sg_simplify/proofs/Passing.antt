@@ -118,7 +118,7 @@ pub loops-more : (loops more : List Looped) (inner : Looped) → more ≡ loops 
 loops-more loops more inner is =
     ap (λ them. reverse (map span_in_loop them)) is ∙ ap reverse (map-append span_in_loop loops (inner ∷ [])) ∙ reverse-append (map span_in_loop loops) (span_in_loop inner ∷ [])
 
--- the loops behind one that was gone into
+-- the loops after one that was gone into
 pub popped : (result : Option Looped) (inside left : List Looped) (inner : ℕ × Span) (outer : List (ℕ × Span)) → MatchOption result ((inside ≡ []) × (left ≡ [])) (λ last. inside ≡ left ++ last ∷ []) →
     reverse (map span_in_loop inside) ≡ inner ∷ outer → reverse (map span_in_loop left) ≡ outer
 popped None inside left inner outer is known = let none = sym (ap (λ them. reverse (map span_in_loop them)) is.0) ∙ known in absurd (cc)

@@ -1,5 +1,5 @@
 -- The place of an access, built anew, is that of the coordinate that its index registers name.
-use Rattle.std.specs.Prelude.{◌≡◌, refl, ℕ, suc, ◌<◌, ◌≤◌, Bool, true, false, ◌&&◌, if◌then◌else◌, List, [], ◌∷◌, length, map, slice_get, Option, Some, None, ℤ, pos, ◌≤ℤ◌, int_le, int_lt}
+use Rattle.std.specs.Prelude.{◌≡◌, refl, ℕ, suc, ◌<◌, Bool, true, false, ◌&&◌, if◌then◌else◌, List, [], ◌∷◌, length, map, slice_get, Option, Some, None, ℤ, pos, ◌≤ℤ◌, int_le, int_lt}
 use Rattle.std.proofs.Common.{arith, sym, ap, subst, ◌∙◌}
 use Rattle.std.proofs.lemmas.Int.{ints}
 use Rattle.sg_words.specs.declared.operators.Ty.TheVariants as ty

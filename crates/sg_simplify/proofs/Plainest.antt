@@ -1,11 +1,9 @@
 -- The operand that an operation gives again holds the operation's word, and an operation in its plainest form gives the same word.
-use Rattle.std.specs.Prelude.{◌≡◌, refl, ℕ, ◌+◌, ◌*◌, ◌/◌, ◌%◌, ◌^◌, ◌<◌, ◌==◌, Bool, true, false, ◌&&◌, not, if◌then◌else◌, List, [], ◌∷◌, length, slice_get, Option, Some, None, unwrap_or, ℤ, pos, ◌-ℤ◌, ◌≤ℤ◌, int_le, int_lt, nat_lt}
+use Rattle.std.specs.Prelude.{◌≡◌, refl, ℕ, ◌+◌, ◌*◌, ◌/◌, ◌%◌, ◌^◌, ◌<◌, ◌==◌, Bool, true, false, ◌&&◌, if◌then◌else◌, List, length, slice_get, Option, Some, None, unwrap_or, ℤ, pos, ◌-ℤ◌, ◌≤ℤ◌, int_le, int_lt, nat_lt}
 use Rattle.std.proofs.Common.{arith, lit<, sym, ap, subst, ◌∙◌}
 use Rattle.std.proofs.lemmas.Bool.{and_parts, eqb-true}
 use Rattle.std.proofs.lemmas.Int.{ints}
 use Rattle.std.proofs.Math.Nat.{mod-one}
-use Rattle.sg_words.specs.WordLaws.{IsWord}
-use Rattle.sg_words.specs.Words.{number}
 use Rattle.sg_words.specs.declared.operators.Ty.{Ty}
 use Rattle.sg_words.specs.declared.operators.Ty.TheVariants as ty
 use Rattle.sg_layout.specs.declared.shape.Shape.{Shape}
@@ -30,7 +28,7 @@ use Rattle.sg_simplify.specs.steps.Sets.{IndexIsSet}
 use Rattle.sg_simplify.specs.steps.Trims.{OpIsTrim}
 
 -- ---- the plainest form
--- what holds of an operation, and of 0 where the operation takes a word modulo 1, holds of the plainest form
+-- what holds of an operation, and of 0 if the operation takes a word modulo 1, holds of the plainest form
 pub plainest_case : (P : Op → Type 0) (type : Ty) (how : Op) → ((div from : ℕ) → how ≡ op.Extract div 1 from → P (op.Const 0 (is_truth type))) → P how → P (plainest type how)
 plainest_case P type (op.Const word truth) nought same = same
 plainest_case P type (op.Var var) nought same = same

@@ -19,7 +19,7 @@ use Rattle.sg_simplify.specs.steps.Serves.{EachByRecursion, Later, OpBelow, OpSt
 use Rattle.sg_simplify.specs.steps.Ruled.{OpSettles, IsNotRead, IsRenamed, AllRenamed, Grown}
 use Rattle.sg_simplify.proofs.Growing.{name_here, name_other}
 
--- later, and behind what has grown
+-- later, and after what has grown
 renamed_at : (next : Next) (from to : Room) (further : Next) (beyond : Room) (r : ℕ) → Later next to further beyond → made_name further r ≡ made_name next r → IsRenamed next from to r → IsRenamed further from beyond r
 renamed_at next from to further beyond r later name h = let below = h.named in let more = later.regs in record {
   named = rw name (omega arith);
@@ -40,7 +40,7 @@ renamed_grown scope next further from to h all r is = renamed_at next from to fu
 pub name_later : (next : Next) (room : Room) (to t : ℕ) → Later next room (with_name to t next) room
 name_later next room to t = record { regs = omega arith; places = omega arith; spans = λ r below. refl; kept = λ r below. refl; kept_places = λ p below. refl }
 
--- behind a given register that is set
+-- after a given register that is set
 pub renamed_put : (scope : InScope) (next : Next) (from to : Room) (k t word : ℕ) → AllRenamed scope next from to → t < length next.spans → to.regs t ≡ word → Lies (span_in next t) word
     → AllRenamed (and_reg k scope) (with_name k t next) (room_reg k word from) to
 renamed_put scope next from to k t word all below is lies r set = by_test (r == k) refl set

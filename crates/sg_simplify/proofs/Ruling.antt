@@ -140,7 +140,7 @@ module _ (shapes : List Shape) (single : ℕ → Bool) (others : ℕ → Span) (
       by_loops (inl none) = none (others var) ∙ entire.wide var (let one : one_where (var == var) ≡ 1 = flag_on var in omega arith)
       by_loops (inr looped) = let some = looped.0 in let once = looped.1 in let one : one_where (var == var) ≡ 1 = flag_on var in absurd (omega arith)
 
-  -- a variable that may be read isn't set any more, where it is set at most once
+  -- a variable that may be read isn't set any more, if it is set at most once
   pub settles : (scope : Scope) (inner : InScope) (outside : Counts) (loops : List (ℕ × Span)) (var more : ℕ) → Meets totals scope inner outside loops → scope.vars var ≡ true → totals.vars var ≡ outside.vars var + more → single var ≡ true → more ≡ 0
   settles scope inner outside loops var more h set adds one = by_vars (h.vars var set)
     where

@@ -179,7 +179,7 @@ module _ (seen : Seen) where
     word_lies rest pass next room now holds (op.Read place layout field) has lies = laws.words (vars_of given pass) room now holds.words holds.fits (op.Read place layout field) has
     word_lies rest pass next room now holds (op.OwnRead layout field) has lies = laws.words (vars_of given pass) room now holds.words holds.fits (op.OwnRead layout field) has
 
-    -- behind a new register
+    -- after a new register
     reg_later : (type : Ty) (span : Span) (word : ℕ) (next : Next) (room : Room) → Later next room (next_with_reg type span next) (room_reg (length next.spans) word room)
     reg_later type span word next room = let more : length (next.spans ++ span ∷ []) ≡ suc (length next.spans) = length_push next.spans span in record {
       regs = omega arith;
@@ -197,7 +197,7 @@ module _ (seen : Seen) where
       names = set_names (length next.spans) how index _ room now at good.names;
     }
 
-    -- a register that is put out, and isn't known behind it
+    -- a register that is put out, and isn't known after it
     pub fresh_law : (rest : Block) (type : Ty) (how : Op) (index : List ℕ) (go : ℕ → Making) (pass : Pass) (next : Next) (room : Room) (now result : RunMoment) → HoldsInRoom seen given rest pass next room now
         → HasConstantWord how → OpLies next room how → OpIsAt seen.shapes room how index
         → Serves seen given rest pass next room now result (op_word seen room now how) go → Good seen (fresh given type how index go pass next) room now result

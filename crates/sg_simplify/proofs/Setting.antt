@@ -64,7 +64,7 @@ pub set_wider : (scope wide : InScope) → Wider scope wide → (rs : List ℕ) 
 set_wider scope wide h [] all = tt
 set_wider scope wide h (r ∷ rs) all = (h.regs r all.0, set_wider scope wide h rs all.1)
 
--- ---- behind what is put out
+-- ---- after what is put out
 pub sets_reg : (scope : InScope) (known : Pass) (next : Next) (type : Ty) (span : Span) → Sets scope known next → Sets (and_reg (length next.spans) scope) known (next_with_reg type span next)
 sets_reg scope known next type span h = let n = length next.spans in let more : length (next.spans ++ span ∷ []) ≡ suc n = length_push next.spans span in record {
   ops = each_map (λ entry. scope.regs entry.1 ≡ true) (λ entry. put n true scope.regs entry.1 ≡ true) (λ entry is. put_still n scope.regs entry.1 is) known.ops h.ops;

@@ -133,7 +133,7 @@ module _ (seen : Seen) where
         lengths [] = refl
         lengths (k ∷ rs) = ap suc (lengths rs)
 
-    -- acts that stay as they are but for the names of registers
+    -- acts that stay as they are except for the names of registers
     act_good : (what new : Act) (rest : Block) (known : Pass) (next : Next) (from room : Room) (now : RunMoment)
         → moment_after_act seen room new now ≡ moment_after_act seen from what now
         → Good seen (simplified given rest known next) room (moment_after_act seen from what now) (run seen rest from (moment_after_act seen from what now))

@@ -1,4 +1,4 @@
--- A known register or place stands for what the pass takes, and a new one is known behind.
+-- A known register or place stands for what the pass takes, and a new one is known after.
 use Rattle.std.proofs.Common.{◌≡◌, ℕ, Bool, true, false, List, [], ◌∷◌, ◌++◌, sym, ap, ◌∙◌, None, Some}
 use Rattle.std.specs.Map.{lookup}
 use Rattle.sg_words.specs.declared.operators.Ty.{Ty}

@@ -45,7 +45,7 @@ module _ (given : Given) where
   span_same scope known next spans ways h (op.Read place layout field) set = refl
   span_same scope known next spans ways h (op.OwnRead layout field) set = refl
 
-  -- behind a register that is put out
+  -- after a register that is put out
   trims_reg : (scope : InScope) (known : Pass) (next : Next) (spans : Spans) (ways : Ways) (type : Ty) (span other : Span) → other ≡ span → Trims given scope known next spans ways
       → Trims given (and_reg (length next.spans) scope) known (next_with_reg type span next) (with_span (length next.spans) other spans) ways
   trims_reg scope known next spans ways type span other same h = let n = length next.spans in record {
@@ -129,7 +129,7 @@ module _ (given : Given) where
   numbered_trims true type how go scope known next spans ways h set at goes = taken_trims type how [] go scope known next spans ways h set at goes
   numbered_trims false type how go scope known next spans ways h set at goes = fresh_trims type how [] go scope known next spans ways h set at goes
 
-  -- a place that a step gives has the way behind the step
+  -- a place that a step gives has the way after the step
   stepped_trims : (how : Step) (is_way : List AxisCheck → Type 0) (go : ℕ → Making) (scope : InScope) (known : Pass) (next : Next) (spans : Spans) (ways : Ways) → Trims given scope known next spans ways → AreSet scope.places (step_places how)
       → ((to : ℕ) → is_way (way_behind ways to how)) → GoesTrimAt given scope next ways is_way go → accesses_are_trim given.shapes spans ways (stepped how go known next).0 ≡ true
   stepped_trims how is_way go scope known next spans ways h set way goes = by_found (lookup (same_step how) known.steps) refl

@@ -44,7 +44,7 @@ module _ (given : Given) (vars : List Ty) (setters : ℕ → ℕ) where
   truth how = truth_of given.shapes vars how
 
   -- ---- registers
-  -- an instruction that sets a new register, in front of what is good behind it
+  -- an instruction that sets a new register, in front of what is good after it
   emitted : (type : Ty) (span : Span) (how : Op) (index : List ℕ) (scope : Scope) (next : Next) (body : Block × Next) → length next.types ≡ length next.spans
       → operands_fit (frame_by fixed next) scope how ≡ true → gives_type (truth how) (Some type) ≡ true → IndexIsGood (frame_by fixed next) scope how index
       → Typed fixed (well.with_reg (length next.spans) scope) (next_with_reg type span next) body → Typed fixed scope next (put_in_front (set_word (length next.spans) how index) body)

@@ -42,7 +42,7 @@ gone n (x ∷ xs) h = by_test (x == n) (sym (count_first n x xs) ∙ h) (gone n 
 same_test : (n : ℕ) → (n == n) ≡ true
 same_test n = grind arith
 
-not_twice : (xs : List ℕ) → ((n : ℕ) → count_by (λ y. y == n) xs ≤ 1) → has_no_twice xs ≡ true
+pub not_twice : (xs : List ℕ) → ((n : ℕ) → count_by (λ y. y == n) xs ≤ 1) → has_no_twice xs ≡ true
 not_twice [] few = refl
 not_twice (x ∷ xs) few =
     both _ _ (ap not (gone x xs none)) (not_twice xs (λ n. fewer n (x == n) (count_first n x xs) (few n)))

@@ -100,7 +100,7 @@ any_of it (first ∷ uses) has = by_case (contains_cases it first uses has) (any
     by_case (inl is) more = ap (λ (b : Bool). b || list_any (same_use it) uses) (subst (λ (u : Use). same_use it u ≡ true) (sym is) (use_reflexive it))
     by_case (inr there) more = or_right (same_use it first) (list_any (same_use it) uses) (more there)
 
--- where no test of uses passes more often, each use is one of the given ones
+-- if no test of uses passes more often, each use is one of the given ones
 pub only_given : (given made : List Use) → ((test : Use → Bool) → list_any test given ≡ false → list_any test made ≡ false) → (it : Use) → Contains made it → Contains given it
 only_given given made fewer it has = by_test (list_any (same_use it) given) refl
   where

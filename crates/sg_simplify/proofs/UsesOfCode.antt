@@ -104,10 +104,10 @@ module _ (types : List Ty) (test : Use → Bool) where
   plain true = refl
   plain false = refl
 
-  code_uses : (insts : List Inst) → has_use test (block_of types insts) ≡ list_any test (uses_in insts)
+  pub code_uses : (insts : List Inst) → has_use test (block_of types insts) ≡ list_any test (uses_in insts)
   code_uses insts = list_same insts (of_every insts) End ∙ plain (list_any test (uses_in insts))
 
--- whatever test: where no use of the given code passes, none of what is put out does
+-- whatever test: if no use of the given code passes, none of what is put out does
 pub simple_only : (shapes : List Shape) (domain : Domain) (types made_types : List Ty) (given made : List Inst) → block_of made_types made ≡ simple shapes domain types (block_of types given)
     → (test : Use → Bool) → list_any test (uses_in given) ≡ false → list_any test (uses_in made) ≡ false
 simple_only shapes domain types made_types given made is test off =

@@ -180,7 +180,7 @@ module _ (given : Given) where
     given = each_push (λ entry. entry.1 < suc next.places) known.steps (how, next.places) later.given (omega arith);
   }
 
-  -- a place that was put out now, behind a step from another
+  -- a place that was put out now, after a step from another
   unread_step : (known : Pass) (next : Next) (how : Step) (p : ℕ) → step_places how ≡ p ∷ [] → p < next.places → AreOld known next → IsUnread (and_step how next.places known) next.places
   unread_step known next how p reads below old = let h = unread_new known next old in record {
     reads = h.reads;

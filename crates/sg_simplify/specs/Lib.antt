@@ -1,2 +1,4 @@
 pub mod Simplified
 pub mod steps
+pub mod Kept
+pub mod KeptExamples

@@ -15,6 +15,7 @@ use Rattle.sg_ir.specs.Apt.{Use, uses_in}
 use Rattle.sg_ir.specs.Blocks.{block_in}
 use Rattle.sg_ir.specs.Shared.{is_shared}
 use Rattle.sg_ir.specs.Trimmed.{is_trimmed}
+use Rattle.sg_simplify.specs.Kept.{IsLean}
 
 -- two runs tell the same: the same writes with their values, and the same wants, in order
 pub record TellsTheSame (given made : Moved) : Type 0 where
@@ -28,7 +29,8 @@ AlwaysTellsTheSame shapes domain given made =
     TellsTheSame (iteration (record { shapes = shapes; state = state; at = at }) given) (iteration (record { shapes = shapes; state = state; at = at }) made)
 
 -- Code that is simplified, over layouts of these shapes and a domain: it tells what the given code does, is well typed, names its accesses,
--- computes nothing twice in a scope, has exactly the checks that spans ask for, and uses fields only as the given code does.
+-- computes nothing twice in a scope, has exactly the checks that spans ask for, uses fields only as the given code does, and has nothing
+-- that could be left out.
 pub record IsSimplified (shapes : List Shape) (domain : Domain) (given made : Code) : Type 0 where
   pub same : AlwaysTellsTheSame shapes domain given.body made.body
   pub typed : is_well_typed shapes made ≡ true
@@ -36,3 +38,4 @@ pub record IsSimplified (shapes : List Shape) (domain : Domain) (given made : Co
   pub shared : is_shared (block_in made) ≡ true
   pub trimmed : is_trimmed shapes domain (block_in made) ≡ true
   pub only : (it : Use) → Contains (uses_in made.body) it → Contains (uses_in given.body) it
+  pub lean : IsLean (block_in made)

@@ -13,3 +13,6 @@ pub mod Tally
 pub mod Made
 pub mod Judged
 pub mod Typed
+pub mod Spread
+pub mod Needed
+pub mod Left

@@ -28,7 +28,7 @@ impl Given<'_> {
     ghost use Rattle.sg_simplify.specs.steps.Pass.{given_type};
     ghost use Rattle.sg_simplify.specs.steps.Made.{given_in};
 
-    /// The type of a register; u32 where it isn't there.
+    /// The type of a register; u32 if it isn't there.
     pub fn ty(&self, reg: u32) -> Ty
         ensures { result ≡ given_type (given_in self.now) reg }
     {

@@ -6,11 +6,14 @@ mod acts;
 mod given;
 mod identities;
 mod insts;
+mod lean;
 mod made;
+mod needs;
 mod pass;
 mod places;
 mod setters;
 mod simple;
+mod spreads;
 mod words;
 
 pub use simple::simplify;

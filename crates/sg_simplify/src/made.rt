@@ -53,7 +53,7 @@ impl Made {
         }
     }
 
-    /// The new register of a given one; the same number where it has none.
+    /// The new register of a given one; the same number if it has none.
     pub fn name(&self, reg: u32) -> u32
         ensures { result ≡ made_name (next_of self.now) reg }
     {
@@ -192,7 +192,7 @@ impl Made {
     }
 }
 
-/// The span of a variable in these loops, of which the last is the innermost; another one where it is of none of them.
+/// The span of a variable in these loops, of which the last is the innermost; another one if it is of none of them.
 fn span_among(loops: &[Looped], var: u32, other: Span) -> Span
     ensures { result ≡ held other (reverse (map span_in_loop loops.now)) var }
 {

@@ -60,7 +60,7 @@ fn types(alloc: Global, regs: &[Reg]) -> Result<Items<Ty>, Memory>
 }
 
 impl Made {
-    /// The block that does what the given one does. What it made known is not known behind it.
+    /// The block that does what the given one does. What it made known is not known after it.
     #[cycle(blocks)]
     fn block(&mut self, given: &Given, insts: &[Inst]) -> Result<Items<Inst>, Memory>
         ensures longer { OnOk result (Longer self.old self.new) }

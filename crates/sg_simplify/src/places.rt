@@ -11,7 +11,7 @@ use sg_layout::{Kind, NodeShape, extent_in};
 use sg_words::{Items, Memory, Ty};
 
 impl Made {
-    /// The place of an access by index registers: the root of its layout, behind the checks of those axes where the span of the index
+    /// The place of an access by index registers: the root of its layout, after the checks of those axes where the span of the index
     /// isn't within the extent, and down all nodes.
     pub fn place(
         &mut self,
@@ -38,7 +38,7 @@ impl Made {
         )
     }
 
-    /// The place behind the needed checks of axes with these extents, of which the first has this number.
+    /// The place after the needed checks of axes with these extents, of which the first has this number.
     fn checked(
         &mut self,
         axis: u32,
@@ -60,7 +60,7 @@ impl Made {
         self.checked(axis + 1, extents, rest, next, out)
     }
 
-    /// The place behind the check of an axis, where the span of the index isn't within the extent.
+    /// The place after the check of an axis, where the span of the index isn't within the extent.
     fn check(
         &mut self,
         axis: u32,

@@ -8,6 +8,7 @@ ghost use Rattle.sg_ir.specs.Named.{IsNamed};
 ghost use Rattle.sg_ir.specs.WellTyped.{is_well_typed};
 ghost use Rattle.sg_simplify.specs.Simplified.{IsSimplified};
 
+use crate::lean::lean;
 use crate::pass::pass;
 use sg_coord::{Extents, numbering};
 use sg_flat::Domain;
@@ -28,7 +29,8 @@ const ONE_POINT: Extents = Extents {
 };
 
 /// Code with the same writes, wants and values for every flat state and every coordinate of the domain, which is well typed, named,
-/// shared and trimmed, and uses fields only as the given code does. Want of memory also where the numbers of a u32 are used up.
+/// shared and trimmed, uses fields only as the given code does, and has nothing that could be left out. Registers and places that went
+/// leave their numbers free. Running out of memory also where the numbers of a u32 are used up.
 pub fn simplify(
     alloc: Global,
     code: &Code,
@@ -49,7 +51,7 @@ pub fn simplify(
     box_in_order();
     paths_tell();
     numbering(&ONE_POINT);
-    Ok(simple)
+    lean(alloc, simple)
 }
 
 /// The layouts keep all rules.

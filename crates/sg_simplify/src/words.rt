@@ -94,7 +94,7 @@ impl Made {
         Ok(())
     }
 
-    /// A register that holds an operation: a known one where it is pure and known, else a new one.
+    /// A register that holds an operation: a known one if it is pure and known, else a new one.
     fn numbered(
         &mut self,
         given: &Given,

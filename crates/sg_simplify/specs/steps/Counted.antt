@@ -16,7 +16,7 @@ use Rattle.sg_ir.specs.steps.InScope.{InScope, IsScoped}
 use Rattle.sg_simplify.specs.steps.Serves.{EachByRecursion, Leads}
 use Rattle.sg_simplify.specs.steps.Ruled.{HasSettledOps, HasAccessLayouts}
 
--- 1 where the test holds, else 0
+-- 1 if the test holds, else 0
 abbrev pub one_where : Bool → ℕ
 one_where test = if test then 1 else 0
 

@@ -61,7 +61,7 @@ way_by by.HashChild = ByKey
 way_by by.MaskBit = ByBit
 way_by by.DynCell = ByLength
 
--- what a step reads may be read, and it goes where it may
+-- what a step reads may be read, and it goes if it may
 abbrev pub step_reads : Frame → Scope → Step → Bool
 step_reads at scope (step.Root layout) = nat_lt layout (length at.shapes)
 step_reads at scope (step.Check place axis extent index) = nat_lt 0 extent && (holds_of (checkable at axis extent) (scope.places place) && reads at scope false index)
@@ -73,12 +73,12 @@ step_known scope (step.Root layout) = Some (record { layout = layout; passed = 0
 step_known scope (step.Check place axis extent index) = option_map (λ (known : KnownPlace). record { layout = known.layout; passed = 0 }) (scope.places place)
 step_known scope (step.Down descent place node offset) = option_map (λ (known : KnownPlace). record { layout = known.layout; passed = node }) (scope.places place)
 
--- the scope behind a place that may be known
+-- the scope after a place that may be known
 abbrev pub and_known : ℕ → Option KnownPlace → Scope → Scope
 and_known to None scope = scope
 and_known to (Some known) scope = with_place to known scope
 
--- an act, and the scope behind it
+-- an act, and the scope after it
 abbrev pub act_fits : Frame → Scope → Act → Bool
 act_fits at scope (SetVar var from) = scope.regs from && gives_type (option_map is_truth (slice_get at.vars var)) (slice_get at.regs from)
 act_fits at scope (WriteOwn layout field from stmt) = scope.regs from && gives_type (field_truth at.shapes layout field) (slice_get at.regs from)
@@ -87,7 +87,7 @@ act_fits at scope (Contribute how layout field place from index stmt) =
     && (scope.regs from && (gives_type (field_truth at.shapes layout field) (slice_get at.regs from) && index_fits at scope layout index))
 act_fits at scope (Wish layout index stmt) = index_fits at scope layout index
 
--- the scope behind an act: a variable that is set is in it from here on, and no other act adds anything
+-- the scope after an act: a variable that is set is in it from here on, and no other act adds anything
 abbrev pub behind_act : Act → Scope → Scope
 behind_act (SetVar var from) scope = with_var var scope
 behind_act (WriteOwn layout field from stmt) scope = scope

@@ -79,7 +79,7 @@ pub record Goes (old new : Made) (before behind : List Inst) (making rest : Maki
 abbrev pub onward : Given → ℕ → Block → ℕ → Making
 onward given from rest to pass next = simplified given rest pass (with_name from to next)
 
--- the check of one axis, where it is needed
+-- the check of one axis, if it is needed
 abbrev pub check_in : (axis extent index place : ℕ) → (ℕ → Making) → Making
 check_in axis extent index place go pass next = check_at (is_within extent (span_in next index)) (step.Check place axis extent index) place go pass next
 
@@ -109,7 +109,7 @@ abbrev pub HasTruth : Ty → Op → Type 0
 HasTruth type (op.Const word truth) = truth ≡ is_truth type
 HasTruth type how = Unit {0}
 
--- a constant set to this register is a truth value exactly where the register's type is Bool; U32 where the register isn't there
+-- a constant set to this register is a truth value exactly when the register's type is Bool; U32 where the register isn't there
 abbrev pub TruthIs : List Ty → ℕ → Op → Type 0
 TruthIs types to how = HasTruth (get_or types to ty.U32) how
 

@@ -47,15 +47,15 @@ pub record Next : Type 0 where
   pub places : ℕ
   pub names : List (ℕ × ℕ)
 
--- what is put out from here on, and what was put out behind it
+-- what is put out from here on, and what was put out after it
 abbrev pub Making : Type 0
 Making = Pass → Next → Block × Next
 
--- the new name of a given register; itself where it has none
+-- the new name of a given register; itself if it has none
 abbrev pub made_name : Next → ℕ → ℕ
 made_name next r = unwrap_or (lookup (nat_eq r) next.names) r
 
--- from here on the given register has this new name, in place of any that it had
+-- from here on the given register has this new name, instead of any that it had
 abbrev pub with_name : ℕ → ℕ → Next → Next
 with_name from to next = record { types = next.types; spans = next.spans; places = next.places; names = insert_entry nat_eq next.names from to }
 
@@ -79,7 +79,7 @@ span_in next r = get_or next.spans r whole_i32
 abbrev pub vars_of : Given → Pass → Spans
 vars_of given pass = record { regs = []; loops = pass.loops; others = given.others }
 
--- the span in which the word of an operation on new registers lies here: all of i32 where nothing is known of it
+-- the span in which the word of an operation on new registers lies here: all of i32 if nothing is known of it
 abbrev pub span_of : Given → Pass → Next → Op → Span
 span_of given pass next (op.Bin how kind a b) = bin_span how kind (span_in next a) (span_in next b)
 span_of given pass next how = op_span (vars_of given pass) how
@@ -96,11 +96,11 @@ renamed next (op.Offset high size low) = op.Offset (made_name next high) size (m
 renamed next (op.Read place layout field) = op.Read place layout field
 renamed next (op.OwnRead layout field) = op.OwnRead layout field
 
--- what is known behind a register and a place that are put out
+-- what is known after a register and a place that are put out
 abbrev pub and_op : Op → ℕ → Pass → Pass
 and_op how to pass = record { ops = pass.ops ++ (how, to) ∷ []; steps = pass.steps; loops = pass.loops }
 
--- behind a step that is put out it is known which place it gives
+-- after a step that is put out it is known which place it gives
 abbrev pub and_step : Step → ℕ → Pass → Pass
 and_step how to pass = record { ops = pass.ops; steps = pass.steps ++ (how, to) ∷ []; loops = pass.loops }
 
@@ -118,7 +118,7 @@ abbrev pub fresh : Given → Ty → Op → List ℕ → (ℕ → Making) → Mak
 fresh given type how index go pass next =
     put_in_front (set_word (length next.spans) how index) (go (length next.spans) pass (next_with_reg type (span_of given pass next how) next))
 
--- what follows gets the known register where there is one, else a new one that is known from here on
+-- what follows gets the known register if there is one, else a new one that is known from here on
 abbrev pub taken_at : Given → Ty → Op → List ℕ → (ℕ → Making) → Option ℕ → Making
 taken_at given type how index go (Some t) pass next = go t pass next
 taken_at given type how index go None pass next =
@@ -151,7 +151,7 @@ abbrev pub plainest : Ty → Op → Op
 plainest type (op.Extract div size from) = if size == 1 then op.Const 0 (is_truth type) else op.Extract div size from
 plainest type how = how
 
--- what follows gets the operand that the operation gives again, where there is one
+-- what follows gets the operand that the operation gives again, if there is one
 abbrev pub taken_or : Given → Ty → Op → List ℕ → (ℕ → Making) → Option ℕ → Making
 taken_or given type how index go (Some t) pass next = go t pass next
 taken_or given type how index go None pass next = looked_up given type (plainest type how) index go pass next
@@ -179,7 +179,7 @@ abbrev pub check_at : Bool → Step → ℕ → (ℕ → Making) → Making
 check_at true how place go pass next = go place pass next
 check_at false how place go pass next = stepped how go pass next
 
--- one check for each axis from here on whose index register may lie outside; what follows gets the place behind the last
+-- one check for each axis from here on whose index register may lie outside; what follows gets the place after the last
 abbrev pub checks_made : ℕ → List ℕ → List ℕ → ℕ → (ℕ → Making) → Making
 checks_made axis [] index place go pass next = go place pass next
 checks_made axis (extent ∷ extents) [] place go pass next = go place pass next
@@ -197,7 +197,7 @@ offset_made given node later axis (r ∷ index) high go pass next =
     part given node later axis r
     (λ low. taken given ty.U32 (op.Offset high (extent_in node.sizes axis) low) [] (λ o. offset_made given node later (suc axis) index o go)) pass next
 
--- the offset at a node of the coordinate that index registers name; register 0 where there are no index registers
+-- the offset at a node of the coordinate that index registers name; register 0 if there are no index registers
 abbrev pub offset : Given → NodeShape → List NodeShape → List ℕ → (ℕ → Making) → Making
 offset given node later [] go pass next = go 0 pass next
 offset given node later (r ∷ index) go pass next = part given node later 1 r (λ high. offset_made given node later 2 index high go) pass next
@@ -224,7 +224,7 @@ placed_in given (Some shape) layout index go pass next =
     stepped (step.Root layout)
     (λ r. checks_made 0 (extents_in (bounds_of_shape shape)) index r (λ p. descended given shape.nodes 1 index p go)) pass next
 
--- the place of an access to the layout with this number, from 0; place 0 where there is no such layout
+-- the place of an access to the layout with this number, from 0; place 0 if there is no such layout
 abbrev pub place_made : Given → ℕ → List ℕ → (ℕ → Making) → Making
 place_made given layout index go pass next = placed_in given (slice_get given.shapes layout) layout index go pass next
 
@@ -241,7 +241,7 @@ act_made given (Wish layout index stmt) go pass next = put_in_front (Do (Wish la
 abbrev pub looped : ℕ → ℤ → ℤ → Pass → Pass
 looped var lo hi pass = record { ops = pass.ops; steps = pass.steps; loops = (var, range_span lo hi) ∷ pass.loops }
 
--- The pass over a block. Places of the given code are left out. Behind a block inside, what was known before it is known again.
+-- The pass over a block. Places of the given code are left out. After a block inside, what was known before it is known again.
 abbrev pub simplified : Given → Block → Making
 simplified given End pass next = (End, next)
 simplified given (Word to how rest) pass next =

@@ -17,7 +17,7 @@ constants_are_shared : simple [] (Walk 0) [] (Word 4 (op.Const 5 false) (Word 5 
     ≡ Word 0 (op.Const 5 false) (Word 1 (op.Bin bin.Add ty.I32 0 0) (Do (WriteOwn 0 0 1 0) End))
 constants_are_shared = refl
 
--- what a branch has computed is not known behind it
+-- what a branch has computed is not known after it
 branches_keep_apart : simple [] (Walk 0) [] (Word 4 (op.Const 0 true) (Branch 4 (Word 5 (op.Const 5 false) End) End (Word 6 (op.Const 5 false) (Do (WriteOwn 0 0 6 0) End))))
     ≡ Word 0 (op.Const 0 true) (Branch 0 (Word 1 (op.Const 5 false) End) End (Word 2 (op.Const 5 false) (Do (WriteOwn 0 0 2 0) End)))
 branches_keep_apart = refl

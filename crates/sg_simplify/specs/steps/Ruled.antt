@@ -12,7 +12,7 @@ use Rattle.sg_ir.specs.steps.InScope.{InScope, IsScoped}
 use Rattle.sg_simplify.specs.steps.Pass.{Next, made_name, span_in}
 use Rattle.sg_simplify.specs.steps.Serves.{EachByRecursion, Leads}
 
--- behind a use of a variable that at most one instruction sets, none of the block sets it
+-- after a use of a variable that at most one instruction sets, none of the block sets it
 abbrev pub OpSettles : (ℕ → Bool) → Block → Op → Type 0
 OpSettles single rest (op.Var var) = single var ≡ true → sets var rest ≡ 0
 OpSettles single rest how = Unit {0}

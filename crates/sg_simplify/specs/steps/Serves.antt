@@ -122,7 +122,7 @@ Serves seen given rest pass next room now result word go =
     (t : ℕ) (known : Pass) (further : Next) (beyond : Room) → Later next room further beyond → Alike pass next known further → HoldsInRoom seen given rest known further beyond now →
     t < length further.spans → beyond.regs t ≡ word → Lies (span_in further t) word → Good seen (go t known further) beyond now result
 
--- what follows is good, given a place of this room that is this one, or none where this is none
+-- what follows is good, given a place of this room that is this one, or none if this is none
 abbrev pub ServesPlace : Seen → Given → Block → Pass → Next → Room → RunMoment → RunMoment → Option Place → (ℕ → Making) → Type 0
 ServesPlace seen given rest pass next room now result place go =
     (t : ℕ) (known : Pass) (further : Next) (beyond : Room) → Later next room further beyond → Alike pass next known further → HoldsInRoom seen given rest known further beyond now →

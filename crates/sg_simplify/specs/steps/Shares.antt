@@ -12,6 +12,6 @@ pub record Knows (single : ℕ → Bool) (computed : List Op) (stepped : List St
   pub ops : (how : Op) → is_pure single how ≡ true → list_any (same_op how) computed ≡ true → is_some (lookup (same_op how) pass.ops) ≡ true
   pub steps : (how : Step) → list_any (same_step how) stepped ≡ true → is_some (lookup (same_step how) pass.steps) ≡ true
 
--- what follows is shared, behind whatever is known
+-- what follows is shared, after whatever is known
 abbrev pub GoesShared : (ℕ → Bool) → (ℕ → Making) → Type 0
 GoesShared single go = (t : ℕ) (known : Pass) (next : Next) (ops : List Op) (steps : List Step) → Knows single ops steps known → shares single ops steps (go t known next).0 ≡ true

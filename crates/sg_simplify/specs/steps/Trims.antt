@@ -10,13 +10,13 @@ use Rattle.sg_simplify.specs.steps.Pass.{Given, Pass, Next, Making, span_in, var
 use Rattle.sg_simplify.specs.steps.Serves.{EachByRecursion}
 use Rattle.sg_simplify.specs.steps.Sets.{Wider, Sets}
 
--- the way to a known place is that behind its step
+-- the way to a known place is that after its step
 pub record StepTrims (scope : InScope) (ways : Ways) (entry : Step × ℕ) : Type 0 where
   pub named : scope.places entry.1 ≡ true
   pub places : AreSet scope.places (step_places entry.0)
   pub way : way_to ways entry.1 ≡ way_behind ways entry.1 entry.0
 
--- at this point the walk over the output has the pass's spans, and its way to a known step's place is that behind the step
+-- at this point the walk over the output has the pass's spans, and its way to a known step's place is that after the step
 pub record Trims (given : Given) (scope : InScope) (known : Pass) (next : Next) (spans : Spans) (ways : Ways) : Type 0 where
   pub sets : Sets scope known next
   pub regs : (r : ℕ) → scope.regs r ≡ true → reg_span spans r ≡ span_in next r

@@ -31,7 +31,7 @@ pub record IsUnread (known : Pass) (p : ℕ) : Type 0 where
   pub reads : (layout field : ℕ) → lookup (same_op (op.Read p layout field)) known.ops ≡ None
   pub steps : (how : Step) → step_places how ≡ p ∷ [] → lookup (same_step how) known.steps ≡ None
 
--- a place has passed the checks that are pending; where there are some, nothing known reads it
+-- a place has passed the checks that are pending; if there are some, nothing known reads it
 abbrev pub IsPending : Pass → Ways → List ℕ → ℕ → Type 0
 IsPending known ways [] p = Unit {0}
 IsPending known ways (check ∷ pending) p = EachByRecursion (IsPassed (way_to ways p)) (check ∷ pending) × IsUnread known p
