@@ -61,13 +61,14 @@ first_full_one r store index Means count one full =
 
 -- ---- keeping
 pub keeps_same : (store : StoreWords) → KeepsCells store store
-keeps_same store = record { same_shape = refl; same_fields = refl; same_cells = λ slot cell leads. leads }
+keeps_same store = record { same_shape = refl; same_fields = refl; same_cells = λ slot cell leads. leads; same_leads = λ index slot place leads. leads }
 
 pub keeps_then : (old mid now : StoreWords) → KeepsCells old mid → KeepsCells mid now → KeepsCells old now
 keeps_then old mid now first then = record {
   same_shape = then.same_shape ∙ first.same_shape;
   same_fields = then.same_fields ∙ first.same_fields;
   same_cells = λ slot cell leads. then.same_cells slot cell (first.same_cells slot cell leads);
+  same_leads = λ index slot place leads. then.same_leads index slot place (first.same_leads index slot place leads);
 }
 
 -- ---- where all that is wanted is active

@@ -22,7 +22,7 @@ use Rattle.sg_hash.proofs.Uses.{stands_once}
 use Rattle.sg_store.specs.StoreWords.{StoreWords}
 use Rattle.sg_store.specs.WellFormed.{IsWellFormed}
 use Rattle.sg_store.specs.Reaching.{IsOpenThrough}
-use Rattle.sg_store.specs.Opening.{keys_of, links_of, pool_of, filled_count, CanSettleHash, WantedHaveKeys, NewKeysAreWanted}
+use Rattle.sg_store.specs.Opening.{keys_of, link_words_of, pool_of, filled_count, CanSettleHash, WantedHaveKeys, NewKeysAreWanted}
 use Rattle.sg_store.specs.OpeningLaws.{KeysFillFirst}
 use Rattle.sg_activate.specs.declared.fault.ActFault.TheVariants.{PoolFull}
 use Rattle.sg_activate.specs.Activating.{unless_full}
@@ -44,51 +44,51 @@ fresh_for_keys pool links stock is unlinked = let f = fresh_stock pool links sto
 pub record KeyOutcome (store : StoreWords) (stock : List ℕ) (v : Worker) (keys links taken : List ℕ) (full dry : Bool) : Type 0 where
   pub is_stock : IsStock (pool_of store 1) stock
   pub numbers : (t : ℕ) → slice_index stock t < 2 ^ 32
-  pub settled : Settled (links_of store 1) stock v links
+  pub settled : Settled (link_words_of store 1) stock v links
   pub key_words : KeysSettled (keys_of store 1) v keys full
   pub ran_dry : dry ≡ (is_dry v || full)
-  pub taken_are : taken ≡ pointer_taken_of (links_of store 1) links
+  pub taken_are : taken ≡ pointer_taken_of (link_words_of store 1) links
   pub keyed : AreKeyed store v full
-  pub links_beside : AreBeside (keys_of store 1) (links_of store 1)
-  pub filled : filled_count (links_of store 1) ≡ live_count (pool_of store 1)
+  pub links_beside : AreBeside (keys_of store 1) (link_words_of store 1)
+  pub filled : filled_count (link_words_of store 1) ≡ live_count (pool_of store 1)
 
 pub key_outcome : (store : StoreWords) (read_keys read_links stock given_keys given_links given_stock : List ℕ) (v : Worker) (keys links taken : List ℕ) (full dry : Bool)
-    → read_keys ≡ keys_of store 1 → read_links ≡ links_of store 1 → IsStock (pool_of store 1) stock → ((t : ℕ) → slice_index stock t < 2 ^ 32)
+    → read_keys ≡ keys_of store 1 → read_links ≡ link_words_of store 1 → IsStock (pool_of store 1) stock → ((t : ℕ) → slice_index stock t < 2 ^ 32)
     → (given_keys ≡ read_keys) × (given_links ≡ read_links) × (given_stock ≡ stock) → Settled given_links given_stock v links → KeysSettled given_keys v keys full
-    → dry ≡ (is_dry v || full) → taken ≡ taken_of given_links links → AreKeyed store v full → AreBeside read_keys (links_of store 1) → filled_count read_links ≡ live_count (pool_of store 1)
+    → dry ≡ (is_dry v || full) → taken ≡ taken_of given_links links → AreKeyed store v full → AreBeside read_keys (link_words_of store 1) → filled_count read_links ≡ live_count (pool_of store 1)
     → KeyOutcome store stock v keys links taken full dry
 key_outcome store read_keys read_links stock given_keys given_links given_stock v keys links taken full dry is_keys is_links is_stock numbers given settled key_words ran_dry taken_are keyed beside filled =
-    let same : given_links ≡ links_of store 1 = given.1 ∙ is_links in
+    let same : given_links ≡ link_words_of store 1 = given.1 ∙ is_links in
     let same' : given_keys ≡ keys_of store 1 = given.0 ∙ is_keys in
     record {
       is_stock = is_stock;
       numbers = numbers;
-      settled = subst (λ s. Settled (links_of store 1) s v links) given.2 (subst (λ l. Settled l given_stock v links) same settled);
+      settled = subst (λ s. Settled (link_words_of store 1) s v links) given.2 (subst (λ l. Settled l given_stock v links) same settled);
       key_words = subst (λ l. KeysSettled l v keys full) same' key_words;
       ran_dry = ran_dry;
-      taken_are = taken_are ∙ ap (λ l. taken_of l links) same ∙ taken_same (links_of store 1) links;
+      taken_are = taken_are ∙ ap (λ l. taken_of l links) same ∙ taken_same (link_words_of store 1) links;
       keyed = keyed;
-      links_beside = subst (λ l. AreBeside l (links_of store 1)) is_keys beside;
+      links_beside = subst (λ l. AreBeside l (link_words_of store 1)) is_keys beside;
       filled = ap filled_count (sym is_links) ∙ filled;
     }
 
 module _ (store : StoreWords) (stock : List ℕ) (v : Worker) (keys links taken : List ℕ) (full dry : Bool) (o : KeyOutcome store stock v keys links taken full dry) where
-  new_is_made : (place : ℕ) → slice_index (links_of store 1) place ≡ 0 → slice_index links place ≢ 0 → (ticket : ℕ) × (0 < pairs place ticket v.made)
+  new_is_made : (place : ℕ) → slice_index (link_words_of store 1) place ≡ 0 → slice_index links place ≢ 0 → (ticket : ℕ) × (0 < pairs place ticket v.made)
   new_is_made place empty some = elim (cases_eq (firsts place v.made) 0) [
     | inl none ↦ absurd (some (o.settled.bare place empty none))
     | inr made ↦ firsts-pair place v.made (omega arith)
   ]
 
-  new_is_of_stock : (place n : ℕ) → slice_index (links_of store 1) place ≡ 0 → slice_index links place ≡ suc n → IsFree (pool_of store 1) n
+  new_is_of_stock : (place n : ℕ) → slice_index (link_words_of store 1) place ≡ 0 → slice_index links place ≡ suc n → IsFree (pool_of store 1) n
   new_is_of_stock place n empty is =
       let found = o.settled.of_stock place empty (omega arith) in
       let same : slice_index stock found.0 ≡ n = let e : slice_index links place ≡ slice_index stock found.0 + 1 = found.2 in omega arith in
       (o.is_stock.members n).0 (subst (λ x. Contains stock x) same (Contains-get_or stock found.0 0 found.1))
 
   -- an old link stands beside an old key
-  old_beside : (place : ℕ) → slice_index (links_of store 1) place ≢ 0 → slice_index (keys_of store 1) place ≢ 0
+  old_beside : (place : ℕ) → slice_index (link_words_of store 1) place ≢ 0 → slice_index (keys_of store 1) place ≢ 0
   old_beside place some none =
-      let within : place < length (links_of store 1) = index_within (links_of store 1) place (omega arith) in
+      let within : place < length (link_words_of store 1) = index_within (link_words_of store 1) place (omega arith) in
       let many = o.links_beside.many in
       some (o.links_beside.empty place (omega arith) none)
 
@@ -97,7 +97,7 @@ module _ (store : StoreWords) (stock : List ℕ) (v : Worker) (keys links taken 
 
   -- a link stands beside a key
   pub beside_keys : (place : ℕ) → slice_index links place ≢ 0 → slice_index keys place ≢ 0
-  beside_keys place some none = elim (cases_eq (slice_index (links_of store 1) place) 0) [
+  beside_keys place some none = elim (cases_eq (slice_index (link_words_of store 1) place) 0) [
     | inl empty ↦
         let made = new_is_made place empty some in
         let key = o.keyed.beside place made.0 made.1 in
@@ -109,7 +109,7 @@ module _ (store : StoreWords) (stock : List ℕ) (v : Worker) (keys links taken 
   not_dry : dry ≡ false → (is_dry v ≡ false) × (full ≡ false)
   not_dry is = neither_holds (is_dry v) full (sym o.ran_dry ∙ is)
 
-  -- where it isn't dry, each known key has its link
+  -- if it isn't dry, each known key has its link
   known_linked : dry ≡ false → (key : ℕ) → IsKnown v full key → IsLinkedKey v key
   known_linked is key (inl linked) = linked
   known_linked is key (inr (inl dries)) = absurd (false≢true (sym (not_dry is).0 ∙ dries))
@@ -122,9 +122,9 @@ module _ (store : StoreWords) (stock : List ℕ) (v : Worker) (keys links taken 
       | inr old ↦
           let within : place < length (keys_of store 1) = let a = o.key_words.long in omega arith in
           let before = o.links_beside.linked place within old in
-          let low : 0 < slice_index (links_of store 1) place = before.0 in
-          let stays : slice_index links place ≡ slice_index (links_of store 1) place = o.settled.stay place low in
-          (let h : 0 < slice_index links place = omega arith in h, let k : slice_index (links_of store 1) place ≤ 2 ^ 32 = before.1 in let h : slice_index links place ≤ 2 ^ 32 = omega arith in h)
+          let low : 0 < slice_index (link_words_of store 1) place = before.0 in
+          let stays : slice_index links place ≡ slice_index (link_words_of store 1) place = o.settled.stay place low in
+          (let h : 0 < slice_index links place = omega arith in h, let k : slice_index (link_words_of store 1) place ≤ 2 ^ 32 = before.1 in let h : slice_index links place ≤ 2 ^ 32 = omega arith in h)
       | inl empty ↦
           let key : ℕ = slice_index keys place - 1 in
           let is_key : slice_index keys place ≡ key + 1 = omega arith in
@@ -134,7 +134,7 @@ module _ (store : StoreWords) (stock : List ℕ) (v : Worker) (keys links taken 
           let same : place ≡ linked.place = stands_once keys o.key_words.table key place linked.place below within is_key there in
           let link : slice_index links linked.place ≡ linked.number + 1 = o.settled.seen linked.place linked.number linked.seen in
           let here : slice_index links place ≡ linked.number + 1 = ap (slice_index links) same ∙ link in
-          let none : slice_index (links_of store 1) place ≡ 0 = old_none place empty in
+          let none : slice_index (link_words_of store 1) place ≡ 0 = old_none place empty in
           let found = o.settled.of_stock place none (let h : 0 < slice_index links place = omega arith in h) in
           let number : slice_index links place ≡ slice_index stock found.0 + 1 = found.2 in
           let small = o.numbers found.0 in
@@ -146,8 +146,8 @@ module _ (store : StoreWords) (stock : List ℕ) (v : Worker) (keys links taken 
     ];
   }
     where
-      old_none : (place : ℕ) → slice_index (keys_of store 1) place ≡ 0 → slice_index (links_of store 1) place ≡ 0
-      old_none place empty = elim (cases_eq (slice_index (links_of store 1) place) 0) [
+      old_none : (place : ℕ) → slice_index (keys_of store 1) place ≡ 0 → slice_index (link_words_of store 1) place ≡ 0
+      old_none place empty = elim (cases_eq (slice_index (link_words_of store 1) place) 0) [
         | inl none ↦ none
         | inr some ↦ absurd (old_beside place some empty)
       ]
@@ -160,16 +160,16 @@ module _ (store : StoreWords) (stock : List ℕ) (v : Worker) (keys links taken 
     keys_stay = keys_stay;
     links_stay = λ place some. o.settled.stay place (omega arith);
     in_live = λ place key empty at. o.keyed.in_live key (o.key_words.put place key empty (let e : slice_index keys place ≡ key + 1 = omega arith in e));
-    of_taken = λ place taking empty at. taken_has (links_of store 1) links place taking o.settled.long empty at;
-    all_taken = λ taking at. let r = taken_from (links_of store 1) links taking at in contains_word links r.0 taking r.2;
+    of_taken = λ place taking empty at. taken_has (link_words_of store 1) links place taking o.settled.long empty at;
+    all_taken = λ taking at. let r = taken_from (link_words_of store 1) links taking at in contains_word links r.0 taking r.2;
     once = λ x y taking at first second.
-        let r = taken_from (links_of store 1) links taking at in
+        let r = taken_from (link_words_of store 1) links taking at in
         let e : r.0 ≡ x = o.settled.once r.0 x r.1 (let h : slice_index links r.0 ≡ suc taking = r.2 in omega arith) (r.2 ∙ sym first) in
         let e' : r.0 ≡ y = o.settled.once r.0 y r.1 (let h : slice_index links r.0 ≡ suc taking = r.2 in omega arith) (r.2 ∙ sym second) in
         sym e ∙ e';
     free = record {
-      free = taken_all (IsFree (pool_of store 1)) (links_of store 1) links new_is_of_stock;
-      once = taken_once (links_of store 1) links o.settled.long o.settled.once;
+      free = taken_all (IsFree (pool_of store 1)) (link_words_of store 1) links new_is_of_stock;
+      once = taken_once (link_words_of store 1) links o.settled.long o.settled.once;
     };
   })
 
@@ -195,16 +195,16 @@ module _ (store : StoreWords) (stock : List ℕ) (v : Worker) (keys links taken 
       → (wanted : List Coord) → HasPutFor store wanted v
       → (old : List Coord) → IsOpenThrough store old (old ++ wanted) 0 → unless_full (first_full store.shape (old ++ wanted)) ≡ Err (PoolFull 1 cap)
   keys_are_full cap law well node there kind is rest more (inr past) wanted made =
-      let count = taken_count (links_of store 1) links o.settled.long o.settled.stay in
-      let e : length taken ≡ length (pointer_taken_of (links_of store 1) links) = ap length o.taken_are in
-      let filled : filled_count (links_of store 1) ≡ live_count (pool_of store 1) = o.filled in
+      let count = taken_count (link_words_of store 1) links o.settled.long o.settled.stay in
+      let e : length taken ≡ length (pointer_taken_of (link_words_of store 1) links) = ap length o.taken_are in
+      let filled : filled_count (link_words_of store 1) ≡ live_count (pool_of store 1) = o.filled in
       words_past cap links law well node there kind is beside_keys (let h : count_of node.cap < filled_count links = omega arith in h) wanted made
   keys_are_full cap law well node there kind is rest more (inl ran) wanted made = go (is_dry v) full refl refl (sym o.ran_dry ∙ ran)
     where
       go : (d f : Bool) → is_dry v ≡ d → full ≡ f → (is_dry v || full) ≡ true
           → (old : List Coord) → IsOpenThrough store old (old ++ wanted) 0 → unless_full (first_full store.shape (old ++ wanted)) ≡ Err (PoolFull 1 cap)
       go true f dries fills one =
-          let filled : full_words (links_of store 1) ≡ live_count (pool_of store 1) = o.filled in
+          let filled : full_words (link_words_of store 1) ≡ live_count (pool_of store 1) = o.filled in
           let past : count_of node.cap < full_words links = o.settled.filled (count_of node.cap) (omega arith) dries in
           words_past cap links law well node there kind is beside_keys past wanted made
       go false true dries fills one =

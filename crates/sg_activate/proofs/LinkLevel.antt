@@ -22,7 +22,7 @@ use Rattle.sg_pointer.specs.Finishing.{full_words, taken_of, Settled}
 use Rattle.sg_store.specs.StoreWords.{StoreWords}
 use Rattle.sg_store.specs.WellFormed.{IsWellFormed}
 use Rattle.sg_store.specs.Reaching.{IsOpenThrough}
-use Rattle.sg_store.specs.Opening.{links_of, pool_of, filled_count, CanSettleSlots, WantedHaveLinks, NewLinksAreWanted}
+use Rattle.sg_store.specs.Opening.{link_words_of, pool_of, filled_count, CanSettleSlots, WantedHaveLinks, NewLinksAreWanted}
 use Rattle.sg_store.specs.OpeningLaws.{FullIsFirst}
 use Rattle.sg_activate.specs.declared.fault.ActFault.TheVariants.{PoolFull}
 use Rattle.sg_activate.specs.Activating.{unless_full}
@@ -55,20 +55,20 @@ fresh_stock pool links stock is unlinked = record {
 -- what the race for a node's links has left
 pub record LinkOutcome (store : StoreWords) (node : ℕ) (stock : List ℕ) (v : Worker) (links taken : List ℕ) (dry : Bool) : Type 0 where
   pub is_stock : IsStock (pool_of store node) stock
-  pub settled : Settled (links_of store node) stock v links dry
-  pub taken_are : taken ≡ taken_of (links_of store node) links
+  pub settled : Settled (link_words_of store node) stock v links dry
+  pub taken_are : taken ≡ taken_of (link_words_of store node) links
   pub in_live : AreInLive store node v
-  pub filled : filled_count (links_of store node) ≡ live_count (pool_of store node)
+  pub filled : filled_count (link_words_of store node) ≡ live_count (pool_of store node)
 
 pub link_outcome : (store : StoreWords) (node : ℕ) (read stock given_links given_stock : List ℕ) (v : Worker) (links taken : List ℕ) (dry : Bool)
-    → read ≡ links_of store node → IsStock (pool_of store node) stock → (given_links ≡ read) × (given_stock ≡ stock) → Settled given_links given_stock v links dry
+    → read ≡ link_words_of store node → IsStock (pool_of store node) stock → (given_links ≡ read) × (given_stock ≡ stock) → Settled given_links given_stock v links dry
     → taken ≡ taken_of given_links links → AreInLive store node v → filled_count read ≡ live_count (pool_of store node)
     → LinkOutcome store node stock v links taken dry
 link_outcome store node read stock given_links given_stock v links taken dry is is_stock given settled taken_are in_live filled =
-    let same : given_links ≡ links_of store node = given.0 ∙ is in
+    let same : given_links ≡ link_words_of store node = given.0 ∙ is in
     record {
       is_stock = is_stock;
-      settled = subst (λ s. Settled (links_of store node) s v links dry) given.1 (subst (λ l. Settled l given_stock v links dry) same settled);
+      settled = subst (λ s. Settled (link_words_of store node) s v links dry) given.1 (subst (λ l. Settled l given_stock v links dry) same settled);
       taken_are = taken_are ∙ ap (λ l. taken_of l links) same;
       in_live = in_live;
       filled = ap filled_count (sym is) ∙ filled;
@@ -76,14 +76,14 @@ link_outcome store node read stock given_links given_stock v links taken dry is 
 
 module _ (store : StoreWords) (node : ℕ) (stock : List ℕ) (v : Worker) (links taken : List ℕ) (dry : Bool) (o : LinkOutcome store node stock v links taken dry) where
   -- a new link is one that the worker made
-  new_is_made : (slot : ℕ) → slice_index (links_of store node) slot ≡ 0 → slice_index links slot ≢ 0 → (ticket : ℕ) × (0 < pairs slot ticket v.made)
+  new_is_made : (slot : ℕ) → slice_index (link_words_of store node) slot ≡ 0 → slice_index links slot ≢ 0 → (ticket : ℕ) × (0 < pairs slot ticket v.made)
   new_is_made slot empty full = elim (cases_eq (firsts slot v.made) 0) [
     | inl none ↦ absurd (full (o.settled.bare slot empty none))
     | inr some ↦ firsts-pair slot v.made (omega arith)
   ]
 
   -- and of a number of the stock
-  new_is_of_stock : (slot n : ℕ) → slice_index (links_of store node) slot ≡ 0 → slice_index links slot ≡ suc n → IsFree (pool_of store node) n
+  new_is_of_stock : (slot n : ℕ) → slice_index (link_words_of store node) slot ≡ 0 → slice_index links slot ≡ suc n → IsFree (pool_of store node) n
   new_is_of_stock slot n empty is =
       let found = o.settled.of_stock slot empty (omega arith) in
       let same : slice_index stock found.0 ≡ n = let e : slice_index links slot ≡ slice_index stock found.0 + 1 = found.2 in omega arith in
@@ -94,16 +94,16 @@ module _ (store : StoreWords) (node : ℕ) (stock : List ℕ) (v : Worker) (link
     as_many = o.settled.long;
     stays = λ slot full. o.settled.stay slot (omega arith);
     in_live = λ slot empty full. let made = new_is_made slot empty full in o.in_live slot made.0 made.1;
-    of_taken = λ slot taking empty is. taken_has (links_of store node) links slot taking o.settled.long empty is;
-    all_taken = λ taking is. let r = taken_from (links_of store node) links taking is in contains_word links r.0 taking r.2;
+    of_taken = λ slot taking empty is. taken_has (link_words_of store node) links slot taking o.settled.long empty is;
+    all_taken = λ taking is. let r = taken_from (link_words_of store node) links taking is in contains_word links r.0 taking r.2;
     once = λ x y taking is first second.
-        let r = taken_from (links_of store node) links taking is in
+        let r = taken_from (link_words_of store node) links taking is in
         let e : r.0 ≡ x = o.settled.once r.0 x r.1 (let h : slice_index links r.0 ≡ suc taking = r.2 in omega arith) (r.2 ∙ sym first) in
         let e' : r.0 ≡ y = o.settled.once r.0 y r.1 (let h : slice_index links r.0 ≡ suc taking = r.2 in omega arith) (r.2 ∙ sym second) in
         sym e ∙ e';
     free = record {
-      free = taken_all (IsFree (pool_of store node)) (links_of store node) links new_is_of_stock;
-      once = taken_once (links_of store node) links o.settled.long o.settled.once;
+      free = taken_all (IsFree (pool_of store node)) (link_words_of store node) links new_is_of_stock;
+      once = taken_once (link_words_of store node) links o.settled.long o.settled.once;
     };
   })
 
@@ -117,13 +117,13 @@ module _ (store : StoreWords) (node : ℕ) (stock : List ℕ) (v : Worker) (link
       seen (inl (number, some)) = let e = o.settled.seen slot number some in omega arith
       seen (inr is_dry) = false≢true (sym not_dry ∙ o.settled.ran_dry ∙ is_dry)
 
-  -- where the worker holds a ticket past the stock, more links are there than the cap
+  -- if the worker holds a ticket past the stock, more links are there than the cap
   pub dry_is_past : (cap : ℕ) → length stock + live_count (pool_of store node) ≡ cap + 17 → dry ≡ true → cap < live_count (pool_of store node) + length taken
   dry_is_past cap rest is =
-      let filled : full_words (links_of store node) ≡ live_count (pool_of store node) = o.filled in
+      let filled : full_words (link_words_of store node) ≡ live_count (pool_of store node) = o.filled in
       let past = o.settled.filled cap (omega arith) is in
-      let count = taken_count (links_of store node) links o.settled.long o.settled.stay in
-      let e : length taken ≡ length (taken_of (links_of store node) links) = ap length o.taken_are in
+      let count = taken_count (link_words_of store node) links o.settled.long o.settled.stay in
+      let e : length taken ≡ length (taken_of (link_words_of store node) links) = ap length o.taken_are in
       omega arith
 
   pub past_is_full : FullIsFirst store → IsWellFormed store → (shape : NodeShape) → IsNumberedNode store.shape node shape → shape.kind ≡ Pointer → (cap : ℕ) → cap ≡ count_of shape.cap

@@ -38,7 +38,7 @@ pair_before a b c d xs some = elim (cases_eq c a) [
       inl (omega arith)
 ]
 
--- a worker is dry where it holds a ticket past the stock
+-- a worker is dry if it holds a ticket past the stock
 pub dry_from : (v : Worker) → 0 < firsts 0 v.past → is_dry v ≡ true
 dry_from v some = grind (arith, nat_tests)
 

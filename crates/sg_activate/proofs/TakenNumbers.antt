@@ -77,7 +77,7 @@ taken_from (o ∷ os) (w ∷ ws) n is = first_slot (λ l. Contains l n → (slot
     ])
     (λ none has. let r = taken_from os ws n has in (suc r.0, r.1, r.2)) is
 
--- each once, where no number is in two slots
+-- each once, if no number is in two slots
 pub taken_once : (old new : List ℕ) → length new ≡ length old
     → ((i j : ℕ) → slice_index old i ≡ 0 → 0 < slice_index new i → slice_index new i ≡ slice_index new j → i ≡ j)
     → AllPairs (λ (x y : ℕ). x ≢ y) (taken_of old new)

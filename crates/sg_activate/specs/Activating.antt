@@ -10,7 +10,7 @@ abbrev pub wanted_below : (ℕ → List Coord) → ℕ → List Coord
 wanted_below list zero = []
 wanted_below list (suc piece) = wanted_below list piece ++ list piece
 
--- nothing where no node is too full, else the fault that names the first
+-- nothing if no node is too full, else the fault that names the first
 abbrev pub unless_full : Option FullNode → Result Unit ActFault
 unless_full None = Ok tt
 unless_full (Some full) = Err (PoolFull full.node full.cap)

@@ -8,6 +8,7 @@ ghost use Rattle.sg_layout.specs.Need.{first_full};
 ghost use Rattle.sg_flat.specs.declared.state.FlatLayout.{FlatLayout};
 ghost use Rattle.sg_store.specs.StandsFor.{StandsFor};
 ghost use Rattle.sg_store.specs.Reaching.{KeepsCells};
+ghost use Rattle.sg_store.specs.Links.{GrowsLinks};
 ghost use Rattle.sg_activate.specs.Activating.{wanted_below, unless_full};
 ghost use Rattle.sg_activate.specs.steps.Levels.{OpensIndex, IfActRefused, IsFirstFull};
 
@@ -22,7 +23,7 @@ use crate::race::Work;
 use crate::wanted::Wanted;
 use sg_layout::{Kind, live_grows};
 use sg_outside::Gate;
-use sg_store::laws::cells_are_active;
+use sg_store::laws::{cells_are_active, links_stay};
 use sg_store::{Store, levels};
 use sg_words::{Memory, Stop};
 use std::alloc::Global;
@@ -49,6 +50,7 @@ pub fn activate<R: Threads + Sync, W: Wanted + Sync, G: Gate + Sync>(
     ensures activated { OnOk result ((list : ℕ → List Coord) → W.Means want.now list → (flat : FlatLayout) → StandsFor store.old flat → StandsFor store.new
         (record flat { active = closure store.old.shape (flat.active ++ wanted_below list (W.count want.now)) })) }
     ensures keeps { OnOk result (KeepsCells store.old store.new) }
+    ensures links { GrowsLinks store.old store.new }
     ensures stays { OnErr result (store.new ≡ store.old) }
 {
     match activated(rt, alloc, store, want, workers, gate) {
@@ -62,8 +64,8 @@ pub fn activate<R: Threads + Sync, W: Wanted + Sync, G: Gate + Sync>(
 }
 
 /// The store with the closure of what is active and what is wanted in the place of what is active, and all values kept;
-/// none where all that is wanted is active already, so that nothing changes. Refused where the need passes a cap. Up to 16
-/// workers race for it, node after node, each with a slice of the pieces, in order. In the first pass, or where there is
+/// none if all that is wanted is active already, so that nothing changes. Refused where the need passes a cap. Up to 16
+/// workers race for it, node after node, each with a slice of the pieces, in order. In the first pass, or if there is
 /// none, each passes the gate before each of its pieces. Where the gate can't hold anyone, only as many race as have enough
 /// to do. It waits for its workers.
 pub fn activated<R: Threads + Sync, W: Wanted + Sync, G: Gate + Sync>(
@@ -84,11 +86,13 @@ pub fn activated<R: Threads + Sync, W: Wanted + Sync, G: Gate + Sync>(
     ensures activated { IfOk result (λ next. (list : ℕ → List Coord) → W.Means want.now list → (flat : FlatLayout) → StandsFor store.now flat → StandsFor (unwrap_or next store.now)
         (record flat { active = closure store.now.shape (flat.active ++ wanted_below list (W.count want.now)) })) }
     ensures keeps { IfOk result (λ next. KeepsCells store.now (unwrap_or next store.now)) }
+    ensures links { IfOk result (λ next. GrowsLinks store.now (unwrap_or next store.now)) }
 {
     // for the laws that they ensure, and the invariant
     levels::opening_by_nodes();
     live_grows();
     cells_are_active();
+    links_stay();
     store.layout();
     let effort = want.effort().saturating_mul(want.pieces() as usize);
     let racing = workers_at(gate, effort, workers);

@@ -21,7 +21,7 @@ pub fn workers_for(effort: usize, workers: u32) -> u32
     if busy < workers { busy } else { workers }
 }
 
-/// The same, where they pass the gate: all of them where it may hold one, since it may be for another.
+/// The same, where they pass the gate: all of them if it may hold one, since it may be for another.
 pub fn workers_at<G: Gate>(gate: &G, effort: usize, workers: u32) -> u32
     requires some { 1 ≤ workers }
     ensures some { 1 ≤ result }
@@ -44,7 +44,7 @@ pub fn pass_gate<R: Threads + Sync, G: Gate + Sync>(rt: &R, pieces: u32, workers
     }
 }
 
-/// Workers from one number on pass the gate before each piece of their slices; halves of them in threads, where both have pieces.
+/// Workers from one number on pass the gate before each piece of their slices; halves of them in threads, if both have pieces.
 fn pass_slices<R: Threads + Sync, G: Gate + Sync>(
     rt: &R,
     pieces: u32,

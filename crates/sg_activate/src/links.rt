@@ -7,7 +7,7 @@ ghost use Rattle.sg_layout.specs.Live.{kind_at};
 ghost use Rattle.sg_layout.specs.NeedLaws.{IsNumberedNode};
 ghost use Rattle.sg_pointer.specs.Seats.{old_links};
 ghost use Rattle.sg_store.specs.Reaching.{KeepsCells};
-ghost use Rattle.sg_store.specs.Opening.{links_of, OpensNode};
+ghost use Rattle.sg_store.specs.Opening.{link_words_of, OpensNode};
 ghost use Rattle.sg_activate.specs.Activating.{wanted_below};
 ghost use Rattle.sg_activate.specs.steps.Levels.{IfActRefused, IsFirstFull};
 
@@ -34,7 +34,7 @@ pub(crate) struct LinkRace<'a> {
     pass: PointerPass,
     ghost first: { 1 ≤ node },
     ghost pointer: { kind_at store.now.shape.nodes node ≡ Pointer },
-    ghost slots: { length (old_links pass) ≡ length (links_of store.now node) },
+    ghost slots: { length (old_links pass) ≡ length (link_words_of store.now node) },
 }
 
 impl<'a> Pass for LinkRace<'a> {

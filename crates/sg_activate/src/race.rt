@@ -14,7 +14,7 @@ use sg_words::Memory;
 use std::alloc::Global;
 use std::thread::{Threads, join};
 
-/// What workers share in a race: what is wanted, how many they are, and the gate, which they pass where it is so said.
+/// What workers share in a race: what is wanted, how many they are, and the gate, which they pass if it is said so.
 pub(crate) struct Work<'a, W, G> {
     pub(crate) want: &'a W,
     pub(crate) workers: u32,
@@ -73,7 +73,7 @@ const SHARE: u32 = 16;
 const MANY_PIECES: u32 = 32;
 
 /// Workers from one number on ask for what their pieces want, each in its slice: some in a thread of their own and then the rest,
-/// where both have pieces: with fewer pieces than workers the last workers have none. With many pieces a thread that has forked `waits`: it asks for nothing itself.
+/// if both have pieces: with fewer pieces than workers the last workers have none. With many pieces a thread that has forked `waits`: it asks for nothing itself.
 fn race<R: Threads + Sync, W: Wanted + Sync, G: Gate + Sync, P: Pass + Sync>(
     rt: &R,
     alloc: Global,
@@ -170,7 +170,7 @@ fn rest_of(count: u32, share: u32) -> u32
     (count - 1).min(share / 2)
 }
 
-/// The seats of two halves joined. Want of memory of either is that of both.
+/// The seats of two halves joined. Running out of memory of either is that of both.
 fn joined<P: Pass>(pass: &P, mine: Raced<P::Seat>, theirs: Raced<P::Seat>) -> Raced<P::Seat>
     requires own { P.IsSeatOf pass.now mine.seat }
     requires other { P.IsSeatOf pass.now theirs.seat }

@@ -132,7 +132,7 @@ walk_there (node ∷ later) (kept ∷ words) places live are p (o ∷ s) long on
         sym (ap (λ b. unwrap_or (option_and_then (λ under. own_answer is_set later words under (take (suc i) (v ∷ s))) b) false) leads)
         ∙ on (suc i) (omega (arith, within)) other
 
--- ── A coordinate has a cell exactly where it is active ──
+-- ── A coordinate has a cell exactly when it is active ──
 
 or_is : (a b : Bool) → b ≡ true → (a || b) ≡ true
 or_is true b e = refl

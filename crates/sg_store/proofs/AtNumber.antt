@@ -18,7 +18,7 @@ use Rattle.sg_store.specs.StoreWords.{StoreWords}
 use Rattle.sg_store.specs.Slots.{word_number}
 use Rattle.sg_store.specs.Walks.{slot_number_in, slot_in, word_or, word_along, place_in}
 use Rattle.sg_store.specs.WellFormed.{IsNode, AreNodes, IsWellFormed, is_root}
-use Rattle.sg_store.specs.Opening.{links_or_none, links_of, keys_or_none, keys_of, lengths_or_none, lengths_of, masks_or_none, masks_of, pool_or_none, pool_of, IsInLive}
+use Rattle.sg_store.specs.Opening.{links_or_none, link_words_of, keys_or_none, keys_of, lengths_or_none, lengths_of, masks_or_none, masks_of, pool_or_none, pool_of, IsInLive}
 use Rattle.sg_store.specs.steps.Widths.{IsWidths}
 use Rattle.sg_store.specs.steps.AtNode.{OfNode, AtNode, AtNodeOf}
 use Rattle.sg_store.proofs.Leading.{InLive, number_live}
@@ -51,7 +51,7 @@ at_number store well number first other =
 pub back_to : (number i : ℕ) → number ≡ suc i → number - 1 ≡ i
 back_to number i next = omega (arith, next)
 
-pub links_are : (store : StoreWords) (number i : ℕ) (node : NodeShape) (kept : NodeWords) → IsAt store number i node kept → links_of store number ≡ kept.links
+pub links_are : (store : StoreWords) (number i : ℕ) (node : NodeShape) (kept : NodeWords) → IsAt store number i node kept → link_words_of store number ≡ kept.links
 links_are store number i node kept is =
     ap (λ k. links_or_none (slice_get store.nodes k)) (back_to number i is.next) ∙ ap links_or_none is.has
 
@@ -167,7 +167,7 @@ parent_in_live store number i node kept parent is dynamic led =
     of_map None e = absurd (none-some parent e)
     of_map (Some q) e = (q, refl, same_Some _ parent e)
 
--- the slot of a coordinate, where it has a number
+-- the slot of a coordinate, if it has a number
 pub place_live : (store : StoreWords) (number : ℕ) (at : Coord) (q : ℕ) → IsWellFormed store → PathIsSlot store.shape → place_in store number at ≡ Some q → IsInLive store number q
 place_live store number at q well paths e = record { path = path store.shape at number; is_slot = paths well.accepted at number; has_number = e }
 

@@ -211,14 +211,14 @@ empty_field shape active = record {
   active_rows = λ k d below. absurd (omega (arith, below));
 }
 
-opening_is_flat : (shape : Shape) → OpeningLaws shape → IsFlatLayout shape (opening_layout shape)
+pub opening_is_flat : (shape : Shape) → OpeningLaws shape → IsFlatLayout shape (opening_layout shape)
 opening_is_flat shape laws = record {
   closed = sym (laws.closed []);
   field_count = length-map shape.fields (λ _. []);
   fields_fit = All-map (IsFlatField shape (closure shape [])) (λ _. let none : List (ℕ × ℕ) = [] in none) shape.fields (λ k d below. empty_field shape (closure shape []));
 }
 
-nothing_live : (shape : Shape) (number : ℕ) (slot : List ℕ) → OpeningLaws shape → IsSlotOf shape number slot → is_live shape (closure shape []) number slot ≡ false
+pub nothing_live : (shape : Shape) (number : ℕ) (slot : List ℕ) → OpeningLaws shape → IsSlotOf shape number slot → is_live shape (closure shape []) number slot ≡ false
 nothing_live shape number slot laws is =
     ap (λ list. is_live shape list number slot) (sym (append-nil (closure shape [])))
     ∙ laws.absorbs [] [] (λ at has. absurd (omega (arith, has.1))) number (record { first = is.first; within = is.within; sparse = is.has_activity }) slot
@@ -238,7 +238,7 @@ zero_in : (b : Bool) → let zeros : ℕ = cond b 0 0 in zeros ≡ 0
 zero_in true = refl
 zero_in false = refl
 
-opening_value : (shape : Shape) (place : ℕ) (at : Coord) → value_at shape (opening_layout shape) place at ≡ 0
+pub opening_value : (shape : Shape) (place : ℕ) (at : Coord) → value_at shape (opening_layout shape) place at ≡ 0
 opening_value shape place at =
     let none : List (ℕ × ℕ) = [] in
     let words : words_or_none (slice_get (opening_layout shape).fields place) ≡ none =

@@ -84,7 +84,7 @@ last_low (first ∷ later) (suc i) [] index node at long is = absurd (omega (ari
 last_low (first ∷ later) zero (o ∷ parent) index node at long is = absurd (omega (arith, long))
 last_low (first ∷ later) (suc i) (o ∷ parent) index node at long is = last_low later i parent index node at (omega (arith, long)) is.1
 
--- under a parent with a place an index is below the length exactly where its slot is live
+-- under a parent with a place an index is below the length exactly when its slot is live
 live_below_length : (store : StoreWords) (i : ℕ) (node : NodeShape) (kept : NodeWords) (lengths : List ℕ) (coords : List Coord) → TellLengths store i node kept lengths coords → (parent : List ℕ) (index place : ℕ) → length parent ≡ i → AreOffsets store.shape.nodes parent → index < size_of node.sizes → place_after place_below store.shape.nodes store.nodes 0 parent ≡ Some place → nat_lt index (slice_index lengths place) ≡ is_live store.shape coords (suc i) (parent ++ index ∷ [])
 live_below_length store i node kept lengths coords tell parent index place long are low leads =
     let size : ℕ = size_of node.sizes in
@@ -141,7 +141,7 @@ parent_is store i node kept lengths coords tell parent has =
 
 -- ── One parent a length ──
 
--- the place of a parent; 0 where links don't lead to it
+-- the place of a parent; 0 if links don't lead to it
 abbrev parent_place : StoreWords → List ℕ → ℕ
 parent_place store parent = unwrap_or (place_after place_below store.shape.nodes store.nodes 0 parent) 0
 

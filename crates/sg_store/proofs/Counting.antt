@@ -115,7 +115,7 @@ numbers_fit store i links coords numbers reached other are once linked_all =
     let words : suc a ≡ suc b = sym left.2 ∙ ap (slice_index links) same ∙ right.2 in
     omega (arith, words))
 
--- ── A node with links whose slots are on exactly where they are live ──
+-- ── A node with links whose slots are on exactly when they are live ──
 
 -- a number that isn't 0 is within the list
 pub index_within : (xs : List ℕ) (q : ℕ) → slice_index xs q ≢ 0 → q < length xs
@@ -170,7 +170,7 @@ word_number (suc n) e = (n, refl)
 pub word_set : (word : ℕ) → word ≢ 0 → not (word == 0) ≡ true
 word_set word some = grind (arith, nat_tests)
 
--- its slots are on exactly where they are live for a list
+-- its slots are on exactly when they are live for a list
 pub record IsOnFor (store : StoreWords) (i : ℕ) (coords : List Coord) : Type 0 where
   pub paths : (at : Coord) → IsSlot (take (suc i) store.shape.nodes) (path store.shape at (suc i))
   pub on : (slot : List ℕ) → IsSlot (take (suc i) store.shape.nodes) slot → is_on store.shape.nodes store.nodes 0 slot ≡ is_live store.shape coords (suc i) slot

@@ -70,7 +70,7 @@ pub record ChainLaws (shape : Shape) : Type 0 where
   pub up_to : needs.LiveUpToGreatest shape
   pub once : needs.ReachedOnce shape
 
--- where a store is open through a dynamic node, its own lengths tell what is live there
+-- if a store is open through a dynamic node, its own lengths tell what is live there
 pub own_tell : (store : StoreWords) (i : ℕ) (node : NodeShape) (kept : NodeWords) (coords : List Coord) → DynamicAt store i node kept → ChainLaws store.shape → ((slot : List ℕ) → IsSlotOf store.shape (suc i) slot → is_on store.shape.nodes store.nodes 0 slot ≡ is_live store.shape coords (suc i) slot) → TellLengths store i node kept kept.lengths coords
 own_tell store i node kept coords d laws on =
     let nodes : List NodeShape = store.shape.nodes in

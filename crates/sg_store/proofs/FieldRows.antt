@@ -1,21 +1,24 @@
 -- A field's row read and written whole.
-use Rattle.std.proofs.Common.{◌≡◌, ℕ, ◌+◌, ◌-◌, ◌<◌, ◌≤◌, List, [], ◌∷◌, ◌++◌, length, take, drop, get_or, append_assoc, sym, ap, ◌∙◌, arith, inl, inr}
-use Rattle.std.specs.Prelude.{slice_index, slice_index_or, slice_set}
+use Rattle.std.proofs.Common.{◌≡◌, ℕ, zero, suc, ◌+◌, ◌-◌, ◌<◌, ◌≤◌, List, [], ◌∷◌, ◌++◌, length, take, drop, get_or, append_assoc, refl, sym, ap, ◌∙◌, subst, arith, inl, inr}
+use Rattle.std.specs.Prelude.{Some, slice_index, slice_index_or, slice_set}
 use Rattle.std.specs.List.{concat}
-use Rattle.std.proofs.lemmas.Bool.{cases_eq}
-use Rattle.std.proofs.lemmas.List.{get_or-set_same, get_or-set_other, get_or_default, set-append_right, length-take-le, length-append, length-drop, take-append-drop, append-nil, take_more, drop_more}
+use Rattle.std.proofs.lemmas.Bool.{cases_eq, cases_lt}
+use Rattle.std.proofs.lemmas.List.{get_or-set_same, get_or-set_other, get_or_default, length-set, set-append_right, length-take-le, drop_all, length-append, length-drop, take-append-drop, append-nil, take_more, drop_more}
 use Rattle.std.proofs.lemmas.List.Folds.{concat-append}
 use Rattle.std.proofs.lemmas.Slice.{drop-append-drop}
-use Rattle.std.proofs.Math.Seq.{take-append_seam}
+use Rattle.std.proofs.Math.Seq.{take-append_seam, drop-nil}
+use Rattle.sg_coord.specs.declared.coord.Coord.{Coord}
 use Rattle.sg_layout.specs.declared.shape.Shape.{Shape}
 use Rattle.sg_layout.specs.Live.{is_live}
 use Rattle.sg_flat.specs.declared.state.FlatLayout.{FlatLayout}
 use Rattle.sg_flat.specs.State.{value_at}
 use Rattle.sg_store.specs.declared.node.NodeWords.{NodeWords}
 use Rattle.sg_store.specs.StoreWords.{StoreWords, word_in}
-use Rattle.sg_store.specs.WellFormed.{IsWellFormed}
+use Rattle.sg_store.specs.WellFormed.{cell_count, IsReached, IsFieldRow, IsWellFormed}
 use Rattle.sg_store.specs.StandsFor.{IsSlotOf, StandsFor}
-use Rattle.sg_store.specs.Rows.{SetsRow}
+use Rattle.sg_store.specs.Walks.{cell_in}
+use Rattle.sg_store.specs.Rows.{IsFieldFront, put_over, SetsRow}
+use Rattle.sg_store.proofs.CellWords.{row_of_field, same_rows}
 
 -- ── Writing ──
 
@@ -84,9 +87,9 @@ concat_more parts i part d within is =
     ap concat (take_more parts i d within) ∙ concat-append (take i parts) (get_or parts i d ∷ [])
     ∙ ap (λ l. concat (take i parts) ++ l) (append-nil (get_or parts i d) ∙ sym is)
 
--- a row whose first parts are written, and that is as long as all of them
+-- a row whose first parts are written, and that is as long as all of them at least
 pub record IsWritten (parts : List (List ℕ)) (i cell : ℕ) (row old : List ℕ) : Type 0 where
-  pub all : length (concat parts) ≡ length old
+  pub all : length (concat parts) ≤ length old
   pub at : cell ≡ length (concat (take i parts))
   pub row_is : row ≡ concat (take i parts) ++ drop cell old
 
@@ -125,3 +128,119 @@ part_written parts i cell end row old part d now w within is wrote ends =
       row_is = wrote ∙ ap (λ l. l ++ (part ++ drop (cell + length part) row)) front ∙ ap (λ l. concat (take i parts) ++ (part ++ l)) rest
           ∙ sym (append_assoc (concat (take i parts)) part (drop end old)) ∙ ap (λ l. l ++ drop end old) (sym more);
     }
+
+-- all parts are written
+pub parts_written : (parts : List (List ℕ)) (i cell : ℕ) (row old : List ℕ) → IsWritten parts i cell row old → length parts ≤ i → row ≡ put_over (concat parts) old
+parts_written parts i cell row old w all =
+    let whole : take i parts ≡ parts = sym (append-nil (take i parts)) ∙ ap (λ (rest : List (List ℕ)). take i parts ++ rest) (sym (drop_all i parts all)) ∙ take-append-drop i parts in
+    w.row_is ∙ ap (λ n. concat (take i parts) ++ drop n old) w.at ∙ ap (λ (ps : List (List ℕ)). concat ps ++ drop (length (concat ps)) old) whole
+
+-- ── The front of a row ──
+
+take_at : (n : ℕ) (row : List ℕ) (cell : ℕ) → cell < n → slice_index (take n row) cell ≡ slice_index row cell
+take_at zero row cell below = absurd (omega (arith, below))
+take_at (suc n) [] cell below = refl
+take_at (suc n) (word ∷ row) zero below = refl
+take_at (suc n) (word ∷ row) (suc cell) below = take_at n row cell (omega (arith, below))
+
+take_past : (n : ℕ) (row : List ℕ) (cell : ℕ) → n ≤ cell → slice_index (take n row) cell ≡ 0
+take_past zero row cell past = refl
+take_past (suc n) [] cell past = refl
+take_past (suc n) (word ∷ row) zero past = absurd (omega (arith, past))
+take_past (suc n) (word ∷ row) (suc cell) past = take_past n row cell (omega (arith, past))
+
+-- the words of a row up to a cell past which none is reached
+pub front_of : (store : StoreWords) (row : List ℕ) (cells : ℕ) → IsFieldRow store row → cells ≤ cell_count store.shape → ((cell : ℕ) → IsReached store cell → cell < cells) → IsFieldFront store (take cells row)
+front_of store row cells fits few all =
+    let long : length (take cells row) ≡ cells = length-take-le cells row (omega (arith, few, fits.cells)) in
+    record {
+      cells = omega (arith, long, few);
+      only_reached = λ cell some. elim (cases_lt cell cells) [
+        | inl below ↦ fits.only_reached cell (λ none. some (take_at cells row cell below ∙ none))
+        | inr past ↦ absurd (some (take_past cells row cell past))
+      ];
+      all_reached = λ cell reached. omega (arith, long, all cell reached);
+    }
+
+-- they are all that the row has
+pub front_words : (store : StoreWords) (row : List ℕ) (cells : ℕ) → IsFieldRow store row → ((cell : ℕ) → IsReached store cell → cell < cells) → (cell : ℕ) → slice_index (take cells row) cell ≡ slice_index row cell
+front_words store row cells fits all cell = elim (cases_lt cell cells) [
+  | inl below ↦ take_at cells row cell below
+  | inr past ↦ elim (cases_eq (slice_index row cell) 0) [
+    | inl none ↦ take_past cells row cell past ∙ sym none
+    | inr some ↦ absurd (omega (arith, past, all cell (fits.only_reached cell some)))
+  ]
+]
+
+over_at : (words rest : List ℕ) (cell : ℕ) → cell < length words → slice_index (words ++ rest) cell ≡ slice_index words cell
+over_at [] rest cell below = absurd (omega (arith, below))
+over_at (word ∷ words) rest zero below = refl
+over_at (word ∷ words) rest (suc cell) below = over_at words rest cell (omega (arith, below))
+
+over_past : (words row : List ℕ) (cell : ℕ) → length words ≤ cell → slice_index (put_over words row) cell ≡ slice_index row cell
+over_past [] row cell past = refl
+over_past (word ∷ words) row zero past = absurd (omega (arith, past))
+over_past (word ∷ words) [] (suc cell) past =
+    ap (λ rest. slice_index (words ++ rest) cell) (drop-nil (length (word ∷ words)) ∙ sym (drop-nil (length words))) ∙ over_past words [] cell (omega (arith, past))
+over_past (word ∷ words) (old ∷ row) (suc cell) past = over_past words row cell (omega (arith, past))
+
+-- as many words as a row has take the place of all
+pub over_whole : (words row : List ℕ) → length words ≡ length row → put_over words row ≡ words
+over_whole words row same = ap (λ rest. words ++ rest) (drop_all (length words) row (omega (arith, same))) ∙ append-nil words
+
+-- with other words in front a row is one again
+over_row : (store : StoreWords) (words row : List ℕ) → IsFieldFront store words → IsFieldRow store row → IsFieldRow store (put_over words row)
+over_row store words row front fits =
+    let both : length (put_over words row) ≡ length words + length (drop (length words) row) = length-append words (drop (length words) row) in
+    let rest : length (drop (length words) row) ≡ length row - length words = length-drop (length words) row in
+    record {
+      cells = omega (arith, both, rest, front.cells, fits.cells);
+      only_reached = λ cell some. elim (cases_lt cell (length words)) [
+        | inl below ↦ front.only_reached cell (λ none. some (over_at words (drop (length words) row) cell below ∙ none))
+        | inr past ↦ fits.only_reached cell (λ none. some (over_past words row cell past ∙ none))
+      ];
+    }
+
+row_well_formed : (store : StoreWords) (place : ℕ) (row : List ℕ) → IsWellFormed store → place < length store.shape.fields → IsFieldRow store row → IsWellFormed (with_row store place row)
+row_well_formed store place row well field fits =
+    let fields : List (List ℕ) = slice_set store.fields place row in
+    let there : place < length store.fields = omega (arith, well.field_count) in
+    record {
+      accepted = well.accepted;
+      nodes_fit = well.nodes_fit;
+      within_caps = well.within_caps;
+      numbers_parted = well.numbers_parted;
+      few_words = well.few_words;
+      few_cells = well.few_cells;
+      field_count = length-set store.fields place row ∙ well.field_count;
+      rows_fit = λ k d below.
+          let short : k < length store.fields = omega (arith, below, length-set store.fields place row) in
+          elim (cases_eq k place) [
+            | inl same ↦
+                let read : get_or fields k d ≡ row = ap (λ i. get_or fields i d) same ∙ get_or-set_same store.fields place row d there in
+                subst (λ words. IsFieldRow (record store { fields = fields }) words) (sym read) (same_rows store fields row fits)
+            | inr other ↦
+                let read : get_or fields k d ≡ get_or store.fields k d = get_or-set_other store.fields place k row d other in
+                subst (λ words. IsFieldRow (record store { fields = fields }) words) (sym read)
+                (same_rows store fields (get_or store.fields k d) (well.rows_fit k d short))
+          ];
+    }
+
+-- the store with other words in the front of a field's row
+abbrev pub with_front : StoreWords → ℕ → List ℕ → StoreWords
+with_front store place words = with_row store place (put_over words (slice_index_or store.fields place []))
+
+pub front_well_formed : (store : StoreWords) (place : ℕ) (words : List ℕ) → IsWellFormed store → place < length store.shape.fields → IsFieldFront store words → IsWellFormed (with_front store place words)
+front_well_formed store place words well field front =
+    row_well_formed store place (put_over words (slice_index_or store.fields place [])) well field
+    (over_row store words (slice_index_or store.fields place []) front (row_of_field store well place [] field))
+
+pub front_stands : (store : StoreWords) (place : ℕ) (words : List ℕ) → IsWellFormed store → place < length store.shape.fields → ((at : Coord) (cell : ℕ) → cell_in store at ≡ Some cell → cell < length words) → (flat now : FlatLayout) → StandsFor store flat → SetsRow store flat now place words → StandsFor (with_front store place words) now
+front_stands store place words well field within flat now stands sets =
+    let row : List ℕ = slice_index_or store.fields place [] in
+    row_stands store place (put_over words row) well field flat now stands (record {
+      is_flat = sets.is_flat;
+      same_active = sets.same_active;
+      here = λ at cell leads. sets.here at cell leads ∙ sym (over_at words (drop (length words) row) cell (within at cell leads));
+      elsewhere = sets.elsewhere;
+    })

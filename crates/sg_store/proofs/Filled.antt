@@ -122,7 +122,7 @@ filled_more before after now stock slots room taken i d e fresh roomy within bel
     (subst (λ l. IsFill before (slice_set after slot (suc number)) l (take (i + 1) slots)) (sym (take_more stock taken e there))
     (subst (λ l. IsFill before (slice_set after slot (suc number)) (take taken stock ++ number ∷ []) l) (sym (take_more slots i d below)) more))
 
--- where it wasn't, nothing changes
+-- if it wasn't, nothing changes
 pub filled_same : (before after now taken slots : List ℕ) (i d : ℕ) → i < length slots → slice_index after (get_or slots i d) ≢ 0 → now ≡ after → IsFill before after taken (take i slots) → IsFill before now taken (take (i + 1) slots)
 filled_same before after now taken slots i d below some is fill =
     subst (λ l. IsFill before l taken (take (i + 1) slots)) (sym is)

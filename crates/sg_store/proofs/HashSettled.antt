@@ -20,7 +20,7 @@ use Rattle.sg_store.specs.Slots.{links_by_slot, is_set}
 use Rattle.sg_store.specs.WellFormed.{IsNode, IsHashNode}
 use Rattle.sg_store.specs.Changes.{IsRekeyed, ChangesNode}
 use Rattle.sg_store.specs.Reaching.{KeepsCells}
-use Rattle.sg_store.specs.Opening.{links_of, keys_of, CanSettleHash, FitsCap, WantedHaveKeys, NewKeysAreWanted, OpensNode}
+use Rattle.sg_store.specs.Opening.{link_words_of, keys_of, CanSettleHash, FitsCap, WantedHaveKeys, NewKeysAreWanted, OpensNode}
 use Rattle.sg_store.specs.steps.AtNode.{AtNodeOf}
 use Rattle.sg_store.specs.steps.Settling.{NodeGrows}
 use Rattle.sg_store.specs.steps.Keying.{CanSettleKeys}
@@ -103,7 +103,7 @@ GetsKey before keys key = (p : ℕ) × (slice_index before p ≡ 0) × (slice_in
 grown_of : (store : StoreWords) (i : ℕ) (node : NodeShape) (kept : NodeWords) (keys links taken : List ℕ) (slots : ℕ) (live : ℕ → Bool) → IsAt store 1 i node kept → CanSettleHash store keys links taken → IsHashNode node kept slots live → HasGrown kept.keys kept.links keys links
 grown_of store i node kept keys links taken slots live is can own =
     let key : (p : ℕ) → slice_index (keys_of store 1) p ≡ slice_index kept.keys p = λ p. ap (λ l. slice_index l p) (keys_are store 1 i node kept is) in
-    let link : (p : ℕ) → slice_index (links_of store 1) p ≡ slice_index kept.links p = λ p. ap (λ l. slice_index l p) (links_are store 1 i node kept is) in
+    let link : (p : ℕ) → slice_index (link_words_of store 1) p ≡ slice_index kept.links p = λ p. ap (λ l. slice_index l p) (links_are store 1 i node kept is) in
     record {
       was_table = own.table;
       was_beside = own.links_beside;
@@ -124,7 +124,7 @@ within_slots node kept keys links slots live own g all key some =
 pub can_settle : (store : StoreWords) (i : ℕ) (node : NodeShape) (kept : NodeWords) (keys links taken : List ℕ) → IsAt store 1 i node kept → node.kind ≡ Hash → CanSettleHash store keys links taken → FitsCap store 1 taken → AtNodeOf (CanSettleKeys keys links taken) store i
 can_settle store i node kept keys links taken is kind can fits =
     let key : (p : ℕ) → slice_index (keys_of store 1) p ≡ slice_index kept.keys p = λ p. ap (λ l. slice_index l p) (keys_are store 1 i node kept is) in
-    let link : (p : ℕ) → slice_index (links_of store 1) p ≡ slice_index kept.links p = λ p. ap (λ l. slice_index l p) (links_are store 1 i node kept is) in
+    let link : (p : ℕ) → slice_index (link_words_of store 1) p ≡ slice_index kept.links p = λ p. ap (λ l. slice_index l p) (links_are store 1 i node kept is) in
     let pool = pool_is store 1 i node kept is in
     let fit : live_count kept.pool + length taken ≤ count_of node.cap =
     subst (λ p. live_count p + length taken ≤ count_of node.cap) pool
@@ -214,9 +214,9 @@ pub keys_table : (store : StoreWords) (i : ℕ) (node : NodeShape) (kept : NodeW
 keys_table store i node kept is kind =
     subst IsTable (sym (keys_are store 1 i node kept is)) (hash_fact (IsTable kept.keys) store i node kept is kind (λ slots live own. own.table))
 
-pub keys_beside : (store : StoreWords) (i : ℕ) (node : NodeShape) (kept : NodeWords) → IsAt store 1 i node kept → node.kind ≡ Hash → AreBeside (keys_of store 1) (links_of store 1)
+pub keys_beside : (store : StoreWords) (i : ℕ) (node : NodeShape) (kept : NodeWords) → IsAt store 1 i node kept → node.kind ≡ Hash → AreBeside (keys_of store 1) (link_words_of store 1)
 keys_beside store i node kept is kind =
-    subst (λ ks. AreBeside ks (links_of store 1)) (sym (keys_are store 1 i node kept is))
+    subst (λ ks. AreBeside ks (link_words_of store 1)) (sym (keys_are store 1 i node kept is))
     (subst (λ ls. AreBeside kept.keys ls) (sym (links_are store 1 i node kept is))
     (hash_fact (AreBeside kept.keys kept.links) store i node kept is kind (λ slots live own. own.links_beside)))
 

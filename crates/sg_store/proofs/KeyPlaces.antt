@@ -39,7 +39,7 @@ key_of_link keys links p are some = elim (cases_eq (slice_index keys p) 0) [
   | inr held ↦ some_word (slice_index keys p) held
 ]
 
--- where a key has something beside it, it stands at a place
+-- if a key has something beside it, it stands at a place
 found_place : (keys links : List ℕ) (key n : ℕ) → beside keys links key ≡ Some n → (p : ℕ) × (slice_index keys p ≡ suc key) × (n ≡ slice_index links p - 1)
 found_place [] links key n e = absurd (none-some n e)
 found_place (word ∷ keys) [] key n e = absurd (none-some n e)
@@ -105,7 +105,7 @@ slots_contain keys links slots n table are within has =
     let slot = slot_of_link keys links slots has.0 n table are within at in
     index_contains (links_by_slot keys links slots) slot.0 n slot.3
 
--- where no slot's link stands twice, no link does
+-- if no slot's link stands twice, no link does
 pub links_once : (keys links : List ℕ) (slots : ℕ) → IsTable keys → AreBeside keys links → ((key : ℕ) → is_some (beside keys links key) ≡ true → key < slots) → ((x y : ℕ) → slice_index (links_by_slot keys links slots) x ≢ 0 → slice_index (links_by_slot keys links slots) x ≡ slice_index (links_by_slot keys links slots) y → x ≡ y) → (x y : ℕ) → slice_index links x ≢ 0 → slice_index links x ≡ slice_index links y → x ≡ y
 links_once keys links slots table are within once x y some same =
     let word = some_word (slice_index links x) some in

@@ -104,7 +104,7 @@ word_is : (n : ℕ) → n ≢ 0 → (m : ℕ) × (n ≡ m + 1)
 word_is zero some = absurd (some refl)
 word_is (suc m) some = (m, omega arith)
 
--- where fewer numbers stand in the links than there are places, no key finds the table full
+-- if fewer numbers stand in the links than there are places, no key finds the table full
 pub not_full : (keys links : List ℕ) (count key : ℕ) → IsKeyed keys links (length keys) count → HasPlaces keys links 0 count → IsFull keys key → ⊥
 not_full keys links count key is has full =
     let few = fewer (PlaceHas keys links count) (range_with_len 0 (length keys)) has.numbers (range_once (length keys)) partner apart in

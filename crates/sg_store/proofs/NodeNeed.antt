@@ -38,7 +38,7 @@ pub record NeedLaws (shape : Shape) : Type 0 where
   pub parents : ParentsHaveLive shape
   pub up_to : LiveUpToGreatest shape
 
--- the slots of the node with an index are on exactly where they are live for coordinates
+-- the slots of the node with an index are on exactly when they are live for coordinates
 abbrev pub IsOnAt : StoreWords → ℕ → List Coord → Type 0
 IsOnAt store i coords =
     (slot : List ℕ) → IsSlotOf store.shape (suc i) slot → is_on store.shape.nodes store.nodes 0 slot ≡ is_live store.shape coords (suc i) slot

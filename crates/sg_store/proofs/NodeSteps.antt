@@ -19,7 +19,7 @@ open_step : (bits set : Bool) (below : Option ℕ) → unless_unset bits set bel
 open_step true set below = refl
 open_step false set below = refl
 
--- where what leads on is what is set, it is looked for alone
+-- if what leads on is what is set, it is looked for alone
 set_alone : (bits : Bool) (below : Option ℕ) → unless_unset bits (is_some below) below ≡ below
 set_alone true None = refl
 set_alone true (Some place) = refl

@@ -19,7 +19,7 @@ use Rattle.sg_store.specs.Slots.{is_set}
 use Rattle.sg_store.specs.Walks.{slot_number_in, is_on}
 use Rattle.sg_store.specs.WellFormed.{AreNodes, IsWithinCap, IsFieldRow, IsWellFormed, is_root, cell_count}
 use Rattle.sg_store.specs.StandsFor.{IsSlotOf}
-use Rattle.sg_store.specs.Reaching.{KeepsCells}
+use Rattle.sg_store.specs.Reaching.{KeepsCells, leads_from}
 use Rattle.sg_store.specs.steps.AtNode.{OfNode, AtNode, AtNodeOf}
 use Rattle.sg_store.specs.steps.Settling.{NodeGrows}
 use Rattle.sg_store.specs.steps.Levels.{OpensNext}
@@ -38,11 +38,20 @@ with_node store index after = record store { nodes = slice_set store.nodes index
 
 -- ── It is well-formed, and its cells stay ──
 
+leads_stay : (nodes : List NodeShape) (words : List NodeWords) (places : ℕ) (live : ℕ → Bool) (i : ℕ) (after : NodeWords) → AtNode (NodeGrows after) nodes words places live i → (index slot place : ℕ) → leads_from (slice_get nodes index) (slice_get words index) slot ≡ Some place → leads_from (slice_get nodes index) (slice_get (slice_set words i after) index) slot ≡ Some place
+leads_stay [] words places live i after grown index slot place leads = absurd grown
+leads_stay (node ∷ later) [] places live i after grown index slot place leads = absurd grown
+leads_stay (node ∷ later) (kept ∷ words) places live zero after grown zero slot place leads = grown.leads_stays slot place leads
+leads_stay (node ∷ later) (kept ∷ words) places live zero after grown (suc index) slot place leads = leads
+leads_stay (node ∷ later) (kept ∷ words) places live (suc i) after grown zero slot place leads = leads
+leads_stay (node ∷ later) (kept ∷ words) places live (suc i) after grown (suc index) slot place leads = leads_stay later words _ _ i after grown index slot place leads
+
 pub keeps_cells : (store : StoreWords) (i : ℕ) (after : NodeWords) → AtNodeOf (NodeGrows after) store i → KeepsCells store (with_node store i after)
 keeps_cells store i after grown = record {
   same_shape = refl;
   same_fields = refl;
   same_cells = λ slot cell leads. cells_stay store.shape.nodes store.nodes 1 is_root i after grown 0 slot cell leads;
+  same_leads = λ index slot place leads. leads_stay store.shape.nodes store.nodes 1 is_root i after grown index slot place leads;
 }
 
 pub row_kept : (old now : StoreWords) (row : List ℕ) → KeepsCells old now → IsFieldRow old row → IsFieldRow now row

@@ -25,7 +25,7 @@ use Rattle.sg_store.specs.Slots.{is_set}
 use Rattle.sg_store.specs.Walks.{slot_number_in, is_on}
 use Rattle.sg_store.specs.WellFormed.{IsPointerNode, IsNode}
 use Rattle.sg_store.specs.Reaching.{IsOpenThrough}
-use Rattle.sg_store.specs.Opening.{links_of, CanSettleSlots, NewLinksAreWanted}
+use Rattle.sg_store.specs.Opening.{link_words_of, CanSettleSlots, NewLinksAreWanted}
 use Rattle.sg_store.proofs.Walking.{index_contains}
 use Rattle.sg_store.proofs.Grown.{own_answer_at}
 use Rattle.sg_store.proofs.Leading.{InLive}
@@ -75,7 +75,7 @@ on_here store number i node kept old wanted links taken b slot q is_slot at =
 -- all links stand in slots that are live for all of them
 all_links : (store : StoreWords) (number i : ℕ) (node : NodeShape) (kept : NodeWords) (old wanted : List Coord) (links taken : List ℕ) → IsBeside store number i node kept old wanted links taken → Links store i links (old ++ wanted)
 all_links store number i node kept old wanted links taken b =
-    let same : (q : ℕ) → slice_index (links_of store number) q ≡ slice_index kept.links q = λ q. ap (λ l. slice_index l q) (links_are store number i node kept b.is) in
+    let same : (q : ℕ) → slice_index (link_words_of store number) q ≡ slice_index kept.links q = λ q. ap (λ l. slice_index l q) (links_are store number i node kept b.is) in
     let other : node.kind ≢ Dynamic = λ dynamic. cc b.pointer in
     let wants : Wants store i wanted (numbers_for store i wanted).0 = wants_at store number i node kept wanted b.is b.paths other in
     let slots : List ℕ = (numbers_for store i wanted).0 in
@@ -114,7 +114,7 @@ taken_fit store number i node kept old wanted links taken b =
     (λ n live took.
     let unused : IsFree kept.pool n = All-contains (IsFree kept.pool) taken n free.free took in
     false≢true (sym unused.not_live ∙ from_live_numbers kept.pool n live)) in
-    let same : (q : ℕ) → slice_index (links_of store number) q ≡ slice_index kept.links q = λ q. ap (λ l. slice_index l q) (links_are store number i node kept b.is) in
+    let same : (q : ℕ) → slice_index (link_words_of store number) q ≡ slice_index kept.links q = λ q. ap (λ l. slice_index l q) (links_are store number i node kept b.is) in
     let other : kind_at store.shape.nodes (suc i) ≢ Dynamic = λ dynamic. cc (sym (kind_there store.shape.nodes i node b.is.at ∙ b.pointer) ∙ dynamic) in
     let fits : length numbers ≤ length (reached_slots store.shape (old ++ wanted) (suc i)) =
     numbers_fit store i links (old ++ wanted) numbers b.reached other (all_links store number i node kept old wanted links taken b) once

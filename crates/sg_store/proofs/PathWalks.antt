@@ -73,7 +73,7 @@ place_next store is bits at i place o result below same step e =
     ∙ ap (option_and_then (λ x. step_of_walk bits node.0.kind node.0 kept.0 (slot_under node.0 x o))) e
     ∙ sym (step node.0 kept.0 node.1 kept.1)
 
--- where it ends, the whole walk does
+-- if it ends, the whole walk does
 pub place_ends : (store : StoreWords) (bits : Bool) (at : Coord) (i n : ℕ) → i ≤ n → place_after (step_of_walk bits) store.shape.nodes store.nodes 0 (path store.shape at i) ≡ None → place_after (step_of_walk bits) store.shape.nodes store.nodes 0 (path store.shape at n) ≡ None
 place_ends store bits at i n below none =
     let rest = path_split (offsets store.shape.nodes at) i n below in

@@ -59,7 +59,7 @@ pub record IsReaching (store next : StoreWords) (wanted : List Coord) (index : �
 pub reaching_none : (store next : StoreWords) (wanted : List Coord) → IsWellFormed store → next ≡ store → IsReaching store next wanted 0
 reaching_none store next wanted well same = subst (λ s. IsReaching store s wanted 0) (sym same) (record {
   well_formed = well;
-  keeps = record { same_shape = refl; same_fields = refl; same_cells = λ slot cell e. e };
+  keeps = record { same_shape = refl; same_fields = refl; same_cells = λ slot cell e. e; same_leads = λ index slot place e. e };
   opens = λ old is_open. is_open;
 })
 
@@ -70,6 +70,7 @@ reaching_more store next after wanted index more same is well keeps opens = subs
     same_shape = keeps.same_shape ∙ is.keeps.same_shape;
     same_fields = keeps.same_fields ∙ is.keeps.same_fields;
     same_cells = λ slot cell e. keeps.same_cells slot cell (is.keeps.same_cells slot cell e);
+    same_leads = λ index slot place e. keeps.same_leads index slot place (is.keeps.same_leads index slot place e);
   };
   opens = λ old is_open. opens old (is.opens old is_open);
 })
@@ -82,7 +83,7 @@ open_at_start store flat wanted stands number slot is =
 
 -- ── Which node is full first ──
 
--- where each need fits, no node is full
+-- if each need fits, no node is full
 pub full_none : (shape : Shape) (coords : List Coord) (number : ℕ) (nodes : List NodeShape) → ((j : ℕ) (node : NodeShape) → slice_get nodes j ≡ Some node → need_of shape coords (number + j) node ≤ count_of node.cap) → first_full_from shape coords number nodes ≡ None
 full_none shape coords number [] fits = refl
 full_none shape coords number (node ∷ later) fits =
@@ -97,7 +98,7 @@ full_none shape coords number (node ∷ later) fits =
     lt_not : (a b : ℕ) → nat_lt a b ≡ true → b ≤ a → ⊥
     lt_not a b h low = grind (arith, nat_tests)
 
--- where the needs before a node fit and its own doesn't, that node is
+-- if the needs before a node fit and its own doesn't, that node is
 pub full_some : (shape : Shape) (coords : List Coord) (number : ℕ) (nodes : List NodeShape) (i : ℕ) (node : NodeShape) → slice_get nodes i ≡ Some node → ((j : ℕ) (other : NodeShape) → j < i → slice_get nodes j ≡ Some other → need_of shape coords (number + j) other ≤ count_of other.cap) → count_of node.cap < need_of shape coords (number + i) node → first_full_from shape coords number nodes ≡ Some (record { node = number + i; cap = count_of node.cap })
 full_some shape coords number [] i node at fits past = absurd (none-some node at)
 full_some shape coords number (first ∷ later) zero node at fits past =
@@ -224,7 +225,7 @@ flat_grown shape flat all laws is more = record {
       };
 }
 
--- a value where nothing is active is 0
+-- a value if nothing is active is 0
 idle_value : (shape : Shape) (flat : FlatLayout) (place : ℕ) (at : Coord) → ReachLaws shape → IsFlatLayout shape flat → place < length shape.fields → is_inside (bounds_of_shape shape) at ≡ true → (Contains flat.active at → ⊥) → value_at shape flat place at ≡ 0
 idle_value shape flat place at laws is below within idle =
     let bounds : Bounds = bounds_of_shape shape in
@@ -269,7 +270,7 @@ values_after store nodes flat laws well after keeps stands at cell e place below
       (λ has. let cell = active_has_cell store flat laws.cells well stands at has in false≢true (sym none ∙ ap is_some cell.1)))
 ]
 
--- where the old coordinates and the wanted ones are inside, so are all
+-- if the old coordinates and the wanted ones are inside, so are all
 all_inside : (shape : Shape) (flat : FlatLayout) (wanted : List Coord) → ReachLaws shape → IsFlatLayout shape flat → All (Inside (bounds_of_shape shape)) wanted → AllInside shape (flat.active ++ wanted)
 all_inside shape flat wanted laws is within at has = elim (Contains-append_cases flat.active wanted at has) [
   | inl old ↦ (laws.inside flat.active at (subst (λ l. Contains l at) is.closed old)).1

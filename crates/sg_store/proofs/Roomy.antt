@@ -151,7 +151,7 @@ end_glue : (o : Option NodeShape) (node next : NodeShape) (rest : List NodeShape
 end_glue None node next rest fields other = omega arith
 end_glue (Some last) node next rest fields other = by_glue last.kind last node next rest fields other
 
--- a node that ends no segment and isn't dynamic has a value for each slot where it is the last
+-- a node that ends no segment and isn't dynamic has a value for each slot if it is the last
 abbrev IsInner : Kind → Type 0
 IsInner kind = (ends_segment kind ≡ false) × (kind ≢ Dynamic)
 

@@ -75,7 +75,7 @@ rows_zero cells place zero k d within = absurd (omega (arith, within))
 rows_zero cells place (suc many) zero d within = zero_row cells
 rows_zero cells place (suc many) (suc k) d within = rows_zero cells (suc place) many k d (omega (arith, within))
 
--- where no row stands
+-- if no row stands
 pub zeros_many : (cells fields : ℕ) (none made : List (List ℕ)) → made ≡ rows_from none cells 0 (fields - 0) → length made ≡ fields
 zeros_many cells fields none made is =
     let many : fields - 0 ≡ fields = omega arith in

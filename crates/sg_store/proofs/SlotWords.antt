@@ -25,7 +25,7 @@ use Rattle.sg_store.specs.declared.node.NodeWords.{NodeWords}
 use Rattle.sg_store.specs.StoreWords.{StoreWords}
 use Rattle.sg_store.specs.WellFormed.{IsPointerNode, IsMaskNode, IsHashNode, IsDynamicNode, places_below, AreNodes, IsWellFormed, is_root}
 use Rattle.sg_store.specs.WellFormed as well
-use Rattle.sg_store.specs.Opening.{links_of, masks_of, lengths_of, pool_of, filled_count, IsInLive}
+use Rattle.sg_store.specs.Opening.{link_words_of, masks_of, lengths_of, pool_of, filled_count, IsInLive}
 use Rattle.sg_store.specs.steps.AtNode.{OfNode, AtNode, AtNodeOf}
 use Rattle.sg_store.specs.steps.Fresh.{IsCapped}
 use Rattle.sg_store.proofs.Leading.{InLive}
@@ -55,7 +55,7 @@ filled_kept (w ∷ words) =
     split true rest = omega (arith, rest)
     split false rest = omega (arith, rest)
 
--- where no word other than 0 stands twice, each of those that aren't 0 is there once
+-- if no word other than 0 stands twice, each of those that aren't 0 is there once
 pub kept_once : (links : List ℕ) → ((x y : ℕ) → slice_index links x ≢ 0 → slice_index links x ≡ slice_index links y → x ≡ y) → AllPairs (λ x y. x ≢ y) (filter is_filled links)
 kept_once links once i j d i<j below same =
     let Apart : ℕ → ℕ → Type 0 = λ x y. x ≢ 0 → x ≢ y in
@@ -122,7 +122,7 @@ pub pointer_fact : (Fact : Type 0) (store : StoreWords) (number i : ℕ) (node :
 pointer_fact Fact store number i node kept is kind follows =
     fact_at Fact store number i node kept is (λ slots live own. follows slots live (subst (λ k. well.IsNode k node kept slots live) kind own))
 
-pub filled_at : (store : StoreWords) (number i : ℕ) (node : NodeShape) (kept : NodeWords) → IsAt store number i node kept → ends_segment node.kind ≡ true → filled_count (links_of store number) ≡ live_count (pool_of store number)
+pub filled_at : (store : StoreWords) (number i : ℕ) (node : NodeShape) (kept : NodeWords) → IsAt store number i node kept → ends_segment node.kind ≡ true → filled_count (link_words_of store number) ≡ live_count (pool_of store number)
 filled_at store number i node kept is linked =
     let own = link_table store number i node kept is linked in
     ap filled_count (links_are store number i node kept is)
@@ -137,7 +137,7 @@ capped Dense node linked is = absurd (false≢true linked)
 capped Bitmasked node linked is = absurd (false≢true linked)
 capped Dynamic node linked is = absurd (false≢true linked)
 
-pub links_small : (store : StoreWords) (number i : ℕ) (node : NodeShape) (kept : NodeWords) → IsAt store number i node kept → ends_segment node.kind ≡ true → All (λ node. IsCapped node.kind node) store.shape.nodes → All (λ link. link ≤ 2 ^ 32) (links_of store number)
+pub links_small : (store : StoreWords) (number i : ℕ) (node : NodeShape) (kept : NodeWords) → IsAt store number i node kept → ends_segment node.kind ≡ true → All (λ node. IsCapped node.kind node) store.shape.nodes → All (λ link. link ≤ 2 ^ 32) (link_words_of store number)
 links_small store number i node kept is linked caps =
     let own = link_table store number i node kept is linked in
     let below = within_nodes store number i node kept is in
@@ -152,7 +152,7 @@ links_small store number i node kept is linked caps =
           omega (arith, word.1, live_is_number kept.pool word.0 alive, own.places, cap)
     ])
 
-pub stock_unlinked : (store : StoreWords) (number i : ℕ) (node : NodeShape) (kept : NodeWords) (stock : List ℕ) → IsAt store number i node kept → ends_segment node.kind ≡ true → IsStock kept.pool stock → (taking : ℕ) → Contains stock taking → Contains (links_of store number) (suc taking) → ⊥
+pub stock_unlinked : (store : StoreWords) (number i : ℕ) (node : NodeShape) (kept : NodeWords) (stock : List ℕ) → IsAt store number i node kept → ends_segment node.kind ≡ true → IsStock kept.pool stock → (taking : ℕ) → Contains stock taking → Contains (link_words_of store number) (suc taking) → ⊥
 stock_unlinked store number i node kept stock is linked of_pool taking has held =
     let alive : is_live_number kept.pool taking ≡ true = ((link_table store number i node kept is linked).linked taking).1 (subst (λ links. Contains links (suc taking)) (links_are store number i node kept is) held) in
     false≢true (sym ((of_pool.members taking).0 has).not_live ∙ alive)
@@ -204,7 +204,7 @@ links_by Dense node kept slots live linked some own = absurd (false≢true linke
 links_by Bitmasked node kept slots live linked some own = absurd (false≢true linked)
 links_by Dynamic node kept slots live linked some own = absurd (false≢true linked)
 
-pub links_some : (store : StoreWords) (number i : ℕ) (node : NodeShape) (kept : NodeWords) → IsAt store number i node kept → ends_segment node.kind ≡ true → 1 ≤ slots_of store.shape.nodes → 0 < length (links_of store number)
+pub links_some : (store : StoreWords) (number i : ℕ) (node : NodeShape) (kept : NodeWords) → IsAt store number i node kept → ends_segment node.kind ≡ true → 1 ≤ slots_of store.shape.nodes → 0 < length (link_words_of store number)
 links_some store number i node kept is linked some =
     let long : 0 < length kept.links = fact_with HasSlots (0 < length kept.links) store number i node kept is (some_slots store number i node kept is some)
     (λ slots live own has. links_by node.kind node kept slots live linked has own) in
@@ -235,7 +235,7 @@ lengths_some store number i node kept is kind some =
 
 -- ── A slot in a live container is one of the node's ──
 
-pub slot_within : (store : StoreWords) (number i : ℕ) (node : NodeShape) (kept : NodeWords) (q : ℕ) → IsAt store number i node kept → node.kind ≡ Pointer → IsInLive store number q → q < length (links_of store number)
+pub slot_within : (store : StoreWords) (number i : ℕ) (node : NodeShape) (kept : NodeWords) (q : ℕ) → IsAt store number i node kept → node.kind ≡ Pointer → IsInLive store number q → q < length (link_words_of store number)
 slot_within store number i node kept q is kind led =
     let long : q < length kept.links = fact_with (InLive q) (q < length kept.links) store number i node kept is (in_live_at store number i node kept q is (λ dynamic. cc) led)
     (λ slots live own here.

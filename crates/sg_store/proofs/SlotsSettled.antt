@@ -15,7 +15,7 @@ use Rattle.sg_store.specs.Slots.{is_set}
 use Rattle.sg_store.specs.WellFormed.{IsPointerNode, IsNode}
 use Rattle.sg_store.specs.Reaching.{KeepsCells}
 use Rattle.sg_store.specs.Changes.{IsRelinked, ChangesNode}
-use Rattle.sg_store.specs.Opening.{links_of, CanSettleSlots, FitsCap, WantedHaveLinks, NewLinksAreWanted, OpensNode}
+use Rattle.sg_store.specs.Opening.{link_words_of, CanSettleSlots, FitsCap, WantedHaveLinks, NewLinksAreWanted, OpensNode}
 use Rattle.sg_store.specs.steps.AtNode.{AtNodeOf}
 use Rattle.sg_store.specs.steps.Settling.{CanSettleLinks, NodeGrows}
 use Rattle.sg_store.proofs.Settled.{grows_at}
@@ -30,7 +30,7 @@ GetsLink before links slot = (slice_index before slot ≡ 0) × (slice_index lin
 pub can_settle : (store : StoreWords) (number i : ℕ) (node : NodeShape) (kept : NodeWords) (links taken : List ℕ) → IsAt store number i node kept → node.kind ≡ Pointer → CanSettleSlots store number links taken → FitsCap store number taken → AtNodeOf (CanSettleLinks links taken) store i
 can_settle store number i node kept links taken is kind can fits =
     let same = links_are store number i node kept is in
-    let word : (q : ℕ) → slice_index (links_of store number) q ≡ slice_index kept.links q = λ q. ap (λ l. slice_index l q) same in
+    let word : (q : ℕ) → slice_index (link_words_of store number) q ≡ slice_index kept.links q = λ q. ap (λ l. slice_index l q) same in
     let pool = pool_is store number i node kept is in
     let back = back_to number i is.next in
     let fit : live_count kept.pool + length taken ≤ count_of node.cap =
@@ -75,7 +75,7 @@ is_filled word some = grind (arith, nat_tests)
 pub slots_open : (store now : StoreWords) (number i : ℕ) (node : NodeShape) (kept : NodeWords) (links taken : List ℕ) (wanted : List Coord) → IsAt store number i node kept → PathIsSlot store.shape → node.kind ≡ Pointer → CanSettleSlots store number links taken → FitsCap store number taken → ChangesNode (IsRelinked links taken) store now i → WantedHaveLinks store number links wanted → NewLinksAreWanted store number links wanted → OpensNode store now number wanted
 slots_open store now number i node kept links taken wanted is paths kind can fits changed have new =
     let after : NodeWords = changed.after in
-    let word : (q : ℕ) → slice_index (links_of store number) q ≡ slice_index kept.links q = λ q. ap (λ l. slice_index l q) (links_are store number i node kept is) in
+    let word : (q : ℕ) → slice_index (link_words_of store number) q ≡ slice_index kept.links q = λ q. ap (λ l. slice_index l q) (links_are store number i node kept is) in
     let later : (q : ℕ) → slice_index after.links q ≡ slice_index links q = λ q. ap (λ l. slice_index l q) changed.change.new_links in
     let was : (q : ℕ) → is_set node.kind node kept q ≡ not (slice_index kept.links q == 0) = λ q. ap (λ k. is_set k node kept q) kind in
     let set : (q : ℕ) → is_set node.kind node after q ≡ not (slice_index links q == 0) = λ q.

@@ -290,7 +290,7 @@ step_along store spot path offset width place size result step is =
     ∙ ap (λ p. active_below node.kind node kept (slot_under node p offset)) (sym (place_is store spot path offset width place size step))
     ∙ sym (is node kept going.2.at going.2.has)
 
--- the step is taken exactly where the slot can be gone through
+-- the step is taken exactly when the slot can be gone through
 pub step_live : (store : StoreWords) (flat : FlatLayout) (spot : Spot) (path : List ℕ) (offset width place size : ℕ) (result : Option ℕ) (below : Option Spot) → IsStepping store spot path offset width place size → StandsFor store flat → cell_along store (path ++ offset ∷ []) ≡ result → is_some below ≡ is_some result → IsSome below ↔ ((offset < slice_index (sizes_of store.shape.nodes) spot.node) × IsPassable store.shape flat.active (suc spot.node) (path ++ offset ∷ []))
 step_live store flat spot path offset width place size result below step stands leads same =
     let going = going_of store spot path offset width place size step in

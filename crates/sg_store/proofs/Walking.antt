@@ -139,7 +139,7 @@ numbers_apart (node ∷ later) (kept ∷ words) one p q (o ∷ (v ∷ s)) (r ∷
 
 -- ── A slot's own node ──
 
--- its kind; Dense where there is no such slot
+-- its kind; Dense if there is no such slot
 abbrev pub own_kind : List NodeShape → List ℕ → Kind
 own_kind nodes [] = Dense
 own_kind [] (o ∷ s) = Dense

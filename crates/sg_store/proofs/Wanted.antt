@@ -56,7 +56,7 @@ wanted_live store i wanted slots wants q has =
 contains_at : {A : Type 0} → (xs : List A) (x : A) → (k : ℕ) (d : A) → k < length xs → get_or xs k d ≡ x → Contains xs x
 contains_at xs x k d below same = (k, below, get_or_default xs k x d below ∙ same)
 
--- a slot is wanted exactly where its number is one of those
+-- a slot is wanted exactly when its number is one of those
 pub wanted_some : (store : StoreWords) (i : ℕ) (wanted : List Coord) (slots : List ℕ) → Wants store i wanted slots → (slot : List ℕ) → IsSlot (take (suc i) store.shape.nodes) slot → (q : ℕ) → slot_number_in store.shape.nodes store.nodes 0 slot ≡ Some q → list_any (λ x. x == q) slots ≡ is_live store.shape wanted (suc i) slot
 wanted_some store i wanted slots wants slot is q some =
     same_bool _ _

@@ -44,7 +44,7 @@ pub record IsRefitted (lengths : List ℕ) (chunk : ℕ) (kept after : NodeWords
   pub same_links : after.links ≡ kept.links
   pub same_masks : after.masks ≡ kept.masks
 
--- the store is as before but for the words of the node with this index, from 0, which have become others
+-- the store is as before except for the words of the node with this index, from 0, which have become others
 pub record ChangesNode (Change : NodeWords → NodeWords → Type 0) (old now : StoreWords) (index : ℕ) : Type 0 where
   pub kept : NodeWords
   pub was : slice_get old.nodes index ≡ Some kept

@@ -13,4 +13,8 @@ pub mod OpeningLaws
 pub mod StoreLaws
 pub mod Examples
 pub mod PruningExamples
+pub mod Links
+pub mod LinkLaws
+pub mod Freeing
+pub mod LinkExamples
 pub mod steps

@@ -18,16 +18,16 @@ use Rattle.sg_store.specs.Reaching.{IsOpenThrough}
 
 -- ── The words of a node ──
 
--- the slot words of a node, its key words, its mask words and its lengths; none where there is no such node
+-- the slot words of a node, its key words, its mask words and its lengths; none if there is no such node
 abbrev pub links_or_none : Option NodeWords → List ℕ
 links_or_none None = []
 links_or_none (Some kept) = kept.links
 
 -- the link words of the node with this number, from 1; none past the last node
-abbrev pub links_of : StoreWords → ℕ → List ℕ
-links_of store number = links_or_none (slice_get store.nodes (number - 1))
+abbrev pub link_words_of : StoreWords → ℕ → List ℕ
+link_words_of store number = links_or_none (slice_get store.nodes (number - 1))
 
--- the key words of a hash node's table, each 0 or one more than a slot's number; none where there is no such node
+-- the key words of a hash node's table, each 0 or one more than a slot's number; none if there is no such node
 abbrev pub keys_or_none : Option NodeWords → List ℕ
 keys_or_none None = []
 keys_or_none (Some kept) = kept.keys
@@ -36,7 +36,7 @@ keys_or_none (Some kept) = kept.keys
 abbrev pub keys_of : StoreWords → ℕ → List ℕ
 keys_of store number = keys_or_none (slice_get store.nodes (number - 1))
 
--- the mask words of a bitmasked node, 64 bits in each, one for each slot; none where there is no such node
+-- the mask words of a bitmasked node, 64 bits in each, one for each slot; none if there is no such node
 abbrev pub masks_or_none : Option NodeWords → List ℕ
 masks_or_none None = []
 masks_or_none (Some kept) = kept.masks
@@ -45,7 +45,7 @@ masks_or_none (Some kept) = kept.masks
 abbrev pub masks_of : StoreWords → ℕ → List ℕ
 masks_of store number = masks_or_none (slice_get store.nodes (number - 1))
 
--- the lengths of a dynamic node, one for each place above it, in slots; none where there is no such node
+-- the lengths of a dynamic node, one for each place above it, in slots; none if there is no such node
 abbrev pub lengths_or_none : Option NodeWords → List ℕ
 lengths_or_none None = []
 lengths_or_none (Some kept) = kept.lengths
@@ -86,10 +86,10 @@ pub record IsPlaceOf (store : StoreWords) (number : ℕ) (coords : List Coord) (
 -- links of a pointer node: each old link stays, each new one stands in a live container and is one more than a number
 -- of `taken`, and each of these numbers is of the stock and in one slot
 pub record CanSettleSlots (store : StoreWords) (number : ℕ) (links taken : List ℕ) : Type 0 where
-  pub as_many : length links ≡ length (links_of store number)
-  pub stays : (slot : ℕ) → slice_index (links_of store number) slot ≢ 0 → slice_index links slot ≡ slice_index (links_of store number) slot
-  pub in_live : (slot : ℕ) → slice_index (links_of store number) slot ≡ 0 → slice_index links slot ≢ 0 → IsInLive store number slot
-  pub of_taken : (slot taking : ℕ) → slice_index (links_of store number) slot ≡ 0 → slice_index links slot ≡ suc taking → Contains taken taking
+  pub as_many : length links ≡ length (link_words_of store number)
+  pub stays : (slot : ℕ) → slice_index (link_words_of store number) slot ≢ 0 → slice_index links slot ≡ slice_index (link_words_of store number) slot
+  pub in_live : (slot : ℕ) → slice_index (link_words_of store number) slot ≡ 0 → slice_index links slot ≢ 0 → IsInLive store number slot
+  pub of_taken : (slot taking : ℕ) → slice_index (link_words_of store number) slot ≡ 0 → slice_index links slot ≡ suc taking → Contains taken taking
   pub all_taken : (taking : ℕ) → Contains taken taking → Contains links (suc taking)
   pub once : (x y taking : ℕ) → Contains taken taking → slice_index links x ≡ suc taking → slice_index links y ≡ suc taking → x ≡ y
   pub free : CanSettle (pool_of store number) taken
@@ -108,9 +108,9 @@ pub record CanSettleHash (store : StoreWords) (keys links taken : List ℕ) : Ty
   pub table : IsTable keys
   pub links_beside : AreBeside keys links
   pub keys_stay : (place : ℕ) → slice_index (keys_of store 1) place ≢ 0 → slice_index keys place ≡ slice_index (keys_of store 1) place
-  pub links_stay : (place : ℕ) → slice_index (links_of store 1) place ≢ 0 → slice_index links place ≡ slice_index (links_of store 1) place
+  pub links_stay : (place : ℕ) → slice_index (link_words_of store 1) place ≢ 0 → slice_index links place ≡ slice_index (link_words_of store 1) place
   pub in_live : (place key : ℕ) → slice_index (keys_of store 1) place ≡ 0 → slice_index keys place ≡ suc key → IsInLive store 1 key
-  pub of_taken : (place taking : ℕ) → slice_index (links_of store 1) place ≡ 0 → slice_index links place ≡ suc taking → Contains taken taking
+  pub of_taken : (place taking : ℕ) → slice_index (link_words_of store 1) place ≡ 0 → slice_index links place ≡ suc taking → Contains taken taking
   pub all_taken : (taking : ℕ) → Contains taken taking → Contains links (suc taking)
   pub once : (x y taking : ℕ) → Contains taken taking → slice_index links x ≡ suc taking → slice_index links y ≡ suc taking → x ≡ y
   pub free : CanSettle (pool_of store 1) taken
@@ -139,7 +139,7 @@ WantedHaveLinks store number links wanted =
 -- each slot that has a link only now is the slot of a wanted coordinate
 abbrev pub NewLinksAreWanted : StoreWords → ℕ → List ℕ → List Coord → Type 0
 NewLinksAreWanted store number links wanted =
-    (slot : ℕ) → slice_index (links_of store number) slot ≡ 0 → slice_index links slot ≢ 0 →
+    (slot : ℕ) → slice_index (link_words_of store number) slot ≡ 0 → slice_index links slot ≢ 0 →
     IsPlaceOf store number wanted slot
 
 -- each wanted coordinate's key stands in the table, and a key that is new is one of these
@@ -175,7 +175,7 @@ WantedAreBelow store number lengths wanted =
     (at : Coord) → Contains wanted at → (parent : ℕ) → place_in store number at ≡ Some parent →
     offset_in store number at < slice_index lengths parent
 
--- under this parent the length ends right behind one of these coordinates: it is one more than its offset
+-- under this parent the length ends right after one of these coordinates: it is one more than its offset
 pub record IsLengthOf (store : StoreWords) (number : ℕ) (coords : List Coord) (parent long : ℕ) : Type 0 where
   pub at : Coord
   pub is_of : Contains coords at

@@ -31,7 +31,7 @@ DenseOpens store =
     (old all : List Coord) (number : ℕ) → 1 ≤ number → kind_at store.shape.nodes number ≡ Dense →
     IsOpenThrough store old all (number - 1) → IsOpenThrough store old all number
 
--- where the nodes before a pointer node are open, and more links for wanted coordinates are there than its cap, it is
+-- if the nodes before a pointer node are open, and more links for wanted coordinates are there than its cap, it is
 -- the first node whose need passes its cap
 abbrev pub FullIsFirst : StoreWords → Type 0
 FullIsFirst store =
@@ -41,7 +41,7 @@ FullIsFirst store =
     count_of node.cap < live_count (pool_of store number) + length taken →
     first_full store.shape (old ++ wanted) ≡ Some (record { node = number; cap = count_of node.cap })
 
--- where the nodes before a hash node are open, and each key that stands in a table is an old one or that of a wanted
+-- if the nodes before a hash node are open, and each key that stands in a table is an old one or that of a wanted
 -- coordinate, and more of its places have words in any list of words that stand beside keys alone than the cap, it is the
 -- first node whose need passes its cap
 abbrev pub KeysFillFirst : StoreWords → Type 0
@@ -53,7 +53,7 @@ KeysFillFirst store =
     count_of node.cap < filled_count words →
     first_full store.shape (old ++ wanted) ≡ Some (record { node = 1; cap = count_of node.cap })
 
--- where the nodes before a dynamic node are open, and lengths for the wanted coordinates need more chunks than its cap, it
+-- if the nodes before a dynamic node are open, and lengths for the wanted coordinates need more chunks than its cap, it
 -- is the first node whose need passes its cap
 abbrev pub LengthsFillFirst : StoreWords → Type 0
 LengthsFillFirst store =
@@ -81,7 +81,7 @@ OpenHasRoom store =
     IsWellFormed store → (old all : List Coord) → IsOpenThrough store old all (length store.shape.nodes) →
     first_full store.shape all ≡ None
 
--- where all nodes have been opened, and cells and values were kept, the store has come to stand for the closure
+-- if all nodes have been opened, and cells and values were kept, the store has come to stand for the closure
 abbrev pub OpenStands : StoreWords → StoreWords → Type 0
 OpenStands store now =
     IsWellFormed store → IsWellFormed now → KeepsCells store now → (flat : FlatLayout) → StandsFor store flat →

@@ -23,7 +23,7 @@ slot_under node place offset = place * size_of node.sizes + offset
 abbrev pub mask_bit : List ℕ → ℕ → Bool
 mask_bit masks number = bit_at (slice_index masks (number / 64)) (number % 64) == 1
 
--- the number that a link has, which is one less than its word; none where the word is 0
+-- the number that a link has, which is one less than its word; none if the word is 0
 abbrev pub linked : ℕ → Option ℕ
 linked zero = None
 linked (suc number) = Some number

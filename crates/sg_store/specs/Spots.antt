@@ -13,7 +13,7 @@ use Rattle.sg_store.specs.declared.spot.Spot.{Spot}
 use Rattle.sg_store.specs.StoreWords.{StoreWords}
 use Rattle.sg_store.specs.Walks.{cell_along}
 
--- the slots of one copy of a segment after a node, where it has so many at the node: a child container is one
+-- the slots of one copy of a segment after a node, if it has so many at the node: a child container is one
 abbrev pub width_past : Kind → ℕ → ℕ
 width_past Dense slots = slots
 width_past Bitmasked slots = slots
@@ -21,7 +21,7 @@ width_past Pointer slots = 1
 width_past Hash slots = 1
 width_past Dynamic slots = slots
 
--- the slots of one copy of a segment after so many nodes, where it has `width` of them before these
+-- the slots of one copy of a segment after so many nodes, if it has `width` of them before these
 abbrev pub width_from : ℕ → List NodeShape → ℕ → ℕ
 width_from width nodes zero = width
 width_from width [] (suc through) = width

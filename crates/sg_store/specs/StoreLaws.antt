@@ -17,7 +17,7 @@ abbrev pub StandsForOne : StoreWords → Type 0
 StandsForOne store =
     IsWellFormed store → (flat other : FlatLayout) → StandsFor store flat → StandsFor store other → flat ≡ other
 
--- a coordinate has a cell exactly where it is active
+-- a coordinate has a cell exactly when it is active
 abbrev pub CellsAreActive : StoreWords → Type 0
 CellsAreActive store =
     IsWellFormed store → (flat : FlatLayout) → StandsFor store flat → (at : Coord) →

@@ -21,7 +21,7 @@ use Rattle.sg_store.specs.Walks.{cell_along}
 
 -- a pointer node with so many slots, of which those that `live` tells are in live containers: it has a link word for
 -- each slot; its pool has a number for each container of its cap, and one spare for each of 16 workers and one more; a
--- number is live exactly where some link has it, no two links have the same, and each stands in a live container
+-- number is live exactly when some link has it, no two links have the same, and each stands in a live container
 pub record IsPointerNode (node : NodeShape) (kept : NodeWords) (slots : ℕ) (live : ℕ → Bool) : Type 0 where
   pub link_count : length kept.links ≡ slots
   pub places : place_count kept.pool ≡ count_of node.cap + 17
@@ -70,8 +70,8 @@ IsNode Pointer node kept slots live = IsPointerNode node kept slots live
 IsNode Hash node kept slots live = IsHashNode node kept slots live
 IsNode Dynamic node kept slots live = IsDynamicNode node kept slots live
 
--- how many places stand below a node with so many slots: its pool's numbers where it has child containers, the cells of
--- its chunks where it is dynamic, else its slots
+-- how many places stand below a node with so many slots: its pool's numbers if it has child containers, the cells of
+-- its chunks if it is dynamic, else its slots
 abbrev pub places_below : Kind → NodeShape → ℕ → ℕ
 places_below Dense node slots = slots
 places_below Bitmasked node slots = slots

@@ -1,4 +1,5 @@
 pub mod Marking
+pub mod Marks
 pub mod Fresh
 pub mod AtNode
 pub mod Settling
@@ -8,6 +9,13 @@ pub mod Levels
 pub mod Walking
 pub mod Widths
 pub mod Raising
-pub mod Moving
 pub mod Sorting
 pub mod RowsMade
+pub mod Noting
+pub mod Trimming
+pub mod Cutting
+pub mod KeptWords
+pub mod Cuts
+pub mod KeptTables
+pub mod Planning
+pub mod StorePlans

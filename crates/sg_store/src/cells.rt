@@ -19,7 +19,7 @@ use sg_coord::{Coord, inside};
 use sg_layout::paths_tell;
 
 impl Store {
-    /// The cell of a coordinate: none where it isn't active. Different coordinates have different cells.
+    /// The cell of a coordinate: none if it isn't active. Different coordinates have different cells.
     pub fn cell_of(&self, at: Coord) -> Option<u32>
         ensures value { result ≡ cell_in self.now at }
         ensures reached { IfSome result (IsReached self.now) }

@@ -87,7 +87,7 @@ fn widths_of(alloc: Global, layout: &Layout) -> Result<Items<NodeWidths>, Memory
     Ok(widths)
 }
 
-/// The slots of one copy of a segment after a node, where it has so many at the node.
+/// The slots of one copy of a segment after a node, if it has so many at the node.
 fn width_past(kind: Kind, slots: u32) -> u32
     ensures { result ≡ width_past kind slots }
 {

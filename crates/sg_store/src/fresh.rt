@@ -123,7 +123,7 @@ fn fresh_node(
 }
 
 /// How many places stand below a node with so many slots.
-fn places_below(node: &NodeShape, slots: usize) -> usize
+pub(crate) fn places_below(node: &NodeShape, slots: usize) -> usize
     requires { IsCapped node.now.kind node.now }
     ensures { result ≡ places_below node.now.kind node.now slots }
 {

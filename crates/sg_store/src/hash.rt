@@ -27,7 +27,7 @@ pub(crate) struct KeyPlan {
     pub(crate) taken: usize,
 }
 
-/// Puts a slot into a table, with a number beside it. False where it is there already.
+/// Puts a slot into a table, with a number beside it. False if it is there already.
 fn add_key(keys: &mut [u64], links: &mut [u64], slot: usize, number: u32) -> bool
     ghost count: { ℕ }
     requires { CanAddKey keys.old links.old slot count }

@@ -11,7 +11,7 @@ ghost use Rattle.sg_store.specs.Reaching.{KeepsCells};
 ghost use Rattle.sg_store.specs.Changes.{IsRekeyed, ChangesNode};
 ghost use Rattle.sg_store.specs.Spots.{root_offsets};
 ghost use Rattle.sg_store.specs.steps.Sorting.{keys_in, AreSortedKeys};
-ghost use Rattle.sg_store.specs.Opening.{keys_of, links_of, CanSettleHash, FitsCap, WantedHaveKeys, NewKeysAreWanted, OpensNode};
+ghost use Rattle.sg_store.specs.Opening.{keys_of, link_words_of, CanSettleHash, FitsCap, WantedHaveKeys, NewKeysAreWanted, OpensNode};
 
 use crate::store::Store;
 use sg_layout::{paths_tell, rules_decide};
@@ -48,7 +48,7 @@ impl Store {
         requires hash { kind_at self.now.shape.nodes 1 ≡ Hash }
         ensures words { IfOk result (λ keys. keys ≡ keys_of self.now 1) }
         ensures table { IfOk result IsTable }
-        ensures beside { IfOk result (λ keys. AreBeside keys (links_of self.now 1)) }
+        ensures beside { IfOk result (λ keys. AreBeside keys (link_words_of self.now 1)) }
         ensures more { IfOk result (λ keys. (shape : NodeShape) → IsNumberedNode self.now.shape 1 shape →
             count_of shape.cap < length keys) }
     {

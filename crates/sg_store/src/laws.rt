@@ -1,5 +1,6 @@
 //! Laws of stores. Each function does nothing: what it ensures is the law, for whoever reasons about stores.
 ghost use Rattle.sg_store.specs.StoreWords.{StoreWords};
+ghost use Rattle.sg_store.specs.LinkLaws.{CellsKeepLinks, GrownAreKept, ShrunkAreKept, LinksAreSound};
 ghost use Rattle.sg_store.specs.StoreLaws.{StandsForOne, CellsAreActive, CellsDiffer, LiveIsNeed, SameValues};
 
 use sg_coord::{Extents, numbering};
@@ -48,4 +49,18 @@ pub fn live_is_need()
 /// Stores that stand for the same flat layout have the same values.
 pub fn same_values()
     ensures { (store other : StoreWords) → SameValues store other }
+{}
+
+/// Links stay where what led to a place still does; where they only grow, or only shrink, each number that is live before and
+/// after has the same one.
+pub fn links_stay()
+    ensures grow { (old now : StoreWords) → CellsKeepLinks old now }
+    ensures grown { (old now : StoreWords) → GrownAreKept old now }
+    ensures shrunk { (old now : StoreWords) → ShrunkAreKept old now }
+{}
+
+/// The links of each node with a cap are sound: each live number stands in one slot, each slot holds one number, and parents
+/// are there.
+pub fn links_are_sound()
+    ensures { (store : StoreWords) → LinksAreSound store }
 {}

@@ -34,7 +34,7 @@ impl Store {
     }
 
     /// Gives a dynamic node, which is the last, these lengths, and each parent the chunks that its length needs. Refused,
-    /// with nothing changed, exactly where they need more chunks than the cap.
+    /// with nothing changed, exactly when they need more chunks than the cap.
     pub fn settle_lengths(&mut self, lengths: &[u64]) -> Result<(), ChunkFull>
         requires dynamic { kind_at self.old.shape.nodes (length self.old.shape.nodes) ≡ Dynamic }
         requires can { CanSettleLengths self.old (length self.old.shape.nodes) lengths.now }

@@ -16,7 +16,7 @@ use sg_words::{Items, Memory};
 use std::alloc::Global;
 
 /// Sets the bit with this number.
-fn mark(masks: &mut Items<u64>, number: usize)
+pub(crate) fn mark(masks: &mut Items<u64>, number: usize)
     requires { number < 64 * length masks.old }
     ensures bits { (bit : ℕ) → mask_bit masks.new bit ≡ (mask_bit masks.old bit || number == bit) }
     ensures as_many { length masks.new ≡ length masks.old }

@@ -27,7 +27,7 @@ pub struct NodeWords {
 }
 
 impl NodeWords {
-    /// The place to which the slot with this offset under a place leads on: along links, and only where it is active or
+    /// The place to which the slot with this offset under a place leads on: along links, and only if it is active or
     /// `bits` is false. A link or a key is active where it stands, so that it is looked for once.
     pub(crate) fn onward(
         &self,
@@ -53,7 +53,7 @@ impl NodeWords {
         }
     }
 
-    /// The cell of an index under a parent of a dynamic node, and only where it is below the length or `bits` is false.
+    /// The cell of an index under a parent of a dynamic node, and only if it is below the length or `bits` is false.
     fn element(&self, chunk: u32, parent: usize, index: usize, bits: bool) -> Option<usize>
         requires { IsChainFor self.now.chains chunk parent index }
         ensures { result ≡ unless_unset bits (nat_lt index (slice_index self.now.lengths parent))
@@ -76,7 +76,7 @@ fn past_bit(masks: &Items<u64>, slot: usize, bits: bool) -> Option<usize>
     Some(slot)
 }
 
-/// The number that the link at an index has. None where there is no link.
+/// The number that the link at an index has. None if there is no link.
 fn link_at(links: &Items<u64>, index: usize) -> Option<usize>
     ensures { result ≡ linked (slice_index links.now index) }
 {
@@ -89,7 +89,7 @@ fn link_at(links: &Items<u64>, index: usize) -> Option<usize>
 }
 
 /// The cell of an index under a parent. None past the end of the parent's chain.
-fn chunk_cell(chains: &Links, chunk: u32, parent: usize, index: usize) -> Option<usize>
+pub(crate) fn chunk_cell(chains: &Links, chunk: u32, parent: usize, index: usize) -> Option<usize>
     requires { IsChainFor chains.now chunk parent index }
     ensures { result ≡ chunk_cell chunk (list_of chains.now parent) index }
 {
@@ -99,14 +99,14 @@ fn chunk_cell(chains: &Links, chunk: u32, parent: usize, index: usize) -> Option
     Some(number as usize * chunk as usize + wide_remainder(index, chunk as usize))
 }
 
-/// The chunk of a node; 0 where it is negative, as no accepted layout's is.
+/// The chunk of a node; 0 if it is negative, as no accepted layout's is.
 pub(crate) fn chunk_of(node: &NodeShape) -> u32
     ensures { result ≡ count_of node.now.chunk }
 {
     if node.chunk < 0 { 0 } else { count(node.chunk) }
 }
 
-/// The number that stands beside a slot's number as a key. None where it is no key.
+/// The number that stands beside a slot's number as a key. None if it is no key.
 pub(crate) fn beside(keys: &Items<u64>, links: &Items<u64>, slot: usize) -> Option<usize>
     requires { IsTableFor keys.now links.now slot }
     ensures { result ≡ beside keys.now links.now slot }

@@ -113,7 +113,7 @@ impl Store {
     }
 }
 
-/// The cap of a node; 0 where it is negative, as no accepted layout's is.
+/// The cap of a node; 0 if it is negative, as no accepted layout's is.
 fn cap_of(node: &NodeShape) -> u32
     ensures { result ≡ count_of node.now.cap }
 {

@@ -1,4 +1,4 @@
-ghost use Rattle.std.specs.Prelude.{◌≡◌, ◌≢◌, ℕ, ◌+◌, ◌<◌, ◌≤◌, ◌++◌, List, length, Some, slice_index, slice_set, take, drop};
+ghost use Rattle.std.specs.Prelude.{◌≡◌, ◌≢◌, ℕ, ◌+◌, ◌<◌, ◌≤◌, ◌++◌, List, [], length, Some, slice_index, slice_index_or, slice_set, take, drop};
 ghost use Rattle.std.specs.List.{concat};
 ghost use Rattle.sg_coord.specs.declared.coord.Coord.{Coord};
 ghost use Rattle.sg_flat.specs.declared.state.FlatLayout.{FlatLayout};
@@ -7,7 +7,7 @@ ghost use Rattle.sg_store.specs.StoreWords.{word_in};
 ghost use Rattle.sg_store.specs.Walks.{cell_in};
 ghost use Rattle.sg_store.specs.WellFormed.{IsFieldRow};
 ghost use Rattle.sg_store.specs.StandsFor.{StandsFor};
-ghost use Rattle.sg_store.specs.Rows.{SetsRow};
+ghost use Rattle.sg_store.specs.Rows.{IsFieldFront, put_over, SetsRow};
 
 use crate::store::Store;
 use sg_coord::numbering;
@@ -15,7 +15,7 @@ use sg_layout::paths_tell;
 use sg_words::Items;
 
 impl Store {
-    /// The values of a field, from 0: a word for each cell, which is 0 where the cell is that of no coordinate.
+    /// The values of a field, from 0: a word for each cell, which is 0 if the cell is that of no coordinate.
     pub fn field_row(&self, place: u32) -> &[u32]
         requires field { place < length self.now.shape.fields }
         ensures row { IsFieldRow self.now result.now }
@@ -30,7 +30,18 @@ impl Store {
         self.fields.as_slice()[place as usize].as_slice()
     }
 
-    /// Gives a field, from 0, the values that stand in these parts, one after the other: a word for each cell, which is 0 where the
+    /// The values of a field, from 0, in the first cells, with all cells of coordinates among them: a word for each, which is 0 if the
+    /// cell is that of no coordinate. In time by the nodes.
+    pub fn field_front(&self, place: u32) -> &[u32]
+        requires field { place < length self.now.shape.fields }
+        ensures front { IsFieldFront self.now result.now }
+        ensures words { (cell : ℕ) → slice_index result.now cell ≡ word_in self.now place cell }
+    {
+        let cells = self.cells_in_use();
+        &self.fields.as_slice()[place as usize].as_slice()[..cells]
+    }
+
+    /// Gives a field, from 0, the values that stand in these parts, one after the other: a word for each cell, which is 0 if the
     /// cell is that of no coordinate.
     pub fn set_field_row(&mut self, place: u32, parts: &[Items<u32>])
         requires field { place < length self.old.shape.fields }
@@ -42,12 +53,29 @@ impl Store {
         let row = &mut self.fields[place as usize];
         rewrite(row, parts);
     }
+
+    /// Gives a field, from 0, in its first cells the values that stand in these parts, one after the other: a word for each of these cells, with
+    /// all cells of coordinates among them, which is 0 if the cell is that of no coordinate. In time by these words.
+    pub fn set_field_front(&mut self, place: u32, parts: &[Items<u32>])
+        requires field { place < length self.old.shape.fields }
+        requires front { IsFieldFront self.old (concat parts.now) }
+        ensures set { self.new ≡ record self.old {
+          fields = slice_set self.old.fields place (put_over (concat parts.now) (slice_index_or self.old.fields place []));
+        } }
+        ensures stands { (flat now : FlatLayout) → StandsFor self.old flat →
+            SetsRow self.old flat now place (concat parts.now) → StandsFor self.new now }
+    {
+        // for the laws that it ensures
+        paths_tell();
+        let row = &mut self.fields[place as usize];
+        rewrite(row, parts);
+    }
 }
 
-/// Gives a row the words of these parts, as many.
+/// Gives the front of a row the words of these parts.
 fn rewrite(row: &mut Items<u32>, parts: &[Items<u32>])
-    requires { length (concat parts.now) ≡ length row.old }
-    ensures { row.new ≡ concat parts.now }
+    requires { length (concat parts.now) ≤ length row.old }
+    ensures { row.new ≡ put_over (concat parts.now) row.old }
 {
     let mut cell = 0;
     for part in parts {

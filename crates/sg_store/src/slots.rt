@@ -12,7 +12,7 @@ ghost use Rattle.sg_store.specs.Walks.{place_in};
 ghost use Rattle.sg_store.specs.WellFormed.{IsWellFormed};
 ghost use Rattle.sg_store.specs.Reaching.{KeepsCells, IsOpenThrough};
 ghost use Rattle.sg_store.specs.Changes.{IsRelinked, ChangesNode};
-ghost use Rattle.sg_store.specs.Opening.{links_of, masks_of, lengths_of, pool_of, filled_count, IsInLive, CanSettleSlots, FitsCap, WantedHaveLinks, NewLinksAreWanted, OpensNode};
+ghost use Rattle.sg_store.specs.Opening.{link_words_of, masks_of, lengths_of, pool_of, filled_count, IsInLive, CanSettleSlots, FitsCap, WantedHaveLinks, NewLinksAreWanted, OpensNode};
 
 use crate::store::Store;
 use sg_coord::Coord;
@@ -26,7 +26,7 @@ impl Store {
     pub fn slot_words(&self, alloc: Global, node: u32) -> Result<Items<u64>, Memory>
         requires first { 1 ≤ node }
         requires linked { IsTrue (ends_segment (kind_at self.now.shape.nodes node)) }
-        ensures words { IfOk result (λ links. links ≡ links_of self.now node) }
+        ensures words { IfOk result (λ links. links ≡ link_words_of self.now node) }
         ensures some { IfOk result (λ links. 0 < length links) }
         ensures small { IfOk result (λ links. All (λ link. link ≤ 2 ^ 32) links) }
         ensures filled { IfOk result (λ links. filled_count links ≡ live_count (pool_of self.now node)) }
@@ -45,7 +45,7 @@ impl Store {
         requires linked { IsTrue (ends_segment (kind_at self.now.shape.nodes node)) }
         ensures stock { IfOk result (IsStock (pool_of self.now node)) }
         ensures unlinked { IfOk result (λ stock. (number : ℕ) → Contains stock number →
-            Contains (links_of self.now node) (suc number) → ⊥) }
+            Contains (link_words_of self.now node) (suc number) → ⊥) }
         ensures rest { IfOk result (λ stock. (shape : NodeShape) → IsNumberedNode self.now.shape node shape →
             length stock + live_count (pool_of self.now node) ≡ count_of shape.cap + 17) }
     {
@@ -53,7 +53,7 @@ impl Store {
     }
 
     /// The number of a coordinate's word at a node with activity, numbered from 1: that of its slot's link, its key, the
-    /// number of its bit, or that of its parent's length. None where the container that holds it isn't live.
+    /// number of its bit, or that of its parent's length. None if the container that holds it isn't live.
     pub fn place_in(&self, node: u32, at: Coord) -> Option<usize>
         requires first { 1 ≤ node }
         requires sparse { kind_at self.now.shape.nodes node ≢ Dense }
@@ -61,7 +61,7 @@ impl Store {
         ensures value { result ≡ place_in self.now node at }
         ensures in_live { IfSome result (IsInLive self.now node) }
         ensures slots { kind_at self.now.shape.nodes node ≡ Pointer →
-            IfSome result (λ slot. slot < length (links_of self.now node)) }
+            IfSome result (λ slot. slot < length (link_words_of self.now node)) }
         ensures keys { kind_at self.now.shape.nodes node ≡ Hash → IfSome result (λ key. key < 2 ^ 32) }
         ensures bits { kind_at self.now.shape.nodes node ≡ Bitmasked →
             IfSome result (λ slot. slot < 64 * length (masks_of self.now node)) }

@@ -92,7 +92,7 @@ impl Store {
         }
     }
 
-    /// The spot after one more node, over this offset. None where the offset isn't below the node's size, and where the
+    /// The spot after one more node, over this offset. None if the offset isn't below the node's size, and where the
     /// node has activity and the slot isn't active.
     pub fn under(&self, spot: Spot, offset: u32) -> Option<Spot>
         requires leads { IsSpot self.now spot }

@@ -1,4 +1,4 @@
-ghost use Rattle.std.specs.Prelude.{◌≡◌, ◌≤◌, IfOk};
+ghost use Rattle.std.specs.Prelude.{◌≡◌, ◌≤◌, All, IfOk};
 ghost use Rattle.sg_layout.specs.StorageWords.{words_of_shape, most_words};
 ghost use Rattle.sg_flat.specs.State.{opening_layout};
 ghost use Rattle.sg_store.specs.WellFormed.{IsWellFormed};
@@ -82,6 +82,19 @@ impl Store {
         ensures well_formed { IsWellFormed self.now }
     {
         self.layout.layout()
+    }
+}
+
+impl Stores {
+    /// For what each of them keeps: in time by how many there are.
+    pub fn well_formed(&self)
+        ensures { All IsWellFormed self.now.list }
+    {
+        let list = self.list.as_slice();
+        for store in list {
+            // for the invariant that it ensures
+            store.layout();
+        }
     }
 }
 

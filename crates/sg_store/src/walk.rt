@@ -51,7 +51,7 @@ impl Store {
         Some(place)
     }
 
-    /// The number of the slot of a coordinate at the node with this index, from 0. None where links do not lead to its
+    /// The number of the slot of a coordinate at the node with this index, from 0. None if links do not lead to its
     /// container.
     pub(crate) fn number_at(&self, index: usize, at: Coord) -> Option<usize>
         requires node { index < length self.now.shape.nodes }
@@ -66,7 +66,7 @@ impl Store {
         Some(place * size + offset)
     }
 
-    /// The number of the word of a coordinate's slot at the node with this index, from 0. None where links do not lead to
+    /// The number of the word of a coordinate's slot at the node with this index, from 0. None if links do not lead to
     /// its container.
     pub(crate) fn word_at(&self, index: usize, at: Coord) -> Option<usize>
         requires node { index < length self.now.shape.nodes }

@@ -21,7 +21,7 @@ IsFirstFull store index wanted fault =
     (old : List Coord) → IsOpenThrough store old (old ++ wanted) index →
     unless_full (first_full store.shape (old ++ wanted)) ≡ Err fault
 
--- a fact of the refusal, and nothing where memory ran out
+-- a fact of the refusal, and nothing if memory ran out
 abbrev pub IfActRefused : {A : Type 0} → Result A (Stop ActFault) → (ActFault → Type 0) → Type 0
 IfActRefused (Ok x) Says = Unit {0}
 IfActRefused (Err stop.Memory) Says = Unit {0}

@@ -13,7 +13,7 @@ use Rattle.sg_store.specs.WellFormed.{places_below, live_below, live_slot, is_ro
 abbrev pub OfNode : Type 1
 OfNode = NodeShape → NodeWords → ℕ → (ℕ → Bool) → Type 0
 
--- it holds of the node with this index, from 0, among nodes under so many places; not where there is no such node
+-- it holds of the node with this index, from 0, among nodes under so many places; not if there is no such node
 abbrev pub AtNode : OfNode → List NodeShape → List NodeWords → ℕ → (ℕ → Bool) → ℕ → Type 0
 AtNode Says [] words places live index = ⊥
 AtNode Says (node ∷ later) [] places live index = ⊥

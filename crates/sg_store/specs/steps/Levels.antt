@@ -54,7 +54,7 @@ pub record IsFullNode (store : StoreWords) (wanted : List Coord) (index : ℕ) (
   pub past : (old : List Coord) → IsOpenThrough store old (old ++ wanted) index →
       full.cap < need_of store.shape (old ++ wanted) (suc index) node
 
--- a fact of the refusal, and nothing where memory ran out
+-- a fact of the refusal, and nothing if memory ran out
 abbrev pub IfRefused : {E : Type 0} → (E → Type 0) → Stop E → Type 0
 IfRefused Says stop.Memory = Unit {0}
 IfRefused Says (stop.Refused fault) = Says fault

@@ -26,7 +26,7 @@ abbrev pub step_of_walk : Bool → NodeStep
 step_of_walk true = active_below
 step_of_walk false = place_below
 
--- a step, and none where bits count and the slot is not set
+-- a step, and none if bits count and the slot is not set
 abbrev pub unless_unset : Bool → Bool → Option ℕ → Option ℕ
 unless_unset true set below = if set then below else None
 unless_unset false set below = below

@@ -57,3 +57,9 @@ returns-clause-activated g c = λ list means flat stands.
     c.opening_by_nodes.ensures.ends store c.loop-index.next c.layout.ensures.well_formed end.well end.keeps flat stands wanted
     (wanted_inside store.shape (g.W.Wanted.bounds c.args.want.now) list (g.W.Wanted.count c.args.want.now) c.requires.inside (c.requires.within list means))
     (subst (λ (n : ℕ). IsOpenThrough c.loop-index.next flat.active (flat.active ++ wanted) n) all (end.opens list means flat stands))
+
+pub returns-clause-links : goal.returns-clause-links
+returns-clause-links g c = c.links_stay.ensures.grow c.args.store.now c.loop-index.next c.layout.ensures.well_formed c.loop-index.invariant.well c.loop-index.invariant.keeps
+
+pub returns-then-branch-clause-links : goal.returns-then-branch-clause-links
+returns-then-branch-clause-links g c = λ index link is. is

@@ -7,7 +7,7 @@ use Rattle.sg_layout.specs.Axes.{count_of}
 use Rattle.sg_store.specs.declared.node.NodeWords.{NodeWords}
 use Rattle.sg_store.specs.StoreWords.{StoreWords}
 use Rattle.sg_store.specs.WellFormed.{IsWellFormed}
-use Rattle.sg_store.specs.Opening.{keys_of, links_of}
+use Rattle.sg_store.specs.Opening.{keys_of, link_words_of}
 use Rattle.sg_store.proofs.AtNumber.{at_number, keys_are}
 use Rattle.sg_store.proofs.Stepping.{read_as}
 use Rattle.sg_store.proofs.HashSettled as lemmas
@@ -47,7 +47,7 @@ returns-clause-beside c =
     let store : StoreWords = c.args.self.now in
     let well : IsWellFormed store = subst IsWellFormed c.self.view_is c.self.invariant in
     let at = at_number store well 1 (omega arith) (λ dense. cc (sym c.requires.hash ∙ dense)) in
-    subst (λ keys. AreBeside keys (links_of store 1)) (sym (read c)) (lemmas.keys_beside store 0 at.0 at.1 at.2 (sym at.3 ∙ c.requires.hash))
+    subst (λ keys. AreBeside keys (link_words_of store 1)) (sym (read c)) (lemmas.keys_beside store 0 at.0 at.1 at.2 (sym at.3 ∙ c.requires.hash))
 
 pub returns-clause-more : goal.returns-clause-more
 returns-clause-more c =

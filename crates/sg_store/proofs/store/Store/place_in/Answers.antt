@@ -2,7 +2,7 @@ use Rattle.std.proofs.Common.{◌≡◌, ◌<◌, ◌*◌, ◌^◌, ◌-◌, suc
 use Rattle.std.specs.Prelude.{is_some}
 use Rattle.sg_store.specs.StoreWords.{StoreWords}
 use Rattle.sg_store.specs.Walks.{place_in}
-use Rattle.sg_store.specs.Opening.{links_of, masks_of, lengths_of, IsInLive}
+use Rattle.sg_store.specs.Opening.{link_words_of, masks_of, lengths_of, IsInLive}
 use Rattle.sg_store.proofs.AtNumber.{at_number, place_live, if_some}
 use Rattle.sg_store.proofs.SlotWords.{slot_within, bit_within, key_within, parent_within}
 use Rattle.sg_store.proofs.SlotsOpen.{open_has_place}
@@ -26,7 +26,7 @@ pub returns-clause-slots : goal.returns-clause-slots
 returns-clause-slots c = λ pointer.
     let store : StoreWords = c.args.self.now in
     let at = at_number store c.layout.ensures.well_formed c.args.node c.requires.first c.requires.sparse in
-    if_some c.word_at.result (λ slot. slot < length (links_of store c.args.node)) (λ q e.
+    if_some c.word_at.result (λ slot. slot < length (link_words_of store c.args.node)) (λ q e.
     slot_within store c.args.node (c.args.node - 1) at.0 at.1 q at.2 (sym at.3 ∙ pointer)
     (place_live store c.args.node c.args.at q c.layout.ensures.well_formed (c.paths_tell.ensures.is_slot store.shape) (sym (placed c) ∙ e)))
 

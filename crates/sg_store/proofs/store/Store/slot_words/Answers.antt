@@ -7,7 +7,7 @@ use Rattle.sg_layout.specs.StorageWords.{ends_segment}
 use Rattle.sg_store.specs.declared.node.NodeWords.{NodeWords}
 use Rattle.sg_store.specs.StoreWords.{StoreWords}
 use Rattle.sg_store.specs.WellFormed.{IsWellFormed}
-use Rattle.sg_store.specs.Opening.{links_of, filled_count}
+use Rattle.sg_store.specs.Opening.{link_words_of, filled_count}
 use Rattle.sg_store.proofs.AtNumber.{at_number, links_are}
 use Rattle.sg_store.proofs.Stepping.{read_as}
 use Rattle.sg_store.proofs.Beginning.{caps_of}
@@ -23,7 +23,7 @@ bounds-as_slice-node c =
     let nodes = c.as_slice.ensures.value ∙ ap (λ (s : StoreWords). s.nodes) c.self.view_is in
     subst (λ (words : List NodeWords). c.args.node - 1 < length words) (sym nodes) (slice_get_within store.nodes (c.args.node - 1) at.1 at.2.has)
 
-read : (c : goal.In_ok-from_slice) → c.in_ok-from_slice.field-0 ≡ links_of c.args.self.now c.args.node
+read : (c : goal.In_ok-from_slice) → c.in_ok-from_slice.field-0 ≡ link_words_of c.args.self.now c.args.node
 read c =
     let store : StoreWords = c.args.self.now in
     let well : IsWellFormed store = subst IsWellFormed c.self.view_is c.self.invariant in

@@ -1,0 +1,78 @@
+//! Words planned beside those of a node: what stays where only slots stay set that lead to kept places.
+
+ghost use Rattle.std.specs.Prelude.{◌≡◌, ℕ, ◌||◌, ◌&&◌, ◌==◌, ◌<◌, nat_lt, length, slice_index, slice_set, IfOk};
+ghost use Rattle.sg_store.specs.Slots.{mask_bit};
+ghost use Rattle.sg_store.specs.steps.KeptWords.{in_row, kept_link, AreKeptBits, AreKeptLinks};
+
+use crate::mask::mark;
+use crate::node::{bit, word};
+use sg_words::{Items, Memory};
+use std::alloc::Global;
+
+/// Whether a row keeps a place; not past its end.
+pub(crate) fn is_in_row(row: &[bool], place: usize) -> bool
+    ensures { result ≡ in_row row.now place }
+{
+    place < row.len() && row[place]
+}
+
+/// The masks with those bits alone whose slots are kept.
+pub(crate) fn kept_masks(
+    alloc: Global,
+    masks: &Items<u64>,
+    row: &[bool],
+) -> Result<Items<u64>, Memory>
+    ensures { IfOk result (λ kept. AreKeptBits masks.now kept row.now (length row.now)) }
+{
+    let mut kept = Items::from_vec(vec![in alloc; 0; masks.len()]?);
+    for slot in 0..row.len() {
+        keep_bit(&mut kept, masks, row, slot);
+    }
+    Ok(kept)
+}
+
+/// Sets a bit that the masks have, where its slot is kept.
+fn keep_bit(kept: &mut Items<u64>, masks: &Items<u64>, row: &[bool], slot: usize)
+    requires { length kept.old ≡ length masks.now }
+    ensures as_many { length kept.new ≡ length kept.old }
+    ensures bits { (other : ℕ) → mask_bit kept.new other ≡ (mask_bit kept.old other || (slot == other && (mask_bit masks.now other && in_row row.now other))) }
+{
+    if is_in_row(row, slot) && bit(masks, slot) {
+        mark(kept, slot);
+    }
+}
+
+/// The links with those alone whose numbers are kept, and 0 in the place of the others.
+pub(crate) fn kept_links(
+    alloc: Global,
+    links: &Items<u64>,
+    row: &[bool],
+) -> Result<Items<u64>, Memory>
+    ensures { IfOk result (λ kept. AreKeptLinks links.now kept row.now (length links.now)) }
+{
+    let mut kept = Items::from_slice(alloc, links.as_slice())?;
+    for slot in 0..kept.len() {
+        keep_link(&mut kept, row, slot);
+    }
+    Ok(kept)
+}
+
+/// Makes a link 0, where its number is not kept.
+fn keep_link(kept: &mut Items<u64>, row: &[bool], slot: usize)
+    requires { slot < length kept.old }
+    ensures { kept.new ≡ slice_set kept.old slot (kept_link (in_row row.now) (slice_index kept.old slot)) }
+{
+    let link = word(kept, slot);
+    kept.set(slot, kept_link(link, row));
+}
+
+/// A link, or 0 if its number is not kept.
+fn kept_link(link: u64, row: &[bool]) -> u64
+    ensures { result ≡ kept_link (in_row row.now) link }
+{
+    if link != 0 && is_in_row(row, (link - 1) as usize) {
+        link
+    } else {
+        0
+    }
+}
