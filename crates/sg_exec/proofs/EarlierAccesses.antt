@@ -35,7 +35,7 @@ abbrev depth : Inst → ℕ
 depth = fold-Inst ℕ depth_step
 
 module _ (stores : List StoreWords) (seen : Seen) where
-  -- where all is named behind an action, it was before
+  -- if all is named after an action, it was before
   abbrev Kept : InstAction → Type 0
   Kept act = (now : Moved) → AreNamed (shapes_of stores) (act now).accesses → AreNamed (shapes_of stores) now.accesses
 

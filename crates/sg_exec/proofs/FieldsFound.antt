@@ -16,10 +16,10 @@ use Rattle.sg_layout.specs.PathLaws.{PathIsSlot, WholePathIsOffsets}
 use Rattle.sg_flat.specs.declared.state.FlatLayout.{FlatLayout}
 use Rattle.sg_store.specs.StoreWords.{StoreWords}
 use Rattle.sg_store.specs.Walks.{cell_in}
-use Rattle.sg_store.specs.WellFormed.{cell_count, IsWellFormed}
+use Rattle.sg_store.specs.WellFormed.{IsReached, IsWellFormed}
 use Rattle.sg_store.specs.StandsFor.{StandsFor}
 use Rattle.sg_store.specs.StoreLaws.{CellsAreActive}
-use Rattle.sg_store.proofs.Uses.{reached_within, cell_is_reached}
+use Rattle.sg_store.proofs.Uses.{cell_is_reached}
 use Rattle.sg_ir.specs.declared.code.Inst.{Inst}
 use Rattle.sg_ir.specs.declared.code.Inst.TheVariants as v
 use Rattle.sg_ir.specs.Runs.{is_own}
@@ -217,13 +217,13 @@ module _ (stores : List StoreWords) where
       subst (λ (xs : List Accumulated). HaveFields stores [] xs seats owned) (sym a)
       (subst (λ (ys : List AccSeat). HaveFields stores [] [] ys owned) (sym s) (subst (λ (zs : List Owned). HaveFields stores [] [] [] zs) (sym o) have_none))
 
--- a store without cells has no active coordinate
-pub no_cell : (store : StoreWords) → CellsAreActive store → PathIsSlot store.shape → WholePathIsOffsets store.shape → IsWellFormed store → cell_count store.shape ≡ 0 → (flat : FlatLayout) → StandsFor store flat → (at : Coord) → Contains flat.active at → ⊥
+-- a store without reached cells has no active coordinate
+pub no_cell : (store : StoreWords) → CellsAreActive store → PathIsSlot store.shape → WholePathIsOffsets store.shape → IsWellFormed store → ((cell : ℕ) → IsReached store cell → ⊥) → (flat : FlatLayout) → StandsFor store flat → (at : Coord) → Contains flat.active at → ⊥
 no_cell store law is_slot whole well none flat stands at active = by (cell_in store at) refl ((law well flat stands at).1 active)
   where
     by : (found : Option ℕ) → cell_in store at ≡ found → IsSome (cell_in store at) → ⊥
     by None is some = let nothing : IsSome {T = ℕ} None = subst (λ (o : Option ℕ). IsSome o) is some in absurd (cc (nothing))
-    by (Some cell) is some = let within = reached_within store well cell (cell_is_reached store is_slot whole well at cell is) in omega (arith, within, none)
+    by (Some cell) is some = none cell (cell_is_reached store is_slot whole well at cell is)
 
 -- ---- along code
 

@@ -211,4 +211,4 @@ pub cell_within : (stores : List StoreWords) (it : Accumulated) (write : CellWri
 cell_within stores it write cell pass cells is same =
     let here : IsCellOf stores write.layout cell = subst (λ (c : Option ℕ). IfSome c (IsCellOf stores write.layout)) is cells in
     let store_is : here.store ≡ pass.store = same_Some _ _ (sym here.there ∙ ap (slice_get stores) (sym same) ∙ pass.there) in
-    pass.within cell (subst (λ (s : StoreWords). IsReached s cell) store_is here.reached)
+    pass.is_front.all_reached cell (subst (λ (s : StoreWords). IsReached s cell) store_is here.reached)

@@ -214,6 +214,6 @@ pub of_both : (left right result : Result Hand Memory) (hand other : Hand) → l
 of_both left right (Err e) hand other l r seats puts = tt
 of_both left right (Ok after) hand other l r seats puts = record { hand = hand; other = other; left_is = l; right_is = r; seats_join = seats; puts_are = puts }
 
--- one worker's iterations are those of so many workers where that is one
+-- one worker's iterations are those of so many workers if that is one
 pub one_worker : (C : ℕ → Hand → Type 0) (workers : ℕ) (result : Result Hand Memory) → 1 ≤ workers → workers < 2 → IfOk result (C 1) → IfOk result (C workers)
 one_worker C workers result some few is = let one : 1 ≡ workers = omega arith in subst (λ (n : ℕ). IfOk result (C n)) one is

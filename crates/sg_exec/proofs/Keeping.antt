@@ -9,7 +9,7 @@ pub lists_append : (xs ys : List (Vec CellWrite Global)) → in_lists (xs ++ ys)
 lists_append [] ys = refl
 lists_append (x ∷ xs) ys = ap (λ (ws : List CellWrite). x.items ++ ws) (lists_append xs ys) ∙ sym (append_assoc x.items (in_lists xs) (in_lists ys))
 
--- a list and others behind lists, and a last one
+-- a list and others after lists, and a last one
 pub kept_with : (before others : List (Vec CellWrite Global)) (last : Vec CellWrite Global) (end : List CellWrite)
     → in_lists ((before ++ last ∷ []) ++ others) ++ end ≡ (in_lists before ++ last.items) ++ (in_lists others ++ end)
 kept_with before others last end =

@@ -16,7 +16,7 @@ use Rattle.sg_exec.specs.declared.shared.Owned.{Owned}
 use Rattle.sg_exec.specs.steps.Passes.{IsAmong}
 use Rattle.sg_exec.proofs.LastOwn.{is_flat_own, last_of, kept, kept_own, last_found, kept_among, value_or, IsOwnField, own_landed, own_elsewhere}
 
--- ---- lists of writes, one behind the other
+-- ---- lists of writes, one after the other
 
 pub filter_both : (t : Write → Bool) (xs ys : List Write) → filter t (xs ++ ys) ≡ filter t xs ++ filter t ys
 filter_both t [] ys = refl

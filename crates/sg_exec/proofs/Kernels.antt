@@ -96,7 +96,7 @@ module _ (laws : KernelLaws) (stores : List StoreWords) (state : FlatState) (ker
   pub code_is_named : AreNamedAt stores state kernel.code.body points
   code_is_named = λ at has. runnable.apt.code_named state flat at (visited at has)
 
-  -- where the slice wants nothing outside, the code's writes are at the coordinates that it has
+  -- if the slice wants nothing outside, the code's writes are at the coordinates that it has
   pub turns_are : first_outside (shapes_of stores) (map slice points) ≡ None → AreTurnsOf stores state kernel.code.body points code
   turns_are none = λ at has loop.
       let seen = seen_in stores state at in

@@ -12,7 +12,7 @@ use Rattle.sg_exec.specs.steps.Written.{is_own_to, own_write, is_same_field, rep
 use Rattle.sg_exec.specs.steps.Machines.{AreCells, IsCellOf}
 use Rattle.sg_exec.proofs.Going.{drop_item}
 
--- the last own write, with one write more behind
+-- the last own write, with one write more after
 own_push : (layout place : ℕ) (writes : List CellWrite) (write : CellWrite) → own_write layout place (writes ++ write ∷ []) ≡ cond (is_own_to layout place write) (Some write) (own_write layout place writes)
 own_push layout place writes write = ap (find (is_own_to layout place)) (reverse-append writes (write ∷ []))
 

@@ -14,6 +14,7 @@ pub mod PlacesHeld
 pub mod Reading
 pub mod LatestWrites
 pub mod BoxPoints
+pub mod Ranges
 pub mod FieldsLanded
 pub mod OneWrite
 pub mod StoresLanded
@@ -58,6 +59,7 @@ pub mod SumsEnd
 pub mod TreesKept
 pub mod SumsLanded
 pub mod MadeLands
+pub mod LinksKept
 pub mod MadeRuns
 pub mod RacedRun
 pub mod RacedHand

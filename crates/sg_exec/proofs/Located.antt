@@ -84,7 +84,7 @@ module _ (domain : Domain) (at : Coord) where
         by_test true is rest = (is, rest)
         by_test false is rest = absurd (cc)
 
-    -- where none is outside, what was made is the code of the writes
+    -- if none is outside, what was made is the code of the writes
     pub located_made : (wants : List CodeWant) (made : List CodeWrite) → Wanted wants made → All (IsAtLoop at) made → outside_among shapes at (located domain at wants made) ≡ None
         → made ≡ map (code_write shapes) (located domain at wants made)
     located_made wants [] zip loop none = refl

@@ -62,7 +62,7 @@ holds_check stores held place extent word false h = tt
 
 -- ---- steps
 
--- where links and bits lead nowhere along a path, they lead nowhere further on
+-- if links and bits lead nowhere along a path, they lead nowhere further on
 pub along_none : (nodes : List NodeShape) (words : List NodeWords) (place : ℕ) (path more : List ℕ) → place_after active_below nodes words place path ≡ None → place_after active_below nodes words place (path ++ more) ≡ None
 along_none nodes words place [] more none = absurd (cc)
 along_none [] words place (offset ∷ path) more none = refl

@@ -23,15 +23,15 @@ none_ahead stores (Slice points block) ahead none over = record {
 }
 none_ahead stores (Rows rows) ahead none over = tt
 
--- the block has run at the points from a number on
-pub columns_of : (stores : List StoreWords) (points : List Coord) (block : List Inst) (batch : Batch) (first count size : ℕ) → size ≡ count → count ≤ 32 → first + count ≤ length points
-    → ((state : FlatState) → Sees stores state → (k : ℕ) (at : Coord) → slice_get (take size (drop first points)) k ≡ Some at → Iterated stores state at block batch k)
+-- the block has run at the points from a number on, which are in a row
+pub columns_of : (stores : List StoreWords) (points row : List Coord) (block : List Inst) (batch : Batch) (first count : ℕ) → row ≡ take count (drop first points) → count ≤ 32 → first + count ≤ length points
+    → ((state : FlatState) → Sees stores state → (k : ℕ) (at : Coord) → slice_get row k ≡ Some at → Iterated stores state at block batch k)
     → (k : ℕ) → k < count → IsColumnOf stores points block batch (first + k) k
-columns_of stores points block batch first count size same few within ran k low = record {
+columns_of stores points row block batch first count is few within ran k low = record {
   few = omega (arith, few, low);
-  ran = λ state sees at is.
+  ran = λ state sees at there.
       let below : first + k < length points = omega (arith, within, low) in
-      ran state sees k at (point_in points first size k at (omega (arith, low, same)) below ∙ ap Some (get_or_from_slice_get points (first + k) at at is));
+      ran state sees k at (ap (λ (l : List Coord). slice_get l k) is ∙ point_in points first count k at low below ∙ ap Some (get_or_from_slice_get points (first + k) at at there));
 }
 
 -- a column is that of the number

@@ -66,7 +66,7 @@ pub value_nowhere : (stores : List StoreWords) (state : FlatState) (layout place
 value_nowhere stores state layout place at none =
     ap (λ (s : Option Shape). value_or_zero s (slice_get state.layouts layout) place at) (no_shape_at stores layout none)
 
--- the value is 0 where nothing is active
+-- the value is 0 if nothing is active
 pub idle_zero : (shape : Shape) (flat : FlatLayout) (place : ℕ) (at : Coord) → InsideTest → PointOfRow → IsFlatLayout shape flat → (Contains flat.active at → ⊥) → value_at shape flat place at ≡ 0
 idle_zero shape flat place at test point_of_row is_flat idle = elim (cases_Bool (is_inside (bounds_of_shape shape) at)) [
   | inr outside ↦ cond-false (is_inside (bounds_of_shape shape) at) (word_at (words_or_none (slice_get flat.fields place)) (row_of (bounds_of_shape shape) at)) 0 outside

@@ -117,7 +117,7 @@ module _ (stores : List StoreWords) (it : Accumulated) (copy : StoreWords) (word
       (λ w has. let both = from_filter (to_field it.layout it.field) writes w has in let parts = parts_field it.layout it.field w both.1 in active w both.0 parts.0 parts.1)
       low is_ty stands.is_flat laws below of_members inside copy words refl origin
       (λ at cell is. let has : Contains flat.active at = (active_law well flat stands at).0 (is_some (cell_in copy at) cell is) in
-      (has, word_is at cell is has (ended.pass.within cell (reached at cell is))))
+      (has, word_is at cell is has (ended.pass.is_front.all_reached cell (reached at cell is))))
     where
       origin : Coord
       origin = record { n = 0; a = pos 0; b = pos 0; c = pos 0 }
@@ -131,6 +131,6 @@ module _ (stores : List StoreWords) (it : Accumulated) (copy : StoreWords) (word
           let value : value_at copy.shape flat it.field write.at ≡ word_at (words_or_none (slice_get flat.fields it.field)) (row_of bounds write.at) =
           cond-true (is_inside bounds write.at) (word_at (words_or_none (slice_get flat.fields it.field)) (row_of bounds write.at)) 0 ((laws.inside_test bounds write.at).1 (inside write.at is_active)) in
           subst (λ (w : ℕ). w < 2 ^ 32)
-          (word_is write.at found.0 found.1 is_active (ended.pass.within found.0 (reached write.at found.0 found.1))
+          (word_is write.at found.0 found.1 is_active (ended.pass.is_front.all_reached found.0 (reached write.at found.0 found.1))
           ∙ ap (λ (w : ℕ). landed (type_of it.pass) w (writes_to bounds it.layout it.field (row_of bounds write.at) writes)) value)
           (ended.small found.0)

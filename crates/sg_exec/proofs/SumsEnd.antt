@@ -9,7 +9,7 @@ use Rattle.sg_flat.specs.declared.effects.Write.{Write}
 use Rattle.sg_accum.specs.declared.seat.AccSeat.{AccSeat}
 use Rattle.sg_accum.specs.Folding.{old_values, operator_of, type_of, given_of, handed_of, IsSeatOf, AreFolded}
 use Rattle.sg_store.specs.StoreWords.{StoreWords}
-use Rattle.sg_store.specs.WellFormed.{IsFieldRow}
+use Rattle.sg_store.specs.Rows.{IsFieldFront}
 use Rattle.sg_exec.specs.declared.shared.Accumulated.{Accumulated}
 use Rattle.sg_exec.specs.declared.sums.Sum.{Sum}
 use Rattle.sg_exec.specs.steps.Racing.{ArePasses, AreSeats}
@@ -94,7 +94,7 @@ module _ (all list : List Accumulated) (last : Accumulated) (is : all ≡ list +
           let same : pass.store ≡ store = same_Some _ _ (sym pass.there ∙ ap (slice_get stores) (sym layouts) ∙ there) in (
             subst (λ (f : ℕ). f < length store.shape.fields) (sym fields)
                 (subst (λ (s : StoreWords). last.field < length s.shape.fields) same (slice_get_within pass.store.shape.fields last.field (type_of last.pass) pass.field)),
-            subst (λ (s : StoreWords). IsFieldRow s (words_of sum)) same
+            subst (λ (s : StoreWords). IsFieldFront s (words_of sum)) same
                 (sum_row stores last pass (given_of seat) (words_of sum) folds (reached (length list) last seat at_last (seat_last own))),
           )
 

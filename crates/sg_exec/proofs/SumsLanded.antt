@@ -1,12 +1,13 @@
 -- The values of fields that land in stores, one field after the other.
 use Rattle.std.proofs.Common.{◌≡◌, ℕ, zero, suc, ◌+◌, ◌<◌, inl, inr, List, [], ◌∷◌, ◌++◌, length, take, get_or, Some, sym, ap, ◌∙◌, subst, arith, append_assoc}
-use Rattle.std.specs.Prelude.{slice_get, slice_set, slice_index, All}
+use Rattle.std.specs.Prelude.{slice_get, slice_set, slice_index, slice_index_or, All}
 use Rattle.std.specs.List.{AllPairs}
 use Rattle.std.proofs.lemmas.Bool.{cases_eq}
 use Rattle.std.proofs.lemmas.List.{append-nil, take_more}
 use Rattle.std.proofs.lemmas.List.Elements.{All-nil, All-head, All-tail, All-cons}
 use Rattle.std.proofs.lemmas.Option.{same_Some, slice_get_within}
 use Rattle.sg_flat.specs.declared.effects.Write.{Write}
+use Rattle.sg_store.specs.Rows.{put_over}
 use Rattle.sg_store.specs.StoreWords.{StoreWords, word_in}
 use Rattle.sg_exec.specs.declared.sums.Sum.{Sum}
 use Rattle.sg_exec.specs.steps.Passes.{into_field, with_row}
@@ -22,7 +23,7 @@ fresh_put base olds layout field other_layout other was now words is there apart
       let below = slice_get_within olds layout was there in
       let here : with_row was field words ≡ copy = sym is ∙ same_Some _ _ (sym (set_same olds layout now below) ∙ ap (slice_get (slice_set olds layout now)) (sym same) ∙ copy_at) in
       ap (λ (s : StoreWords). word_in s other cell) (sym here)
-      ∙ ap (λ (row : List ℕ). slice_index row cell) (index_other was.fields field other words (λ there'. apart same there'))
+      ∙ ap (λ (row : List ℕ). slice_index row cell) (index_other was.fields field other (put_over words (slice_index_or was.fields field [])) (λ there'. apart same there'))
       ∙ fresh store was at (ap (slice_get olds) same ∙ there) cell
       )
   | inr elsewhere ↦ fresh store copy at (sym (set_other olds layout other_layout now elsewhere) ∙ copy_at) cell

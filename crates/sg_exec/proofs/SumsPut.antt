@@ -15,10 +15,10 @@ use Rattle.sg_flat.proofs.Uses.{RunLaws}
 use Rattle.sg_accum.specs.Folding.{old_values, operator_of, type_of, AreFolded}
 use Rattle.sg_store.specs.StoreWords.{StoreWords, word_in}
 use Rattle.sg_store.specs.Walks.{cell_in}
-use Rattle.sg_store.specs.WellFormed.{IsReached, IsFieldRow, IsWellFormed}
+use Rattle.sg_store.specs.WellFormed.{IsReached, IsWellFormed}
 use Rattle.sg_store.specs.StandsFor.{StandsFor}
 use Rattle.sg_store.specs.StoreLaws.{CellsAreActive, CellsDiffer}
-use Rattle.sg_store.specs.Rows.{SetsRow}
+use Rattle.sg_store.specs.Rows.{IsFieldFront, put_over, SetsRow}
 use Rattle.sg_exec.specs.declared.shared.Accumulated.{Accumulated}
 use Rattle.sg_exec.specs.steps.Machines.{IsCellOf}
 use Rattle.sg_exec.specs.steps.Landing.{landed_layout, HasTree}
@@ -36,12 +36,13 @@ index_low (word ∷ words) (suc cell) some = let later = index_low words cell so
 reached_of : (stores : List StoreWords) (it : Accumulated) (pass : IsPassOf stores it) (cell : ℕ) → IsCellOf stores it.layout cell → IsReached pass.store cell
 reached_of stores it pass cell is = subst (λ (s : StoreWords). IsReached s cell) (same_Some _ _ (sym is.there ∙ pass.there)) is.reached
 
--- what a pass has made of a field is a row of its store
+-- what a pass has made of a field is the front of a row of its store
 pub sum_row : (stores : List StoreWords) (it : Accumulated) (pass : IsPassOf stores it) (given : ℕ → List ℕ) (words : List ℕ) → AreFolded (operator_of it.pass) (type_of it.pass) (old_values it.pass) given words
-    → ((cell : ℕ) → given cell ≢ [] → IsCellOf stores it.layout cell) → IsFieldRow pass.store words
+    → ((cell : ℕ) → given cell ≢ [] → IsCellOf stores it.layout cell) → IsFieldFront pass.store words
 sum_row stores it pass given words folds reached = record {
-  cells = folds.long ∙ pass.is_row.cells;
+  cells = omega (arith, folds.long, pass.is_front.cells);
   only_reached = λ cell some. by cell some (given cell) refl;
+  all_reached = λ cell reached. omega (arith, folds.long, pass.is_front.all_reached cell reached);
 }
   where
     by : (cell : ℕ) → slice_index words cell ≢ 0 → (values : List ℕ) → given cell ≡ values → IsReached pass.store cell
@@ -49,7 +50,7 @@ sum_row stores it pass given words folds reached = record {
     by cell some [] is =
         let low : cell < length (old_values it.pass) = (let within = index_low words cell some in let long = folds.long in omega (arith, within, long)) in
         let same : slice_index words cell ≡ slice_index (old_values it.pass) cell = folds.folds cell low ∙ ap (fold (folded (operator_of it.pass) (type_of it.pass)) (slice_index (old_values it.pass) cell)) is in
-        pass.is_row.only_reached cell (λ zero_is. some (same ∙ zero_is))
+        pass.is_front.only_reached cell (λ zero_is. some (same ∙ zero_is))
 
 -- ---- words below 2^32
 
@@ -79,17 +80,18 @@ tree_back store copy cell tree is = back (subst (λ (s : StoreWords). IsReached 
     back : IsReached (record store { fields = copy.fields }) cell → IsReached store cell
     back there = record { slot = there.slot; is_slot = there.is_slot; leads = there.leads }
 
-row_with : (store : StoreWords) (fields : List (List ℕ)) (words : List ℕ) → IsFieldRow store words → IsFieldRow (record store { fields = fields }) words
+row_with : (store : StoreWords) (fields : List (List ℕ)) (words : List ℕ) → IsFieldFront store words → IsFieldFront (record store { fields = fields }) words
 row_with store fields words row = record {
   cells = row.cells;
   only_reached = λ cell some. let is = row.only_reached cell some in record { slot = is.slot; is_slot = is.is_slot; leads = is.leads };
+  all_reached = λ cell is. row.all_reached cell (record { slot = is.slot; is_slot = is.is_slot; leads = is.leads });
 }
 
-pub row_tree : (store copy : StoreWords) (words : List ℕ) → HasTree store copy → IsFieldRow store words → IsFieldRow copy words
-row_tree store copy words tree row = subst (λ (s : StoreWords). IsFieldRow s words) (sym tree) (row_with store copy.fields words row)
+pub row_tree : (store copy : StoreWords) (words : List ℕ) → HasTree store copy → IsFieldFront store words → IsFieldFront copy words
+row_tree store copy words tree row = subst (λ (s : StoreWords). IsFieldFront s words) (sym tree) (row_with store copy.fields words row)
 
 pub tree_row : (store copy : StoreWords) (field : ℕ) (words : List ℕ) → HasTree store copy → HasTree store (with_row copy field words)
-tree_row store copy field words tree = ap (λ (s : StoreWords). record s { fields = slice_set copy.fields field words }) tree
+tree_row store copy field words tree = ap (λ (s : StoreWords). record s { fields = slice_set copy.fields field (put_over words (slice_index_or copy.fields field [])) }) tree
 
 -- ---- the store that gets the row
 

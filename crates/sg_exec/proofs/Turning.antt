@@ -282,7 +282,7 @@ are_meant stores state turns sees named = record {
   };
 }
 
--- ---- where no write is outside
+-- ---- if no write is outside
 
 store_at : (stores : List StoreWords) (j : ℕ) → j < length stores → (store : StoreWords) × (slice_get stores j ≡ Some store)
 store_at [] j below = absurd (omega arith)

@@ -26,7 +26,7 @@ flat_of_map f [] = refl
 flat_of_map {X} {Y} f (x ∷ xs) = ap (λ (ys : List Y). f x ++ ys) (flat_of_map f xs)
 
 module _ (seen : Seen) where
-  -- a write is by one of these uses, and at the loop's coordinate where it is an own one
+  -- a write is by one of these uses, and at the loop's coordinate if it is an own one
   abbrev IsBy : List Use → CodeWrite → Type 0
   IsBy uses write = Contains uses (use_of write) × IsAtLoop seen.at write
 
@@ -148,7 +148,7 @@ module _ (seen : Seen) where
   by_depth zero inst below = absurd (omega (arith, below))
   by_depth (suc n) inst below = deeper n (by_list n (by_depth n)) inst below
 
-  -- each write of an iteration is by a use of the block, and at the loop's coordinate where it is an own one
+  -- each write of an iteration is by a use of the block, and at the loop's coordinate if it is an own one
   pub write_used : (block : List Inst) (write : CodeWrite) → Contains (iteration seen block).writes write → Contains (uses_in block) (use_of write) × IsAtLoop seen.at write
   write_used block write has =
       by (by_list (suc (largest (map depth block))) (by_depth (suc (largest (map depth block)))) block (omega arith) (iteration_start seen) write has)

@@ -25,7 +25,7 @@ pub(crate) fn roots(batch: &mut Batch, columns: Columns, to: u32, layout: u32)
     }
 }
 
-/// A place, or none where a register's word isn't on an axis.
+/// A place, or none if a register's word isn't on an axis.
 #[inline(always)]
 pub(crate) fn checks(
     batch: &mut Batch,
@@ -177,7 +177,7 @@ pub(crate) fn own_writes(
     }
 }
 
-/// Own writes. False where memory is wanting.
+/// Own writes. False if memory runs out.
 #[inline(always)]
 fn add_own_writes(
     moments: &mut [Moment],
@@ -238,7 +238,7 @@ pub(crate) fn contributions(
     }
 }
 
-/// Contributions, each in the cell of its place. False where memory is wanting.
+/// Contributions, each in the cell of its place. False if memory runs out.
 #[inline(always)]
 fn add_contributions(
     moments: &mut [Moment],
@@ -294,7 +294,7 @@ pub(crate) fn wants(batch: &mut Batch, columns: Columns, layout: u32, index: &[u
     }
 }
 
-/// Wanted coordinates. False where memory is wanting.
+/// Wanted coordinates. False if memory runs out.
 #[inline(always)]
 fn add_wants(
     moments: &mut [Moment],

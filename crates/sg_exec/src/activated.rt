@@ -8,6 +8,7 @@ ghost use Rattle.sg_flat.specs.declared.state.FlatLayout.{FlatLayout};
 ghost use Rattle.sg_flat.specs.declared.state.FlatState.{FlatState};
 ghost use Rattle.sg_flat.specs.Effects.{writes_of};
 ghost use Rattle.sg_store.specs.StandsFor.{StandsFor};
+ghost use Rattle.sg_store.specs.Links.{GrowsLinks};
 ghost use Rattle.sg_exec.specs.Running.{turn_of};
 ghost use Rattle.sg_exec.specs.Standing.{shapes_of};
 ghost use Rattle.sg_exec.specs.steps.Landing.{current};
@@ -17,10 +18,11 @@ ghost use Rattle.sg_exec.specs.steps.Wants.{AreWants, StoreReached, AllReached};
 
 use crate::layout_wants::LayoutWants;
 use crate::outside::{first_outside, first_pass};
+use crate::points::Points;
 use crate::turns::{Turns, count_of, turns_want};
 use crate::values::ONE_POINT;
 use sg_activate::{ActFault, activated, pass_gate};
-use sg_coord::{Coord, numbering};
+use sg_coord::numbering;
 use sg_flat::{RunFault, Write};
 use sg_ir::Inst;
 use sg_layout::{closure_members, need_grows};
@@ -37,7 +39,7 @@ pub(crate) fn activated_for_slice<R: Threads + Sync, G: Gate + Sync>(
     rt: &R,
     alloc: Global,
     stores: &Stores,
-    points: &[Coord],
+    points: &Points,
     block: &[Inst],
     workers: u32,
     gate: &G,
@@ -50,6 +52,7 @@ pub(crate) fn activated_for_slice<R: Threads + Sync, G: Gate + Sync>(
         (map (slice_turn stores.now.list state block.now) points.now) result }
     ensures shapes { IfOk result (λ copies. shapes_of (current copies.items stores.now.list) ≡ shapes_of stores.now.list) }
     ensures room { IfOk result (λ copies. length copies.items ≡ length stores.now.list) }
+    ensures links { IfOk result (λ copies. AllZip GrowsLinks stores.now.list (current copies.items stores.now.list)) }
 {
     let active = first_pass(rt, alloc, stores, points, block, workers)?;
     let turns = Turns::Slice { points, block };
@@ -67,6 +70,7 @@ pub(crate) fn activated_for_rows<R: Threads + Sync>(
         TurnsActivated (λ copies. current copies.items stores.now.list) stores.now.list (map turn_of rows.now) result }
     ensures shapes { IfOk result (λ copies. shapes_of (current copies.items stores.now.list) ≡ shapes_of stores.now.list) }
     ensures room { IfOk result (λ copies. length copies.items ≡ length stores.now.list) }
+    ensures links { IfOk result (λ copies. AllZip GrowsLinks stores.now.list (current copies.items stores.now.list)) }
 {
     if let Some(fault) = first_outside(stores, rows) {
         return Err(Stop::Refused(fault));
@@ -95,6 +99,7 @@ fn activated_copies<R: Threads + Sync, G: Gate + Sync>(
         AllReached (λ copies. current copies.items stores.now.list) (shapes_of stores.now.list) flats made result }
     ensures shapes { IfOk result (λ copies. shapes_of (current copies.items stores.now.list) ≡ shapes_of stores.now.list) }
     ensures room { IfOk result (λ copies. length copies.items ≡ length stores.now.list) }
+    ensures links { IfOk result (λ copies. AllZip GrowsLinks stores.now.list (current copies.items stores.now.list)) }
 {
     let mut copies = Vec::new(alloc);
     // for the laws that they ensure
@@ -125,7 +130,7 @@ fn add_copy(copies: &mut Vec<Option<Store>>, copy: Option<Store>) -> Result<(), 
     Ok(())
 }
 
-/// A copy of the store with a number with what turns want active; none where all of it is active already, as may be said.
+/// A copy of the store with a number with what turns want active; none if all of it is active already, as may be said.
 fn store_activated<R: Threads + Sync, G: Gate + Sync>(
     rt: &R,
     alloc: Global,
@@ -143,6 +148,7 @@ fn store_activated<R: Threads + Sync, G: Gate + Sync>(
     ensures reached { (wanted : List Coord) → IsMeant stores.now.list turns.entry number store.now wanted → (flat : FlatLayout) → StandsFor store.now flat →
         StoreReached (λ copy. unwrap_or copy store.now) number store.now.shape flat wanted result }
     ensures shape { IfOk result (λ copy. (unwrap_or copy store.now).shape ≡ store.now.shape) }
+    ensures links { IfOk result (λ copy. GrowsLinks store.now (unwrap_or copy store.now)) }
 {
     // for the laws that they ensure
     live_is_need();
@@ -174,7 +180,7 @@ fn store_activated<R: Threads + Sync, G: Gate + Sync>(
     }
 }
 
-/// A number as a word. One past 32 bits can't come: no memory has room for so many layouts or turns.
+/// A number as a word. One past 32 bits can't come: a box has fewer points, and no memory has room for so many layouts or rows.
 fn word(number: usize) -> Result<u32, Memory>
     ensures { IfOk result (λ word. word ≡ number) }
 {

@@ -2,15 +2,18 @@ ghost use Rattle.std.specs.Prelude.{◌≡◌, ◌<◌, ◌≤◌, Some, length,
 ghost use Rattle.sg_exec.specs.steps.Turning.{HaveRun, IsColumnOf};
 
 use crate::batch::{Batch, SIDE_BY_SIDE, iterate_all};
+use crate::points::Points;
 use sg_coord::Coord;
 use sg_ir::Inst;
 use sg_store::Stores;
 use sg_words::Memory;
 
-/// Iterations at points that ran ahead: so many, from the point with one number on, each in a column of the batch.
+/// Iterations at points that ran ahead: so many, from the point with one number on, each in a column of the batch. The row is that of
+/// their points.
 #[derive(Drop)]
 pub struct Ahead<'a> {
     pub batch: Batch<'a>,
+    pub row: Vec<Coord>,
     pub first: u32,
     pub count: u32,
 }
@@ -19,7 +22,7 @@ pub struct Ahead<'a> {
 /// points that follow.
 pub(crate) fn column_of(
     stores: &Stores,
-    points: &[Coord],
+    points: &Points,
     block: &[Inst],
     ahead: &mut Ahead,
     number: u32,
@@ -34,13 +37,8 @@ pub(crate) fn column_of(
     }
     let first = number as usize;
     let count = (points.len() - first).min(SIDE_BY_SIDE);
-    iterate_all(
-        stores,
-        &[],
-        &mut ahead.batch,
-        &points[first..first + count],
-        block,
-    )?;
+    points.fill(first, count, &mut ahead.row)?;
+    iterate_all(stores, &[], &mut ahead.batch, ahead.row.as_slice(), block)?;
     ahead.first = number;
     ahead.count = count as u32;
     Ok(0)

@@ -40,7 +40,7 @@ impl<'a> Batch<'a> {
     ghost use Rattle.std.specs.Prelude.{◌≡◌, ◌≤◌, ◌+◌, ◌*◌, length, false, true, IsTrue};
     ghost use Rattle.sg_exec.specs.steps.Moments.{KeepsRows};
 
-    /// Makes the rows of registers long enough for these numbers. False where memory is wanting.
+    /// Makes the rows of registers long enough for these numbers. False if memory runs out.
     #[inline(always)]
     pub fn has_regs(&mut self, a: u32, b: u32, c: u32) -> bool
         ensures keeps { KeepsRows self.old self.new }
@@ -73,7 +73,7 @@ impl<'a> Batch<'a> {
         has
     }
 
-    /// Makes the rows of variables long enough for a number. False where memory is wanting.
+    /// Makes the rows of variables long enough for a number. False if memory runs out.
     #[inline(always)]
     pub fn has_var(&mut self, var: u32) -> bool
         ensures keeps { KeepsRows self.old self.new }
@@ -88,7 +88,7 @@ impl<'a> Batch<'a> {
         has
     }
 
-    /// Makes the rows of places long enough for these numbers. False where memory is wanting.
+    /// Makes the rows of places long enough for these numbers. False if memory runs out.
     #[inline(always)]
     pub fn has_places(&mut self, a: u32, b: u32) -> bool
         ensures keeps { KeepsRows self.old self.new }

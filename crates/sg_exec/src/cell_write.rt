@@ -1,6 +1,6 @@
 use sg_flat::Way;
 
-/// What an iteration wrote: a layout, a field of it, the cell, none where the coordinate isn't active, and how the value lands there. All
+/// What an iteration wrote: a layout, a field of it, the cell, none if the coordinate isn't active, and how the value lands there. All
 /// numbers are from 0.
 #[derive(Clone, Copy)]
 pub struct CellWrite {

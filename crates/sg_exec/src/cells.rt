@@ -78,7 +78,7 @@ impl<'a> Cells<'a> {
         self.written.clear();
     }
 
-    /// The cell of the iteration's coordinate in a layout's store. None where the coordinate isn't active there.
+    /// The cell of the iteration's coordinate in a layout's store. None if the coordinate isn't active there.
     #[inline(always)]
     pub fn own_cell(&mut self, layout: u32) -> Option<u32>
         ensures cell { result ≡ cell_there self.old.stores layout (Some self.old.at) }
@@ -93,8 +93,8 @@ impl<'a> Cells<'a> {
         cell
     }
 
-    /// The value of a field in the iteration's own cell, both from 0: the last own value, or else the store's, which is 0 where the
-    /// coordinate isn't active, and where there is no such layout or field.
+    /// The value of a field in the iteration's own cell, both from 0: the last own value, or else the store's, which is 0 if the
+    /// coordinate isn't active, and if there is no such layout or field.
     #[inline(always)]
     pub fn own_value(&mut self, known: Option<Known>, layout: u32, place: u32) -> u32
         requires known { IfSome known (λ known. IsStoreOf self.old.stores known.layout known.store.now) }

@@ -1,4 +1,4 @@
-//! What iterations take, so that no more workers start than have enough to do. It hangs on numbers alone, and promises nothing.
+//! What iterations take, so that no more workers start than have enough to do. It depends on numbers alone, and promises nothing.
 
 use sg_ir::Inst;
 

@@ -165,7 +165,7 @@ fn add_pass<R: Threads + Sync>(
     // for the laws that they ensure
     cells_are_active();
     paths_tell();
-    let values = store.field_row(field);
+    let values = store.field_front(field);
     if values.len() == 0 {
         return Ok(());
     }

@@ -81,7 +81,7 @@ fn split_all(
     Ok(others)
 }
 
-/// What two hands have, the second behind the first. The first want of memory is the answer.
+/// What two hands have, the second after the first. The first running out of memory is the answer.
 pub(crate) fn both(
     stores: &Stores,
     reached: &[Option<Store>],
@@ -100,7 +100,7 @@ pub(crate) fn both(
     joined(stores, reached, accumulated, hand, other)
 }
 
-/// What two hands that are there have, the second behind the first.
+/// What two hands that are there have, the second after the first.
 fn joined(
     stores: &Stores,
     reached: &[Option<Store>],

@@ -9,7 +9,7 @@ pub struct Held {
     pub spot: Spot,
 }
 
-/// A spot of a layout, where there is one.
+/// A spot of a layout, if there is one.
 #[inline(always)]
 pub(crate) fn held_in(layout: u32, spot: Option<Spot>) -> Option<Held>
     ensures { result ≡ option_map (λ spot. record { layout = layout; spot = spot }) spot }

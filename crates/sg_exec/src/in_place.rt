@@ -1,8 +1,10 @@
 //! What a run made lands in its stores. Nothing is copied, and nothing refused.
 
 ghost use Rattle.std.specs.Prelude.{◌≡◌, ◌+◌, ◌<◌, ◌≤◌, ◌++◌, ◌∷◌, [], ℕ, All, List, length, map, IfSome, unwrap_or, vec_capacity};
+ghost use Rattle.std.specs.List.{AllZip};
 ghost use Rattle.sg_flat.specs.declared.effects.Write.{Write};
 ghost use Rattle.sg_store.specs.StoreWords.{StoreWords};
+ghost use Rattle.sg_store.specs.Links.{GrowsLinks};
 ghost use Rattle.sg_exec.specs.steps.Machines.{IsCellOf, AreCells};
 ghost use Rattle.sg_exec.specs.steps.Landing.{current, landing, Lands};
 ghost use Rattle.sg_exec.specs.steps.Passes.{IsSumOf, into_field};
@@ -21,7 +23,8 @@ use std::alloc::Global;
 /// Lands what was made in the stores. The copies take the places of their stores first.
 pub(crate) fn land(alloc: Global, stores: &mut Stores, made: Made)
     requires { CanLand stores.old.list made }
-    ensures { HasLanded (current made.copies.items stores.old.list) made.ended stores.new.list }
+    ensures landed { HasLanded (current made.copies.items stores.old.list) made.ended stores.new.list }
+    ensures links { AllZip GrowsLinks stores.old.list stores.new.list }
 {
     let Made {
         copies,
@@ -36,7 +39,7 @@ pub(crate) fn land(alloc: Global, stores: &mut Stores, made: Made)
     stores.list = Items::from_vec(owned);
 }
 
-/// Moves the stores, each with its copy in its place where there is one, behind others, where there is room for all.
+/// Moves the stores, each with its copy in its place if there is one, after others, if there is room for all.
 fn move_all(list: Items<Store>, copies: Vec<Option<Store>>, owned: &mut Vec<Store>)
     requires same { length copies.items ≡ length list }
     requires space { length owned.old.items + length list ≤ vec_capacity owned.old }
@@ -54,7 +57,7 @@ fn move_all(list: Items<Store>, copies: Vec<Option<Store>>, owned: &mut Vec<Stor
     move_one(store, copy, owned);
 }
 
-/// Moves a store, or its copy where there is one, behind others, where there is room for it.
+/// Moves a store, or its copy if there is one, after others, if there is room for it.
 fn move_one(store: Store, copy: Option<Store>, owned: &mut Vec<Store>)
     requires space { length owned.old.items < vec_capacity owned.old }
     ensures items { owned.new.items ≡ owned.old.items ++ unwrap_or copy store ∷ [] }
@@ -97,6 +100,7 @@ fn land_sum(stores: &mut Vec<Store>, sum: &Sum)
 /// Lands kept writes, list after list.
 fn land_puts(stores: &mut Vec<Store>, puts: &Puts)
     requires cells { AreCells stores.old.items (kept_writes puts.now) }
+    ensures trees { HaveTrees stores.old.items stores.new.items }
     ensures lands { (base : List StoreWords) (made : List Write) → HaveTrees base stores.old.items → kept_writes puts.now ≡ map (landing base) made →
         Lands stores.old.items stores.new.items made }
 {

@@ -172,7 +172,7 @@ fn word_at(batch: &Batch, reg: u32, k: usize) -> u32
     batch.regs.get(reg as usize * 32 + k).copied().unwrap_or(0)
 }
 
-/// Whether a register is 0, where it is so in all these columns, or in none.
+/// Whether a register is 0, if it is so in all these columns, or in none.
 fn choice(batch: &Batch, columns: Columns, cond: u32) -> Option<bool>
     ensures { IfSome result (λ zero. (k : ℕ) → IsAmong columns.first columns.end k → (item_in batch.now.regs.items 0 k cond == 0) ≡ zero) }
 {

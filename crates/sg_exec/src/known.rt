@@ -11,7 +11,7 @@ pub struct Known<'a> {
     pub store: &'a Store,
 }
 
-/// The store of a layout, where there is one.
+/// The store of a layout, if there is one.
 #[inline(always)]
 pub(crate) fn known_of<'a>(view: &View<'a>, layout: u32) -> Option<Known<'a>>
     ensures { IfSome result (λ known. IsStoreOf view.now known.layout known.store.now) }

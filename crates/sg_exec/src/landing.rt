@@ -5,6 +5,7 @@ ghost use Rattle.sg_flat.specs.Effects.{land};
 ghost use Rattle.sg_store.specs.StandsFor.{StandsFor};
 ghost use Rattle.sg_store.specs.WellFormed.{IsReached};
 ghost use Rattle.sg_exec.specs.steps.Landing.{current, landed_layout, HasTree, IsLanding, Lands};
+ghost use Rattle.sg_exec.specs.steps.Made.{HaveTrees};
 
 use crate::cell_write::CellWrite;
 use crate::values::ONE_POINT;
@@ -55,6 +56,7 @@ pub(crate) fn land_all(
     requires room { length copies.old.items ≡ length stores.now.list }
     ensures lands { OnOk result (Lands (current copies.old.items stores.now.list) (current copies.new.items stores.now.list) writes.now) }
     ensures room { length copies.new.items ≡ length stores.now.list }
+    ensures trees { HaveTrees (current copies.old.items stores.now.list) (current copies.new.items stores.now.list) }
 {
     for write in writes {
         land(alloc, stores, copies, write)?;
@@ -62,7 +64,7 @@ pub(crate) fn land_all(
     Ok(())
 }
 
-/// Lands a write in the copy of its layout's store, which is made where there is none.
+/// Lands a write in the copy of its layout's store, which is made if there is none.
 fn land(
     alloc: Global,
     stores: &Stores,
@@ -72,6 +74,7 @@ fn land(
     requires room { length copies.old.items ≡ length stores.now.list }
     ensures lands { OnOk result (Lands (current copies.old.items stores.now.list) (current copies.new.items stores.now.list) (write.now ∷ [])) }
     ensures room { length copies.new.items ≡ length stores.now.list }
+    ensures trees { HaveTrees (current copies.old.items stores.now.list) (current copies.new.items stores.now.list) }
 {
     let number = write.layout as usize;
     let Some(store) = stores.list.get(number) else {
@@ -81,7 +84,7 @@ fn land(
     land_in(alloc, store, slot, write)
 }
 
-/// Lands a write in the copy of a store, which is made where there is none.
+/// Lands a write in the copy of a store, which is made if there is none.
 fn land_in(
     alloc: Global,
     store: &Store,
@@ -89,6 +92,7 @@ fn land_in(
     write: &Write,
 ) -> Result<(), Memory>
     ensures shape { (unwrap_or slot.new store.now).shape ≡ (unwrap_or slot.old store.now).shape }
+    ensures same { HasTree (unwrap_or slot.old store.now) (unwrap_or slot.new store.now) }
     ensures lands { OnOk result ((flat : FlatLayout) → StandsFor (unwrap_or slot.old store.now) flat →
         Contains flat.active write.now.at →
         StandsFor (unwrap_or slot.new store.now)
@@ -108,6 +112,7 @@ fn land_in(
 /// Lands a write in a store.
 fn put(store: &mut Store, write: &Write)
     ensures shape { store.new.shape ≡ store.old.shape }
+    ensures same { HasTree store.old store.new }
     ensures lands { (flat : FlatLayout) → StandsFor store.old flat → Contains flat.active write.now.at →
         StandsFor store.new (landed_layout write.now.layout store.old.shape flat (write.now ∷ [])) }
 {

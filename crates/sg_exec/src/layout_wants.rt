@@ -8,6 +8,7 @@ ghost use Rattle.sg_exec.specs.steps.Turning.{turn_count, wanted_of};
 use crate::ahead::{Ahead, column_of};
 use crate::batch::batch_for;
 use crate::effort::effort_of;
+use crate::points::row_for;
 use crate::turns::Turns;
 use crate::values::ONE_POINT;
 use sg_activate::Wanted;
@@ -59,8 +60,10 @@ impl<'a> Wanted for LayoutWants<'a> {
 
     fn hand(&self, alloc: Global) -> Result<Ahead<'a>, Memory> {
         let batch = batch_for(alloc, self.stores, &[])?;
+        let row = row_for(alloc)?;
         Ok(Ahead {
             batch,
+            row,
             first: 0,
             count: 0,
         })

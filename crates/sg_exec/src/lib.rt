@@ -28,6 +28,7 @@ mod own_cell;
 mod places;
 mod points;
 mod puts;
+mod region;
 mod row;
 pub mod run;
 mod shared;

@@ -41,7 +41,7 @@ impl<'a> Moment<'a> {
         self.wants.clear();
     }
 
-    /// An own write. False where memory is wanting.
+    /// An own write. False if memory runs out.
     #[inline(always)]
     pub fn own_write(&mut self, layout: u32, field: u32, value: u32) -> bool
         ensures stores { self.new.cells.stores ≡ self.old.cells.stores }
@@ -61,7 +61,7 @@ impl<'a> Moment<'a> {
         }
     }
 
-    /// A contribution to a cell. False where memory is wanting.
+    /// A contribution to a cell. False if memory runs out.
     #[inline(always)]
     pub fn contribute(
         &mut self,
@@ -88,7 +88,7 @@ impl<'a> Moment<'a> {
         }
     }
 
-    /// A wanted coordinate. False where memory is wanting.
+    /// A wanted coordinate. False if memory runs out.
     #[inline(always)]
     pub fn want(&mut self, layout: u32, at: Coord, stmt: u32) -> bool
         ensures stores { self.new.cells.stores ≡ self.old.cells.stores }

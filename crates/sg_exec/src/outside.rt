@@ -6,10 +6,12 @@ ghost use Rattle.sg_flat.specs.Kernel.{is_inside_of, outside_among, first_outsid
 ghost use Rattle.sg_exec.specs.Running.{turn_of};
 ghost use Rattle.sg_exec.specs.Standing.{shapes_of};
 ghost use Rattle.sg_exec.specs.steps.Moments.{IsOver};
+ghost use Rattle.sg_exec.specs.steps.Racing.{between};
 ghost use Rattle.sg_exec.specs.steps.Turning.{SliceTells, IsActive, IsActiveAt, in_both};
 
 use crate::batch::{Batch, SIDE_BY_SIDE, batch_for, iterate_all};
 use crate::effort::effort_of;
+use crate::points::{Points, row_for};
 use crate::turns::block_seeks;
 use sg_activate::workers_for;
 use sg_coord::{Coord, inside};
@@ -26,7 +28,7 @@ pub(crate) fn first_pass<R: Threads + Sync>(
     rt: &R,
     alloc: Global,
     stores: &Stores,
-    points: &[Coord],
+    points: &Points,
     block: &[Inst],
     workers: u32,
 ) -> Result<bool, Stop<RunFault>>
@@ -34,45 +36,61 @@ pub(crate) fn first_pass<R: Threads + Sync>(
     ensures { SliceTells stores.now.list block.now points.now result }
 {
     if block_seeks(block) {
-        let effort = points.len().saturating_mul(effort_of(block));
-        let busy = workers_for(effort, workers);
-        return no_want_outside(rt, alloc, stores, points, block, busy, false);
+        let all = points.len();
+        let busy = workers_for(all.saturating_mul(effort_of(block)), workers);
+        return no_want_outside(rt, alloc, stores, points, 0, all, block, busy, false);
     }
     Ok(true)
 }
 
-/// What the first pass tells of any slice. The workers run it each at a part of the points; what the left half finds stands before what
-/// the right half finds. A thread that has forked `waits`: it runs the slice at no point itself.
+/// What the first pass tells of any slice, at the points from one number up to below another. The workers run it each at a part of them;
+/// what the left half finds stands before what the right half finds. A thread that has forked `waits`: it runs the slice at no point itself.
 fn no_want_outside<R: Threads + Sync>(
     rt: &R,
     alloc: Global,
     stores: &Stores,
-    points: &[Coord],
+    points: &Points,
+    from: usize,
+    to: usize,
     block: &[Inst],
     workers: u32,
     waits: bool,
 ) -> Result<bool, Stop<RunFault>>
     requires some { 1 ≤ workers }
-    ensures { SliceTells stores.now.list block.now points.now result }
+    requires order { from ≤ to }
+    requires within { to ≤ length points.now }
+    ensures { SliceTells stores.now.list block.now (between from to points.now) result }
 {
     if workers < 2 {
         if waits {
-            return no_want_outside_apart(rt, alloc, stores, points, block);
+            return no_want_outside_apart(rt, alloc, stores, points, from, to, block);
         }
-        return no_want_outside_here(alloc, stores, points, block);
+        return no_want_outside_here(alloc, stores, points, from, to, block);
     }
     let half = workers / 2;
-    let (left, right) = points.split_at(points.len() / 2);
+    let mid = from + (to - from) / 2;
     let (first, second) = join(
         rt,
         move || -> Result<bool, Stop<RunFault>>
-            requires { IsSync R.row × (1 ≤ workers - half) }
-            ensures { SliceTells stores.entry.now.list block.entry.now left.entry.now result }
-        { no_want_outside(rt, alloc, stores, left, block, workers - half, false) },
+            requires { IsSync R.row × (1 ≤ workers - half) × (from ≤ mid) × (mid ≤ length points.now) }
+            ensures { SliceTells stores.entry.now.list block.entry.now (between from mid points.entry.now) result }
+        {
+            no_want_outside(
+                rt,
+                alloc,
+                stores,
+                points,
+                from,
+                mid,
+                block,
+                workers - half,
+                false,
+            )
+        },
         move || -> Result<bool, Stop<RunFault>>
-            requires { IsSync R.row × (1 ≤ half) }
-            ensures { SliceTells stores.entry.now.list block.entry.now right.entry.now result }
-        { no_want_outside(rt, alloc, stores, right, block, half, true) },
+            requires { IsSync R.row × (1 ≤ half) × (mid ≤ to) × (to ≤ length points.now) }
+            ensures { SliceTells stores.entry.now.list block.entry.now (between mid to points.entry.now) result }
+        { no_want_outside(rt, alloc, stores, points, mid, to, block, half, true) },
     );
     match first {
         Ok(active) => in_both(active, second),
@@ -95,16 +113,21 @@ fn no_want_outside_apart<R: Threads + Sync>(
     rt: &R,
     alloc: Global,
     stores: &Stores,
-    points: &[Coord],
+    points: &Points,
+    from: usize,
+    to: usize,
     block: &[Inst],
 ) -> Result<bool, Stop<RunFault>>
-    ensures { SliceTells stores.now.list block.now points.now result }
+    requires order { from ≤ to }
+    requires within { to ≤ length points.now }
+    ensures { SliceTells stores.now.list block.now (between from to points.now) result }
 {
     let (tells, ()) = join(
         rt,
         move || -> Result<bool, Stop<RunFault>>
-            ensures { SliceTells stores.entry.now.list block.entry.now points.entry.now result }
-        { no_want_outside_here(alloc, stores, points, block) },
+            requires { (from ≤ to) × (to ≤ length points.now) }
+            ensures { SliceTells stores.entry.now.list block.entry.now (between from to points.entry.now) result }
+        { no_want_outside_here(alloc, stores, points, from, to, block) },
         || (),
     );
     tells
@@ -114,24 +137,31 @@ fn no_want_outside_apart<R: Threads + Sync>(
 fn no_want_outside_here(
     alloc: Global,
     stores: &Stores,
-    points: &[Coord],
+    points: &Points,
+    from: usize,
+    to: usize,
     block: &[Inst],
 ) -> Result<bool, Stop<RunFault>>
-    ensures { SliceTells stores.now.list block.now points.now result }
+    requires order { from ≤ to }
+    requires within { to ≤ length points.now }
+    ensures { SliceTells stores.now.list block.now (between from to points.now) result }
 {
     let mut batch = batch_for(alloc, stores, &[])?;
+    let mut row = row_for(alloc)?;
     let mut active = true;
     let mut last = None;
-    for number in 0..points.len().div_ceil(SIDE_BY_SIDE) {
+    let all = to - from;
+    for number in 0..all.div_ceil(SIDE_BY_SIDE) {
         let first = number * SIDE_BY_SIDE;
-        let count = (points.len() - first).min(SIDE_BY_SIDE);
-        let some = &points[first..first + count];
+        let count = (all - first).min(SIDE_BY_SIDE);
+        points.fill(from + first, count, &mut row)?;
+        let some = row.as_slice();
         active = no_want_outside_among(stores, &mut batch, some, block, active, &mut last)?;
     }
     Ok(active)
 }
 
-/// What the first pass tells of up to 32 points, where it is known whether all was active so far.
+/// What the first pass tells of up to 32 points, if it is known whether all was active so far.
 fn no_want_outside_among(
     stores: &Stores,
     batch: &mut Batch,

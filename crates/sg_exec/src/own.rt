@@ -28,7 +28,7 @@ pub(crate) fn found_in(found: &[OwnCell], layout: u32) -> Option<OwnCell>
     None
 }
 
-/// Keeps a cell that was found. Where memory is wanting it isn't kept, and is looked for again.
+/// Keeps a cell that was found. Where memory runs out it isn't kept, and is looked for again.
 #[inline(always)]
 pub(crate) fn remember(found: &mut Vec<OwnCell>, own: OwnCell)
     ensures { (stores : List StoreWords) (at : Coord) → AreOwnCells stores at found.old.items → IsOwnCell stores at own →
@@ -52,7 +52,7 @@ pub(crate) fn cell_of(view: &View, layout: u32, at: Coord) -> Option<u32>
     }
 }
 
-/// The value of a field in a cell of a layout's store, and 0 where there is none. Where that store is the known one, it isn't looked for.
+/// The value of a field in a cell of a layout's store, and 0 if there is none. Where that store is the known one, it isn't looked for.
 #[inline(always)]
 pub(crate) fn value_of(
     view: &View,

@@ -19,7 +19,7 @@ use sg_words::{Ty, number};
 use std::alloc::Global;
 use std::marker::Model;
 
-/// The places of iterations side by side: for each place register a row of spots, each with its layout, or none where nothing is active.
+/// The places of iterations side by side: for each place register a row of spots, each with its layout, or none if nothing is active.
 /// Contracts see the stores and the rows.
 #[derive(Drop)]
 pub struct Places<'a> {
@@ -75,7 +75,7 @@ impl<'a> Places<'a> {
         reset(&mut self.list, None);
     }
 
-    /// Makes the rows long enough for a number. False where memory is wanting.
+    /// Makes the rows long enough for a number. False if memory runs out.
     #[inline(always)]
     pub fn reaches(&mut self, number: u32) -> bool
         ensures stores { self.new.stores ≡ self.old.stores }
@@ -96,7 +96,7 @@ impl<'a> Places<'a> {
         put_held(self.list.as_mut_slice(), columns, to, held);
     }
 
-    /// A place register becomes another where a register's word, as an i32, is from 0 to below the extent, and none where it isn't.
+    /// A place register becomes another where a register's word, as an i32, is from 0 to below the extent, and none if it isn't.
     #[inline(always)]
     pub fn check(
         &mut self,
@@ -164,7 +164,7 @@ impl<'a> Places<'a> {
         known_in(&self.view, self.list.as_slice(), columns, place)
     }
 
-    /// The store of a layout, where there is one.
+    /// The store of a layout, if there is one.
     #[inline(always)]
     pub fn store_of(&self, layout: u32) -> Option<Known<'a>>
         ensures { IfSome result (λ known. IsStoreOf self.now.stores known.layout known.store.now) }
@@ -172,7 +172,7 @@ impl<'a> Places<'a> {
         known_of(&self.view, layout)
     }
 
-    /// The value of a field, from 0, at a place of a column: 0 where nothing is active. Where the place is in the known store, that isn't
+    /// The value of a field, from 0, at a place of a column: 0 if nothing is active. Where the place is in the known store, that isn't
     /// looked for.
     #[inline(always)]
     pub fn value(&self, known: Option<Known>, place: u32, k: usize, field: u32) -> u32
@@ -193,7 +193,7 @@ impl<'a> Places<'a> {
         }
     }
 
-    /// The cell of a place of a column in a layout's store. None where nothing is active, and where the place is another layout's.
+    /// The cell of a place of a column in a layout's store. None if nothing is active, and where the place is another layout's.
     #[inline(always)]
     pub fn cell(&self, known: Option<Known>, place: u32, k: usize, layout: u32) -> Option<u32>
         requires place { place * 32 + 32 ≤ length self.now.list }
@@ -254,7 +254,7 @@ fn put_held(list: &mut [Option<Held>], columns: Columns, to: u32, held: Option<H
     }
 }
 
-/// In these columns a place register becomes another where a register's word, as an i32, is from 0 to below the extent, and none where it
+/// In these columns a place register becomes another where a register's word, as an i32, is from 0 to below the extent, and none if it
 /// isn't.
 #[inline(always)]
 fn put_checked(
@@ -280,7 +280,7 @@ fn put_checked(
     }
 }
 
-/// A place, or none where a check fails.
+/// A place, or none if a check fails.
 #[inline(always)]
 fn checked(held: Option<Held>, passes: bool) -> Option<Held>
     ensures { result ≡ (if passes then held else None) }

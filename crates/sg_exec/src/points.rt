@@ -1,30 +1,117 @@
-ghost use Rattle.std.specs.Prelude.{◌≡◌, ◌≤◌, ◌++◌, ℕ, Some, slice_get, IfOk, OnOk};
+//! The points that a loop visits, by their numbers.
+
+ghost use Rattle.std.specs.Prelude.{◌≡◌, ◌≤◌, ℕ, Some, IsTrue, slice_get, IfOk};
 ghost use Rattle.std.specs.List.{AllZip};
 ghost use Rattle.sg_coord.specs.Bounds.{IsBounds};
 ghost use Rattle.sg_layout.specs.Axes.{bounds_of_shape};
+ghost use Rattle.sg_layout.specs.Rules.{all_dense};
 ghost use Rattle.sg_flat.specs.declared.effects.Domain.TheVariants.{Walk};
+ghost use Rattle.sg_flat.specs.declared.state.FlatLayout.{FlatLayout};
 ghost use Rattle.sg_flat.specs.declared.state.FlatState.{FlatState};
 ghost use Rattle.sg_store.specs.StoreWords.{StoreWords};
-ghost use Rattle.sg_flat.specs.Domain.{box_points, domain_points};
+ghost use Rattle.sg_flat.specs.Domain.{domain_points};
 ghost use Rattle.sg_store.specs.StandsFor.{StandsFor};
-ghost use Rattle.sg_exec.specs.steps.Boxes.{line_points, plane_points};
 
+use crate::batch::SIDE_BY_SIDE;
+use crate::region::{Region, region_of, region_within};
 use sg_coord::Coord;
 use sg_elements::elements_by_workers;
 use sg_flat::Domain;
-use sg_store::Stores;
+use sg_layout::dense_is_full;
+use sg_store::{Store, Stores};
 use sg_words::{Items, Memory};
-use std::alloc::{AllocError, Global};
+use std::alloc::Global;
+use std::marker::Model;
 use std::thread::Threads;
 
-/// The points that a loop visits, in row order. Those of a walk are listed by so many workers.
-pub fn domain_points<R: Threads + Sync>(
+/// The points that a loop visits, in row order. Contracts see their list; the points of a box, and of a walk over dense nodes, are
+/// found by their numbers, and no list is made of them.
+#[derive(Drop)]
+pub struct Points {
+    form: Form,
+}
+
+/// All points of a region, or listed ones.
+#[derive(Drop)]
+pub enum Form {
+    Within(Region),
+    Listed(Items<Coord>),
+}
+
+impl Model for Points {
+    ghost use Rattle.std.specs.Prelude.{List};
+    ghost use Rattle.sg_coord.specs.declared.coord.Coord.{Coord};
+    ghost use Rattle.sg_exec.specs.steps.Boxes.{points_of, IsForm};
+
+    ghost Value = { List Coord };
+
+    ghost view = { λ points. points_of points.form };
+
+    ghost invariant = { λ points. IsForm points.form };
+}
+
+impl Points {
+    ghost use Rattle.std.specs.Prelude.{◌≡◌, ◌≤◌, ◌+◌, length, take, drop, OnOk};
+    ghost use Rattle.sg_exec.specs.steps.Boxes.{IsRegion, region_points};
+
+    /// All points of a region.
+    fn within(region: Region) -> Points
+        requires { IsRegion region }
+        ensures { result ≡ region_points region }
+    {
+        Points {
+            form: Form::Within(region),
+        }
+    }
+
+    /// Listed points.
+    fn listed(list: Items<Coord>) -> Points
+        ensures { result ≡ list }
+    {
+        Points {
+            form: Form::Listed(list),
+        }
+    }
+
+    /// How many points there are.
+    pub fn len(&self) -> usize
+        ensures { result ≡ length self.now }
+    {
+        match &self.form {
+            Form::Within(region) => region.count as usize,
+            Form::Listed(list) => list.len(),
+        }
+    }
+
+    /// Makes a row of so many points, from the one with a number on.
+    pub fn fill(&self, first: usize, count: usize, row: &mut Vec<Coord>) -> Result<(), Memory>
+        requires within { first + count ≤ length self.now }
+        ensures { OnOk result (row.new.items ≡ take count (drop first self.now)) }
+    {
+        row.clear();
+        match &self.form {
+            Form::Within(region) => region.push_some(first as u32, count as u32, row),
+            Form::Listed(list) => {
+                row.extend_from_slice(&list.as_slice()[first..first + count])?;
+                Ok(())
+            }
+        }
+    }
+}
+
+/// A row for as many points as go side by side.
+pub(crate) fn row_for(alloc: Global) -> Result<Vec<Coord>, Memory> {
+    Ok(Vec::with_capacity(alloc, SIDE_BY_SIDE)?)
+}
+
+/// The points that a loop visits, in row order. Those of a walk over other nodes than dense ones are listed by so many workers.
+pub(crate) fn domain_points<R: Threads + Sync>(
     rt: &R,
     alloc: Global,
     stores: &Stores,
     domain: Domain,
     workers: u32,
-) -> Result<Items<Coord>, Memory>
+) -> Result<Points, Memory>
     requires some { 1 ≤ workers }
     ensures points { IfOk result (λ points. (state : FlatState) → AllZip StandsFor stores.now.list state.layouts →
         points ≡ domain_points state domain) }
@@ -36,147 +123,36 @@ pub fn domain_points<R: Threads + Sync>(
             Some(store) => {
                 // for the bounds that they ensure
                 let _extents = store.layout().extents();
-                elements_by_workers(rt, alloc, store, workers)
+                active_points(rt, alloc, store, workers)
             }
-            None => Ok(Items::new(alloc)),
+            None => Ok(Points::listed(Items::new(alloc))),
         },
-        Domain::Range { lo, hi } => box_points(alloc, lo, hi),
+        Domain::Range { lo, hi } => Ok(Points::within(region_of(lo, hi)?)),
     }
 }
 
-/// The points of a box. A box with an empty range has none, however long the others are.
-fn box_points(alloc: Global, lo: Coord, hi: Coord) -> Result<Items<Coord>, Memory>
-    ensures { IfOk result (λ points. points ≡ box_points lo hi) }
+/// The active coordinates of a store, in row order.
+fn active_points<R: Threads + Sync>(
+    rt: &R,
+    alloc: Global,
+    store: &Store,
+    workers: u32,
+) -> Result<Points, Memory>
+    requires some { 1 ≤ workers }
+    ensures { IfOk result (λ points. (flat : FlatLayout) → StandsFor store.now flat → points ≡ flat.active) }
 {
-    let (planes, lines, cells) = (
-        Side::first(lo, hi),
-        Side::second(lo, hi),
-        Side::third(lo, hi),
-    );
-    if lines.count() == 0 {
-        return Ok(Items::new(alloc));
+    if store.layout().shape().is_dense() {
+        return Ok(every_point(store));
     }
-    if cells.count() == 0 {
-        return Ok(Items::new(alloc));
-    }
-    let few = (planes.count() as usize).saturating_mul(lines.count() as usize);
-    let all = few.saturating_mul(cells.count() as usize);
-    let mut points = Vec::with_capacity(alloc, all)?;
-    for k in 0..planes.count() {
-        let plane = Coord {
-            n: lo.n,
-            a: planes.part(k),
-            b: 0,
-            c: 0,
-        };
-        push_plane(&mut points, plane, lines, cells)?;
-    }
-    Ok(Items::from_vec(points))
+    Ok(Points::listed(elements_by_workers(rt, alloc, store, workers)?))
 }
 
-/// Adds the points with the first part of `plane`.
-fn push_plane(
-    points: &mut Vec<Coord>,
-    plane: Coord,
-    lines: Side,
-    cells: Side,
-) -> Result<(), AllocError>
-    ensures { OnOk result (points.new.items ≡ points.old.items ++ plane_points plane lines cells) }
+/// All points of a store all of whose nodes are dense.
+fn every_point(store: &Store) -> Points
+    requires { IsTrue (all_dense store.now.shape.nodes) }
+    ensures { (flat : FlatLayout) → StandsFor store.now flat → result ≡ flat.active }
 {
-    for k in 0..lines.count() {
-        let line = Coord {
-            n: plane.n,
-            a: plane.a,
-            b: lines.part(k),
-            c: 0,
-        };
-        push_line(points, line, cells)?;
-    }
-    Ok(())
-}
-
-/// Adds the points with the first two parts of `line`.
-fn push_line(points: &mut Vec<Coord>, line: Coord, cells: Side) -> Result<(), AllocError>
-    ensures { OnOk result (points.new.items ≡ points.old.items ++ line_points line cells) }
-{
-    for k in 0..cells.count() {
-        points.push(Coord {
-            n: line.n,
-            a: line.a,
-            b: line.b,
-            c: cells.part(k),
-        })?;
-    }
-    Ok(())
-}
-
-/// The range of a box on an axis; where the box does not have the axis its one part is 0.
-#[derive(Clone, Copy)]
-struct Side {
-    used: bool,
-    lo: i32,
-    hi: i32,
-}
-
-impl Side {
-    ghost use Rattle.std.specs.Prelude.{◌≡◌, ◌<◌, Some, length, nat_le, slice_get};
-    ghost use Rattle.sg_exec.specs.steps.Boxes.{parts};
-
-    fn first(lo: Coord, hi: Coord) -> Side
-        ensures { result ≡ record { used = nat_le 1 lo.n; lo = lo.a; hi = hi.a } }
-    {
-        Side {
-            used: lo.n >= 1,
-            lo: lo.a,
-            hi: hi.a,
-        }
-    }
-
-    fn second(lo: Coord, hi: Coord) -> Side
-        ensures { result ≡ record { used = nat_le 2 lo.n; lo = lo.b; hi = hi.b } }
-    {
-        Side {
-            used: lo.n >= 2,
-            lo: lo.b,
-            hi: hi.b,
-        }
-    }
-
-    fn third(lo: Coord, hi: Coord) -> Side
-        ensures { result ≡ record { used = nat_le 3 lo.n; lo = lo.c; hi = hi.c } }
-    {
-        Side {
-            used: lo.n >= 3,
-            lo: lo.c,
-            hi: hi.c,
-        }
-    }
-
-    /// How many parts there are.
-    fn count(self) -> u32
-        ensures { result ≡ length (parts self) }
-    {
-        let Side { used, lo, hi } = self;
-        if used {
-            if hi <= lo {
-                0
-            } else {
-                (hi as i64 - lo as i64) as u32
-            }
-        } else {
-            1
-        }
-    }
-
-    /// The part of this number, from 0.
-    fn part(self, k: u32) -> i32
-        requires { k < length (parts self) }
-        ensures { slice_get (parts self) k ≡ Some result }
-    {
-        if self.used {
-            (self.lo as i64 + k as i64) as i32
-        } else {
-            0
-        }
-    }
+    // for the law that it ensures
+    dense_is_full();
+    Points::within(region_within(&store.layout().extents()))
 }

@@ -7,7 +7,7 @@ use crate::cell_write::CellWrite;
 use sg_words::Memory;
 use std::alloc::{AllocError, Global};
 
-/// Own writes that are kept: those of some workers, list after list, and behind them those of the last one.
+/// Own writes that are kept: those of some workers, list after list, and after them those of the last one.
 #[derive(Drop)]
 pub struct Puts {
     pub before: Vec<Vec<CellWrite>>,
@@ -34,7 +34,7 @@ impl Puts {
         Ok(())
     }
 
-    /// These writes, and others behind them. No write is copied.
+    /// These writes, and others after them. No write is copied.
     pub(crate) fn with(self, later: Puts) -> Result<Puts, Memory>
         ensures { IfOk result (λ all. kept_writes all ≡ kept_writes self ++ kept_writes later) }
     {

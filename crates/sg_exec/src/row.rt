@@ -5,7 +5,7 @@ ghost use Rattle.std.specs.Prelude.{◌≡◌, ◌≤◌, ◌+◌, ◌*◌, ℕ,
 
 use sg_words::Memory;
 
-/// Makes a list long enough for a row, by items `none`. False where memory is wanting.
+/// Makes a list long enough for a row, by items `none`. False if memory runs out.
 #[inline(always)]
 pub(crate) fn reaches<T: Copy>(items: &mut Vec<T>, number: u32, none: T) -> bool
     ensures long { IsTrue result → number * 32 + 32 ≤ length items.new.items }

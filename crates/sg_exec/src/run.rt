@@ -2,6 +2,7 @@ ghost use Rattle.std.specs.Prelude.{◌≡◌, ◌<◌, ◌≤◌, [], length, I
 ghost use Rattle.std.specs.List.{AllZip};
 ghost use Rattle.sg_flat.specs.declared.state.FlatState.{FlatState};
 ghost use Rattle.sg_store.specs.StandsFor.{StandsFor};
+ghost use Rattle.sg_store.specs.Links.{GrowsLinks};
 ghost use Rattle.sg_exec.specs.Standing.{shapes_of, StandForState};
 ghost use Rattle.sg_exec.specs.Running.{IsRunnable, Ran, run_meaning, load_meaning};
 ghost use Rattle.sg_exec.specs.steps.Landing.{current, with_copied_store, CopiesRan};
@@ -41,6 +42,7 @@ pub fn run_kernel<R: Threads + Sync, G: Gate + Sync>(
     requires few { workers ≤ 16 }
     ensures answer { (state : FlatState) → StandForState layouts.now.list stores.old.list state →
         Ran layouts.now.list stores.new.list result (run_meaning layouts.now.list state kernel.now) }
+    ensures links { AllZip GrowsLinks stores.old.list stores.new.list }
     ensures stays { OnErr result (stores.new ≡ stores.old) }
 {
     let _layouts = layouts;
@@ -61,6 +63,7 @@ pub fn load_rows<R: Threads + Sync>(
 ) -> Result<(), Stop<RunFault>>
     ensures answer { (state : FlatState) → StandForState layouts.now.list stores.old.list state →
         Ran layouts.now.list stores.new.list result (load_meaning layouts.now.list state rows.now) }
+    ensures links { AllZip GrowsLinks stores.old.list stores.new.list }
     ensures stays { OnErr result (stores.new ≡ stores.old) }
 {
     let _layouts = layouts;
@@ -89,11 +92,10 @@ pub(crate) fn kernel_made<R: Threads + Sync, G: Gate + Sync>(
     closure_members();
     closure_closes();
     let points = domain_points(rt, alloc, stores, kernel.domain, workers)?;
-    let points = points.as_slice();
     let slice = kernel.slice.body.as_slice();
-    let copies = activated_for_slice(rt, alloc, stores, points, slice, workers, gate)?;
+    let copies = activated_for_slice(rt, alloc, stores, &points, slice, workers, gate)?;
     let code = kernel.code.body.as_slice();
-    let ended = raced_points(rt, alloc, stores, &copies, points, code, workers, gate)?;
+    let ended = raced_points(rt, alloc, stores, &copies, &points, code, workers, gate)?;
     let room = room_for(alloc, stores)?;
     Ok(Made {
         copies,
@@ -121,6 +123,7 @@ fn loaded_copies<R: Threads + Sync>(
         CopiesRan (λ copies. current copies.items stores.now.list) (shapes_of stores.now.list) result
         (load_meaning (shapes_of stores.now.list) state rows.now) }
     ensures room { IfOk result (λ copies. length copies.items ≡ length stores.now.list) }
+    ensures links { IfOk result (λ copies. AllZip GrowsLinks stores.now.list (current copies.items stores.now.list)) }
 {
     // for the laws that they ensure
     numbering(&ONE_POINT);

@@ -78,7 +78,7 @@ pub(crate) fn value_held(view: &View, known: Option<Known>, held: Held, field: u
     }
 }
 
-/// The cell of a spot in a layout's store. None where the spot is another layout's.
+/// The cell of a spot in a layout's store. None if the spot is another layout's.
 #[inline(always)]
 pub(crate) fn cell_held(view: &View, known: Option<Known>, held: Held, layout: u32) -> Option<u32>
     requires known { IfSome known (λ known. IsStoreOf view.now known.layout known.store.now) }
@@ -97,7 +97,7 @@ pub(crate) fn cell_held(view: &View, known: Option<Known>, held: Held, layout: u
     }
 }
 
-/// The spot one node below, over an offset. None where there is no such node, where the offset isn't below its size, and where the slot
+/// The spot one node below, over an offset. None if there is no such node, where the offset isn't below its size, and where the slot
 /// isn't active.
 #[inline(always)]
 fn spot_below(store: &Store, spot: Spot, node: u32, offset: u32) -> Option<Spot>
@@ -143,7 +143,7 @@ fn can_step(layout: &Layout, node: u32, offset: u32) -> bool
     offset < layout.size(index)
 }
 
-/// The cell of a spot: none where the spot isn't after the last node.
+/// The cell of a spot: none if the spot isn't after the last node.
 fn cell_under(store: &Store, spot: Spot) -> Option<u32>
     requires leads { IsSpot store.now spot }
     ensures reached { IfSome result (IsReached store.now) }
@@ -156,7 +156,7 @@ fn cell_under(store: &Store, spot: Spot) -> Option<u32>
     Some(store.cell_at(spot))
 }
 
-/// The value of a field, from 0, at a spot: 0 where the spot isn't after the last node, and where there is no such field.
+/// The value of a field, from 0, at a spot: 0 if the spot isn't after the last node, and if there is no such field.
 #[inline(always)]
 fn value_in(store: &Store, spot: Spot, field: u32) -> u32
     requires leads { IsSpot store.now spot }

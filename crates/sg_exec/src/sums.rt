@@ -10,7 +10,7 @@ ghost use Rattle.sg_flat.specs.Effects.{writes_of};
 ghost use Rattle.sg_ir.specs.Apt.{uses_in};
 ghost use Rattle.sg_store.specs.StoreWords.{StoreWords, word_in};
 ghost use Rattle.sg_store.specs.StandsFor.{StandsFor};
-ghost use Rattle.sg_store.specs.WellFormed.{IsFieldRow};
+ghost use Rattle.sg_store.specs.Rows.{IsFieldFront};
 ghost use Rattle.sg_exec.specs.declared.shared.Accumulated.{Accumulated};
 ghost use Rattle.sg_exec.specs.steps.Machines.{Sees, AreCells};
 ghost use Rattle.sg_exec.specs.steps.Moments.{AreNamedAt};
@@ -25,6 +25,7 @@ use crate::effort::effort_of;
 use crate::fields::written_fields;
 use crate::hand::Hand;
 use crate::made::Ended;
+use crate::points::Points;
 use crate::puts::Puts;
 use crate::shared::{Accumulated, Owned};
 use crate::values::ONE_POINT;
@@ -32,7 +33,7 @@ use crate::workers::race;
 use crate::written_fields::WrittenFields;
 use sg_accum::AccSeat;
 use sg_activate::workers_at;
-use sg_coord::{Coord, numbering, slices_partition};
+use sg_coord::{numbering, slices_partition};
 use sg_ir::Inst;
 use sg_layout::{closure_closes, closure_members, paths_tell};
 use sg_outside::Gate;
@@ -45,7 +46,8 @@ use std::thread::Threads;
 /// The share of a pass's first seat.
 const SHARE: u32 = 16;
 
-/// The values of all cells of an accumulated field, at the end of its pass; in parts, one after the other.
+/// The values of the first cells of an accumulated field, with all reached ones among them, at the end of its pass; in parts, one after the
+/// other.
 #[derive(Drop)]
 pub struct Sum {
     pub layout: u32,
@@ -60,7 +62,7 @@ pub(crate) fn raced_points<R: Threads + Sync, G: Gate + Sync>(
     alloc: Global,
     stores: &Stores,
     reached: &[Option<Store>],
-    points: &[Coord],
+    points: &Points,
     code: &[Inst],
     workers: u32,
     gate: &G,
@@ -97,7 +99,7 @@ fn raced<R: Threads + Sync, G: Gate + Sync>(
     alloc: Global,
     stores: &Stores,
     reached: &[Option<Store>],
-    points: &[Coord],
+    points: &Points,
     code: &[Inst],
     accumulated: &[Accumulated],
     seats: Vec<AccSeat>,
@@ -206,10 +208,10 @@ fn finish<R: Threads + Sync>(
     })
 }
 
-/// Gives a field of a store its values.
+/// Gives a field of a store its values in the first cells.
 pub(crate) fn put_sum(store: &mut Store, sum: &Sum)
     requires field { sum.now.field < length store.old.shape.fields }
-    requires row { IsFieldRow store.old (words_of sum.now) }
+    requires row { IsFieldFront store.old (words_of sum.now) }
     ensures set { store.new ≡ with_row store.old sum.now.field (words_of sum.now) }
     ensures lands { (stores : List StoreWords) (base : StoreWords) (writes : List Write) →
         IsSumOf stores sum.now.layout sum.now.field (words_of sum.now) writes → slice_get stores sum.now.layout ≡ Some base → HasTree base store.old →
@@ -226,7 +228,7 @@ pub(crate) fn put_sum(store: &mut Store, sum: &Sum)
     store.layout();
     let parts = sum.words.as_slice();
     are_low(parts);
-    store.set_field_row(sum.field, parts);
+    store.set_field_front(sum.field, parts);
 }
 
 /// The words of parts are below 2^32. It changes nothing.

@@ -3,7 +3,7 @@
 ghost use Rattle.std.specs.Prelude.{◌≡◌, ◌==◌, [], false, filter};
 ghost use Rattle.sg_exec.specs.steps.Turning.{turn_count, WantsNone, BlockWantsNone, InstWantsNone, BlockSeeksNone, InstSeeksNone};
 
-use sg_coord::Coord;
+use crate::points::Points;
 use sg_flat::Write;
 use sg_ir::Inst;
 
@@ -11,7 +11,7 @@ use sg_ir::Inst;
 #[derive(Clone, Copy)]
 pub enum Turns<'a> {
     Slice {
-        points: &'a [Coord],
+        points: &'a Points,
         block: &'a [Inst],
     },
     Rows(&'a [Write]),

@@ -18,7 +18,7 @@ pub(crate) const ONE_POINT: Extents = Extents {
     c: 1,
 };
 
-/// The value of a field of a store, from 0, in a cell: 0 where there is no cell, and where there is no such field.
+/// The value of a field of a store, from 0, in a cell: 0 if there is no cell, and if there is no such field.
 #[inline(always)]
 pub(crate) fn value_in(store: &Store, place: u32, cell: Option<u32>) -> u32
     requires cell { IfSome cell (IsReached store.now) }

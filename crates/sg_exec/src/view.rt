@@ -3,7 +3,7 @@ ghost use Rattle.std.specs.Prelude.{◌≡◌, get_or, unwrap_or, None};
 use sg_store::{Store, Stores};
 use std::marker::Model;
 
-/// The stores that iterations see, in order of declaration: for each layout the copy of its store, or the store where there is no
+/// The stores that iterations see, in order of declaration: for each layout the copy of its store, or the store if there is no
 /// copy. Contracts see the list of these stores.
 #[derive(Drop)]
 pub struct View<'a> {
@@ -39,7 +39,7 @@ impl<'a> View<'a> {
         self.stores.list.len()
     }
 
-    /// The store of a layout, from 0; none where there is no such layout.
+    /// The store of a layout, from 0; none if there is no such layout.
     #[inline(always)]
     pub fn get(&self, layout: u32) -> Option<&'a Store>
         ensures value { option_map (λ store. store.now) result ≡ slice_get self.now layout }

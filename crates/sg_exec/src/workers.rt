@@ -1,4 +1,4 @@
-ghost use Rattle.std.specs.Prelude.{◌≡◌, ◌++◌, ◌+◌, ◌-◌, ◌/◌, ◌≤◌, ◌<◌, ℕ, length, take, Contains, IfOk, OnOk, Some, slice_get};
+ghost use Rattle.std.specs.Prelude.{◌≡◌, ◌++◌, ◌+◌, ◌-◌, ◌/◌, ◌≤◌, ◌<◌, ℕ, length, take, drop, IfOk, OnOk, Some, slice_get};
 ghost use Rattle.sg_coord.specs.declared.coord.Coord.{Coord};
 ghost use Rattle.sg_exec.specs.declared.hand.Hand.{Hand};
 ghost use Rattle.sg_exec.specs.steps.Moments.{IsOver};
@@ -18,6 +18,7 @@ ghost use Rattle.sg_exec.specs.steps.Puts.{kept_writes};
 use crate::batch::{Batch, SIDE_BY_SIDE, batch_for, iterate_all};
 use crate::contributions::{give_all, put_all};
 use crate::hand::{Hand, both, divided, rest_of};
+use crate::points::{Points, row_for};
 use crate::shared::{Accumulated, Owned};
 use sg_coord::{Coord, slice_of};
 use sg_ir::Inst;
@@ -38,7 +39,7 @@ pub(crate) fn race<R: Threads + Sync, G: Gate + Sync>(
     alloc: Global,
     stores: &Stores,
     reached: &[Option<Store>],
-    points: &[Coord],
+    points: &Points,
     code: &[Inst],
     accumulated: &[Accumulated],
     owned: &[Owned],
@@ -185,7 +186,7 @@ fn work_apart<R: Threads + Sync, G: Gate + Sync>(
     alloc: Global,
     stores: &Stores,
     reached: &[Option<Store>],
-    points: &[Coord],
+    points: &Points,
     code: &[Inst],
     accumulated: &[Accumulated],
     owned: &[Owned],
@@ -240,7 +241,7 @@ fn work<G: Gate>(
     alloc: Global,
     stores: &Stores,
     reached: &[Option<Store>],
-    points: &[Coord],
+    points: &Points,
     code: &[Inst],
     accumulated: &[Accumulated],
     owned: &[Owned],
@@ -261,8 +262,8 @@ fn work<G: Gate>(
         accumulated.now owned.now hand) }
 {
     let (from, to) = slice_of(points.len(), all, worker);
-    let mine = &points[from..to];
     let mut batch = batch_for(alloc, stores, reached)?;
+    let mut row = row_for(alloc)?;
     work_all(
         stores,
         reached,
@@ -272,39 +273,46 @@ fn work<G: Gate>(
         owned,
         gate,
         worker,
-        mine,
+        from,
+        to,
+        &mut row,
         &mut batch,
         hand,
     )
 }
 
-/// The iterations at all these points, up to 32 side by side.
+/// The iterations at the points from one number up to below another, up to 32 side by side.
 fn work_all<G: Gate>(
     stores: &Stores,
     reached: &[Option<Store>],
-    points: &[Coord],
+    points: &Points,
     code: &[Inst],
     accumulated: &[Accumulated],
     owned: &[Owned],
     gate: &G,
     worker: u32,
-    mine: &[Coord],
+    from: usize,
+    to: usize,
+    row: &mut Vec<Coord>,
     batch: &mut Batch,
     hand: Hand,
 ) -> Result<Hand, Memory>
-    requires among { (at : Coord) → Contains mine.now at → Contains points.now at }
+    requires order { from ≤ to }
+    requires within { to ≤ length points.now }
     requires over { IsOver (current reached.now stores.now.list) batch.old }
     requires passes { ArePasses (current reached.now stores.now.list) accumulated.now }
     requires seats { AreSeats accumulated.now hand.seats.items }
     requires cells { AreCells (current reached.now stores.now.list) (kept_writes hand.puts) }
     ensures seats { IfOk result (λ after. AreSeats accumulated.now after.seats.items) }
     ensures cells { IfOk result (λ after. AreCells (current reached.now stores.now.list) (kept_writes after.puts)) }
-    ensures ran { IfOk result (HasRunAt (current reached.now stores.now.list) code.now points.now mine.now accumulated.now owned.now hand) }
+    ensures ran { IfOk result (HasRunAt (current reached.now stores.now.list) code.now points.now (between from to points.now)
+        accumulated.now owned.now hand) }
 {
     let mut hand = hand;
-    for number in 0..mine.len().div_ceil(SIDE_BY_SIDE) {
+    let all = to - from;
+    for number in 0..all.div_ceil(SIDE_BY_SIDE) {
         let first = number * SIDE_BY_SIDE;
-        let count = (mine.len() - first).min(SIDE_BY_SIDE);
+        let count = (all - first).min(SIDE_BY_SIDE);
         work_some(
             stores,
             reached,
@@ -314,9 +322,10 @@ fn work_all<G: Gate>(
             owned,
             gate,
             worker,
-            mine,
+            from,
             first,
             count,
+            row,
             batch,
             &mut hand,
         )?;
@@ -324,25 +333,25 @@ fn work_all<G: Gate>(
     Ok(hand)
 }
 
-/// So many iterations at the points from one number on, side by side. Before each one's contributions the worker passes the gate.
+/// So many iterations at the worker's points from one number on, side by side. Before each one's contributions the worker passes the gate.
 fn work_some<G: Gate>(
     stores: &Stores,
     reached: &[Option<Store>],
-    points: &[Coord],
+    points: &Points,
     code: &[Inst],
     accumulated: &[Accumulated],
     owned: &[Owned],
     gate: &G,
     worker: u32,
-    mine: &[Coord],
+    from: usize,
     first: usize,
     count: usize,
+    row: &mut Vec<Coord>,
     batch: &mut Batch,
     hand: &mut Hand,
 ) -> Result<(), Memory>
     requires few { count ≤ 32 }
-    requires room { first + count ≤ length mine.now }
-    requires among { (at : Coord) → Contains mine.now at → Contains points.now at }
+    requires room { from + first + count ≤ length points.now }
     requires over { IsOver (current reached.now stores.now.list) batch.old }
     requires passes { ArePasses (current reached.now stores.now.list) accumulated.now }
     requires seats { AreSeats accumulated.now hand.old.seats.items }
@@ -351,11 +360,13 @@ fn work_some<G: Gate>(
     ensures seats { OnOk result (AreSeats accumulated.now hand.new.seats.items) }
     ensures cells { OnOk result (AreCells (current reached.now stores.now.list) (kept_writes hand.new.puts)) }
     ensures ran { OnOk result ((start : Hand) →
-        HasRunAt (current reached.now stores.now.list) code.now points.now (take first mine.now) accumulated.now owned.now start hand.old →
-        HasRunAt (current reached.now stores.now.list) code.now points.now (take (first + count) mine.now) accumulated.now owned.now start hand.new) }
+        HasRunAt (current reached.now stores.now.list) code.now points.now (take first (drop from points.now)) accumulated.now owned.now start hand.old →
+        HasRunAt (current reached.now stores.now.list) code.now points.now (take (first + count) (drop from points.now)) accumulated.now owned.now start hand.new) }
 {
-    let _points = points;
-    iterate_all(stores, reached, batch, &mine[first..first + count], code)?;
+    // for the bound that it ensures
+    let _all = points.len();
+    points.fill(from + first, count, row)?;
+    iterate_all(stores, reached, batch, row.as_slice(), code)?;
     for k in 0..count {
         let turn = u32::try_from(first + k).unwrap_or(u32::MAX);
         gate.before(Phase::Values, worker, turn);

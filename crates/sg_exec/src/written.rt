@@ -89,7 +89,7 @@ impl Written {
     }
 }
 
-/// Puts an own write in the place of the one to the same field, or behind all where there is none.
+/// Puts an own write in the place of the one to the same field, or after all if there is none.
 #[inline(always)]
 fn remember(own: &mut Vec<CellWrite>, write: CellWrite) -> Result<(), Memory>
     ensures ok { OnOk result (own.new.items ≡ replaced write own.old.items) }

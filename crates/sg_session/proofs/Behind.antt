@@ -1,4 +1,4 @@
--- One more answer behind those that are there.
+-- One more answer after those that are there.
 use Rattle.std.proofs.Common.{◌≡◌, ℕ, suc, ◌+◌, ◌-◌, ◌<◌, List, [], ◌∷◌, ◌++◌, length, length-append, Result, Ok, Err, refl, sym, ap, ◌∙◌, add-one, append_assoc, arith}
 use Rattle.std.specs.List.{repeat}
 use Rattle.sg_words.specs.Results.{◌>>=◌, fault_as}

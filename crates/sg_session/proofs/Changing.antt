@@ -16,10 +16,6 @@ pub record HasChanged (change : Shape → FlatLayout → FlatLayout) (store now 
   pub shape : now.shape ≡ store.shape
   pub stands : (flat : FlatLayout) → StandsFor store flat → StandsFor now (change store.shape flat)
 
--- a copy that has changed
-pub copy_changed : (change : Shape → FlatLayout → FlatLayout) (store copy now : StoreWords) → copy ≡ store → now.shape ≡ copy.shape → ((flat : FlatLayout) → StandsFor copy flat → StandsFor now (change copy.shape flat)) → HasChanged change store now
-copy_changed change store copy now same shape stands = subst (λ (s : StoreWords). HasChanged change s now) same (record { shape = shape; stands = stands })
-
 shapes_stay : (stores : List StoreWords) (k : ℕ) (store now : StoreWords) → slice_get stores k ≡ Some store → now.shape ≡ store.shape → shapes_of (slice_set stores k now) ≡ shapes_of stores
 shapes_stay [] k store now there same = absurd (cc)
 shapes_stay (other ∷ stores) zero store now there same =

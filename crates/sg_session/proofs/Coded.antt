@@ -47,7 +47,7 @@ walks_same : (world : World) (d : TypedDomain) (layout : ℕ) → walks (domain_
 walks_same world (domain.Walk walked) layout = refl
 walks_same world (domain.Ranges ranges) layout = refl
 
--- a write of code may activate exactly where the kernel's may
+-- a write of code may activate exactly when the kernel's may
 activates_same : (shapes : List Shape) (world : World) (d : TypedDomain) (write : Write)
     → apt.may_activate (domain_of world d) (code_write shapes write) ≡ admit.may_activate (walked_by d) write.layout write.way
 activates_same shapes world d write =
@@ -137,7 +137,7 @@ lowered_is constant own_stand shapes kernel (Err why) lowerable goes writes want
 
 -- ---- simplified code
 
--- where code tells the same, its turns are the same
+-- if code tells the same, its turns are the same
 turn_same : (shapes : List Shape) (given made : KernelCode) → AreSimplified shapes given made → (state : FlatState) → IsFlat shapes state → (at : Coord) → Contains (domain_points state given.domain) at
     → code_turn shapes state made at ≡ code_turn shapes state given at
 turn_same shapes given made simple state fine at has =

@@ -1,4 +1,4 @@
--- A guarded body writes nothing where all fields of the walked layout are 0.
+-- A guarded body writes nothing if all fields of the walked layout are 0.
 use Rattle.std.proofs.Common.{◌≡◌, ℕ, ◌+◌, ◌<◌, ◌≤◌, true, false, not, ◌&&◌, ◌==◌, if◌then◌else◌, List, [], ◌∷◌, map, length, get_or, drop, Option, None, refl, sym, ap, ◌∙◌, arith}
 use Rattle.std.specs.List.{AllByRecursion}
 use Rattle.std.proofs.lemmas.Bool.{and_parts, both_ways, eqb-true, not-true}
@@ -24,7 +24,7 @@ use Rattle.sg_types.proofs.Uses.{by_exprs, value-Literal, value-Var, value-Read,
 use Rattle.sg_admit.specs.Rules.{is_name_of, are_names}
 use Rattle.sg_admit.specs.Neutral.{Guard, bin_guard, guard_step, guard_of, is_guard, is_guarded_body}
 
--- ---- what typing keeps: without `else` there are no statements behind one
+-- ---- what typing keeps: without `else` there are no statements after one
 
 abbrev pub HasPlainElse : TypedKind-F TypedKind TypedStmt → Type 0
 HasPlainElse (k.If condition block otherwise has_else) = has_else ≡ false → otherwise ≡ []

@@ -58,7 +58,7 @@ put_before : {Y : Type 0} (P : Y → Type 0) (o : Option Y) (ys : List Y) → ((
 put_before P None ys each all = all
 put_before P (Some y) ys each all = (each y refl, all)
 
--- where a function gives only what a fact holds of, so does the list of what it gives
+-- if a function gives only what a fact holds of, so does the list of what it gives
 all_given : {X Y : Type 0} (P : Y → Type 0) (f : X → Option Y) (xs : List X) → ((x : X) (y : Y) → f x ≡ Some y → P y) → AllByRecursion P (filter_map f xs)
 all_given P f [] each = tt
 all_given P f (x ∷ xs) each = put_before P (f x) (filter_map f xs) (each x) (all_given P f xs each)

@@ -13,6 +13,7 @@ mod KernelLines
 mod Numbered
 pub mod Viewing
 pub mod Changing
+mod LinksKept
 mod TasksKept
 pub mod Uses
 mod SameLayouts

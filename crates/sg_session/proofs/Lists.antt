@@ -33,7 +33,7 @@ option_some f (Some x) y e = (x, refl)
 pub at_place : {X : Type 0} (xs ys : List X) (k : ℕ) (x : X) → ys ≡ xs → k < length xs → x ≡ get_or ys k x → slice_get xs k ≡ Some x
 at_place xs ys k x same below is = slice_get_read xs (length xs) k x refl below (is ∙ ap (λ zs. get_or zs k x) same)
 
--- where a function of an option gives something, the option has something
+-- if a function of an option gives something, the option has something
 pub then_some : {X Y : Type 0} (f : X → Option Y) (o : Option X) (y : Y) → option_and_then f o ≡ Some y → (x : X) × (o ≡ Some x)
 then_some f None y e = absurd (cc)
 then_some f (Some x) y e = (x, refl)

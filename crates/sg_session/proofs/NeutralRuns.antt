@@ -55,7 +55,7 @@ writes_of_turns world kernel (at ∷ ats) = ap (λ (ws : List Write). writes_at 
 
 -- ---- walks
 
--- What is written at a coordinate of a layout is nothing where all values there are 0: then it is the same from the active coordinates of both.
+-- What is written at a coordinate of a layout is nothing if all values there are 0: then it is the same from the active coordinates of both.
 module _ (laws : FlatLaws) (w : Coord → List Write) where
   abbrev NoneAt : Pair → Type 0
   NoneAt pair = (at : Coord) → Inside (bounds_of_shape pair.one_shape) at → ((place : ℕ) → value_at pair.one_shape pair.one place at ≡ 0) → w at ≡ []
@@ -119,7 +119,7 @@ module _ (laws : FlatLaws) (shapes shapes' : List Shape) (state state' : FlatSta
   typed_domain : is_well_typed_domain shapes kernel.vars kernel.domain ≡ true
   typed_domain = (and_parts _ _ (and_parts _ _ fit.typed).0).0
 
-  -- an iteration of a guarded body writes nothing where all values are 0
+  -- an iteration of a guarded body writes nothing if all values are 0
   none_at : (number : ℕ) → is_guarded_body number kernel.vars kernel.body ≡ true → equals_some (axes_in shapes number) kernel.vars ≡ true → (pair : Pair) → slice_get same.pairs number ≡ Some pair
       → NoneAt laws (writes_at one kernel) pair
   none_at number guarded axes pair is at inside zeros =

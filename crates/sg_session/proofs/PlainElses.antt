@@ -1,4 +1,4 @@
--- In a typed kernel there are no statements behind an `else` that isn't there.
+-- In a typed kernel there are no statements after an `else` that isn't there.
 use Rattle.std.proofs.Common.{◌≡◌, ℕ, Bool, true, false, List, [], ◌∷◌, map, Option, Some, None, Result, Ok, sym, ap, ◌∙◌, subst}
 use Rattle.std.specs.Prelude.{option_map, option_and_then, if◌then◌else◌}
 use Rattle.std.specs.List.{list_all}
@@ -47,7 +47,7 @@ loop_reached name at = with_variable name ty.I32 true (next_statement at)
 abbrev kernel_of : KernelDecl → TypedDomain → List TypedStmt × Reached → TypedKernel
 kernel_of decl loop done = record { vars = length decl.vars; domain = loop; types = done.1.types; body = done.0 }
 
--- a kind has no statements behind an `else` that isn't there
+-- a kind has no statements after an `else` that isn't there
 abbrev IsPlain : TypedKind → Type 0
 IsPlain it = HasPlainElse (out-TypedKind it)
 

@@ -90,7 +90,7 @@ module _ (laws : FlatLaws) where
     zero_at at inside out zero (words ∷ fields) all = zero_if (is_inside bounds at) (word_at words (row_of bounds at)) (zero_word at inside out words all.0)
     zero_at at inside out (suc place) (words ∷ fields) all = zero_at at inside out place fields all.1
 
-    -- where nothing is written from points without values, the writes from the active coordinates are those from all points
+    -- if nothing is written from points without values, the writes from the active coordinates are those from all points
     pub walk_writes : (w : Coord → List Write) → ((at : Coord) → Inside (bounds_of_shape shape) at → ((place : ℕ) → value_at shape flat place at ≡ 0) → w at ≡ []) → flat_map w flat.active ≡ flat_map w (points (bounds_of_shape shape))
     walk_writes w none =
         ap (flat_map w) is.closed
@@ -136,7 +136,7 @@ module _ (laws : FlatLaws) where
     pub valued_after : IsValued shape flat → IsValued shape (layout_after number shape flat turns)
     valued_after is = record { given = wanted; closed = refl; valued = fields_active 0 shape.fields flat.fields is.valued }
 
--- the fields after a run hang on the writes alone
+-- the fields after a run depend on the writes alone
 fields_of_writes : (extents : Bounds) (number place : ℕ) (types : List Ty) (fields : List (List (ℕ × ℕ))) (ones others : List Turn) → writes_of ones ≡ writes_of others
     → fields_after extents number place types fields ones ≡ fields_after extents number place types fields others
 fields_of_writes extents number place [] fields ones others same = refl
@@ -264,7 +264,7 @@ others_after : (number : ℕ) (turns turns' : List Turn) (pairs : List Pair) →
 others_after number turns turns' [] = refl
 others_after number turns turns' (pair ∷ pairs) = ap (λ (ls : List FlatLayout). layout_after number pair.other_shape pair.other turns' ∷ ls) (others_after (suc number) turns turns' pairs)
 
--- where no write is outside, each layout is written inside
+-- if no write is outside, each layout is written inside
 each_stays : (laws : FlatLaws) (shapes : List Shape) (turns : List Turn) → first_outside shapes turns ≡ None → (k : ℕ) (shape : Shape) → slice_get shapes k ≡ Some shape → StaysIn k shape (writes_of turns)
 each_stays laws shapes turns none k shape is write there to =
     let passes : is_inside_its shapes write ≡ true = All-contains (λ (w : Write). is_inside_its shapes w ≡ true) (writes_of turns) write (AllPass-from_list_all (is_inside_its shapes) (writes_of turns) (all_inside shapes turns none)) there in

@@ -43,7 +43,7 @@ use Rattle.sg_session.proofs.NeutralRuns.{IsFit, KeepRules, neutral_run}
 
 -- ---- freeing
 
--- where a test of one in a list holds, some of the list passes
+-- if a test of one in a list holds, some of the list passes
 some_of : {X : Type 0} (test : X → Bool) (xs : List X) → AllByRecursion (λ x. test x ≡ true → list_any test xs ≡ true) xs
 some_of {X} test [] = tt
 some_of {X} test (x ∷ xs) = ((λ h. or_left (test x) (list_any test xs) h), later xs (some_of test xs))

@@ -88,7 +88,7 @@ compiled_tree program = do
 unfoldable pub compiled_program : List ℕ → Result CheckedProgram Refusal
 compiled_program bytes = spelled_program bytes >>= compiled_tree
 
--- what compiling answered is what is defined: with Ok what the defined program is compiled to; a refusal is the defined one; want of memory is free
+-- what compiling answered is what is defined: with Ok what the defined program is compiled to; a refusal is the defined one; running out of memory is free
 abbrev pub CompilesAs : {A : Type 0} → (A → CompiledProgram) → Result A (Stop Refusal) → Result CheckedProgram Refusal → Type 0
 CompilesAs view (Ok value) meaning = IsOkAnd meaning (λ program. Compiles program (view value))
 CompilesAs view (Err stop.Memory) meaning = Unit {0}

@@ -59,11 +59,11 @@ left_by program readings place (task ∷ tasks) state = do
   more ← left_by program readings (suc place) tasks left.state
   Ok (left ∷ more)
 
--- what each command of a program leaves, from the opening state on, where none is refused
+-- what each command of a program leaves, from the opening state on, if none is refused
 abbrev pub left_by_program : CheckedProgram → (ℕ → Reading) → Result (List Left) RunRefusal
 left_by_program program readings = left_by program readings 0 (unfolded_tasks program.commands) (opening program.layouts)
 
--- the state behind all of them
+-- the state after all of them
 abbrev pub last_after : FlatState → List Left → FlatState
 last_after state [] = state
 last_after state (left ∷ more) = last_after left.state more
@@ -88,7 +88,7 @@ abbrev pub is_image : Task → Bool
 is_image (Image field lo hi) = true
 is_image _ = false
 
--- what one command leaves in two runs: states with the same values, and the same text where it is an image
+-- what one command leaves in two runs: states with the same values, and the same text if it is an image
 pub record LeaveSame (shapes shapes' : List Shape) (task : Task) (left right : Left) : Type 0 where
   pub values : HaveSameValues shapes shapes' left.state right.state
   pub image : is_image task ≡ true → left.text ≡ right.text

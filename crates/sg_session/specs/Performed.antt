@@ -36,13 +36,13 @@ pub record LeavesMeaning (layouts : List Shape) (stores : List StoreWords) (text
   pub text_is : text ≡ left.text
 
 -- what a step answered is what its command means: with Ok its text, and the stores stand for the state after it; a refusal is that of the
--- meaning; want of memory is free
+-- meaning; running out of memory is free
 abbrev pub Performs : List Shape → List StoreWords → Result Text (Stop RunRefusal) → Result Left RunRefusal → Type 0
 Performs layouts stores (Ok text) meaning = LeavesMeaning layouts stores text.bytes meaning
 Performs layouts stores (Err stop.Memory) meaning = Unit {0}
 Performs layouts stores (Err (stop.Refused refusal)) meaning = meaning ≡ Err refusal
 
--- what the read of a file that may be there gave, where the files tell what they hold: nothing where it failed, which a step tells by
+-- what the read of a file that may be there gave, where the files tell what they hold: nothing if it failed, which a step tells by
 -- its refusal alone
 abbrev pub reading_of : Held → Option (List ℕ) → Result Text (Stop RunRefusal) → Reading
 reading_of held None result = Missing
@@ -54,7 +54,7 @@ abbrev pub StepCause : Result Text (Stop RunRefusal) → ℕ → ℕ → Type 0
 StepCause (Err (stop.Refused (refusal.Read field))) before now = Rose before now
 StepCause _ before now = now ≡ before
 
--- the count of reads after a task with this file: one more where it has one
+-- the count of reads after a task with this file: one more if it has one
 abbrev pub reads_after : Option (List ℕ) → ℕ → ℕ
 reads_after None reads = reads
 reads_after (Some name) reads = one_more reads

@@ -80,7 +80,7 @@ fn with_names(alloc: Global, program: &Program, names: Names) -> Result<Compiled
     }
 }
 
-/// What a program is compiled to, but for its names.
+/// What a program is compiled to, except for its names.
 #[derive(Drop)]
 struct Parts {
     layouts: Layouts,

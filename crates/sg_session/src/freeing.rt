@@ -2,6 +2,8 @@
 
 ghost use Rattle.std.specs.Prelude.{◌≡◌, ◌<◌, false, length, OnErr};
 ghost use Rattle.sg_flat.specs.declared.state.FlatState.{FlatState};
+ghost use Rattle.std.specs.List.{AllZip};
+ghost use Rattle.sg_store.specs.Links.{GrowsLinks};
 ghost use Rattle.sg_exec.specs.Standing.{StandForState};
 ghost use Rattle.sg_store.specs.Pruning.{pruned};
 ghost use Rattle.sg_session.specs.Commands.{layout_made, cleared_layout};
@@ -28,11 +30,10 @@ pub fn prune(
         Performs compiled.now.layouts stores.new.list result (layout_made pruned compiled.now.layouts state layout) }
     ensures stand { HasState compiled.now.layouts stores.new.list }
     ensures read { is_read_refusal result ≡ false }
+    ensures links { AllZip GrowsLinks stores.new.list stores.old.list }
     ensures stays { OnErr result (stores.new ≡ stores.old) }
 {
-    let mut store = stores.list.as_slice()[layout as usize].copy(alloc)?;
-    store.prune(alloc)?;
-    stores.list.set(layout as usize, store);
+    stores.prune(alloc, layout as usize)?;
     Ok(no_text(alloc))
 }
 
@@ -49,10 +50,9 @@ pub fn clear(
         Performs compiled.now.layouts stores.new.list result (layout_made cleared_layout compiled.now.layouts state layout) }
     ensures stand { HasState compiled.now.layouts stores.new.list }
     ensures read { is_read_refusal result ≡ false }
+    ensures links { AllZip GrowsLinks stores.new.list stores.old.list }
     ensures stays { OnErr result (stores.new ≡ stores.old) }
 {
-    let mut store = stores.list.as_slice()[layout as usize].copy(alloc)?;
-    store.clear(alloc)?;
-    stores.list.set(layout as usize, store);
+    stores.clear(alloc, layout as usize)?;
     Ok(no_text(alloc))
 }

@@ -3,6 +3,8 @@
 ghost use Rattle.std.specs.Prelude.{◌≡◌, ◌≤◌, false, map, Some, IsSome, OnErr, IfOk};
 ghost use Rattle.std.specs.Option.{option_copied};
 ghost use Rattle.sg_flat.specs.declared.state.FlatState.{FlatState};
+ghost use Rattle.std.specs.List.{AllZip};
+ghost use Rattle.sg_store.specs.Links.{GrowsLinks};
 ghost use Rattle.sg_exec.specs.Standing.{StandForState};
 ghost use Rattle.sg_outside.specs.Files.{Held, Reading, Bytes};
 ghost use Rattle.sg_session.specs.Compiled.{IsField};
@@ -30,6 +32,7 @@ use std::thread::Threads;
 const GRID_LIMIT: u64 = 1 << 24;
 
 /// Reads the file of a field and loads its grid.
+#[tactic(auto, using(crate::proofs::LinksKept::links_itself))]
 pub fn load<R: Threads + Sync, F: Files>(
     rt: &R,
     alloc: Global,
@@ -47,6 +50,7 @@ pub fn load<R: Threads + Sync, F: Files>(
         (reading_of held (file_of_field compiled.now.names (map binding_read binds.now.list) at) result)) }
     ensures performed { (state : FlatState) → StandForState compiled.now.layouts stores.old.list state →
         (given : Reading) × Performs compiled.now.layouts stores.new.list result (load_made compiled.now.layouts state at given) }
+    ensures links { AllZip GrowsLinks stores.old.list stores.new.list }
     ensures stays { OnErr result (stores.new ≡ stores.old) }
     ensures holds { F.holds files.new ≡ F.holds files.old }
     ensures asked { F.asked files.new ≡ asked_after (file_of_field compiled.now.names (map binding_read binds.now.list) at) (F.asked files.old) }
@@ -75,6 +79,7 @@ fn file_of_field<'a>(compiled: &Compiled, binds: &'a Binds, at: FieldAt) -> Opti
 }
 
 /// Loads the grid that these bytes are.
+#[tactic(auto, using(crate::proofs::LinksKept::links_itself))]
 fn load_bytes<R: Threads + Sync>(
     rt: &R,
     alloc: Global,
@@ -87,6 +92,7 @@ fn load_bytes<R: Threads + Sync>(
     ensures performed { (state : FlatState) → StandForState compiled.now.layouts stores.old.list state →
         Performs compiled.now.layouts stores.new.list result (load_made compiled.now.layouts state at (Bytes bytes.now)) }
     ensures read { is_read_refusal result ≡ false }
+    ensures links { AllZip GrowsLinks stores.old.list stores.new.list }
     ensures stays { OnErr result (stores.new ≡ stores.old) }
 {
     match rows_of(alloc, compiled, at, bytes) {

@@ -2,6 +2,8 @@
 
 ghost use Rattle.std.specs.Prelude.{◌≡◌, ◌<◌, ◌≤◌, false, [], length, OnErr, IfOk, slice_get};
 ghost use Rattle.sg_flat.specs.declared.state.FlatState.{FlatState};
+ghost use Rattle.std.specs.List.{AllZip};
+ghost use Rattle.sg_store.specs.Links.{GrowsLinks};
 ghost use Rattle.sg_exec.specs.Standing.{StandForState};
 ghost use Rattle.sg_session.specs.Compiled.{IsField};
 ghost use Rattle.sg_session.specs.Commands.{after_code, run_made, dump_made, text_of_field};
@@ -35,6 +37,7 @@ pub fn run<R: Threads + Sync, G: Gate + Sync>(
         Performs compiled.now.layouts stores.new.list result (run_made kernel (after_code compiled.now.layouts state (slice_get compiled.now.kernels kernel))) }
     ensures stand { IfOk result (λ text. HasState compiled.now.layouts stores.old.list → HasState compiled.now.layouts stores.new.list) }
     ensures read { is_read_refusal result ≡ false }
+    ensures links { AllZip GrowsLinks stores.old.list stores.new.list }
     ensures stays { OnErr result (stores.new ≡ stores.old) }
 {
     let code = &compiled.kernels.as_slice()[kernel as usize];

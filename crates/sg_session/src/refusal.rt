@@ -53,7 +53,7 @@ pub enum RunRefusal {
         field: u32,
         line: u32,
     },
-    /// The run of a kernel is refused, or where there is none a load.
+    /// The run of a kernel is refused, or if there is none a load.
     Run {
         kernel: Option<u32>,
         fault: RunFault,

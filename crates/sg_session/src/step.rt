@@ -10,6 +10,7 @@ use crate::session::Session;
 use crate::tasks::Task;
 use crate::views::{count, draw};
 use sg_outside::{Files, Gate};
+use sg_store::laws::links_stay;
 use sg_words::{Stop, Text};
 use std::alloc::Global;
 use std::thread::Threads;
@@ -18,6 +19,8 @@ impl Session {
     ghost use Rattle.std.specs.Prelude.{◌≡◌, ◌≤◌, Some, OnErr, map};
     ghost use Rattle.sg_flat.specs.declared.state.FlatState.{FlatState};
     ghost use Rattle.sg_outside.specs.Files.{Held, Reading};
+    ghost use Rattle.std.specs.List.{AllZip};
+    ghost use Rattle.sg_store.specs.Links.{KeepsLinks};
     ghost use Rattle.sg_exec.specs.Standing.{StandForState};
     ghost use Rattle.sg_session.specs.Compiled.{IsTask};
     ghost use Rattle.sg_session.specs.Bindings.{binding_read, file_of_task};
@@ -52,6 +55,7 @@ impl Session {
         ensures performed { (state : FlatState) → StandForState self.old.compiled.layouts self.old.stores state →
             (given : Reading) × Performs self.old.compiled.layouts self.new.stores result (compiled_meaning self.old.compiled state task given) }
         ensures compiled { self.new.compiled ≡ self.old.compiled }
+        ensures links { AllZip KeepsLinks self.old.stores self.new.stores }
         ensures stays { OnErr result (self.new.stores ≡ self.old.stores) }
 
         ensures holds { F.holds files.new ≡ F.holds files.old }
@@ -60,25 +64,36 @@ impl Session {
         ensures cause { StepCause result (F.faults files.old) (F.faults files.new) }
         ensures never_falls { F.faults files.old ≤ F.faults files.new }
     {
+        // for the laws that they ensure, and for what each store keeps before and after
+        links_stay();
+        self.stores.well_formed();
         match task {
-            Task::Load(field) => load(
-                rt,
-                alloc,
-                &self.compiled,
-                &mut self.stores,
-                field,
-                binds,
-                files,
-            ),
-            Task::Run { kernel } => run(
-                rt,
-                alloc,
-                &self.compiled,
-                &mut self.stores,
-                kernel,
-                workers,
-                gate,
-            ),
+            Task::Load(field) => {
+                let answer = load(
+                    rt,
+                    alloc,
+                    &self.compiled,
+                    &mut self.stores,
+                    field,
+                    binds,
+                    files,
+                );
+                self.stores.well_formed();
+                answer
+            }
+            Task::Run { kernel } => {
+                let answer = run(
+                    rt,
+                    alloc,
+                    &self.compiled,
+                    &mut self.stores,
+                    kernel,
+                    workers,
+                    gate,
+                );
+                self.stores.well_formed();
+                answer
+            }
             Task::Dump(field) => write_out(alloc, &self.compiled, &self.stores, field),
             Task::Image { field, lo, hi } => {
                 draw(alloc, &self.compiled, &self.stores, field, lo, hi)

@@ -1,30 +1,70 @@
--- The points of a box, part by part.
-use Rattle.std.specs.Prelude.{ℤ, pos, List, map}
-use Rattle.std.specs.List.{flat_map}
+-- The points of a box by their numbers.
+use Rattle.std.specs.Prelude.{◌≡◌, ℕ, ◌+◌, ◌*◌, ◌/◌, ◌%◌, ◌^◌, ◌<◌, ℤ, pos, ◌+ℤ◌, ◌-ℤ◌, ◌≤ℤ◌, Bool, if◌then◌else◌, List, map}
+use Rattle.std.specs.List.{range_with_len}
 use Rattle.sg_coord.specs.declared.coord.Coord.{Coord}
-use Rattle.sg_flat.specs.Domain.{parts_of}
-use Rattle.sg_exec.specs.declared.points.Side.{Side}
+use Rattle.sg_layout.specs.Axes.{count_of}
+use Rattle.sg_exec.specs.declared.region.Region.{Region}
+use Rattle.sg_exec.specs.declared.region.Along.{Along}
+use Rattle.sg_exec.specs.declared.region.Side.{Side}
+use Rattle.sg_exec.specs.declared.points.Form.{Form}
+use Rattle.sg_exec.specs.declared.points.Form.TheVariants.{Within, Listed}
 
--- the parts of a side of a box
-abbrev pub parts : Side → List ℤ
-parts side = parts_of side.used side.lo side.hi
+-- how many parts a box has on an axis
+abbrev pub part_count : Side → ℕ
+part_count side = if side.used then count_of (side.hi -ℤ side.lo) else 1
 
--- the point with this third part
-abbrev pub with_third : Coord → ℤ → Coord
-with_third line c = record { n = line.n; a = line.a; b = line.b; c = c }
+-- the first of them
+abbrev pub first_part : Side → ℤ
+first_part side = if side.used then side.lo else pos 0
 
--- the points with the first two parts of a point, in row order
-abbrev pub line_points : Coord → Side → List Coord
-line_points line cells = map (with_third line) (parts cells)
+-- the point of a region with a number, from 0: along the last axis first
+abbrev pub region_point : Region → ℕ → Coord
+region_point region k = record {
+  n = region.corner.n;
+  a = region.corner.a +ℤ pos (k / region.cells / region.lines);
+  b = region.corner.b +ℤ pos (k / region.cells % region.lines);
+  c = region.corner.c +ℤ pos (k % region.cells);
+}
 
--- the point with this second part, and no third one yet
-abbrev pub with_second : Coord → ℤ → Coord
-with_second plane b = record { n = plane.n; a = plane.a; b = b; c = pos 0 }
+-- the points of a region, in row order
+abbrev pub region_points : Region → List Coord
+region_points region = map (region_point region) (range_with_len 0 region.count)
 
--- the points with the first part of a point, in row order
-abbrev pub plane_points : Coord → Side → Side → List Coord
-plane_points plane lines cells = flat_map (λ b. line_points (with_second plane b) cells) (parts lines)
+-- the points of a region are counted, and their parts are words
+pub record IsRegion (region : Region) : Type 0 where
+  pub count_is : region.planes * region.lines * region.cells ≡ region.count
+  pub few : region.count < 2 ^ 32
+  pub a_fits : (region.corner.a +ℤ pos region.planes) ≤ℤ pos (2 ^ 31)
+  pub b_fits : (region.corner.b +ℤ pos region.lines) ≤ℤ pos (2 ^ 31)
+  pub c_fits : (region.corner.c +ℤ pos region.cells) ≤ℤ pos (2 ^ 31)
 
--- the point with this first part, and no others yet
-abbrev pub with_first : Coord → ℤ → Coord
-with_first lo a = record { n = lo.n; a = a; b = pos 0; c = pos 0 }
+-- how far the point with a number is along each axis
+pub record AreAlong (region : Region) (k : ℕ) (along : Along) : Type 0 where
+  pub plane_is : along.plane ≡ k / region.cells / region.lines
+  pub line_is : along.line ≡ k / region.cells % region.lines
+  pub cell_is : along.cell ≡ k % region.cells
+
+-- not past the last one of any axis
+pub record IsInside (region : Region) (along : Along) : Type 0 where
+  pub plane_low : along.plane < region.planes
+  pub line_low : along.line < region.lines
+  pub cell_low : along.cell < region.cells
+
+-- the point that is so far along each axis
+abbrev pub point_along : Region → Along → Coord
+point_along region along = record {
+  n = region.corner.n;
+  a = region.corner.a +ℤ pos along.plane;
+  b = region.corner.b +ℤ pos along.line;
+  c = region.corner.c +ℤ pos along.cell;
+}
+
+-- the points, in row order
+abbrev pub points_of : Form → List Coord
+points_of (Within region) = region_points region
+points_of (Listed list) = list
+
+-- a region is one
+abbrev pub IsForm : Form → Type 0
+IsForm (Within region) = IsRegion region
+IsForm (Listed list) = Unit {0}

@@ -31,7 +31,7 @@ current [] stores = stores
 current (copy ∷ copies) [] = []
 current (copy ∷ copies) (store ∷ stores) = unwrap_or copy store ∷ current copies stores
 
--- the stores with a copy in the place of one of them, where there is one
+-- the stores with a copy in the place of one of them, if there is one
 abbrev pub with_copied_store : List StoreWords → ℕ → Option StoreWords → List StoreWords
 with_copied_store stores number None = stores
 with_copied_store stores number (Some store) = slice_set stores number store
@@ -95,11 +95,11 @@ AreTurnsOf stores state block points turn = (at : Coord) → Contains points at 
     All (IsAtLoop at) (iteration (seen_in stores state at) block).writes →
     (iteration (seen_in stores state at) block).writes ≡ map (code_write (shapes_of stores)) (turn at).writes
 
--- a store is another but for its fields
+-- a store is another except for its fields
 abbrev pub HasTree : StoreWords → StoreWords → Type 0
 HasTree store copy = copy ≡ record store { fields = copy.fields }
 
--- what the executor keeps is a write, with the cell that its coordinate has where it is inside
+-- what the executor keeps is a write, with the cell that its coordinate has if it is inside
 pub record IsLanding (store : StoreWords) (write : CellWrite) (made : Write) : Type 0 where
   pub place : write.place ≡ made.place
   pub way : write.way ≡ made.way

@@ -74,7 +74,7 @@ pub record StepsDown (stores : List StoreWords) (node offset : ℕ) (held below 
 
 -- ---- cells and writes
 
--- the cell of a coordinate that may be there, in a layout's store; none where it has none
+-- the cell of a coordinate that may be there, in a layout's store; none if it has none
 abbrev pub cell_there : List StoreWords → ℕ → Option Coord → Option ℕ
 cell_there stores layout at =
     option_and_then (λ (there : Coord). option_and_then (λ (store : StoreWords). cell_in store there) (slice_get stores layout)) at
@@ -90,7 +90,7 @@ pub record IsOwnCell (stores : List StoreWords) (at : Coord) (own : OwnCell) : T
   pub is : own.cell ≡ cell_there stores own.layout (Some at)
   pub reached : IfSome own.cell (IsCellOf stores own.layout)
 
--- each that was found is the cell of the iteration's coordinate in its layout's store, or none where the coordinate has none there
+-- each that was found is the cell of the iteration's coordinate in its layout's store, or none if the coordinate has none there
 abbrev pub AreOwnCells : List StoreWords → Coord → List OwnCell → Type 0
 AreOwnCells stores at found = All (IsOwnCell stores at) found
 

@@ -9,7 +9,8 @@ use Rattle.sg_flat.specs.declared.effects.RunFault.{RunFault}
 use Rattle.sg_flat.specs.declared.effects.Write.{Write}
 use Rattle.sg_flat.specs.declared.state.FlatState.{FlatState}
 use Rattle.sg_store.specs.StoreWords.{StoreWords, word_in}
-use Rattle.sg_store.specs.WellFormed.{IsFieldRow}
+use Rattle.sg_store.specs.Links.{GrowsLinks}
+use Rattle.sg_store.specs.Rows.{IsFieldFront}
 use Rattle.sg_exec.specs.declared.made.Ended.{Ended}
 use Rattle.sg_exec.specs.declared.made.Made.{Made}
 use Rattle.sg_exec.specs.declared.shared.Accumulated.{Accumulated}
@@ -21,7 +22,7 @@ use Rattle.sg_exec.specs.steps.Passes.{HasPass, GaveReached, AreGiven, IsSumOf, 
 use Rattle.sg_exec.specs.steps.Racing.{ArePasses}
 use Rattle.sg_exec.specs.steps.Puts.{kept_writes}
 
--- each store is another but for its fields
+-- each store is another except for its fields
 abbrev pub HaveTrees : List StoreWords → List StoreWords → Type 0
 HaveTrees olds nows = AllZip HasTree olds nows
 
@@ -42,10 +43,10 @@ abbrev pub summed : List Sum → List Write → List Write
 summed [] writes = []
 summed (sum ∷ sums) writes = into_field sum.layout sum.field writes ++ summed sums writes
 
--- a sum is of a field of its layout's store, and has a word for each cell
+-- a sum is of a field of its layout's store, and has words for the first cells, with all reached ones among them
 abbrev pub HasRow : List StoreWords → Sum → Type 0
 HasRow stores sum =
-    (store : StoreWords) → slice_get stores sum.layout ≡ Some store → (sum.field < length store.shape.fields) × IsFieldRow store (words_of sum)
+    (store : StoreWords) → slice_get stores sum.layout ≡ Some store → (sum.field < length store.shape.fields) × IsFieldFront store (words_of sum)
 
 -- each sum is what a pass made of its field by these writes, and no two are of one field
 pub record AreSums (stores : List StoreWords) (sums : List Sum) (writes : List Write) : Type 0 where
@@ -66,6 +67,7 @@ pub record AddsSums (accumulated : List Accumulated) (seats : List AccSeat) (old
 -- what was made can land in the stores with the copies in their places, and there is room for these
 pub record CanLand (stores : List StoreWords) (made : Made) : Type 0 where
   pub copies : length made.copies.items ≡ length stores
+  pub links : AllZip GrowsLinks stores (current made.copies.items stores)
   pub rows : All (HasRow (current made.copies.items stores)) made.ended.sums.items
   pub cells : AreCells (current made.copies.items stores) (kept_writes made.ended.puts)
   pub none : made.room.items ≡ []

@@ -1,5 +1,5 @@
 -- The fields that code writes: passes into the accumulated ones, and a list of the own-written ones.
-use Rattle.std.specs.Prelude.{◌≡◌, ◌≢◌, ℕ, ◌<◌, Bool, ◌&&◌, ◌==◌, List, [], ◌∷◌, ◌++◌, map, length, filter, Some, Contains, slice_get, slice_set}
+use Rattle.std.specs.Prelude.{◌≡◌, ◌≢◌, ℕ, ◌<◌, Bool, ◌&&◌, ◌==◌, List, [], ◌∷◌, ◌++◌, map, length, filter, Some, Contains, slice_get, slice_set, slice_index_or}
 use Rattle.sg_words.specs.declared.operators.AccOp.{AccOp}
 use Rattle.sg_coord.specs.declared.coord.Coord.{Coord}
 use Rattle.sg_accum.specs.declared.seat.AccSeat.{AccSeat}
@@ -9,6 +9,7 @@ use Rattle.sg_flat.specs.declared.effects.Way.TheVariants.{Own, Acc}
 use Rattle.sg_flat.specs.declared.effects.Write.{Write}
 use Rattle.sg_flat.specs.declared.state.FlatLayout.{FlatLayout}
 use Rattle.sg_store.specs.StoreWords.{StoreWords}
+use Rattle.sg_store.specs.Rows.{put_over}
 use Rattle.sg_store.specs.StandsFor.{StandsFor}
 use Rattle.sg_ir.specs.declared.code.Inst.{Inst, fold-Inst}
 use Rattle.sg_ir.specs.Apt.{Use, Writes, uses_step}
@@ -82,9 +83,9 @@ abbrev pub passed : List Accumulated → List Write → List Write
 passed [] writes = []
 passed (it ∷ accumulated) writes = passed accumulated writes ++ into_field it.layout it.field writes
 
--- a store with a field's values
+-- a store with other values in the first cells of a field
 abbrev pub with_row : StoreWords → ℕ → List ℕ → StoreWords
-with_row store field words = record store { fields = slice_set store.fields field words }
+with_row store field words = record store { fields = slice_set store.fields field (put_over words (slice_index_or store.fields field [])) }
 
 -- all shares came back to each seat
 abbrev pub AreWhole : List AccSeat → Type 0

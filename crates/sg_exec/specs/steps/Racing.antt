@@ -1,5 +1,5 @@
 -- What the workers of a run give to the passes into accumulated fields, and what own values they leave.
-use Rattle.std.specs.Prelude.{◌≡◌, ℕ, ◌-◌, ◌<◌, ◌≤◌, Bool, not, ◌&&◌, ◌==◌, if◌then◌else◌, List, [], ◌∷◌, ◌++◌, map, take, drop, length, Option, Some, None, Result, Ok, slice_get, slice_index}
+use Rattle.std.specs.Prelude.{◌≡◌, ℕ, ◌-◌, ◌≤◌, Bool, not, ◌&&◌, ◌==◌, if◌then◌else◌, List, [], ◌∷◌, ◌++◌, map, take, drop, length, Option, Some, None, Result, Ok, slice_get, slice_index}
 use Rattle.std.specs.List.{flat_map}
 use Rattle.sg_coord.specs.declared.coord.Coord.{Coord}
 use Rattle.sg_words.specs.declared.memory.Memory.{Memory}
@@ -7,7 +7,7 @@ use Rattle.sg_accum.specs.declared.seat.AccSeat.{AccSeat}
 use Rattle.sg_accum.specs.Folding.{old_values, operator_of, type_of, given_to, given_of, share_of, handed_of, IsSeatOf, IsCut, IsMerged}
 use Rattle.sg_flat.specs.declared.state.FlatState.{FlatState}
 use Rattle.sg_store.specs.StoreWords.{StoreWords, word_in}
-use Rattle.sg_store.specs.WellFormed.{IsFieldRow, IsReached}
+use Rattle.sg_store.specs.Rows.{IsFieldFront}
 use Rattle.sg_ir.specs.declared.code.Inst.{Inst}
 use Rattle.sg_ir.specs.Runs.{is_own, iteration}
 use Rattle.sg_exec.specs.declared.cell_write.CellWrite.{CellWrite}
@@ -39,7 +39,7 @@ contributions layout place writes = flat_map (given_by layout place) writes
 
 -- ---- own values
 
--- a write as a list of one, or the empty list where there is none
+-- a write as a list of one, or the empty list if there is none
 abbrev pub listed : Option CellWrite → List CellWrite
 listed None = []
 listed (Some write) = write ∷ []
@@ -60,15 +60,14 @@ between from to points = take (to - from) (drop from points)
 
 -- ---- passes and seats
 
--- a pass into an accumulated field starts with its values
+-- a pass into an accumulated field starts with its values in the first cells, with all reached ones among them
 pub record IsPassOf (stores : List StoreWords) (it : Accumulated) : Type 0 where
   pub store : StoreWords
   pub there : slice_get stores it.layout ≡ Some store
   pub field : slice_get store.shape.fields it.field ≡ Some (type_of it.pass)
   pub operator : operator_of it.pass ≡ it.op
-  pub is_row : IsFieldRow store (old_values it.pass)
+  pub is_front : IsFieldFront store (old_values it.pass)
   pub words : (cell : ℕ) → slice_index (old_values it.pass) cell ≡ word_in store it.field cell
-  pub within : (cell : ℕ) → IsReached store cell → cell < length (old_values it.pass)
 
 -- each is a pass into its field, and no field has two
 pub record ArePasses (stores : List StoreWords) (accumulated : List Accumulated) : Type 0 where
@@ -129,7 +128,7 @@ pub record IsDivided (old now other : Hand) : Type 0 where
   pub long : length now.seats.items ≡ length old.seats.items
   pub other_long : length other.seats.items ≡ length old.seats.items
 
--- a hand has what two have, the second behind the first
+-- a hand has what two have, the second after the first
 pub record IsOfBoth (left right : Result Hand Memory) (after : Hand) : Type 0 where
   pub hand : Hand
   pub other : Hand

@@ -31,7 +31,7 @@ pub record IsIdle (store : StoreWords) (at : Coord) : Type 0 where
   pub cell : cell_in store at ≡ None
   pub idle : (flat : FlatLayout) → StandsFor store flat → Contains flat.active at → ⊥
 
--- where the step can be taken, each coordinate whose path goes on from there is idle
+-- if the step can be taken, each coordinate whose path goes on from there is idle
 abbrev pub StepIsDead : StoreWords → ℕ → List ℕ → ℕ → Type 0
 StepIsDead store node path offset = can_step store.shape.nodes node offset ≡ true →
     (at : Coord) (more : List ℕ) → offsets store.shape.nodes at ≡ (path ++ offset ∷ []) ++ more → IsIdle store at

@@ -137,7 +137,7 @@ AreActive stores turns = (state : FlatState) → Sees stores state → AreNamedI
 abbrev pub IsActiveStore : List StoreWords → Turns → ℕ → StoreWords → Type 0
 IsActiveStore stores turns number store = (slice_get stores number ≡ Some store) × AreActive stores turns
 
--- what is told of the first write outside of turns, and where none is, of whether all writes are at active coordinates
+-- what is told of the first write outside of turns, and if none is, of whether all writes are at active coordinates
 abbrev pub TellsOutside : List StoreWords → List Turn → Result Bool (Stop RunFault) → Type 0
 TellsOutside stores turns (Ok active) = (first_outside (shapes_of stores) turns ≡ None)
     × (IsTrue active → All (IsActive stores) (writes_of turns))
@@ -149,7 +149,7 @@ abbrev pub in_both : Bool → Result Bool (Stop RunFault) → Result Bool (Stop 
 in_both active (Ok others) = Ok (active && others)
 in_both active (Err why) = Err why
 
--- what is told of the first write outside of a slice's turns at points, and where none is, of whether all their writes are at active
+-- what is told of the first write outside of a slice's turns at points, and if none is, of whether all their writes are at active
 -- coordinates, at any state whose values the stores have and at which the block reads and contributes where its index registers say
 abbrev pub SliceTells : List StoreWords → List Inst → List Coord → Result Bool (Stop RunFault) → Type 0
 SliceTells stores block points result = (state : FlatState) → Sees stores state → AreNamedAt stores state block points →

@@ -15,7 +15,7 @@ own_write layout place writes = find (is_own_to layout place) (reverse writes)
 abbrev pub is_same_field : CellWrite → CellWrite → Bool
 is_same_field write other = (write.layout == other.layout) && (write.place == other.place)
 
--- a write in the place of the first one to its field, or behind all where there is none
+-- a write in the place of the first one to its field, or after all if there is none
 abbrev pub replaced : CellWrite → List CellWrite → List CellWrite
 replaced write [] = write ∷ []
 replaced write (other ∷ own) = if is_same_field other write then write ∷ own else other ∷ replaced write own

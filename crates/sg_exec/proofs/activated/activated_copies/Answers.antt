@@ -7,6 +7,7 @@ use Rattle.sg_exec.specs.Standing.{shapes_of}
 use Rattle.sg_exec.specs.steps.Wants.{AreReached}
 use Rattle.sg_exec.proofs.Reaching.{there, reached_none, reached_stand, reached_fault, reached_more}
 use Rattle.sg_exec.proofs.Settling.{current_shapes, shapes_more}
+use Rattle.sg_exec.proofs.LinksKept.{links_current, links_more}
 use Rattle.sg_exec.proofs.Answering.{all_stopped, store_fault}
 use Rattle.sg_exec.proofs.activated.activated_copies.Goals as goal
 
@@ -30,6 +31,8 @@ loop-number-preserved g c =
           (λ flat stands. c.in_ok-copy.ensures.reached list.0 (meant.each number store list.0 is list.1) flat stands));
       shapes = λ j s cp is_s is_c.
           shapes_more stores copies number store c.in_ok-copy.copy c.loop-number.invariant.shapes count is c.in_ok-copy.ensures.shape j s cp is_s (ap (λ (cs : List (Option StoreWords)). slice_get cs j) (sym c.in_ok-add_copy.ensures) ∙ is_c);
+      links = λ j s cp is_s is_c.
+          links_more stores copies number store c.in_ok-copy.copy c.loop-number.invariant.links count is c.in_ok-copy.ensures.links j s cp is_s (ap (λ (cs : List (Option StoreWords)). slice_get cs j) (sym c.in_ok-add_copy.ensures) ∙ is_c);
     }
 
 pub store_activated-requires-clause-active : goal.store_activated-requires-clause-active
@@ -72,3 +75,12 @@ returns-clause-shapes g c =
     let count = c.loop-number.invariant.count in
     let lengths : length copies ≡ length stores = omega arith in
     current_shapes copies stores lengths c.loop-number.invariant.shapes
+
+pub returns-clause-links : goal.returns-clause-links
+returns-clause-links g c =
+    let stores = c.args.stores.now.list in
+    let copies = c.loop-number.copies.items in
+    let items = ap length c.as_slice-list.ensures in
+    let count = c.loop-number.invariant.count in
+    let lengths : length copies ≡ length stores = omega arith in
+    links_current copies stores lengths c.loop-number.invariant.links

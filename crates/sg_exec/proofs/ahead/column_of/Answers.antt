@@ -1,4 +1,4 @@
-use Rattle.std.proofs.Common.{◌≡◌, ◌-◌, ◌+◌, ◌≤◌, ◌<◌, length, arith}
+use Rattle.std.proofs.Common.{◌≡◌, ◌-◌, ◌+◌, ◌≤◌, ◌<◌, ◌∙◌, length, arith}
 use Rattle.sg_exec.proofs.RunAhead.{columns_of, column_at}
 use Rattle.sg_exec.proofs.ahead.column_of.Goals as goal
 
@@ -15,7 +15,7 @@ returns-clause-ran c =
     let within : c.args.number + c.min-count.result ≤ length c.args.points.now = omega (arith, c.min-count.ensures, c.requires.below) in
     record {
       over = c.iterate_all.ensures.over;
-      each = columns_of c.args.stores.now.list c.args.points.now c.args.block.now c.iterate_all.new.batch c.args.number c.min-count.result _ (omega arith) few within c.in_ok-iterate_all.ensures.ran;
+      each = columns_of c.args.stores.now.list c.args.points.now _ c.args.block.now c.iterate_all.new.batch c.args.number c.min-count.result (c.as_slice.ensures.value ∙ c.in_ok-fill.ensures) few within c.in_ok-iterate_all.ensures.ran;
     }
 
 pub returns-clause-column : goal.returns-clause-column
@@ -24,4 +24,4 @@ returns-clause-column c =
     let within : c.args.number + c.min-count.result ≤ length c.args.points.now = omega (arith, c.min-count.ensures, c.requires.below) in
     let some : 0 < c.min-count.result = omega (arith, c.min-count.ensures, c.requires.below) in
     column_at c.args.stores.now.list c.args.points.now c.args.block.now c.iterate_all.new.batch c.args.number 0 c.args.number (omega arith)
-    (columns_of c.args.stores.now.list c.args.points.now c.args.block.now c.iterate_all.new.batch c.args.number c.min-count.result _ (omega arith) few within c.in_ok-iterate_all.ensures.ran 0 some)
+    (columns_of c.args.stores.now.list c.args.points.now _ c.args.block.now c.iterate_all.new.batch c.args.number c.min-count.result (c.as_slice.ensures.value ∙ c.in_ok-fill.ensures) few within c.in_ok-iterate_all.ensures.ran 0 some)

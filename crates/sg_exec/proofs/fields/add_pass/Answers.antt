@@ -8,8 +8,7 @@ use Rattle.sg_accum.specs.declared.seat.AccSeat.{AccSeat}
 use Rattle.sg_ir.specs.Apt.{Writes}
 use Rattle.sg_store.specs.StoreWords.{StoreWords}
 use Rattle.sg_store.specs.StandsFor.{StandsFor}
-use Rattle.sg_store.specs.WellFormed.{IsFieldRow}
-use Rattle.sg_store.proofs.Uses.{reached_within}
+use Rattle.sg_store.specs.Rows.{IsFieldFront}
 use Rattle.sg_exec.specs.declared.shared.Accumulated.{Accumulated}
 use Rattle.sg_exec.specs.steps.Landing.{current}
 use Rattle.sg_exec.specs.steps.Racing.{IsPassOf}
@@ -63,11 +62,11 @@ returns-then-values-eq0 g c = λ uses have.
     let fields = c.args.fields.now in
     let store = c.in-Some-get.store.now in
     let there : slice_get mids c.args.layout ≡ Some store = ap (λ (stores : List StoreWords). slice_get stores c.args.layout) (sym c.of-view.ensures) ∙ sym c.in-Some-get.ensures.value in
-    let none = sym c.field_row-values.ensures.row.cells ∙ c.if-values-eq0.true in
     have_acc mids c.args.layout c.args.field c.args.op uses fields.accumulated.items fields.seats.items fields.owned.items have
     (λ active.
     let same : active.store ≡ store = same_Some _ _ (sym active.there ∙ there) in
-    absurd (no_cell store (c.cells_are_active.ensures.active store) (c.paths_tell.ensures.is_slot store.shape) (c.paths_tell.ensures.whole store.shape) c.layout.ensures.well_formed none active.flat
+    absurd (no_cell store (c.cells_are_active.ensures.active store) (c.paths_tell.ensures.is_slot store.shape) (c.paths_tell.ensures.whole store.shape) c.layout.ensures.well_formed
+    (λ cell reached. omega (arith, c.field_front-values.ensures.front.all_reached cell reached, c.if-values-eq0.true)) active.flat
     (subst (λ (s : StoreWords). StandsFor s active.flat) same active.stands) active.at active.active))
 
 pub returns : goal.returns
@@ -82,19 +81,15 @@ returns g c = λ uses have.
     let is_ty : slice_get store.shape.fields field ≡ Some c.in-Some-copied.ty =
     ap (λ (s : Shape). slice_get s.fields field) (sym c.layout.ensures.layout) ∙ ap (λ (s : Shape). slice_get s.fields field) (sym c.shape.ensures.value)
     ∙ sym c.get-2.ensures.value ∙ sym c.copied.ensures ∙ c.in-Some-copied.is in
-    let row = c.field_row-values.ensures.row in
+    let front = c.field_front-values.ensures.front in
     let values = c.in_ok-pass.ensures.values in
     let made : IsPassOf mids it = record {
       store = store;
       there = there;
       field = is_ty ∙ ap (λ (ty : Ty). Some ty) (sym c.in_ok-pass.ensures.order);
       operator = c.in_ok-pass.ensures.operator;
-      is_row = subst (λ (list : List ℕ). IsFieldRow store list) (sym values) row;
-      words = λ cell. ap (λ (list : List ℕ). slice_index list cell) values ∙ c.field_row-values.ensures.words cell;
-      within = λ cell reached.
-          let below = reached_within store c.layout.ensures.well_formed cell reached in
-          let long = row.cells in
-          subst (λ (list : List ℕ). cell < length list) (sym values) (omega (arith, below, long));
+      is_front = subst (λ (list : List ℕ). IsFieldFront store list) (sym values) front;
+      words = λ cell. ap (λ (list : List ℕ). slice_index list cell) values ∙ c.field_front-values.ensures.words cell;
     } in
     subst (λ (list : List Accumulated). HaveFields mids (uses ++ Writes c.args.layout c.args.field (Acc c.args.op) ∷ []) list c.push-2.new.self.items fields.owned.items) (sym {A = List Accumulated} c.in_ok-push.ensures.items)
     (subst (λ (seats : List AccSeat). HaveFields mids (uses ++ Writes c.args.layout c.args.field (Acc c.args.op) ∷ []) (fields.accumulated.items ++ it ∷ []) seats fields.owned.items) (sym {A = List AccSeat} c.in_ok-push-2.ensures.items)

@@ -4,7 +4,7 @@ use Rattle.sg_exec.specs.declared.cell_write.CellWrite.{CellWrite}
 use Rattle.sg_exec.specs.steps.Machines.{AreCells}
 use Rattle.sg_exec.specs.steps.Puts.{in_lists}
 use Rattle.sg_exec.proofs.KeptLand.{cells_front, cells_back, land_both}
-use Rattle.sg_exec.proofs.TreesKept.{cells_over}
+use Rattle.sg_exec.proofs.TreesKept.{cells_over, trees_then}
 use Rattle.sg_exec.proofs.in_place.land_puts.Goals as goal
 
 pub land_lists-requires : goal.land_lists-requires
@@ -28,6 +28,7 @@ land_cells-requires c =
 
 pub returns : goal.returns
 returns c = record {
+  trees = trees_then c.args.stores.now.items c.land_lists.new.stores.items c.land_cells.new.stores.items c.land_lists.ensures.trees c.land_cells.ensures.trees;
   lands = λ base made here is.
       land_both base c.args.stores.now.items c.land_lists.new.stores.items c.land_cells.new.stores.items (in_lists c.args.puts.now.before.items) c.args.puts.now.last.items made
       here c.land_lists.ensures.trees is

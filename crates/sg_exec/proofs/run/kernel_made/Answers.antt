@@ -24,9 +24,9 @@ returns-in_err-copies-clause-ran g c = λ runnable state all.
     let stores = c.args.stores.now.list in
     let kept = c.args.kernel.now in
     let laws : KernelLaws = record { test = c.numbering.ensures.inside_test; inside = c.closure_members.ensures.inside; extends = c.closure_closes.ensures.extends } in
-    let points = c.as_slice-points.result.now in
+    let points = c.in_ok-points.points in
     let turns = map (slice_turn stores state kept.slice.body) points in
-    let are = c.as_slice-points.ensures ∙ c.in_ok-points.ensures.points state all in
+    let are = c.in_ok-points.ensures.points state all in
     let named : AreNamedAt stores state c.as_slice-slice.result.now points =
     subst (λ (block : List Inst). AreNamedAt stores state block points) (sym c.as_slice-slice.ensures) (slice_is_named laws stores state kept points all runnable are) in
     let ran : TurnsActivated {A = Unit {0}} (λ _. stores) stores turns (Err c.in_err-copies.field-0.0) =
@@ -42,10 +42,10 @@ returns-clause-ran g c = λ runnable state all news landed.
     let stores = c.args.stores.now.list in
     let kept = c.args.kernel.now in
     let laws : KernelLaws = record { test = c.numbering.ensures.inside_test; inside = c.closure_members.ensures.inside; extends = c.closure_closes.ensures.extends } in
-    let points = c.as_slice-points.result.now in
+    let points = c.in_ok-points.points in
     let slices = map (slice_turn stores state kept.slice.body) points in
     let mids = current c.in_ok-copies.copies.items stores in
-    let are = c.as_slice-points.ensures ∙ c.in_ok-points.ensures.points state all in
+    let are = c.in_ok-points.ensures.points state all in
     let named : AreNamedAt stores state c.as_slice-slice.result.now points =
     subst (λ (block : List Inst). AreNamedAt stores state block points) (sym c.as_slice-slice.ensures) (slice_is_named laws stores state kept points all runnable are) in
     let ran = subst (λ (block : List Inst). TurnsActivated (λ copies. current copies.items stores) stores (map (slice_turn stores state block) points) (Ok c.in_ok-copies.copies)) c.as_slice-slice.ensures (c.in_ok-copies.ensures.ran state all named) in
@@ -71,6 +71,7 @@ returns-clause-lands g c =
     let lent : current c.deref.result.now stores ≡ current c.in_ok-copies.copies.items stores = ap (λ (copies : List (Option StoreWords)). current copies stores) c.deref.ensures.value in
     record {
       copies = c.in_ok-copies.ensures.room;
+      links = c.in_ok-copies.ensures.links;
       rows = subst (λ (ms : List StoreWords). All (HasRow ms) ended.sums.items) lent c.in_ok-ended.ensures.rows;
       cells = subst (λ (ms : List StoreWords). AreCells ms (kept_writes ended.puts)) lent c.in_ok-ended.ensures.cells;
       none = c.in_ok-room.ensures.none;

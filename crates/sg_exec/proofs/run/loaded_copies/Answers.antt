@@ -6,6 +6,7 @@ use Rattle.sg_exec.specs.steps.Turning.{wants_from}
 use Rattle.sg_exec.proofs.Kernels.{load_outside, load_full, load_ran}
 use Rattle.sg_exec.proofs.Answering.{stopped}
 use Rattle.sg_exec.proofs.Turning.{are_wants, activated_fault}
+use Rattle.sg_exec.proofs.LinksKept.{links_over, links_then}
 use Rattle.sg_exec.proofs.run.loaded_copies.Goals as goal
 
 pub returns-in_err-copies-clause-ran : goal.returns-in_err-copies-clause-ran
@@ -26,3 +27,8 @@ returns-clause-ran g c = λ state all.
     let ran = c.in_ok-copies.ensures.ran state all in
     load_ran stores state c.args.rows.now (wants_from 0 stores turns) (current c.in_ok-copies.copies.items stores) _ c.numbering.ensures.inside_test c.closure_closes.ensures.extends all
     (ran.0, are_wants stores state.layouts turns ran.0) ran.1 c.in_ok-copies.ensures.shapes c.in_ok-land_all.ensures.lands
+
+pub returns-clause-links : goal.returns-clause-links
+returns-clause-links g c =
+    let stores = c.args.stores.now.list in
+    links_then stores (current c.in_ok-copies.copies.items stores) _ c.in_ok-copies.ensures.links (links_over _ _ c.in_ok-land_all.ensures.trees)

@@ -26,7 +26,7 @@ returns-clause-lands c = λ stores base writes is at tree fresh flat stands acti
     } in
     let low = subst (λ (parts : List (List ℕ)). (k : ℕ) → slice_index (concat parts) k < 2 ^ 32) c.as_slice-parts.ensures.value c.are_low.ensures in
     let now = landed_layout sum.layout shape flat (into_field sum.layout sum.field writes) in
-    c.set_field_row.ensures.stands flat now stands
+    c.set_field_front.ensures.stands flat now stands
     (subst (λ (parts : List (List ℕ)). SetsRow copy flat now sum.field (concat parts)) (sym c.as_slice-parts.ensures.value) (sum_sets stores sum.layout sum.field (words_of sum) writes is base copy at tree fresh low laws coords.row_below (c.closure_members.ensures.of_members shape) (c.closure_members.ensures.inside shape)
     (c.cells_are_active.ensures.active copy) (c.cells_are_active.ensures.differ copy) well flat stands active
     (λ x cell e. cell_is_reached copy (c.paths_tell.ensures.is_slot shape) (c.paths_tell.ensures.whole shape) well x cell e)))

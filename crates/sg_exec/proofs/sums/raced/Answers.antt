@@ -1,4 +1,5 @@
-use Rattle.std.proofs.Common.{arith}
+use Rattle.std.proofs.Common.{ℕ, subst, arith}
+use Rattle.sg_coord.specs.Slices.{IsPartition}
 use Rattle.sg_exec.specs.steps.Landing.{current}
 use Rattle.sg_exec.proofs.RacedHand.{all_shares, if_raced}
 use Rattle.sg_exec.proofs.sums.raced.Goals as goal
@@ -17,4 +18,4 @@ pub returns : goal.returns
 returns g c =
     let stores = current c.args.reached.now c.args.stores.now.list in
     if_raced stores c.args.code.now c.args.points.now c.args.accumulated.now c.args.owned.now c.args.workers (record { seats = c.args.seats; puts = c.new-puts.result }) c.requires.fields c.new-puts.ensures
-    c.slices_partition.ensures.here c.race.result c.race.ensures.seats c.race.ensures.cells c.race.ensures.ran
+    (subst (λ (n : ℕ). IsPartition n c.args.workers) c.len.ensures c.slices_partition.ensures.here) c.race.result c.race.ensures.seats c.race.ensures.cells c.race.ensures.ran

@@ -17,8 +17,8 @@ returns-then-workers-lt2-clause-ran g t c =
     c.args.accumulated.now c.args.owned.now c.args.hand after)
     c.args.workers c.work.result c.requires.some c.if-workers-lt2.true c.work.ensures.ran
 
-pub returns-then-points-first-clause-ran : goal.returns-then-points-first-clause-ran
-returns-then-points-first-clause-ran g t c =
+pub returns-then-len-first-clause-ran : goal.returns-then-len-first-clause-ran
+returns-then-len-first-clause-ran g t c =
     let stores = current c.args.reached.now c.args.stores.now.list in
     let points = c.args.points.now in
     let mid = c.args.first + (c.args.workers - c.rest_of-rest.result) in

@@ -1,4 +1,4 @@
-use Rattle.std.proofs.Common.{◌+◌, take}
+use Rattle.std.proofs.Common.{◌+◌, take, drop}
 use Rattle.sg_exec.specs.declared.hand.Hand.{Hand}
 use Rattle.sg_exec.specs.steps.Machines.{AreCells}
 use Rattle.sg_exec.specs.steps.Landing.{current}
@@ -11,6 +11,6 @@ abbrev pub invariant-loop-k : goal.invariant-loop-k
 invariant-loop-k g l = record {
   seats : AreSeats l.accumulated l.hand.seats.items;
   cells : AreCells (current l.reached l.stores.list) (kept_writes l.hand.puts);
-  ran : (start : Hand) → HasRunAt (current l.reached l.stores.list) l.code l.points (take l.first l.mine) l.accumulated l.owned start l.fn.hand →
-      HasRunAt (current l.reached l.stores.list) l.code l.points (take (l.first + l.k) l.mine) l.accumulated l.owned start l.hand;
+  ran : (start : Hand) → HasRunAt (current l.reached l.stores.list) l.code l.points (take l.first (drop l.from l.points)) l.accumulated l.owned start l.fn.hand →
+      HasRunAt (current l.reached l.stores.list) l.code l.points (take (l.first + l.k) (drop l.from l.points)) l.accumulated l.owned start l.hand;
 }

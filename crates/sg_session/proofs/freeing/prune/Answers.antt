@@ -1,31 +1,48 @@
-use Rattle.std.proofs.Common.{◌≡◌, List, Some, sym, subst}
-use Rattle.std.specs.Prelude.{slice_get}
-use Rattle.sg_store.specs.StoreWords.{StoreWords}
+use Rattle.std.proofs.Common.{List, sym, ap, subst}
+use Rattle.std.specs.List.{AllZip}
+use Rattle.sg_store.specs.declared.store.Stores.{Stores}
+use Rattle.sg_store.specs.Freeing.{IsPruned, ChangesStore}
+use Rattle.sg_store.specs.Links.{GrowsLinks}
 use Rattle.sg_store.specs.Pruning.{pruned}
+use Rattle.sg_store.specs.StoreWords.{StoreWords}
 use Rattle.sg_session.specs.Commands.{layout_made}
 use Rattle.sg_session.specs.Performed.{LeavesMeaning, HasState}
-use Rattle.sg_session.proofs.Lists.{at_place}
 use Rattle.sg_session.proofs.Viewing.{has_own_store}
-use Rattle.sg_session.proofs.Changing.{HasChanged, copy_changed, change_left, change_stands}
+use Rattle.sg_session.proofs.LinksKept.{links_itself, one_shrunk}
+use Rattle.sg_session.proofs.Changing.{HasChanged, change_left, change_stands}
 use Rattle.sg_session.proofs.freeing.prune.Goals as goal
 
-there : (c : goal.After-no_text) → slice_get c.args.stores.now.list c.args.layout ≡ Some c.index-as_slice-layout.result
-there c =
-    at_place c.args.stores.now.list c.as_slice.result.now c.args.layout c.index-as_slice-layout.result c.as_slice.ensures
-    (has_own_store c.args.compiled.now.layouts c.args.stores.now.list c.args.layout c.requires.stand c.requires.layout) c.index-as_slice-layout.is
+pub prune-requires : goal.prune-requires
+prune-requires c = has_own_store c.args.compiled.now.layouts c.args.stores.now.list c.args.layout c.requires.stand c.requires.layout
 
-changed : (c : goal.After-no_text) → HasChanged pruned c.index-as_slice-layout.result c.prune.new.self
-changed c = copy_changed pruned c.index-as_slice-layout.result c.in_ok-store.store c.prune.new.self c.in_ok-store.ensures c.in_ok-prune.ensures.same_shape c.in_ok-prune.ensures.pruned
+changes : (c : goal.After-no_text) → ChangesStore IsPruned c.args.stores.now.list c.prune.new.self.list c.args.layout
+changes c = c.in_ok-prune.ensures.pruned
+
+changed : (c : goal.After-no_text) → HasChanged pruned (changes c).store (changes c).next
+changed c = record { shape = (changes c).change.same_shape; stands = (changes c).change.stands }
 
 pub returns-clause-performed : goal.returns-clause-performed
 returns-clause-performed c = λ state stand.
     let layouts = c.args.compiled.now.layouts in
     let stores = c.args.stores.now.list in
-    subst (λ (ss : List StoreWords). LeavesMeaning layouts ss c.no_text.result.bytes (layout_made pruned layouts state c.args.layout)) (sym c.set.ensures)
-    (change_left pruned layouts stores state c.args.layout c.index-as_slice-layout.result c.prune.new.self c.no_text.result.bytes c.no_text.ensures stand (there c) (changed c))
+    subst (λ (ss : List StoreWords). LeavesMeaning layouts ss c.no_text.result.bytes (layout_made pruned layouts state c.args.layout)) (sym (changes c).now_is)
+    (change_left pruned layouts stores state c.args.layout (changes c).store (changes c).next c.no_text.result.bytes c.no_text.ensures stand (changes c).was (changed c))
 
 pub returns-clause-stand : goal.returns-clause-stand
 returns-clause-stand c =
     let layouts = c.args.compiled.now.layouts in
-    subst (λ (ss : List StoreWords). HasState layouts ss) (sym c.set.ensures)
-    (change_stands pruned layouts c.args.stores.now.list c.args.layout c.index-as_slice-layout.result c.prune.new.self c.requires.stand (there c) (changed c))
+    subst (λ (ss : List StoreWords). HasState layouts ss) (sym (changes c).now_is)
+    (change_stands pruned layouts c.args.stores.now.list c.args.layout (changes c).store (changes c).next c.requires.stand (changes c).was (changed c))
+
+pub returns-clause-links : goal.returns-clause-links
+returns-clause-links c =
+    subst (λ (ss : List StoreWords). AllZip GrowsLinks ss c.args.stores.now.list) (sym (changes c).now_is)
+    (one_shrunk c.args.stores.now.list c.args.layout (changes c).store (changes c).next (changes c).was (changes c).change.links)
+
+pub returns-in_err-prune-clause-stand : goal.returns-in_err-prune-clause-stand
+returns-in_err-prune-clause-stand c =
+    subst (λ (ss : List StoreWords). HasState c.args.compiled.now.layouts ss) (sym (ap (λ (s : Stores). s.list) c.in_err-prune.ensures.stays)) c.requires.stand
+
+pub returns-in_err-prune-clause-links : goal.returns-in_err-prune-clause-links
+returns-in_err-prune-clause-links c =
+    subst (λ (ss : List StoreWords). AllZip GrowsLinks ss c.args.stores.now.list) (sym (ap (λ (s : Stores). s.list) c.in_err-prune.ensures.stays)) (links_itself c.args.stores.now.list)
