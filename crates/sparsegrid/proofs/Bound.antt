@@ -27,7 +27,7 @@ some_of : {A : Type 0} (o : Option A) → is_none o ≡ false → IsSome o
 some_of (Some a) h = refl
 some_of None h = absurd (cc)
 
--- where no load is without a file each has one
+-- if no load is without a file each has one
 pub all_bound : (names : Tables) (bindings : List Binding) (tasks : List Task) → find (is_unbound names bindings) tasks ≡ None
     → AllByRecursion (HasFile names bindings) tasks
 all_bound names bindings [] none = tt

@@ -19,7 +19,7 @@ use Rattle.sparsegrid.proofs.Writing.{followed_by-nil, followed_by-twice}
 use Rattle.sparsegrid.proofs.Lowered.{words_silent}
 use Rattle.sparsegrid.proofs.Clauses as clauses
 
--- ---- the text of code behind that of a meaning
+-- ---- the text of code after that of a meaning
 
 -- where the meaning has the status of what was done
 left_is : (lower : Bool) (words : List (List ℕ)) (done : Done) (m : Meaning) → lower ≡ asks_code (good_words words) → done.status ≡ m.status → (with_code words (code_in done.session) m).text ≡ m.text ++ code_left lower done
@@ -77,7 +77,7 @@ wrote_more lower words before mid written failed done m same put wrote =
       reads = wrote.reads ∙ ap (λ (names : List (List ℕ)). counted_more before.reads names) (sym (asked_is words code m));
     }
 
--- a front of a meaning, where there is no code
+-- a front of a meaning, if there is no code
 front_none : (words : List (List ℕ)) (before mid : Outside) (written : Option (List ℕ)) (failed : ℕ) (m : Meaning) (answer : ℕ) → written ≡ mid.written → WentAFront m before mid answer → WentAFront (with_code words [] m) before (written_more mid written failed) answer
 front_none words before mid written failed m answer put went =
     let t = went.text in
@@ -91,7 +91,7 @@ front_none words before mid written failed m answer put went =
     by_case (inl three) = inl three
     by_case (inr other) = inr (λ zero. other (status_is words [] m ∙ zero))
 
--- a front of code behind a whole text
+-- a front of code after a whole text
 front_part : (words : List (List ℕ)) (before mid : Outside) (written : Option (List ℕ)) (failed : ℕ) (code : List ℕ) (m : Meaning) (answer : ℕ) → asks_code (good_words words) ≡ true → Wrote m before mid 0
     → (part left : List ℕ) → written ≡ followed_by mid.written part → code ≡ part ++ left → (answer ≡ 3 → left ≢ []) → WentAFront (with_code words code m) before (written_more mid written failed) answer
 front_part words before mid written failed code m answer asks wrote part left grew whole less =

@@ -66,13 +66,13 @@ pub went_memory : (m : Readings → Meaning) (n : ℕ) (before after : Outside) 
 went_memory m n before after ends written asked reads faults =
     went_still m n before after (Err stop.Memory) (λ readings. went_nowhere (m readings) before.written after.written (ends readings) written) (λ readings. ((m readings).asked, refl)) asked reads faults tt
 
--- ---- a part behind another
+-- ---- a part after another
 
 asked_behind : (result : Result Done (Stop PutFailed)) (m : Meaning) (names more : List (List ℕ)) → AskedAll result m.asked more → AskedAll result (names ++ m.asked) (names ++ more)
 asked_behind (Ok done) m names more is = ap (λ (xs : List (List ℕ)). names ++ xs) is
 asked_behind (Err why) m names more front = (front.0, ap (λ (xs : List (List ℕ)). names ++ xs) front.1 ∙ sym (append_assoc names more front.0))
 
--- what is written behind a text, as the rest of a meaning has it
+-- what is written after a text, as the rest of a meaning has it
 along_behind : (m : Meaning) (names : List (List ℕ)) (text : List ℕ) (old mid new : Option (List ℕ)) (result : Result Done (Stop PutFailed)) → mid ≡ followed_by old text
     → WentAlong m mid new result → WentAlong (asking_for names (before_text text m)) old new result
 along_behind m names text old mid new (Ok done) came along =

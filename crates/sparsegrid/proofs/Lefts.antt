@@ -74,7 +74,7 @@ module _ (program : CheckedProgram) (bindings : List Binding) (readings : Readin
       by_file place reads task tasks state (λ after next. meaning_of_tasks program bindings readings after next tasks) (file_of_task program.names bindings task) (ap given (omega arith) ∙ are 0)
       (λ next. tasks_leave (suc place) (reads_with reads (file_of_task program.names bindings task)) tasks next (λ i. ap given (omega arith) ∙ are (suc i))) status
 
-  -- where none is refused, they mean status 0
+  -- if none is refused, they mean status 0
   file_whole : (reads : ℕ) (task : Task) (state : FlatState) (more : ℕ → FlatState → Meaning) (left : Left) (file : Option (List ℕ)) → task_meaning program state task (reading_behind readings reads file) ≡ Ok left
       → (more (reads_with reads file) left.state).status ≡ 0 → (task_and_more program readings reads state task more file).status ≡ 0
   file_whole reads task state more left None is rest = ap (λ (answer : Result Left RunRefusal). (after_task program state None task (more reads) answer).status) is ∙ rest

@@ -1,4 +1,4 @@
--- In mode lower a run writes nothing before the text of access code, but for a last line.
+-- In mode lower a run writes nothing before the text of access code, except for a last line.
 use Rattle.std.proofs.Common.{◌≡◌, ◌≢◌, ◌⊎◌, inl, inr, ℕ, Bool, true, false, List, [], Option, Some, None, Result, Ok, Err, refl, arith}
 use Rattle.std.specs.Prelude.{if◌then◌else◌}
 use Rattle.sg_ast.specs.declared.program.Item.{Item}
@@ -16,7 +16,7 @@ use Rattle.sparsegrid.specs.Lines.{refusal_last}
 use Rattle.sparsegrid.specs.Meaning.{Meaning, Readings, is_lower, asks_code, meaning_in, items_or_none, meaning_of_compiled, meaning_of_source, meaning_of_file, meaning_of_generated, meaning_of_asked, meaning_of_words, meaning_by}
 use Rattle.sparsegrid.proofs.Sources.{file_statuses}
 
--- where all is done, there is no text
+-- if all is done, there is no text
 abbrev IsSilent : Meaning → Type 0
 IsSilent m = m.status ≡ 0 → m.text ≡ []
 

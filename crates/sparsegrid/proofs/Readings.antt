@@ -71,7 +71,7 @@ count_rose count name names = by_rest (counted_up (one_more count) names) where
 
 -- ---- readings that agree
 
--- what the files hold, where no read failed
+-- what the files hold, if no read failed
 pub agree_told : (held : Held) (n : ℕ) (made : List ReadMade) → AreTold held made → Agree (readings_in held None) n made
 agree_told held n [] told = tt
 agree_told held n (read ∷ made) told = (sym told.0, agree_told held (suc n) made told.1)

@@ -310,11 +310,11 @@ left_open text compiled opened old new same stand wrote = record {
   last = subst (λ (c : CompiledProgram). StandForState c.layouts opened.stores (opening compiled.layouts)) (sym same) stand;
 }
 
--- where memory ran out, nothing was
+-- if memory ran out, nothing was
 pub nothing_sent : (text : List ℕ) (state : FlatState) (old new : Option (List ℕ)) → new ≡ old → WentAlong (all_done text state) old new (Err stop.Memory)
 nothing_sent text state old new same = went_nowhere (all_done text state) old new (λ other. absurd (other refl)) same
 
--- where its put failed, a front of it was written
+-- if its put failed, a front of it was written
 pub send_cut : (text : List ℕ) (state : FlatState) (old new : Option (List ℕ)) (why : Stop PutFailed) → Sends {A = Unit} (Err why) old new text → WentAlong (all_done text state) old new (Err why)
 send_cut text state old new (stop.Refused failed) part =
     record { bytes = record { written = part.written; missing = part.missing; grew = part.grew; whole = part.whole; less = λ lacks. part.less }; status = tt; last = tt }
@@ -325,7 +325,7 @@ pub along_text : (text other : List ℕ) (state : FlatState) (old new : Option (
     → WentAlong (all_done text state) old new result → WentAlong (all_done other state) old new result
 along_text text other state old new result same along = subst (λ (t : List ℕ). WentAlong (all_done t state) old new result) same along
 
--- where no name is bound
+-- if no name is bound
 pub went_unbound : (program : CheckedProgram) (binds : List Bind) (before after : Outside) (result : Result Done (Stop PutFailed)) → binds ≡ []
     → Went (λ readings. meaning_of_run program (map binding_read binds) readings (unfolded_tasks program.commands)) 1 before after result
     → Went (λ readings. meaning_of_run program [] readings (unfolded_tasks program.commands)) 1 before after result

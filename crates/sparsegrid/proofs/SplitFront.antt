@@ -14,7 +14,7 @@ use Rattle.sparsegrid.proofs.SplitRows.{equal_texts}
 abbrev pub is_equals : ℕ → Bool
 is_equals byte = byte == 61
 
--- ---- what stands before and behind the first `=`
+-- ---- what stands before and after the first `=`
 
 before_here : (x : ℕ) (xs : Text) → is_equals x ≡ true → before_first is_equals (x ∷ xs) ≡ []
 before_here x xs hit = rw hit refl

@@ -111,7 +111,7 @@ module _ (command : App) (is : command ≡ words_command) (words : List Text) wh
       go (inr among) =
           ap (λ (b : Bool). unless b (matches_of words_command words)) (sym (ap (λ (a : App). has_fault (fault_of a words)) is) ∙ has_among (kind_of e) (fault_of command words) among)
 
--- what the rows ask for, where there are some
+-- what the rows ask for, if there are some
 pub asked_of_rows : (words : List Text) (rows : List Row) → rows_split words ≡ Some rows → good_words words ≡ asked_in (parts_of_rows rows)
 asked_of_rows words rows is = sym (same_asked words) ∙ ap (λ (o : Option (List Row)). o >>= (λ rows. asked_in (parts_of_rows rows))) is
 

@@ -112,7 +112,7 @@ rests idle = true
 rests (option id) = false
 rests positional = true
 
--- ---- words behind `--`
+-- ---- words after `--`
 
 module _ (rows : List Row) (pending : Option (Text × List Text)) (waiting : Waiting) (word : Text) where
   pub behind_fails : turn_fails (at rows pending waiting true) word ≡ is_wrong rows pending
@@ -178,7 +178,7 @@ module _ (rows : List Row) (pending : Option (Text × List Text)) (waiting : Wai
     short_fails [] x is first = absurd (cc)
     short_fails (y ∷ ys) x is first = rw (no_sub, apart, none, is, first) refl
 
-    -- a word that is no flag, where no option waits
+    -- a word that is no flag, if no option waits
     module _ (calm : plain_word rules waiting word (held rows pending) ≡ (held rows pending, value)) where
       calm_fails : IsPlainWord word → turn_fails (at rows pending waiting false) word ≡ is_wrong rows pending
       unfolding flags_fault bundle_met

@@ -39,7 +39,7 @@ option_or_none n = go (bytes_eq (codes "workers") n) (bytes_eq (codes "mode") n)
     go false true is = inr (codes "mode", is)
     go false false is = inl is
 
--- where a use that is refused is pending, a long option is refused
+-- if a use that is refused is pending, a long option is refused
 long_refused : (rows : List Row) (pending : Option (Text × List Text)) (waiting : Waiting) (word n : Text) (v : Option Text) → bytes_eq word (45 ∷ 45 ∷ []) ≡ false → long_of word ≡ Some (n, v)
     → is_wrong rows pending ≡ true → turn_fails (at rows pending waiting false) word ≡ true
 long_refused rows pending waiting word n v apart is wrong = go v is (option_or_none n)

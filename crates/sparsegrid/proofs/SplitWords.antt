@@ -163,7 +163,7 @@ agrees workers_value word parts all = value_agrees word (with_workers word parts
 agrees mode_value word parts all = value_agrees word (with_mode word parts) (form_of word) (is_form word) (mode_plain word parts all) (mode_dead word parts)
 agrees behind_dashes word parts all = positional_agrees behind_dashes word parts all
 
--- ---- where nothing is asked for, nothing is later
+-- ---- if nothing is asked for, nothing is later
 
 or_keeps : (a b d : Bool) → (a ≡ true → b ≡ true) → (a || d) ≡ true → (b || d) ≡ true
 or_keeps true b d keeps e = ap (λ (x : Bool). x || d) (keeps refl)

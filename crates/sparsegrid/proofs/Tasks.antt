@@ -104,7 +104,7 @@ module _ (compiled : CheckedProgram) (binds : List Bind) where
   given_same state (Prune layout) given has none = refl
   given_same state (Clear layout) given has none = refl
 
-  -- what a task and those behind it mean, where its read gave this
+  -- what a task and those after it mean, where its read gave this
   one_task : (readings : Readings) (n : ℕ) (state : FlatState) (task : Task) (tasks : List Task) (given : Reading) → HasFile compiled.names (map binding_read binds) task
       → Agree readings n (load_reads (file_of_task compiled.names (map binding_read binds) task) given)
       → meaning_of_tasks compiled (map binding_read binds) readings n state (task ∷ tasks)
@@ -379,14 +379,14 @@ module _ (compiled : CheckedProgram) (binds : List Bind) where
         last = subst (λ (ls : List Shape). StandForState ls session.stores came.state) (sym same.layouts) came.stand;
       }
 
-  -- ---- where a task cuts the run short, or ends it
+  -- ---- if a task cuts the run short, or ends it
 
-  -- what stands behind a task that read what was given
+  -- what stands after a task that read what was given
   abbrev behind : (state : FlatState) (task : Task) (rest : List Task) (given : Reading) (n : ℕ) → Readings → Meaning
   behind state task rest given n readings =
       after_task compiled state (file task) task (λ next. meaning_of_tasks compiled (map binding_read binds) readings (length (load_reads (file task) given) + n) next rest) (task_meaning compiled state task given)
 
-  -- what stands behind a task goes on after its reads
+  -- what stands after a task goes on after its reads
   went_behind : (n : ℕ) (state : FlatState) (task : Task) (rest rest' : List Task) (stores : List StoreWords) (answer : Result Text (Stop RunRefusal)) (now mid after : Outside) (result : Result Done (Stop PutFailed))
       → rest ≡ task ∷ rest' → IsNoRead answer → (did : Stepped compiled binds state task stores answer now mid) → mid.written ≡ now.written
       → Went (behind state task rest' did.chosen.0 n) (length (load_reads (file task) did.chosen.0) + n) mid after result

@@ -57,7 +57,7 @@ not_loaded law program state at file limit spelled left is e = by_size (nat_le (
 
 -- ---- the files of the two runs give the same to each command that is performed
 
--- two tellings give the same to each of these tasks, where it is performed
+-- two tellings give the same to each of these tasks, if it is performed
 abbrev Agree : CheckedProgram → (ℕ → Reading) → (ℕ → Reading) → ℕ → List Task → Type 0
 Agree program one other place [] = Unit {0}
 Agree program one other place (task ∷ tasks) =

@@ -28,7 +28,7 @@ use Rattle.sparsegrid.specs.steps.Along.{ReadMade, names_of, Agree, FollowedMean
 use Rattle.sparsegrid.proofs.Readings.{readings_of, agree_own}
 use Rattle.sparsegrid.proofs.Sources.{went_same}
 
--- where no name is bound a task has no file
+-- if no name is bound a task has no file
 no_file : (names : Tables) (task : Task) → file_of_task names [] task ≡ None
 no_file names (Load field) = by_name (field_name_of names field.number) where
   by_name : (o : Option Name) → option_and_then (file_bound []) o ≡ None
@@ -83,7 +83,7 @@ front_none : (xs ys : List (List ℕ)) → xs ++ ys ≡ [] → xs ≡ []
 front_none [] ys h = refl
 front_none (x ∷ xs) ys h = absurd (cc)
 
--- where a meaning asks for no file, none was read
+-- if a meaning asks for no file, none was read
 pub no_names : (m : Meaning) (names : List (List ℕ)) (before after : Outside) (result : Result Done (Stop PutFailed)) → m.asked ≡ [] → FollowedMeaning m names before after result → names ≡ []
 no_names m names before after (Ok done) none followed = sym followed.asked ∙ none
 no_names m names before after (Err why) none followed = front_none names followed.asked.0 (sym followed.asked.1 ∙ none)

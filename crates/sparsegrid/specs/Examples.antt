@@ -8,7 +8,7 @@ use Rattle.sparsegrid.specs.Meaning.{refused_before_tasks, meaning, meaning_by}
 no_words : (held : Held) (stop : Option ℕ) → meaning [] held stop ≡ refused_before_tasks words_last
 no_words held stop = refl
 
--- where the first read fails, the run ends with it
+-- if the first read fails, the run ends with it
 a_failed_read : meaning_by (codes "p.sg" ∷ []) (λ number name limit. Missing)
     ≡ record { text = codes "refused: read p.sg\n"; status = 2; last = None; asked = codes "p.sg" ∷ [] }
 a_failed_read = refl

@@ -2,7 +2,7 @@
 use Rattle.std.specs.Prelude.{◌≡◌, refl, ℕ, List, ◌++◌, codes, decimal, take, length}
 use Rattle.std.specs.Fmt.{digits}
 
--- what stands behind the number: what is declared, what the kernels do, and what is run
+-- what stands after the number: what is declared, what the kernels do, and what is run
 unfoldable pub behind_number : List ℕ
 behind_number =
     codes "u;\n"

@@ -46,13 +46,13 @@ told_from names bindings readings reads (task ∷ tasks) (suc place) = told_from
 abbrev pub told : CheckedProgram → List Binding → Readings → ℕ → Reading
 told program bindings readings place = told_from program.names bindings readings 1 (unfolded_tasks program.commands) place
 
--- A meaning is what commands leave: its text is their texts, one after the other, and its last state is that behind the last of them.
+-- A meaning is what commands leave: its text is their texts, one after the other, and its last state is that after the last of them.
 pub record IsWhatIsLeft (program : CheckedProgram) (bindings : List Binding) (readings : Readings) (m : Meaning) (lefts : List Left) : Type 0 where
   pub left : left_by_program program (told program bindings readings) ≡ Ok lefts
   pub text : m.text ≡ flat_map (λ left. left.text) lefts
   pub last : m.last ≡ Some (last_state program lefts)
 
--- A meaning is of the commands of a program: it has status 0 exactly where none of them is refused, and then it is what they leave.
+-- A meaning is of the commands of a program: it has status 0 exactly when none of them is refused, and then it is what they leave.
 pub record IsOfCommands (program : CheckedProgram) (bindings : List Binding) (readings : Readings) (m : Meaning) : Type 0 where
   pub leaves : m.status ≡ 0 → (lefts : List Left) × IsWhatIsLeft program bindings readings m lefts
   pub whole : (lefts : List Left) → left_by_program program (told program bindings readings) ≡ Ok lefts → m.status ≡ 0
@@ -64,11 +64,11 @@ MeaningIsOfCommands = (program : CheckedProgram) (bindings : List Binding) (read
 
 -- ---- two runs
 
--- the same files, but for the one of this name
+-- the same files, except for the one of this name
 abbrev pub AreSameBut : List ℕ → Held → Held → Type 0
 AreSameBut file held held' = (name : List ℕ) → name ≢ file → get held name ≡ get held' name
 
--- The same good words in mode run, over the same files but for the one that they name. That one has the one program or the other, which differ
+-- The same good words in mode run, over the same files except for the one that they name. That one has the one program or the other, which differ
 -- in the nodes of their layouts alone. Every kernel that is run is neutral.
 pub record DifferInLayouts (words : List (List ℕ)) (held held' : Held) (asked : Asked) (first second : CheckedProgram) : Type 0 where
   pub words_are : good_words words ≡ Some asked

@@ -8,7 +8,7 @@ use Rattle.sparsegrid.specs.Generated.{generated_text}
 use Rattle.sparsegrid.specs.Meaning.{Readings, asking_for, meaning_of_asked}
 use Rattle.sparsegrid.specs.Outcome.{Outside, HasWholeText, WroteMeaning, ReadFaults, PutFaults}
 
--- where neither count of faults rose and memory didn't run out, a run wrote the whole of what it means
+-- if neither count of faults rose and memory didn't run out, a run wrote the whole of what it means
 abbrev pub FaultlessIsWhole : Type 0
 FaultlessIsWhole = (words : List (List ℕ)) (code : List ℕ) (before after : Outside) (status : ℕ)
     → (HasWholeText status → WroteMeaning words code None before after status) → ReadFaults before after status → PutFaults before after status

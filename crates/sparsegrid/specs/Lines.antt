@@ -83,7 +83,7 @@ name_last (Unknown item) = refused_as 5 (codes "unknown name: item " ++ decimal 
 name_last (Twice item) = refused_as 5 (codes "name twice: item " ++ decimal item)
 name_last (TooMany which) = limit_last (which_text which)
 
--- the bytes of a name, where there is one
+-- the bytes of a name, if there is one
 abbrev pub name_text : Option Name → List ℕ
 name_text None = []
 name_text (Some name) = name.text
@@ -158,12 +158,12 @@ field_text names (Clear layout) = []
 abbrev pub kernel_text : Tables → Option ℕ → List ℕ
 kernel_text names kernel = name_text (option_and_then (kernel_name_of names) kernel)
 
--- the bytes of a file's name, where there is one
+-- the bytes of a file's name, if there is one
 abbrev pub file_text : Option (List ℕ) → List ℕ
 file_text None = []
 file_text (Some name) = name
 
--- the run of a kernel is refused, or of a load where there is none
+-- the run of a kernel is refused, or of a load if there is none
 abbrev pub fault_last : Tables → Option ℕ → RunFault → LastLine
 fault_last names kernel (WriteOutside stmt at) =
     named_as 7 (codes "write outside: kernel ") (kernel_text names kernel) (codes " statement " ++ (decimal stmt ++ (codes " at " ++ coordinate_text at)))

@@ -108,7 +108,7 @@ meaning_in mode.Check program bindings readings = all_done (check_text program.n
 meaning_in mode.Lower program bindings readings = all_done [] (opening program.layouts)
 meaning_in mode.Gen program bindings readings = meaning_of_run program [] readings (unfolded_tasks program.commands)
 
--- the items of a program, where there is one
+-- the items of a program, if there is one
 abbrev pub items_or_none : Result Program Refusal → List Item
 items_or_none (Ok program) = program.items
 items_or_none (Err refusal) = []
@@ -159,7 +159,7 @@ abbrev pub asks_code : Option Asked → Bool
 asks_code None = false
 asks_code (Some asked) = is_lower asked.mode
 
--- a meaning with the text of access code behind its own, where this is so
+-- a meaning with the text of access code after its own, where this is so
 abbrev pub with_text : Bool → List ℕ → Meaning → Meaning
 with_text false code m = m
 with_text true code m = record { text = m.text ++ code; status = m.status; last = m.last; asked = m.asked }
@@ -175,7 +175,7 @@ abbrev pub stops_at : Option ℕ → ℕ → Bool
 stops_at None number = false
 stops_at (Some stop) number = stop == number
 
--- what reads of these files give: nothing where the run is stopped
+-- what reads of these files give: nothing if the run is stopped
 abbrev pub readings_in : Held → Option ℕ → Readings
 readings_in held stop number name limit = if stops_at stop number then Missing else reading held name limit
 

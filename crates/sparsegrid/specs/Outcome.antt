@@ -41,7 +41,7 @@ outside_of of_files of_sink files out = record {
   failed_puts = of_sink.faults out;
 }
 
--- the names that were read so far, with more of them; where nothing is told, nothing is
+-- the names that were read so far, with more of them; if nothing is told, nothing is
 abbrev pub asked_more : Option (List (List ℕ)) → List (List ℕ) → Option (List (List ℕ))
 asked_more asked names = option_map (λ told. told ++ names) asked
 

@@ -9,7 +9,7 @@ use Rattle.sparsegrid.specs.declared.words.Mode.TheVariants as mode
 use Rattle.sg_session.specs.Bindings.{Binding, binding_read}
 use Rattle.sparsegrid.specs.declared.words.Words.{Words}
 
--- where a word stands: at the front, as the value of an option, or behind `--`
+-- where a word stands: at the front, as the value of an option, or after `--`
 pub data WordPlace : Type 0 where
   front : WordPlace
   workers_value : WordPlace
@@ -22,7 +22,7 @@ pub record WordParts : Type 0 where
   pub mode : Option (List ℕ)
   pub positionals : List (List ℕ)
 
--- what stands before and behind the first `=` of a word that has one; `=` is 61
+-- what stands before and after the first `=` of a word that has one; `=` is 61
 abbrev pub at_equals : List ℕ → Option (List ℕ × List ℕ)
 at_equals word = if list_any (λ byte. byte == 61) word then Some (before_first (λ byte. byte == 61) word, after_first (λ byte. byte == 61) word) else None
 
@@ -31,12 +31,12 @@ abbrev pub begins_with_dash : List ℕ → Bool
 begins_with_dash [] = false
 begins_with_dash (byte ∷ bytes) = byte == 45
 
--- a word may be positional where it isn't empty and doesn't begin with `-`
+-- a word may be positional if it isn't empty and doesn't begin with `-`
 abbrev pub can_be_positional : List ℕ → Bool
 can_be_positional [] = false
 can_be_positional (byte ∷ bytes) = not (byte == 45)
 
--- The words are read from the left, and each tells where the next one stands: at the front, as the value of an option, or behind `--`.
+-- The words are read from the left, and each tells where the next one stands: at the front, as the value of an option, or after `--`.
 -- None: the word is bad there.
 
 -- a word that may be positional is one more of them
@@ -70,14 +70,14 @@ at_front word parts =
     else (if bytes_eq word (codes "--mode") then Some (mode_value, parts)
     else with_carried word parts (at_equals word)))
 
--- a word where it stands. As the value of the option before it, it doesn't begin with `-`; behind the first `--` all are positional
+-- a word where it stands. As the value of the option before it, it doesn't begin with `-`; after the first `--` all are positional
 abbrev pub with_word : WordPlace → List ℕ → WordParts → Option (WordPlace × WordParts)
 with_word front word parts = at_front word parts
 with_word workers_value word parts = only_if (not (begins_with_dash word)) (with_workers word parts)
 with_word mode_value word parts = only_if (not (begins_with_dash word)) (with_mode word parts)
 with_word behind_dashes word parts = with_positional behind_dashes word parts
 
--- where the words end, no value is wanting
+-- if the words end, no value is wanting
 abbrev pub at_end : WordPlace → WordParts → Option WordParts
 at_end front parts = Some parts
 at_end workers_value parts = None
@@ -134,7 +134,7 @@ binding_of word = at_equals word >>= (λ cut. only_if (is_name (record { text = 
 abbrev pub has_binding : List Binding → List ℕ → Bool
 has_binding bindings name = list_any (λ binding. bytes_eq binding.name name) bindings
 
--- the bindings of further words, behind those that are there; no name comes twice
+-- the bindings of further words, after those that are there; no name comes twice
 abbrev pub bindings_after : List Binding → List (List ℕ) → Option (List Binding)
 bindings_after before [] = Some before
 bindings_after before (word ∷ words) =

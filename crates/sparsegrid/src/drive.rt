@@ -21,7 +21,7 @@ use sg_words::{Memory, Stop};
 use std::alloc::Global;
 use std::thread::Threads;
 
-/// Performs tasks in order and writes their texts, up to the first that is refused, whose last line it writes. Gives the status: 0 where
+/// Performs tasks in order and writes their texts, up to the first that is refused, whose last line it writes. Gives the status: 0 if
 /// none is refused. The file of the program was read before.
 pub fn drive<R: Threads + Sync, F: Files, S: Sink, G: Gate + Sync>(
     rt: &R,

@@ -21,7 +21,7 @@ pub(crate) fn is_gen(mode: Mode) -> bool
     }
 }
 
-/// What stands behind the number.
+/// What stands after the number.
 #[tactic(auto, unfolding(crate::specs::Generated::behind_number))]
 fn behind_number() -> &'static str
     ensures { result.now ≡ spec.behind_number }

@@ -203,7 +203,7 @@ fn command_last(alloc: Global, item: u32) -> Result<LastLine, Memory>
     refused_as(alloc, 5, reason.as_bytes())
 }
 
-/// The last line with this status, whose reason has a name behind a cause.
+/// The last line with this status, whose reason has a name after a cause.
 pub(crate) fn joined_as(
     alloc: Global,
     status: u8,

@@ -23,7 +23,7 @@ pub fn meaning_is_of_commands()
 {}
 
 /// Two runs whose programs differ in the nodes of their layouts alone, and that run neutral kernels alone, mean the same values after each
-/// command and at the end, and the same images, where neither of them refuses anything.
+/// command and at the end, and the same images, if neither of them refuses anything.
 pub fn layouts_dont_matter_to_runs()
     ensures { LayoutsDontMatterToRuns }
 {

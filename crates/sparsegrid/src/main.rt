@@ -36,7 +36,7 @@ use std::rt::Env;
 use std::{env, io};
 pub use words::{BadWords, Mode, Words, read_words};
 
-/// The greatest block that the C library's allocator may learn to keep, but for its own words.
+/// The greatest block that the C library's allocator may learn to keep, except for its own words.
 const KEPT: usize = 33_000_000;
 
 /// Takes a large block and gives it back untouched. From this the C library's allocator learns to keep freed blocks up to that size for

@@ -30,7 +30,7 @@ fn is_decimal(bytes: &[u8]) -> bool
     are_digits(bytes)
 }
 
-/// The number that digits spell, or `PAST_NUMBERS` where it is larger.
+/// The number that digits spell, or `PAST_NUMBERS` if it is larger.
 fn decimal_value(digits: &[u8]) -> u64
     ensures { result ≡ min (lexing.decimal_value digits.now) (2 ^ 32) }
 {
@@ -41,7 +41,7 @@ fn decimal_value(digits: &[u8]) -> u64
     value
 }
 
-/// The number that is written in decimal, without a sign and without a leading zero, where it is below 2^32.
+/// The number that is written in decimal, without a sign and without a leading zero, if it is below 2^32.
 pub(crate) fn gen_number(text: &[u8]) -> Option<u32>
     ensures { result ≡ spec.gen_number text.now }
 {

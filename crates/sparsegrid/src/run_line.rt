@@ -50,7 +50,7 @@ pub fn run_last(
     }
 }
 
-/// The last line of a refused run of a kernel, or of a load where there is none.
+/// The last line of a refused run of a kernel, or of a load if there is none.
 fn fault_last(
     alloc: Global,
     compiled: &Compiled,
@@ -79,7 +79,7 @@ fn fault_last(
     }
 }
 
-/// The name of a file, where there is one.
+/// The name of a file, if there is one.
 fn file_text(file: Option<&str>) -> &[u8]
     ensures { result.now ≡ spec.file_text (option_copied file.entry) }
 {
@@ -119,7 +119,7 @@ fn kernel_text(compiled: &Compiled, kernel: Option<u32>) -> &[u8]
     }
 }
 
-/// The name of the kernel with this number, where there is one.
+/// The name of the kernel with this number, if there is one.
 fn kernel_name(compiled: &Compiled, number: u32) -> Option<&Name>
     ensures { option_copied result ≡ kernel_name_of compiled.now.names number }
 {
@@ -129,7 +129,7 @@ fn kernel_name(compiled: &Compiled, number: u32) -> Option<&Name>
     None
 }
 
-/// The name of the layout with this number, where there is one.
+/// The name of the layout with this number, if there is one.
 fn layout_name(compiled: &Compiled, number: u32) -> Option<&Name>
     ensures { option_copied result ≡ layout_name_of compiled.now.names number }
 {

@@ -38,7 +38,7 @@ pub struct Done {
 /// Runs the program that the words name: reads its file and performs its commands in order, or looks at its kernels, or writes their access
 /// code; or performs the commands of the generated program; or writes one last line that says why it was refused. Statuses: 0 all done, 1 bad
 /// words, or a load without a file, 2 a read failed, 3 a put failed, 4 the bytes spell no program, 5 the program breaks a rule, 6 a loaded file
-/// is no grid text of its field, 7 a run of a kernel or a load was refused, 8 a limit was passed, 9 want of memory.
+/// is no grid text of its field, 7 a run of a kernel or a load was refused, 8 a limit was passed, 9 running out of memory.
 pub fn run<R: Threads + Sync, F: Files, S: Sink, G: Gate + Sync>(
     rt: &R,
     alloc: Global,
@@ -58,7 +58,7 @@ pub fn run<R: Threads + Sync, F: Files, S: Sink, G: Gate + Sync>(
     // of the files was read.
     ensures front { IsCutShort result.status → WroteFront (texts words.now) (code_in result.session)
         (outside_of F.Files S.Sink files.old out.old) (outside_of F.Files S.Sink files.new out.new) result.status }
-    // In mode lower want of memory leaves the written bytes as they were.
+    // In mode lower running out of memory leaves the written bytes as they were.
     ensures quiet { asks_code (good_words (texts words.now)) ≡ true → result.status ≡ 9 → S.has out.new ≡ S.has out.old }
     // Whatever the files and the sink tell, a run that came to its end ended as it means where its reads give some readings.
     ensures ended { IsEnding result.status → EndsAs (texts words.now) (code_in result.session)
@@ -123,7 +123,7 @@ fn code_text(alloc: Global, session: &Option<Session>) -> Result<Text, Memory>
     }
 }
 
-/// How a run ended that came to its end, or was cut short by a failed put or want of memory.
+/// How a run ended that came to its end, or was cut short by a failed put or running out of memory.
 fn done_of(answer: Result<Done, Stop<PutFailed>>) -> Done
     ensures status { result.status ≡ status_of answer }
     ensures session { result.session ≡ session_of answer }

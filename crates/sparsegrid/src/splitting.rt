@@ -31,7 +31,7 @@ fn command<'a>(alloc: Global) -> Result<Command<'a>, Memory>
     Ok(command)
 }
 
-/// The words, split; refused where one names another option, or an option has no value or comes twice.
+/// The words, split; refused if one names another option, or an option has no value or comes twice.
 pub(crate) fn split<'a>(
     alloc: Global,
     words: &'a [String],

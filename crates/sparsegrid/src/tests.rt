@@ -13,6 +13,7 @@ mod lowered;
 mod mistakes;
 mod names;
 mod races;
+mod recycling;
 mod refusals;
 mod runs;
 mod setting;

@@ -44,7 +44,7 @@ pub struct Words {
 #[derive(Clone, Copy, Debug, PartialEq, Eq)]
 pub struct BadWords;
 
-/// What stands before and behind the first `=`, where there is one.
+/// What stands before and after the first `=`, if there is one.
 fn at_equals(word: &str) -> Option<(&str, &str)>
     ensures { option_map (λ cut. (cut.0.now, cut.1.now)) result ≡ spec.at_equals word.now }
 {
@@ -289,7 +289,7 @@ fn matches_asked(alloc: Global, matches: &ArgMatches) -> Result<Words, Stop<BadW
     )
 }
 
-/// What the words behind the program's name ask for; refused exactly where they aren't good. There are 1 to 16 workers.
+/// What the words after the program's name ask for; refused exactly when they aren't good. There are 1 to 16 workers.
 pub fn read_words(alloc: Global, words: &[String]) -> Result<Words, Stop<BadWords>>
     ensures asked { AnswersOption spec.asked_by result (spec.good_words (map string_bytes words.now)) }
     ensures some { IfOk result (λ asked. 1 ≤ asked.workers) }

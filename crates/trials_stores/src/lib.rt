@@ -10,6 +10,8 @@ mod layouts;
 #[cfg(test)]
 mod races;
 #[cfg(test)]
+mod recycling;
+#[cfg(test)]
 mod stories;
 #[cfg(test)]
 mod texts;

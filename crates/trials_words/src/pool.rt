@@ -1,4 +1,7 @@
+use crate::pool::Step::{Back, Draw, Settle};
 use sg_pool::Pool;
+use sg_words::Memory;
+use std::alloc::Global;
 use std::test::Fail;
 
 #[test]
@@ -18,5 +21,73 @@ fn numbers_are_drawn(rt: HostRuntime) -> Result<(), Fail> {
     let drawn = pool.draw();
     assert_eq!(rt; drawn, Some(0));
     assert_eq!(rt; (pool.places(), pool.live(), pool.is_live(0)), (1, 1, true));
+    Ok(())
+}
+
+/// A number of the stock is taken, a live one comes back, or the stock's first is drawn.
+#[derive(Clone, Copy)]
+enum Step {
+    Settle(u32),
+    Back(u32),
+    Draw(Option<u32>),
+}
+
+/// Steps with a pool of six, and the stock after each: what was passed or came back is taken before what was never taken.
+static STEPS: [(Step, &[u32]); 14] = [
+    (Settle(3), &[0, 1, 2, 4, 5]),
+    (Draw(Some(0)), &[1, 2, 4, 5]),
+    (Draw(Some(1)), &[2, 4, 5]),
+    (Back(0), &[0, 2, 4, 5]),
+    (Back(3), &[3, 0, 2, 4, 5]),
+    (Settle(2), &[3, 0, 4, 5]),
+    (Settle(5), &[3, 0, 4]),
+    (Draw(Some(3)), &[0, 4]),
+    (Back(5), &[5, 0, 4]),
+    (Settle(0), &[5, 4]),
+    (Draw(Some(5)), &[4]),
+    (Draw(Some(4)), &[]),
+    (Draw(None), &[]),
+    (Back(1), &[1]),
+];
+
+/// Whether the step can be gone, and goes so.
+fn goes(pool: &mut Pool, step: Step) -> bool {
+    match step {
+        Settle(number) => {
+            if number >= pool.places() || pool.is_live(number) {
+                return false;
+            }
+            pool.settle(&[number]);
+            true
+        }
+        Back(number) => {
+            if number >= pool.places() || !pool.is_live(number) {
+                return false;
+            }
+            pool.give_back(number);
+            true
+        }
+        Draw(number) => pool.draw() == number,
+    }
+}
+
+/// Whether a pool goes through all steps with these stocks.
+fn goes_on(alloc: Global, pool: &mut Pool) -> Result<bool, Memory> {
+    for (step, want) in &STEPS {
+        if !goes(pool, *step) {
+            return Ok(false);
+        }
+        let stock = pool.stock(alloc)?;
+        if stock.as_slice() != *want {
+            return Ok(false);
+        }
+    }
+    Ok(true)
+}
+
+#[test]
+fn numbers_come_back(rt: HostRuntime) -> Result<(), Fail> {
+    let mut pool = Pool::make(rt.alloc(), 6)?;
+    assert!(rt; goes_on(rt.alloc(), &mut pool)?);
     Ok(())
 }

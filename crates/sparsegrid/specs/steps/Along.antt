@@ -31,13 +31,13 @@ pub record GrewByPart (old new : Option (List ℕ)) (text : List ℕ) : Type 0 w
   pub whole : text ≡ written ++ missing
   pub less : missing ≢ []
 
--- what a text that is put leaves: the whole of it, a front where the put failed, and nothing where memory ran out
+-- what a text that is put leaves: the whole of it, a front where the put failed, and nothing if memory ran out
 abbrev pub Sends : {A : Type 0} → Result A (Stop PutFailed) → Option (List ℕ) → Option (List ℕ) → List ℕ → Type 0
 Sends (Ok done) old new text = new ≡ followed_by old text
 Sends (Err (stop.Refused failed)) old new text = GrewByPart old new text
 Sends (Err stop.Memory) old new text = new ≡ old
 
--- where memory ran out, the written bytes stayed as they were
+-- if memory ran out, the written bytes stayed as they were
 abbrev pub KeepsWritten : {A : Type 0} → Result A (Stop PutFailed) → Option (List ℕ) → Option (List ℕ) → Type 0
 KeepsWritten (Ok done) old new = Unit {0}
 KeepsWritten (Err (stop.Refused failed)) old new = Unit {0}
@@ -71,11 +71,11 @@ abbrev pub WroteAll : {A : Type 0} → Result A (Stop PutFailed) → List ℕ �
 WroteAll (Ok done) text status old new = new ≡ followed_by old text
 WroteAll (Err why) text status old new = TextFront text status old new (cut_status why)
 
--- where a session is left, it is one of which a fact holds
+-- if a session is left, it is one of which a fact holds
 abbrev pub LeavesOnly : (SessionParts → Type 0) → Result Done (Stop PutFailed) → Type 0
 LeavesOnly P result = IfOk result (λ done. IfSome done.session P)
 
--- where a session is left, it is one of this program
+-- if a session is left, it is one of this program
 abbrev pub LeavesProgram : CompiledProgram → Result Done (Stop PutFailed) → Type 0
 LeavesProgram compiled result = LeavesOnly (λ session. session.compiled ≡ compiled) result
 
@@ -175,7 +175,7 @@ pub record Came (program : CheckedProgram) (bindings : List Binding) (start : Fl
   pub is : (readings : Readings) → Agree readings 1 made
       → meaning_of_tasks program bindings readings 1 start tasks ≡ asking_for (names_of made) (before_text text (meaning_of_tasks program bindings readings (length made + 1) state rest))
 
--- how a run that came to its end ended: not by a failed put or want of memory, and with a session exactly where its status leaves one
+-- how a run that came to its end ended: not by a failed put or running out of memory, and with a session exactly when its status leaves one
 abbrev pub IsEnd : Done → Type 0
 IsEnd done = (done.status ≢ 3) × (done.status ≢ 9) × (IsSome done.session ↔ HasSession done.status)
 

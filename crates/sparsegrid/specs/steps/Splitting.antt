@@ -28,7 +28,7 @@ abbrev pub has_fault : Kinds → Bool
 has_fault [] = false
 has_fault (kind ∷ kinds) = true
 
--- the value, or none where it is refused
+-- the value, or none if it is refused
 abbrev pub unless : {A : Type 0} → Bool → A → Option A
 unless refused value = if refused then None else Some value
 
@@ -44,7 +44,7 @@ parts_of_rows rows = record {
   positionals = unwrap_or (all_of (codes "positionals") rows) [];
 }
 
--- what parts ask for, where no positional word is empty or begins with `-`
+-- what parts ask for, if no positional word is empty or begins with `-`
 abbrev pub asked_in : WordParts → Option Asked
 asked_in parts =
     only_if (list_all can_be_positional parts.positionals) (workers_of parts.workers >>= (λ workers. mode_of parts.mode >>= (λ mode. asked_of workers mode parts.positionals)))

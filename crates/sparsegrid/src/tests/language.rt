@@ -218,7 +218,7 @@ fn examples_of_the_page(rt: HostRuntime) -> Result<(), Fail> {
     compare(&rt, rt.alloc(), RUNS)
 }
 
-/// The declarations that the page shows whole, with a write at the last place of the layout and one behind it on each axis; then the programs
+/// The declarations that the page shows whole, with a write at the last place of the layout and one after it on each axis; then the programs
 /// of its tour.
 static DECLARED: &[(&str, u8, &str)] = &[
     (

@@ -23,7 +23,7 @@ fn limits_of_bytes_and_tokens(rt: HostRuntime) -> Result<(), Fail> {
     Ok(())
 }
 
-/// How many layouts with how many fields each, what stands behind them, the status, and the last line.
+/// How many layouts with how many fields each, what stands after them, the status, and the last line.
 static LAYOUTS: &[(u32, u32, &str, u8, &str)] = &[
     (8, 2, "", 0, ""),
     (1, 16, "", 0, ""),
@@ -76,7 +76,7 @@ fn limits_of_layouts_and_fields(rt: HostRuntime) -> Result<(), Fail> {
     Ok(())
 }
 
-/// How many kernels, what stands behind them, the status, and the last line.
+/// How many kernels, what stands after them, the status, and the last line.
 static KERNELS: &[(u32, &str, u8, &str)] = &[
     (16, "", 0, ""),
     (17, "", 8, "refused: limit: kernels\n"),
@@ -115,7 +115,7 @@ fn limit_of_kernels(rt: HostRuntime) -> Result<(), Fail> {
     Ok(())
 }
 
-/// How many runs of a kernel, what stands behind them, the status, and the last line.
+/// How many runs of a kernel, what stands after them, the status, and the last line.
 static COMMANDS: &[(u32, &str, u8, &str)] = &[
     (64, "", 0, ""),
     (65, "", 8, "refused: limit: commands\n"),
@@ -155,7 +155,7 @@ fn limit_of_dumps(rt: HostRuntime) -> Result<(), Fail> {
     ends(&rt, alloc, source.as_str(), 8, "refused: limit: commands\n")
 }
 
-/// What stands before and behind a number, one inside the other, how often, and the value.
+/// What stands before and after a number, one inside the other, how often, and the value.
 static NESTED: &[(&str, &str, u32, &str)] = &[
     ("(", ")", 63, "3"),
     ("-", "", 63, "-3"),

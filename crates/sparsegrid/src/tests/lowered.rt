@@ -28,7 +28,7 @@ static CODES: &[(&str, &str)] = &[
     // one step down at a node of each kind
     (
         "layout H(i, j, k) { hash(i: 4, j: 4) cap 4; pointer(k: 4) cap 8; bitmasked(i: 2, j: 2); field h: u32; } layout D(i) { dynamic(i: 8) chunk 4 cap 2; field d: i32; } kernel k { for p in 0..8 { h[d[p] & 7, p, p >> 1] += u32(d[p]); } }",
-        "kernel k\nslice\nr0 = var 0\np0 = root 1\np1 = dyncell p0 1 r0\nr1 = read p1 1 0 r0\nr2 = const 7\nr3 = and i32 r1 r2\nr4 = const 1\nr5 = shr i32 r0 r4\nwant 0 r3 r0 r5\ncode\nr0 = var 0\np0 = root 1\np1 = dyncell p0 1 r0\nr1 = read p1 1 0 r0\nr2 = const 7\nr3 = and i32 r1 r2\nr4 = const 1\nr5 = shr i32 r0 r4\nr6 = extract 2 4 r3\nr7 = extract 2 4 r0\nr8 = offset r6 4 r7\nr9 = const 0\nr10 = extract 1 4 r5\nr11 = extract 1 2 r3\nr12 = extract 1 2 r0\nr13 = offset r11 2 r12\np2 = root 0\np3 = check p2 0 8 r3\np4 = check p3 2 4 r5\np5 = hashchild p4 1 r8\np6 = child p5 2 r10\np7 = maskbit p6 3 r13\nacc add 0 0 p7 r1 r3 r0 r5\n",
+        "kernel k\nslice\nr0 = var 0\np0 = root 1\np1 = dyncell p0 1 r0\nr1 = read p1 1 0 r0\nr2 = const 7\nr3 = and i32 r1 r2\nr4 = const 1\nr5 = shr i32 r0 r4\nwant 0 r3 r0 r5\ncode\nr0 = var 0\np0 = root 1\np1 = dyncell p0 1 r0\nr1 = read p1 1 0 r0\nr2 = const 7\nr3 = and i32 r1 r2\nr4 = const 1\nr5 = shr i32 r0 r4\nr6 = extract 2 4 r3\nr7 = extract 2 4 r0\nr8 = offset r6 4 r7\nr10 = extract 1 4 r5\nr11 = extract 1 2 r3\nr12 = extract 1 2 r0\nr13 = offset r11 2 r12\np2 = root 0\np3 = check p2 0 8 r3\np4 = check p3 2 4 r5\np5 = hashchild p4 1 r8\np6 = child p5 2 r10\np7 = maskbit p6 3 r13\nacc add 0 0 p7 r1 r3 r0 r5\n",
     ),
 ];
 

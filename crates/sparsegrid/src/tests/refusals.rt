@@ -119,7 +119,7 @@ static REFUSALS: &[(&str, u8, &str)] = &[
         7,
         "refused: write outside: kernel k statement 1 at 1\n",
     ),
-    // what ran before is written, and what stands behind the refused command is not run
+    // what ran before is written, and what stands after the refused command is not run
     (
         "layout A(i) { dense(i: 1); field x: i32; field y: u32; } kernel one { for i in 0..1 { x[i] = x[i] - 1; } } \
          kernel two { for i in 0..1 { y[i] = u32(x[i]); } } kernel bad { for i in 0..2 { x[i] = 5; } } \

@@ -84,7 +84,7 @@ fn active(store: &Store) -> (u32, u32) {
     (front, all)
 }
 
-/// The number of the container below a slot of the root, where it is live.
+/// The number of the container below a slot of the root, if it is live.
 fn container(store: &Store, offset: u32) -> Option<u32> {
     if store.layout().nodes() == 0 {
         return None;

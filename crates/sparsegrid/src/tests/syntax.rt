@@ -147,7 +147,7 @@ fn numbers_past_their_limit_are_no_tokens(rt: HostRuntime) -> Result<(), Fail> {
     Ok(())
 }
 
-// The texts of a count: what stands before, what is repeated, what stands behind, how often at most.
+// The texts of a count: what stands before, what is repeated, what stands after, how often at most.
 struct Count {
     before: &'static str,
     part: &'static str,

@@ -193,7 +193,7 @@ static FILLED: [(u8, &str); 4] = [
     (b'0', "BadNumber { line: 1 }"),
 ];
 
-// bytes behind 16,384 semicolons
+// bytes after 16,384 semicolons
 static BEHIND: [(&[u8], &str); 7] = [
     (b";", "TooManyTokens"),
     (b"a", "TooManyTokens"),

@@ -3,8 +3,8 @@
 use super::setting::Setting;
 use std::test::Fail;
 
-/// Statements of a kernel over `i, j`, with the number of the one that doesn't fit and its code, and 0 where all fit. Before the kernel
-/// stand the constant `C`, the layout `A` of two axes and its fields `f` of I32 and `g` of U32; the constant `Z` stands behind it.
+/// Statements of a kernel over `i, j`, with the number of the one that doesn't fit and its code, and 0 if all fit. Before the kernel
+/// stand the constant `C`, the layout `A` of two axes and its fields `f` of I32 and `g` of U32; the constant `Z` stands after it.
 static STATEMENTS: &[(&str, u32, u32)] = &[
     ("let t = 1 + 1; t = 1;", 0, 0),
     ("let t = 1 + 1u;", 1, 1),

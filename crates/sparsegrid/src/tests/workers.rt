@@ -22,7 +22,7 @@ fn on<'a>(words: &'a [&'a str], source: &'a str) -> Setting<'a> {
     }
 }
 
-/// A write outside behind others that are inside.
+/// A write outside after others that are inside.
 const OUTSIDE: &str =
     "layout A(i) { pointer(i: 4) cap 4; field x: i32; } kernel k { for i in 0..4 { x[i + 1] += 1; } } run k;";
 
@@ -68,7 +68,7 @@ fn few_points_take_one_worker(rt: HostRuntime) -> Result<(), Fail> {
 /// More looks than another worker needs to come.
 const LOOKS: u32 = 100_000_000;
 
-/// The numbers of the first two containers after the run in which a worker comes first; none where the other one didn't see it first.
+/// The numbers of the first two containers after the run in which a worker comes first; none if the other one didn't see it first.
 fn containers<R: Threads + Sync + Abort>(
     rt: &R,
     alloc: Global,
