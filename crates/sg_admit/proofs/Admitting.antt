@@ -18,7 +18,7 @@ use Rattle.sg_admit.specs.Slices.{walked_by, block_slice}
 use Rattle.sg_admit.specs.Bounds.{constant_domain, box_size}
 use Rattle.sg_admit.specs.Rules.{Facts, ways_in, first_way, has_own, has_acc, facts_of}
 use Rattle.sg_admit.specs.Admission.{first_fault, turns_var, clean_vars, kept_of, box_answer, admission}
-use Rattle.sg_admit.specs.steps.Spread.{bears_mark}
+use Rattle.sg_words.specs.Spread.{bears_mark}
 use Rattle.sg_admit.specs.steps.Hanging.{IsLeastGiven}
 use Rattle.sg_admit.specs.steps.Noting.{AreAlike, loops_in}
 use Rattle.sg_admit.specs.steps.Marked.{unclean_of, marked_facts}

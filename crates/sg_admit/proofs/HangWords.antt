@@ -16,7 +16,7 @@ use Rattle.sg_admit.specs.Lines.{Tests, Around, Line, line_of, within_if, stmt_l
 use Rattle.sg_admit.specs.Clean.{Unclean, is_clean, Giving, givings_of, givings}
 use Rattle.sg_admit.specs.Slices.{stmt_of}
 use Rattle.sg_admit.specs.steps.Noting.{tests_in, deed_tests}
-use Rattle.sg_admit.specs.steps.Spread.{has_spread}
+use Rattle.sg_words.specs.Spread.{has_spread}
 use Rattle.sg_admit.specs.steps.Hanging.{PlaceSet, Test, unclean_beside, is_noted_in, vars_in, is_clean_by, are_clean_by, is_in_set, SpreadWhereTested, IsSpread, has_givings, has_given, AreSettled, AddsLinks}
 use Rattle.sg_admit.proofs.CleanWords.{clean-Read, clean-Mulq}
 use Rattle.sg_admit.proofs.StmtWords.{lines-If}

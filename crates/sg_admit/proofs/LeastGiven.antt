@@ -9,7 +9,7 @@ use Rattle.sg_admit.specs.declared.hangs.Hangs.{Hangs}
 use Rattle.sg_admit.specs.Lines.{Around, Line, nothing_round}
 use Rattle.sg_admit.specs.Clean.{is_clean, givings}
 use Rattle.sg_admit.specs.steps.Noting.{tests_in}
-use Rattle.sg_admit.specs.steps.Spread.{bears_mark, IsLeastSpread}
+use Rattle.sg_words.specs.Spread.{bears_mark, IsLeastSpread}
 use Rattle.sg_admit.specs.steps.Hanging.{Vars, unclean_beside, is_noted_in, vars_in, has_givings, AreSettled, IsSpread, AddsLinks, IsLeastGiven}
 
 -- the set of places that goes with a set of variables: each `if` that isn't clean beside them or stands in one that isn't, and they

@@ -9,7 +9,6 @@ pub mod BoxSizes
 pub mod Wants
 pub mod OwnWrites
 pub mod Guards
-pub mod Spreading
 pub mod HangWords
 pub mod LeastGiven
 pub mod Ties

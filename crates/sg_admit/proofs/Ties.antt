@@ -11,7 +11,7 @@ use Rattle.sg_admit.specs.Admission.{turns_var}
 use Rattle.sg_admit.specs.steps.Noting.{AreAlike, deed_loops, loops_in}
 use Rattle.sg_admit.specs.Clean.{Unclean, Giving, givings, is_clean_giving, unclean_with, dirty_among, deed_writes, writes_field, unclean_in}
 use Rattle.sg_admit.specs.Laws.{IsClosed}
-use Rattle.sg_admit.specs.steps.Spread.{bears_mark}
+use Rattle.sg_words.specs.Spread.{bears_mark}
 use Rattle.sg_admit.specs.steps.Hanging.{Vars, unclean_beside, is_noted_in, has_givings, IsLeastGiven}
 use Rattle.sg_admit.proofs.Dirty.{dirty_is_closed, dirty_is_least}
 

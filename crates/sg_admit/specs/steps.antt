@@ -1,5 +1,4 @@
 pub mod Marked
-pub mod Spread
 pub mod Hanging
 pub mod Reading
 pub mod Noting

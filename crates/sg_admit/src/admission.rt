@@ -10,16 +10,16 @@ ghost use Rattle.sg_admit.specs.Admission as spec;
 ghost use Rattle.sg_admit.specs.steps.Corners.{IsCounted};
 ghost use Rattle.sg_admit.specs.steps.Marked.{marked_facts};
 ghost use Rattle.sg_admit.specs.steps.Noting.{loops_in};
-ghost use Rattle.sg_admit.specs.steps.Spread as spread;
+ghost use Rattle.sg_words.specs.Spread as spread;
 
 use crate::admitted::{AdmitFault, Admitted};
 use crate::boxes::{constant_domain, is_small};
 use crate::hangs::dirty_vars;
 use crate::marks::Marks;
-use crate::spreads::{is_marked, mark};
 use crate::text::Text;
 use sg_layout::Layouts;
 use sg_types::{TypedDomain, TypedKernel};
+use sg_words::spreads::{is_marked, mark};
 use sg_words::{Items, Memory, Stop, Ty};
 use std::alloc::Global;
 

@@ -6,11 +6,11 @@ ghost use Rattle.std.specs.Prelude.{◌≡◌, ℕ, ◌+◌, not, ◌||◌, leng
 ghost use Rattle.sg_admit.specs.Lines.{block_lines, stmt_lines, nothing_round};
 ghost use Rattle.sg_admit.specs.steps.Hanging as spec;
 ghost use Rattle.sg_admit.specs.steps.Noting.{tests_in};
-ghost use Rattle.sg_admit.specs.steps.Spread.{bears_mark};
+ghost use Rattle.sg_words.specs.Spread.{bears_mark};
 
-use crate::spreads::{Link, spread};
 use crate::text::{Text, next};
 use sg_types::{Form, TypedExpr, TypedKind, TypedStmt};
+use sg_words::spreads::{Link, spread};
 use sg_words::{Items, Memory};
 use std::alloc::Global;
 

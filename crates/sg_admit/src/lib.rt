@@ -14,7 +14,6 @@ pub mod laws;
 mod marks;
 mod neutral;
 mod slices;
-mod spreads;
 mod text;
 pub mod ways;
 

@@ -2,10 +2,10 @@ ghost use Rattle.std.specs.Prelude.{◌≡◌};
 ghost use Rattle.sg_admit.specs.Slices as slices;
 ghost use Rattle.sg_admit.specs.steps.Marked.{unclean_of, marked_facts};
 
-use crate::spreads::is_marked;
 use crate::ways::{FieldWay, has_acc, has_own, is_noted, is_own};
 use sg_flat::Way;
 use sg_words::Items;
+use sg_words::spreads::is_marked;
 
 /// What the rules look at: each field that the kernel writes, once with its first own write and once with its first accumulation, in
 /// the order of these; which variables are dirty; the number of the loop's variables; and the layout that the loop walks.

@@ -5,27 +5,20 @@ use Rattle.std.proofs.lemmas.List.{set-get_or, get_or-take, get_or-drop, take-se
 use Rattle.std.proofs.lemmas.Bool.Decides.{nat_tests}
 use Rattle.std.proofs.Math.Seq.{take-set-lt, take-append_seam, drop-append_seam}
 use Rattle.sg_words.specs.declared.race.Worker.{Worker}
-use Rattle.sg_words.specs.RaceMachine.{Race, MayPut, key, link, see, miss, after_see, after_miss, after_link, after_draw, after_key, after_key_put, after_key_word, key_word}
+use Rattle.sg_words.specs.RaceMachine.{MayPut, key, after_draw, after_key, after_key_put, after_key_word, key_word}
+use Rattle.sg_words.specs.steps.RaceSteps.{after_try}
+use Rattle.sg_words.proofs.Uses.{same_race, look_happens, draw_happens, try_happens}
 use Rattle.sg_hash.specs.declared.rule.Start.{Start}
 use Rattle.sg_hash.specs.HashRace.{race_of}
 use Rattle.sg_hash.specs.HashLaws.{IsEvent, IsWide, at, StartIsEvent, LookIsEvent, DrawIsEvent, TryIsEvent, FindIsEvent, PutIsEvent, SplitIsEvent, JoinIsEvent}
 use Rattle.sg_hash.specs.steps.Searching.{after_look_key}
 
--- a state of the slots, the keys and the count
-race : List ℕ → List ℕ → List ℕ → List Worker → Race
-race slots keys counts views = record { slots = slots; keys = keys; masks = []; lengths = []; cells = []; counts = counts; workers = views }
-
--- two states with the same words
-same-race : (slots slots' keys keys' counts counts' : List ℕ) (views views' : List Worker) → slots ≡ slots' → keys ≡ keys' → counts ≡ counts' → views ≡ views' → race slots keys counts views ≡ race slots' keys' counts' views'
-same-race slots slots' keys keys' counts counts' views views' a b c d = ap (λ l. race l keys counts views) a ∙ ap (λ l. race slots' l counts views) b ∙ ap (λ l. race slots' keys' l views) c ∙ ap (race slots' keys' counts') d
-
 pub start_is_event : (start : Start) → StartIsEvent start
-unfolding race
 start_is_event start many =
     let n = length start.links in
     let words : List ℕ = start.links ++ (start.keys ++ 0 ∷ []) in
     let behind : drop n words ≡ start.keys ++ 0 ∷ [] = drop-append_seam start.links (start.keys ++ 0 ∷ []) in (
-      same-race (take n words) start.links (take n (drop n words)) start.keys (drop n (drop n words)) (0 ∷ []) [] []
+      same_race (take n words) start.links (take n (drop n words)) start.keys (drop n (drop n words)) (0 ∷ []) [] []
           (take-append_seam start.links (start.keys ++ 0 ∷ []))
           (ap (take n) behind ∙ ap (λ k. take k (start.keys ++ 0 ∷ [])) (sym many) ∙ take-append_seam start.keys (0 ∷ []))
           (ap (drop n) behind ∙ ap (λ k. drop k (start.keys ++ 0 ∷ [])) (sym many) ∙ drop-append_seam start.keys (0 ∷ [])) refl,
@@ -33,22 +26,11 @@ start_is_event start many =
     )
 
 pub look_is_event : (start : Start) (words : List ℕ) (views : List Worker) (id i : ℕ) → LookIsEvent start words views id i
-look_is_event start words views id i wide live inside = go (slice_index words i == 0) refl
-  where
-    here : slice_index (take (length start.links) words) i ≡ slice_index words i
-    here = get_or-take (length start.links) words i 0 inside
-
-    within : i < length (take (length start.links) words)
-    within = let e = length-take (length start.links) words in omega arith
-
-    go : (b : Bool) → (slice_index words i == 0) ≡ b → IsEvent start words views (cond b (miss id i) (see id i)) words (set views id (cond b (after_miss i (at views id)) (after_see i (slice_index words i - 1) (at views id))))
-    go true e = let empty : slice_index words i ≡ 0 = grind (arith, nat_tests) in ((live, within, here ∙ empty), refl)
-    go false e =
-        let full : slice_index words i ≢ 0 = (λ z. grind (arith, nat_tests)) in
-        ((live, λ z. full (sym here ∙ z)), ap (λ x. race_of start words (set views id (after_see i (x - 1) (at views id)))) here)
+look_is_event start words views id i wide live inside =
+    let n = length start.links in
+    look_happens start.links start.keys start.stock (length start.stock ∷ length start.links ∷ []) (take n words) (take n (drop n words)) (drop n (drop n words)) views id i (slice_index words i) (get_or-take n words i 0 inside) (let e = length-take n words in omega arith) live
 
 pub draw_is_event : (start : Start) (words : List ℕ) (views : List Worker) (id : ℕ) → DrawIsEvent start words views id
-unfolding race
 draw_is_event start words views id wide live spare past =
     let n = length start.links in
     let count = slice_index words (n + n) in
@@ -59,48 +41,32 @@ draw_is_event start words views id wide live spare past =
     let one_count : 0 < length (drop n rest) = (let e = length-drop n words in let f = length-drop n rest in omega arith) in
     let behind : drop n more ≡ set rest n (count + 1) = drop-set-add n words n (count + 1) in
     let keys : take n (drop n more) ≡ take n rest = ap (take n) behind ∙ take-set-le n rest n (count + 1) (omega arith) in
-    let counts : drop n (drop n more) ≡ set (drop n rest) 0 (count + 1) = ap (drop n) behind ∙ ap (λ i. drop n (set rest i (count + 1))) (sym plus) ∙ drop-set-add n rest 0 (count + 1) in (
-      (live, one_count, spare, past),
-      same-race (take n words) (take n more) (take n rest) (take n (drop n more)) (set (drop n rest) 0 (slice_index (drop n rest) 0 + 1)) (drop n (drop n more))
-          (set views id (after_draw 0 (length start.stock) (slice_index (drop n rest) 0) (at views id))) (set views id (after_draw 0 (length start.stock) count (at views id)))
-          (sym (take-set-le n words (n + n) (count + 1) (omega arith))) (sym keys) (ap (λ x. set (drop n rest) 0 (x + 1)) here ∙ sym counts)
-          (ap (λ x. set views id (after_draw 0 (length start.stock) x (at views id))) here),
+    let counts : drop n (drop n more) ≡ set (drop n rest) 0 (count + 1) = ap (drop n) behind ∙ ap (λ i. drop n (set rest i (count + 1))) (sym plus) ∙ drop-set-add n rest 0 (count + 1) in
+    let event = draw_happens start.links start.keys start.stock (length start.stock ∷ length start.links ∷ []) (take n words) (take n (drop n words)) (drop n (drop n words)) views id count here one_count live spare past in
+    let views' : List Worker = set views id (after_draw 0 (length start.stock) count (at views id)) in (
+      event.0,
+      event.1 ∙ same_race (take n words) (take n more) (take n rest) (take n (drop n more)) (set (drop n rest) 0 (count + 1)) (drop n (drop n more)) views' views'
+          (sym (take-set-le n words (n + n) (count + 1) (omega arith))) (sym keys) (sym counts) refl,
     )
 
 pub try_is_event : (start : Start) (words : List ℕ) (views : List Worker) (id i t : ℕ) → TryIsEvent start words views id i t
-unfolding race
-try_is_event start words views id i t wide live inside has = go (slice_index words i == 0) refl
-  where
-    here : slice_index (take (length start.links) words) i ≡ slice_index words i
-    here = get_or-take (length start.links) words i 0 inside
-
-    within : i < length (take (length start.links) words)
-    within = let e = length-take (length start.links) words in omega arith
-
-    go : (b : Bool) → (slice_index words i == 0) ≡ b → IsEvent start words views (cond b (link id i t) (see id i)) (set words i (cond b (slice_index start.stock t + 1) (slice_index words i)))
-        (set views id (cond b (after_link 0 i t (slice_index start.stock t) (at views id)) (after_see i (slice_index words i - 1) (at views id))))
-    go true e =
-        let empty : slice_index words i ≡ 0 = grind (arith, nat_tests) in
-        let n = length start.links in
-        let new = slice_index start.stock t + 1 in
-        let behind : drop n (set words i new) ≡ drop n words = drop-set-lt n words i new inside in (
-          (live, within, here ∙ empty, has, inl refl),
-          same-race (set (take n words) i new) (take n (set words i new)) (take n (drop n words)) (take n (drop n (set words i new))) (drop n (drop n words)) (drop n (drop n (set words i new)))
-              (set views id (after_link 0 i t (slice_index start.stock t) (at views id))) (set views id (after_link 0 i t (slice_index start.stock t) (at views id)))
-              (sym (take-set-lt n words i new inside)) (ap (take n) (sym behind)) (ap (drop n) (sym behind)) refl,
-        )
-    go false e =
-        let full : slice_index words i ≢ 0 = (λ z. grind (arith, nat_tests)) in (
-          (live, λ z. full (sym here ∙ z)),
-          ap (λ x. race_of start words (set views id (after_see i (x - 1) (at views id)))) here
-              ∙ ap (λ l. race_of start l (set views id (after_see i (slice_index words i - 1) (at views id)))) (sym (set-get_or words i 0)),
-        )
+try_is_event start words views id i t wide live inside has =
+    let n = length start.links in
+    let word = slice_index words i in
+    let num = slice_index start.stock t in
+    let new = cond (word == 0) (num + 1) word in
+    let behind : drop n (set words i new) ≡ drop n words = drop-set-lt n words i new inside in
+    let event = try_happens start.links start.keys start.stock (length start.stock ∷ length start.links ∷ []) (take n words) (take n (drop n words)) (drop n (drop n words)) views id i t word (get_or-take n words i 0 inside) (let e = length-take n words in omega arith) live has in
+    let views' : List Worker = set views id (after_try 0 i t num word (at views id)) in (
+      event.0,
+      event.1 ∙ same_race (set (take n words) i new) (take n (set words i new)) (take n (drop n words)) (take n (drop n (set words i new))) (drop n (drop n words)) (drop n (drop n (set words i new))) views' views'
+          (sym (take-set-lt n words i new inside)) (ap (take n) (sym behind)) (ap (drop n) (sym behind)) refl,
+    )
 
 -- a key that stands at a place, or that may be put there
 key_is_event : (start : Start) (words : List ℕ) (views : List Worker) (id p k : ℕ) → IsWide start words → 0 < (at views id).share → p < length start.links
     → ((slice_index words (length start.links + p) ≢ 0) ⊎ MayPut (length start.links) p k (at views id))
     → IsEvent start words views (key id p k) (set words (length start.links + p) (key_word k (slice_index words (length start.links + p)))) (set views id (after_key_word p k (slice_index words (length start.links + p)) (at views id)))
-unfolding race
 key_is_event start words views id p k wide live inside may =
     let n = length start.links in
     let rest : List ℕ = drop n words in
@@ -110,7 +76,7 @@ key_is_event start words views id p k wide live inside may =
     let places : length (take n rest) ≡ n = (let e = length-drop n words in let f = length-take n rest in omega arith) in
     let behind : drop n (set words (n + p) new) ≡ set rest p new = drop-set-add n words p new in (
       (live, needs n word p k (take n rest) (at views id) here places may (slice_index (take n rest) p == 0) refl),
-      same-race (take n words) (take n (set words (n + p) new)) (set (take n rest) p (key_word k (slice_index (take n rest) p))) (take n (drop n (set words (n + p) new))) (drop n rest) (drop n (drop n (set words (n + p) new)))
+      same_race (take n words) (take n (set words (n + p) new)) (set (take n rest) p (key_word k (slice_index (take n rest) p))) (take n (drop n (set words (n + p) new))) (drop n rest) (drop n (drop n (set words (n + p) new)))
           (set views id (after_key_word p k (slice_index (take n rest) p) (at views id))) (set views id (after_key_word p k word (at views id)))
           (sym (take-set-le n words (n + p) new (omega arith)))
           (ap (λ x. set (take n rest) p (key_word k x)) here ∙ sym (ap (take n) behind ∙ take-set-lt n rest p new inside))

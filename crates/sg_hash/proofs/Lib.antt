@@ -2,9 +2,6 @@ pub mod Turns
 pub mod Uses
 pub mod Moves
 pub mod Passes
-pub mod Views
-pub mod Racing
-pub mod Loops
 pub mod Keys
 pub mod Searches
 pub mod Starts

@@ -5,8 +5,6 @@ use Rattle.std.proofs.lemmas.List.{length-set, set-get_or, get_or-set_same, get_
 use Rattle.std.proofs.lemmas.Bool.Decides.{nat_tests}
 use Rattle.std.proofs.Math.Seq.{take-set-lt}
 use mathlib.Core.Option.{some, none, some-ne-none}
-use mathlib.Core.Logic.{dite}
-use native.Mathlib.Decide.{ℕ_discrete}
 use prog.Atomic.{either}
 use lib.ListN.{get_elem?}
 use Rattle.atomic_table.proofs.Lists.{set_again}
@@ -16,35 +14,24 @@ use Rattle.sg_words.specs.Counts.{pairs, firsts}
 use Rattle.sg_words.specs.RaceMachine.{Race, MayPut, nobody, after_split, other_half, after_join, after_draw, after_key, after_key_put, after_key_word, key_word}
 use Rattle.sg_words.specs.RaceInvariant.{MeetsRaceInvariant, has_seen, has_key}
 use Rattle.sg_words.specs.steps.RaceSteps.{after_look, after_try}
-use Rattle.sg_words.proofs.Uses.{kept-look, kept-try, kept-draw, kept-enrol, kept-found, kept-put, found_case, kept-join, stands, le-total, set_other_at, made-ticket, count_is_small, pair_cases}
+use Rattle.sg_words.specs.SlotRaces.{slot_race}
+use Rattle.sg_words.proofs.Uses.{kept-look, kept-try, kept-draw, kept-enrol, kept-found, kept-put, found_case, kept-join, stands, le-total, set_other_at, count_is_small, pair_cases, slot-small, kept_as}
 use Rattle.sg_hash.specs.declared.rule.Start.{Start}
 use Rattle.sg_hash.specs.HashRace.{setting_of, race_of, Racing, looks, draws, tries, looks_key, tries_key}
 use Rattle.sg_hash.specs.steps.Searching.{after_look_key, TellKeys}
 use Rattle.sg_hash.specs.Tables.{IsTable}
 use Rattle.sg_hash.proofs.Uses.{stands_once}
-use Rattle.sg_hash.specs.Asking.{AreLinks, is_dry}
+use Rattle.sg_words.specs.Stocks.{AreLinks, is_dry}
 
 abbrev pub Holds : Start → State (Unit {0}) Worker → Type 0
 Holds start s = Racing start s.words s.views
 
 -- a state with other words, as lists of slots, keys and counts
 pub as_words : (start : Start) (words : List ℕ) (views : List Worker) (slots keys counts : List ℕ) → take (length start.links) words ≡ slots → take (length start.links) (drop (length start.links) words) ≡ keys
-    → drop (length start.links) (drop (length start.links) words) ≡ counts
-    → MeetsRaceInvariant (setting_of start) (record { slots = slots; keys = keys; masks = []; lengths = []; cells = []; counts = counts; workers = views })
-    → MeetsRaceInvariant (setting_of start) (race_of start words views)
-as_words start words views slots keys counts e e' e'' k =
-    subst (λ l. MeetsRaceInvariant (setting_of start) (record { slots = l; keys = take (length start.links) (drop (length start.links) words); masks = []; lengths = []; cells = []; counts = drop (length start.links) (drop (length start.links) words); workers = views })) (sym e)
-    (subst (λ l. MeetsRaceInvariant (setting_of start) (record { slots = slots; keys = l; masks = []; lengths = []; cells = []; counts = drop (length start.links) (drop (length start.links) words); workers = views })) (sym e')
-    (subst (λ l. MeetsRaceInvariant (setting_of start) (record { slots = slots; keys = keys; masks = []; lengths = []; cells = []; counts = l; workers = views })) (sym e'') k))
-
--- a slot word is 0 or one more than a number of 32 bits
-pub slot-small : (start : Start) (words : List ℕ) (views : List Worker) (i : ℕ) → AreLinks start.links → ((t : ℕ) → slice_index start.stock t < 2 ^ 32)
-    → MeetsRaceInvariant (setting_of start) (race_of start words views) → slice_index (take (length start.links) words) i ≤ 2 ^ 32
-slot-small start words views i links numbers k =
-    let slots = take (length start.links) words in
-    dite (ℕ_discrete (slice_index slots i) 0) (λ e. omega arith) (λ full. dite (ℕ_discrete (slice_index start.links i) 0)
-    (λ new. let m = made-ticket (setting_of start) (race_of start words views) i k new (omega arith) in let word = m.2 in let n = numbers m.0 in omega arith)
-    (λ old. let stay = k.slots_stay.1 i (omega arith) in let n = links i in omega arith))
+    → drop (length start.links) (drop (length start.links) words) ≡ counts → MeetsRaceInvariant (setting_of start) (slot_race slots keys counts views) → MeetsRaceInvariant (setting_of start) (race_of start words views)
+as_words start words views slots keys counts e e' e'' =
+    let n = length start.links in
+    kept_as (setting_of start) slots (take n words) keys (take n (drop n words)) counts (drop n (drop n words)) views (sym e) (sym e') (sym e'')
 
 pub looks-allowed : (start : Start) (slots id : ℕ) (me : Me (Unit {0}) Worker) (i : ℕ) → 0 < me.0.share → i < length start.links → AreLinks start.links
     → ((t : ℕ) → slice_index start.stock t < 2 ^ 32) → Allows (Holds start) slots id me i (λ n. n) (looks (step slots i 0 0 none) me)
@@ -55,7 +42,7 @@ looks-allowed start slots id me i live inside links numbers s r _ at _ =
     let w = after_look i word me.0 in
     let kept : MeetsRaceInvariant (setting_of start) (race_of start s.words (set s.views id w)) =
     subst (λ x. MeetsRaceInvariant (setting_of start) (race_of start s.words (set s.views id (after_look i x me.0)))) here (kept-look (setting_of start) (race_of start s.words s.views) id me.0 i at st r.kept) in
-    let small = slot-small start s.words s.views i links numbers r.kept in (
+    let small = slot-small start.links start.keys start.stock (length start.stock ∷ length start.links ∷ []) (race_of start s.words s.views) i links numbers r.kept in (
       w,
       keeps,
       tt,
@@ -113,7 +100,7 @@ tries-at start slots id me i t live inside links numbers spare s r _ at _ =
     let kept' : MeetsRaceInvariant (setting_of start) (record { slots = set (take n s.words) i new; keys = take n (drop n s.words); masks = []; lengths = []; cells = []; counts = drop n (drop n s.words); workers = set s.views id w }) =
     subst (λ x. MeetsRaceInvariant (setting_of start) (record { slots = set (take n s.words) i new; keys = take n (drop n s.words); masks = []; lengths = []; cells = []; counts = drop n (drop n s.words); workers = set s.views id (after_try 0 i t x word v) })) (sym back)
     (subst (λ x. MeetsRaceInvariant (setting_of start) (record { slots = set (take n s.words) i (either (x == 0) (num + 1) x); keys = take n (drop n s.words); masks = []; lengths = []; cells = []; counts = drop n (drop n s.words); workers = set s.views id (after_try 0 i t num x v) })) here kept) in
-    let small = slot-small start s.words s.views i links numbers r.kept in (
+    let small = slot-small start.links start.keys start.stock (length start.stock ∷ length start.links ∷ []) (race_of start s.words s.views) i links numbers r.kept in (
       w,
       keeps,
       tt,

@@ -8,7 +8,7 @@ use Rattle.sg_words.specs.declared.race.Worker.{Worker}
 use Rattle.sg_words.specs.RaceMachine.{MayPut, nobody, after_split, other_half, after_join}
 use Rattle.sg_hash.specs.declared.seat.HashPass.{HashPass}
 use Rattle.sg_hash.specs.HashRace.{looks, draws, tries, looks_key, tries_key}
-use Rattle.sg_hash.specs.Asking.{is_dry}
+use Rattle.sg_words.specs.Stocks.{is_dry}
 use Rattle.sg_hash.proofs.Moves.{Holds, looks-allowed, draws-allowed, tries-allowed, looks_key-allowed, tries_key-allowed, splits-allowed, joins-allowed}
 
 module _ (p : HashPass) where

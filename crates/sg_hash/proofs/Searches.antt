@@ -9,7 +9,8 @@ use Rattle.sg_words.specs.RaceMachine.{HasOthersBefore, MayPut, place_in_order, 
 use Rattle.sg_words.proofs.Uses.{total-append, pairs-snoc, pair_cases}
 use Rattle.sg_hash.specs.declared.ask.Ask.{Ask}
 use Rattle.sg_hash.specs.declared.ask.Ask.TheVariants as ask
-use Rattle.sg_hash.specs.Asking.{HasLinkedBesideKeys, Answered, AnsweredBeside, AnsweredKey, HasPut, SameTeam}
+use Rattle.sg_words.specs.Stocks.{SameTeam}
+use Rattle.sg_hash.specs.Asking.{HasLinkedBesideKeys, Answered, AnsweredBeside, AnsweredKey, HasPut}
 use Rattle.sg_hash.specs.steps.Searching.{TellKeys, SameKeys, Searched, PutAt, SearchFound, HasLookedPast}
 use Rattle.sg_hash.proofs.Turns.{place_comes}
 use Rattle.sg_hash.proofs.Keys.{same-searched, searched-twice, others-grow}

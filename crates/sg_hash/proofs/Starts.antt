@@ -1,6 +1,7 @@
 -- The words of a new pass are the start of a race, with its first worker.
 use Rattle.std.proofs.Common.{◌≡◌, ℕ, zero, suc, ◌+◌, ◌≤◌, inl, append_assoc, List, [], ◌∷◌, ◌++◌, length, take, drop, refl, sym, ap, ◌∙◌, arith}
 use Rattle.std.proofs.lemmas.List.{length-append}
+use Rattle.std.proofs.Math.Seq.{take-append_seam, drop-append_seam}
 use Rattle.sg_words.specs.RaceMachine.{opening_race}
 use Rattle.sg_words.specs.RaceInvariant.{Sound}
 use Rattle.sg_words.proofs.Uses.{starts_kept, kept-first}
@@ -8,14 +9,6 @@ use Rattle.sg_hash.specs.declared.rule.Start.{Start}
 use Rattle.sg_hash.specs.HashRace.{setting_of, Racing, first_worker}
 use Rattle.sg_hash.specs.Tables.{IsTable}
 use Rattle.sg_hash.proofs.Moves.{as_words}
-
-take-front : (xs ys : List ℕ) → take (length xs) (xs ++ ys) ≡ xs
-take-front [] ys = refl
-take-front (x ∷ xs) ys = ap (λ l. x ∷ l) (take-front xs ys)
-
-drop-front : (xs ys : List ℕ) → drop (length xs) (xs ++ ys) ≡ ys
-drop-front [] ys = refl
-drop-front (x ∷ xs) ys = drop-front xs ys
 
 sound : (start : Start) → IsTable start.keys → Sound (setting_of start)
 sound start table = record {
@@ -27,15 +20,15 @@ sound start table = record {
 pub opened : (start : Start) (words : List ℕ) → IsTable start.keys → length start.keys ≡ length start.links → words ≡ start.links ++ (start.keys ++ 0 ∷ []) → Racing start words (first_worker start ∷ [])
 opened start words table many is =
     let n = length start.links in
-    let behind : drop n words ≡ start.keys ++ 0 ∷ [] = ap (drop n) is ∙ drop-front start.links (start.keys ++ 0 ∷ []) in
+    let behind : drop n words ≡ start.keys ++ 0 ∷ [] = ap (drop n) is ∙ drop-append_seam start.links (start.keys ++ 0 ∷ []) in
     let size = length-append start.links (start.keys ++ 0 ∷ []) in
     let size' = length-append start.keys (0 ∷ []) in
     record {
       wide = ap length is ∙ size ∙ (let h : n + length (start.keys ++ 0 ∷ []) ≡ n + (n + 1) = omega arith in h);
       kept = as_words start words (first_worker start ∷ []) start.links start.keys (0 ∷ [])
-          (ap (take n) is ∙ take-front start.links (start.keys ++ 0 ∷ []))
-          (ap (take n) behind ∙ ap (λ k. take k (start.keys ++ 0 ∷ [])) (sym many) ∙ take-front start.keys (0 ∷ []))
-          (ap (drop n) behind ∙ ap (λ k. drop k (start.keys ++ 0 ∷ [])) (sym many) ∙ drop-front start.keys (0 ∷ []))
+          (ap (take n) is ∙ take-append_seam start.links (start.keys ++ 0 ∷ []))
+          (ap (take n) behind ∙ ap (λ k. take k (start.keys ++ 0 ∷ [])) (sym many) ∙ take-append_seam start.keys (0 ∷ []))
+          (ap (drop n) behind ∙ ap (λ k. drop k (start.keys ++ 0 ∷ [])) (sym many) ∙ drop-append_seam start.keys (0 ∷ []))
           (kept-first (setting_of start) (opening_race (setting_of start)) refl (starts_kept (setting_of start) (sound start table)));
     }
 

@@ -1,32 +1,13 @@
 -- What a pass leaves when its last seat ends it.
-use Rattle.std.specs.Prelude.{◌≡◌, refl, ℕ, ◌+◌, ◌-◌, ◌<◌, ◌≤◌, Bool, true, not, ◌&&◌, ◌==◌, if◌then◌else◌, List, [], ◌∷◌, length, slice_index}
+use Rattle.std.specs.Prelude.{◌≡◌, ℕ, ◌+◌, ◌<◌, Bool, true, List, length, slice_index}
 use Rattle.sg_words.specs.declared.race.Worker.{Worker}
-use Rattle.sg_words.specs.Counts.{one, total, times_in, pairs, firsts}
-use Rattle.sg_hash.specs.Asking.{is_dry}
+use Rattle.sg_words.specs.Counts.{times_in, pairs}
+use Rattle.sg_words.specs.Stocks.{is_dry, full_words, Settled as SettledSlots}
 use Rattle.sg_hash.specs.Tables.{IsTable}
 
--- how many words aren't 0
-abbrev pub full_words : List ℕ → ℕ
-full_words words = total (λ w. one (not (w == 0))) words
-
--- the numbers of the new links, slot after slot
-abbrev pub taken_of : List ℕ → List ℕ → List ℕ
-taken_of [] new = []
-taken_of (o ∷ os) [] = []
-taken_of (o ∷ os) (n ∷ ns) = if (o == 0) && not (n == 0) then ((n - 1) ∷ taken_of os ns) else taken_of os ns
-
--- The slot words at the end, by what the last seat has done and seen: old links stay; what was seen is there; the new links are those that
--- were made, of the stock, each number in one slot. Where it holds a ticket past the stock, and the stock had 17 more numbers than the free
--- places of a pool of c, more than c slots are linked
-pub record Settled (old stock : List ℕ) (v : Worker) (new : List ℕ) : Type 0 where
-  pub long : length new ≡ length old
-  pub stay : (i : ℕ) → 0 < slice_index old i → slice_index new i ≡ slice_index old i
-  pub seen : (i n : ℕ) → 0 < pairs i n v.seen → slice_index new i ≡ n + 1
-  pub made : (i t : ℕ) → 0 < pairs i t v.made → (slice_index old i ≡ 0) × (t < length stock) × (slice_index new i ≡ slice_index stock t + 1)
-  pub bare : (i : ℕ) → slice_index old i ≡ 0 → firsts i v.made ≡ 0 → slice_index new i ≡ 0
-  pub of_stock : (i : ℕ) → slice_index old i ≡ 0 → 0 < slice_index new i → (t : ℕ) × (t < length stock) × (slice_index new i ≡ slice_index stock t + 1)
-  pub once : (i j : ℕ) → slice_index old i ≡ 0 → 0 < slice_index new i → slice_index new i ≡ slice_index new j → i ≡ j
-  pub filled : (c : ℕ) → length stock + full_words old ≡ c + 17 → is_dry v ≡ true → c < full_words new
+-- The slot words at the end, where a seat that holds a ticket past the stock ran dry
+abbrev pub Settled : List ℕ → List ℕ → Worker → List ℕ → Type 0
+Settled old stock v new = SettledSlots old stock v new (is_dry v)
 
 -- The key words at the end: old keys stay; what was found is there; a new key was put; each stands after other keys of its order. Where
 -- the last seat is full, every place holds a key
@@ -41,16 +22,3 @@ pub record KeysSettled (old : List ℕ) (v : Worker) (new : List ℕ) (full : Bo
 -- a link stands only where a key stands
 abbrev pub LinksHaveKeys : List ℕ → List ℕ → Type 0
 LinksHaveKeys keys links = (p : ℕ) → 0 < slice_index links p → 0 < slice_index keys p
-
--- the drawn numbers that aren't linked: those of the tickets that are spares of the last seat or were left to it, at most as many as workers
-pub record AreSpares (stock : List ℕ) (v : Worker) (spares : List ℕ) : Type 0 where
-  pub stand : (t : ℕ) → t < length stock → times_in (slice_index stock t) spares ≡ pairs 0 t v.spare + pairs 0 t v.left
-  pub of_stock : (x : ℕ) → 0 < times_in x spares → (t : ℕ) × (t < length stock) × (slice_index stock t ≡ x)
-  pub few : length spares ≤ v.size
-
--- worked equations
-taken-of_three : taken_of (0 ∷ 5 ∷ 0 ∷ 0 ∷ []) (8 ∷ 5 ∷ 0 ∷ 3 ∷ []) ≡ 7 ∷ 2 ∷ []
-taken-of_three = refl
-
-full-of_three : full_words (8 ∷ 5 ∷ 0 ∷ 3 ∷ []) ≡ 3
-full-of_three = refl

@@ -1,4 +1,2 @@
 pub mod Probing
 pub mod Searching
-pub mod Draws
-pub mod Ending

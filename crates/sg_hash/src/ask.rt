@@ -3,8 +3,9 @@ ghost use Rattle.std.specs.Prelude.{◌≡◌, ℕ, ◌+◌, ◌-◌, ◌^◌, �
 ghost use Rattle.sg_words.specs.Counts.{pairs};
 ghost use Rattle.sg_words.specs.RaceMachine.{MayPut, newcomer, after_split, other_half, after_join, after_draw, after_key_word, key_word};
 ghost use Rattle.sg_words.specs.steps.RaceSteps.{after_look, after_try};
-ghost use Rattle.sg_hash.specs.Asking.{AreLinks, IsFreshStock, Answered, AnsweredKey, HasPut, SameTeam, is_dry};
-ghost use Rattle.sg_hash.specs.steps.Draws.{Provided};
+ghost use Rattle.sg_words.specs.Stocks.{AreLinks, IsFreshStock, SameTeam, is_dry};
+ghost use Rattle.sg_words.specs.steps.SlotSteps.{Provided};
+ghost use Rattle.sg_hash.specs.Asking.{Answered, AnsweredKey, HasPut};
 ghost use Rattle.sg_hash.specs.Seats.{old_keys, old_links, stock_of, worker_of, is_full, IsSeatAt, IsSeatOf};
 ghost use Rattle.sg_hash.specs.Tables.{IsTable};
 ghost use Rattle.sg_hash.specs.steps.Searching.{after_look_key, TellKeys, SameKeys, Searched, PutAt, SearchFound};

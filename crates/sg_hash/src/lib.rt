@@ -11,4 +11,4 @@ pub mod table;
 pub use ask::Ask;
 pub use finish::HashLinked;
 pub use seat::{HashPass, HashSeat};
-pub use table::{find, put};
+pub use table::{find, place_of, put};

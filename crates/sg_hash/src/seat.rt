@@ -1,7 +1,7 @@
 //! The pass over keys and its seats: the two values that callers hold.
 ghost use Rattle.std.specs.Prelude.{◌≡◌, ℕ, ◌+◌, ◌^◌, ◌<◌, [], length, slice_index};
 ghost use Rattle.sg_hash.specs.Tables.{IsTable};
-ghost use Rattle.sg_hash.specs.Asking.{AreLinks, IsFreshStock, is_dry, listed};
+ghost use Rattle.sg_words.specs.Stocks.{AreLinks, IsFreshStock, is_dry, listed};
 
 use crate::rule::{Half, HashRule, Start};
 use atomic_table::{Seat, Table};

@@ -1,4 +1,4 @@
-ghost use Rattle.std.specs.Prelude.{◌≡◌, ℕ, ◌+◌, ◌<◌, ◌%◌, false, true, ◌==◌, if◌then◌else◌, Some, None, ◌↔◌, length};
+ghost use Rattle.std.specs.Prelude.{◌≡◌, ℕ, ◌+◌, ◌<◌, ◌%◌, false, true, ◌==◌, if◌then◌else◌, Some, None, MatchOption, ◌↔◌, length, slice_index};
 ghost use Rattle.sg_words.specs.RaceMachine.{home};
 ghost use Rattle.sg_hash.specs.Tables.{IsTable, AreBeside, beside, IsAbsent, IsFull};
 ghost use Rattle.sg_hash.specs.steps.Probing.{IsProbe};
@@ -12,14 +12,22 @@ pub fn find(keys: &[u64], links: &[u64], key: u32) -> Option<u32>
     ensures number { result ≡ beside keys.now links.now key }
     ensures absent { (result ≡ None) ↔ IsAbsent keys.now key }
 {
+    match place_of(keys, key) {
+        Some(place) => Some((links[place] - 1) as u32),
+        None => None,
+    }
+}
+
+/// The place at which the key stands. None if the key is absent. Constant time is expected while half of the places are
+/// empty.
+pub fn place_of(keys: &[u64], key: u32) -> Option<usize>
+    requires some { 0 < length keys.now }
+    requires table { IsTable keys.now }
+    ensures { MatchOption result (IsAbsent keys.now key)
+        (λ place. (place < length keys.now) × (slice_index keys.now place ≡ key + 1)) }
+{
     match probe(keys, key) {
-        Some(place) => {
-            if keys[place] == 0 {
-                None
-            } else {
-                Some((links[place] - 1) as u32)
-            }
-        }
+        Some(place) => { if keys[place] == 0 { None } else { Some(place) } }
         None => None,
     }
 }

@@ -1,21 +1,22 @@
 -- Each move of a seat keeps the rule: it is one event of the race machine.
-use Rattle.std.proofs.Common.{◌≡◌, ℕ, zero, suc, ◌+◌, ◌-◌, ◌*◌, ◌/◌, ◌%◌, ◌^◌, ◌<◌, ◌≤◌, ◌≢◌, inl, min, List, [], ◌∷◌, length, set, take, refl, sym, ap, ◌∙◌, subst, arith}
+use Rattle.std.proofs.Common.{◌≡◌, ℕ, ◌+◌, ◌/◌, ◌%◌, ◌^◌, ◌<◌, ◌≤◌, inl, List, length, set, take, refl, sym, ap, ◌∙◌, subst, arith}
 use Rattle.std.specs.Prelude.{slice_index, bit_or}
 use Rattle.std.specs.Int.{bit_at}
+use Rattle.std.proofs.lemmas.List.{length-set}
 use Rattle.std.proofs.lemmas.Nat.Bits.{bit_at-pow_same, bit_at-pow_other}
-use mathlib.Core.Option.{some, none, some-injective, some-ne-none}
+use mathlib.Core.Option.{some, none}
 use mathlib.Core.Logic.{dite}
 use native.Mathlib.Decide.{ℕ_discrete}
 use lib.ListN.{get_elem?}
 use Rattle.atomic_table.specs.Table.{State, Me, step, keeps, Allows, Splits, Joins}
 use Rattle.sg_words.specs.declared.race.Worker.{Worker}
-use Rattle.sg_words.specs.Counts.{times_in, bit_in}
 use Rattle.sg_words.specs.RaceMachine.{nobody, after_split, other_half, after_join, after_mark}
-use Rattle.sg_words.specs.RaceInvariant.{handed_share, has_marked}
-use Rattle.sg_words.proofs.Uses.{kept-mark, kept-enrol, kept-join, stands, set_other_at, alone}
+use Rattle.sg_words.specs.RaceInvariant.{MeetsRaceInvariant, handed_share, has_marked}
+use Rattle.sg_words.proofs.Uses.{kept-enrol, kept-join, stands, set_other_at, alone, take-all}
 use Rattle.sg_mask.specs.MaskRace.{setting_of, race_of, Racing, marks}
 use Rattle.sg_mask.specs.Marking.{AreMarked}
-use Rattle.sg_mask.specs.steps.Ending.{Ended}
+use Rattle.sg_words.specs.Ranges.{IsAtWork}
+use Rattle.sg_mask.proofs.RangeSteps.{mark_keeps}
 
 abbrev pub Holds : List ℕ → State (Unit {0}) Worker → Type 0
 Holds start s = Racing start s.words s.views
@@ -30,12 +31,17 @@ one_power i j e = dite (ℕ_discrete i j) (λ h. h) (λ ne. absurd
 marks-at : (start : List ℕ) (slots id : ℕ) (me : Me (Unit {0}) Worker) (b : ℕ) → 0 < me.0.share → b / 64 < length start
     → Allows (Holds start) slots id me (b / 64) (λ n. bit_or n (2 ^ (b % 64))) (marks (step slots (b / 64) (2 ^ (b % 64)) 0 none) me)
 marks-at start slots id me b live inside s r _ at _ =
-    let st = stands s.views id me.0 r.kept.team at live in
-    let within : b / 64 < length s.words = subst (λ n. b / 64 < n) (sym r.kept.bits.0) inside in (
+    let n = length s.words in
+    let within : b / 64 < n = subst (λ n. b / 64 < n) (sym r.kept.bits.0) inside in
+    let front : 0 + b / 64 ≡ b / 64 = omega arith in
+    let x = bit_or (slice_index s.words (b / 64)) (2 ^ (b % 64)) in
+    let work : IsAtWork (setting_of start) (race_of s.words s.views) id me.0 = record { kept = r.kept; stands = at; share = live } in
+    let kept = subst (λ j. MeetsRaceInvariant (setting_of start) (race_of (take n (set s.words j (bit_or (slice_index s.words j) (2 ^ (b % 64))))) (set s.views id (after_mark b me.0)))) front
+    (mark_keeps (setting_of start) (race_of s.words s.views) id me.0 s.words 0 b work (sym (take-all s.words n (omega arith))) within (inl refl)) in (
       after_mark b me.0,
       keeps,
       tt,
-      record { kept = kept-mark (setting_of start) (race_of s.words s.views) id me.0 b at st within (inl refl) r.kept },
+      record { kept = subst (λ l. MeetsRaceInvariant (setting_of start) (race_of l (set s.views id (after_mark b me.0)))) (take-all (set s.words (b / 64) x) n (let e = length-set s.words (b / 64) x in omega arith)) kept },
       λ c word power. (let same : b ≡ c = (let rest = one_power (b % 64) (c % 64) power in omega arith) in ap (λ c. (after_mark c me.0, me.1)) same),
     )
 
@@ -56,28 +62,8 @@ join-allowed start id v other w live live' s r at ne at' =
     record { kept = kept-join (setting_of start) (race_of s.words s.views) id other v w ne at there (stands s.views id v r.kept.team at live) (stands s.views other w r.kept.team there live') (λ a x y. refl) r.kept }
 
 -- ---- the closed table
-copied-suc : (words from : List ℕ) (i x : ℕ) → i < length words → take i words ≡ take i from → get_elem? from i ≡ some x → take (suc i) (set words i x) ≡ take (suc i) from
-copied-suc [] from i x below e at = absurd (omega arith)
-copied-suc (y ∷ ys) [] i x below e at = absurd (some-ne-none x (sym at))
-copied-suc (y ∷ ys) (w ∷ ws) zero x below e at = ap (λ (a : ℕ). a ∷ []) (sym (some-injective w x at))
-copied-suc (y ∷ ys) (w ∷ ws) (suc i) x below e at =
-    let head : y ≡ w = (cc) in
-    let tail : take i ys ≡ take i ws = (cc) in
-    ap (λ (a : ℕ). a ∷ take (suc i) (set ys i x)) head ∙ ap (λ l. w ∷ l) (copied-suc ys ws i x (omega arith) tail at)
-
-pub copied : (words from : List ℕ) (i x : ℕ) → i < length words → take i words ≡ take i from → get_elem? from i ≡ some x → take (i + 1) (set words i x) ≡ take (i + 1) from
-copied words from i x below e at =
-    let next : suc i ≡ i + 1 = omega arith in
-    subst (λ n. take n (set words i x) ≡ take n from) next (copied-suc words from i x below e at)
-
-take-whole : (xs : List ℕ) (n : ℕ) → length xs ≡ n → take n xs ≡ xs
-take-whole [] zero e = refl
-take-whole [] (suc n) e = refl
-take-whole (x ∷ xs) zero e = absurd (omega arith)
-take-whole (x ∷ xs) (suc n) e = ap (λ l. x ∷ l) (take-whole xs n (omega arith))
-
 pub copied-all : (words from : List ℕ) (n : ℕ) → take n words ≡ take n from → length words ≡ n → length from ≡ n → words ≡ from
-copied-all words from n e a b = sym (take-whole words n a) ∙ e ∙ take-whole from n b
+copied-all words from n e a b = sym (take-all words n (omega arith)) ∙ e ∙ take-all from n (omega arith)
 
 pub are_marked : (key start : List ℕ) (words : List ℕ) (views : List Worker) (id : ℕ) (v : Worker) (masks : List ℕ) → key ≡ start → Racing key words views → get_elem? views id ≡ some v
     → handed_share v ≡ 16 → masks ≡ words → AreMarked start v.marked masks

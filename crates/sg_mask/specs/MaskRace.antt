@@ -1,5 +1,5 @@
 -- A pass over mask words as a race: the words are the masks. Every container counts as live.
-use Rattle.std.specs.Prelude.{◌≡◌, ℕ, ◌+◌, ◌/◌, ◌%◌, ◌^◌, Bool, true, List, [], ◌∷◌}
+use Rattle.std.specs.Prelude.{◌≡◌, ℕ, ◌/◌, ◌%◌, ◌^◌, true, List, []}
 use Rattle.atomic_table.specs.Table.{Step, Me}
 use Rattle.sg_words.specs.declared.race.Worker.{Worker}
 use Rattle.sg_words.specs.RaceMachine.{Setting, Race, newcomer, after_mark}

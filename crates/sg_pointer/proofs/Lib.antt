@@ -1,7 +1,7 @@
 pub mod Endings
 pub mod Events
-pub mod Loops
 pub mod Moves
 pub mod Passes
-pub mod Racing
-pub mod Views
+pub mod RangeEnds
+pub mod RangeSteps
+pub mod Uses

@@ -1,12 +1,9 @@
 -- Each move of a seat keeps the rule: it is one event of the race machine.
 use Rattle.std.proofs.Common.{◌≡◌, ℕ, ◌+◌, ◌-◌, ◌%◌, ◌^◌, ◌<◌, ◌≤◌, inl, false, ◌==◌, List, [], ◌∷◌, length, set, take, drop, refl, sym, ap, ◌∙◌, subst, arith}
 use Rattle.std.specs.Prelude.{slice_index}
-use Rattle.std.proofs.lemmas.List.{length-set, set-get_or, get_or-take, get_or-drop, take-set-le, drop-set-lt, drop-set-add, length-take, length-drop}
+use Rattle.std.proofs.lemmas.List.{length-set, set-get_or, get_or-take, get_or-drop, take-set-le, drop-set-lt, length-take, length-drop}
 use Rattle.std.proofs.lemmas.Bool.Decides.{nat_tests}
-use Rattle.std.proofs.Math.Seq.{take-set-lt}
 use mathlib.Core.Option.{some, none}
-use mathlib.Core.Logic.{dite}
-use native.Mathlib.Decide.{ℕ_discrete}
 use prog.Atomic.{either}
 use lib.ListN.{get_elem?}
 use Rattle.atomic_table.specs.Table.{State, Me, step, keeps, Allows, Splits, Joins}
@@ -15,41 +12,30 @@ use Rattle.sg_words.specs.Counts.{pairs, firsts}
 use Rattle.sg_words.specs.RaceMachine.{nobody, after_split, other_half, after_join, after_draw}
 use Rattle.sg_words.specs.RaceInvariant.{MeetsRaceInvariant, has_seen}
 use Rattle.sg_words.specs.steps.RaceSteps.{after_look, after_try}
-use Rattle.sg_words.proofs.Uses.{kept-look, kept-try, kept-draw, kept-enrol, kept-join, stands, le-total, set_other_at, made-ticket, count_is_small, pair_cases}
+use Rattle.sg_words.proofs.Uses.{kept-enrol, kept-join, stands, le-total, set_other_at, count_is_small, pair_cases, rest-is_range, slot-small, kept_as}
 use Rattle.sg_pointer.specs.declared.rule.Start.{Start}
 use Rattle.sg_pointer.specs.PointerRace.{setting_of, race_of, Racing, looks, draws, tries}
-use Rattle.sg_pointer.specs.Asking.{AreLinks, is_dry}
+use Rattle.sg_words.specs.Stocks.{AreLinks, is_dry}
+use Rattle.sg_words.specs.Ranges.{range_at, IsAtWork}
+use Rattle.sg_pointer.proofs.RangeSteps.{look_keeps, try_keeps, draw_keeps}
 
 abbrev pub Holds : Start → State (Unit {0}) Worker → Type 0
 Holds start s = Racing start s.words s.views
-
--- a state with other words, as lists of slots and counts
-as_words : (start : Start) (words : List ℕ) (views : List Worker) (slots counts : List ℕ) → take (length start.links) words ≡ slots → drop (length start.links) words ≡ counts
-    → MeetsRaceInvariant (setting_of start) (record { slots = slots; keys = []; masks = []; lengths = []; cells = []; counts = counts; workers = views })
-    → MeetsRaceInvariant (setting_of start) (race_of start words views)
-as_words start words views slots counts e e' k =
-    subst (λ l. MeetsRaceInvariant (setting_of start) (record { slots = l; keys = []; masks = []; lengths = []; cells = []; counts = drop (length start.links) words; workers = views })) (sym e)
-    (subst (λ l. MeetsRaceInvariant (setting_of start) (record { slots = slots; keys = []; masks = []; lengths = []; cells = []; counts = l; workers = views })) (sym e') k)
-
--- a slot word is 0 or one more than a number of 32 bits
-pub slot-small : (start : Start) (words : List ℕ) (views : List Worker) (i : ℕ) → AreLinks start.links → ((t : ℕ) → slice_index start.stock t < 2 ^ 32)
-    → MeetsRaceInvariant (setting_of start) (race_of start words views) → slice_index (take (length start.links) words) i ≤ 2 ^ 32
-slot-small start words views i links numbers k =
-    let slots = take (length start.links) words in
-    dite (ℕ_discrete (slice_index slots i) 0) (λ e. omega arith) (λ full. dite (ℕ_discrete (slice_index start.links i) 0)
-    (λ new. let m = made-ticket (setting_of start) (race_of start words views) i k new (omega arith) in let word = m.2 in let n = numbers m.0 in omega arith)
-    (λ old. let stay = k.slots_stay.1 i (omega arith) in let n = links i in omega arith))
 
 pub looks-allowed : (start : Start) (slots id : ℕ) (me : Me (Unit {0}) Worker) (i : ℕ) → 0 < me.0.share → i < length start.links → AreLinks start.links
     → ((t : ℕ) → slice_index start.stock t < 2 ^ 32) → Allows (Holds start) slots id me i (λ n. n) (looks (step slots i 0 0 none) me)
 looks-allowed start slots id me i live inside links numbers s r _ at _ =
     let word = slice_index s.words i in
-    let here : slice_index (take (length start.links) s.words) i ≡ word = get_or-take (length start.links) s.words i 0 inside in
-    let st = stands s.views id me.0 r.kept.team at live in
+    let n = length start.links in
+    let wide = r.wide in
+    let long : length (take n s.words) ≡ n = (let e = length-take n s.words in omega arith) in
+    let front : 0 + i ≡ i = omega arith in
+    let here : slice_index (take n s.words) i ≡ word = get_or-take n s.words i 0 inside in
     let w = after_look i word me.0 in
+    let work : IsAtWork (setting_of start) (race_of start s.words s.views) id me.0 = record { kept = r.kept; stands = at; share = live } in
     let kept : MeetsRaceInvariant (setting_of start) (race_of start s.words (set s.views id w)) =
-    subst (λ x. MeetsRaceInvariant (setting_of start) (race_of start s.words (set s.views id (after_look i x me.0)))) here (kept-look (setting_of start) (race_of start s.words s.views) id me.0 i at st r.kept) in
-    let small = slot-small start s.words s.views i links numbers r.kept in (
+    subst (λ j. MeetsRaceInvariant (setting_of start) (race_of start s.words (set s.views id (after_look i (slice_index s.words j) me.0)))) front (look_keeps (setting_of start) (race_of start s.words s.views) id me.0 s.words 0 i work (ap (λ k. take k s.words) (sym long)) (omega arith)) in
+    let small = slot-small start.links [] start.stock (length start.stock ∷ []) (race_of start s.words s.views) i links numbers r.kept in (
       w,
       keeps,
       tt,
@@ -63,25 +49,26 @@ draws-allowed start slots id me live told none' wet room s r _ at _ =
     let n = length start.links in
     let v = me.0 in
     let count = slice_index s.words n in
+    let wide = r.wide in
     let plus : n + 0 ≡ n = omega arith in
-    let here : slice_index (drop n s.words) 0 ≡ count = get_or-drop n s.words 0 0 ∙ ap (λ i. slice_index s.words i) plus in
-    let st = stands s.views id v r.kept.team at live in
+    let long : length (drop n s.words) ≡ 1 = (let e = length-drop n s.words in omega arith) in
+    let is : drop n s.words ≡ range_at n (length (drop n s.words)) s.words = rest-is_range n (length (drop n s.words)) s.words (omega arith) in
     let few = count_is_small (setting_of start) (race_of start s.words s.views) 0 r.kept in
+    let here : slice_index (drop n s.words) 0 ≡ count = get_or-drop n s.words 0 0 ∙ ap (λ i. slice_index s.words i) plus in
     let next : count + 1 ≡ (count + 1) % 2 ^ 64 = omega arith in
     let limit : slice_index v.told 0 ≡ length start.stock = ap (λ l. slice_index l 0) told in
     let w = after_draw 0 (slice_index v.told 0) count v in
     let no_spare : firsts 0 v.spare ≡ 0 = ap (λ l. firsts 0 l) none' in
     let no_past : firsts 0 v.past ≡ 0 = grind (arith, nat_tests) in
-    let wide = r.wide in
-    let one_count : 0 < length (drop n s.words) = (let e = length-drop n s.words in omega arith) in
-    let kept = kept-draw (setting_of start) (race_of start s.words s.views) id v 0 at st no_spare no_past one_count r.kept in
-    let kept' : MeetsRaceInvariant (setting_of start) (record { slots = take n s.words; keys = []; masks = []; lengths = []; cells = []; counts = set (drop n s.words) 0 (count + 1); workers = set s.views id w }) =
-    subst (λ l. MeetsRaceInvariant (setting_of start) (record { slots = take n s.words; keys = []; masks = []; lengths = []; cells = []; counts = set (drop n s.words) 0 (count + 1); workers = set s.views id (after_draw 0 l count v) })) (sym limit)
-    (subst (λ x. MeetsRaceInvariant (setting_of start) (record { slots = take n s.words; keys = []; masks = []; lengths = []; cells = []; counts = set (drop n s.words) 0 (x + 1); workers = set s.views id (after_draw 0 (length start.stock) x v) })) here kept) in
+    let work : IsAtWork (setting_of start) (race_of start s.words s.views) id v = record { kept = r.kept; stands = at; share = live } in
+    let kept = draw_keeps (setting_of start) (race_of start s.words s.views) id v s.words n 0 work is (omega arith) no_spare no_past in
+    let kept' : MeetsRaceInvariant (setting_of start) (record { slots = take n s.words; keys = []; masks = []; lengths = []; cells = []; counts = range_at n (length (drop n s.words)) (set s.words n (count + 1)); workers = set s.views id w }) =
+    subst (λ l. MeetsRaceInvariant (setting_of start) (record { slots = take n s.words; keys = []; masks = []; lengths = []; cells = []; counts = range_at n (length (drop n s.words)) (set s.words n (count + 1)); workers = set s.views id (after_draw 0 l count v) })) (sym limit)
+    (subst (λ i. MeetsRaceInvariant (setting_of start) (record { slots = take n s.words; keys = []; masks = []; lengths = []; cells = []; counts = range_at n (length (drop n s.words)) (set s.words i (slice_index s.words i + 1)); workers = set s.views id (after_draw 0 (length start.stock) (slice_index s.words i) v) })) plus kept) in
     let put : Racing start (set s.words n (count + 1)) (set s.views id w) = record {
       wide = length-set s.words n (count + 1) ∙ r.wide;
-      kept = as_words start (set s.words n (count + 1)) (set s.views id w) (take n s.words) (set (drop n s.words) 0 (count + 1))
-          (take-set-le n s.words n (count + 1) (omega arith)) (ap (λ i. drop n (set s.words i (count + 1))) (sym plus) ∙ drop-set-add n s.words 0 (count + 1)) kept';
+      kept = kept_as (setting_of start) (take n s.words) (take n (set s.words n (count + 1))) [] [] (range_at n (length (drop n s.words)) (set s.words n (count + 1))) (drop n (set s.words n (count + 1))) (set s.views id w)
+          (sym (take-set-le n s.words n (count + 1) (omega arith))) refl (sym (rest-is_range n (length (drop n s.words)) (set s.words n (count + 1)) (let e = length-set s.words n (count + 1) in omega arith))) kept';
     } in
     (w, keeps, tt, subst (λ x. Racing start (set s.words n x) (set s.views id w)) next put, refl)
 
@@ -94,24 +81,26 @@ tries-at start slots id me i t live inside links numbers spare s r _ at _ =
     let word = slice_index s.words i in
     let num = slice_index start.stock t in
     let here : slice_index (take n s.words) i ≡ word = get_or-take n s.words i 0 inside in
-    let st = stands s.views id v r.kept.team at live in
     let wide = r.wide in
-    let within : i < length (take n s.words) = (let e = length-take n s.words in omega arith) in
+    let long : length (take n s.words) ≡ n = (let e = length-take n s.words in omega arith) in
     let has : 0 < pairs 0 t v.spare = subst (λ l. 0 < pairs 0 t l) (sym spare) (pair_cases (λ x. 0 < x + 0) 0 t 0 t (λ _ _. omega arith) (λ miss. absurd (miss refl refl))) in
     let back : num + 1 - 1 ≡ num = omega arith in
+    let front : 0 + i ≡ i = omega arith in
     let w = after_try 0 i t (num + 1 - 1) word v in
     let new = either (word == 0) (num + 1) word in
-    let kept = kept-try (setting_of start) (race_of start s.words s.views) id v i t at st within has (inl refl) r.kept in
-    let kept' : MeetsRaceInvariant (setting_of start) (record { slots = set (take n s.words) i new; keys = []; masks = []; lengths = []; cells = []; counts = drop n s.words; workers = set s.views id w }) =
-    subst (λ x. MeetsRaceInvariant (setting_of start) (record { slots = set (take n s.words) i new; keys = []; masks = []; lengths = []; cells = []; counts = drop n s.words; workers = set s.views id (after_try 0 i t x word v) })) (sym back)
-    (subst (λ x. MeetsRaceInvariant (setting_of start) (record { slots = set (take n s.words) i (either (x == 0) (num + 1) x); keys = []; masks = []; lengths = []; cells = []; counts = drop n s.words; workers = set s.views id (after_try 0 i t num x v) })) here kept) in
-    let small = slot-small start s.words s.views i links numbers r.kept in (
+    let work : IsAtWork (setting_of start) (race_of start s.words s.views) id v = record { kept = r.kept; stands = at; share = live } in
+    let kept = subst (λ j. MeetsRaceInvariant (setting_of start) (record { slots = take (length (take n s.words)) (set s.words j (either (slice_index s.words j == 0) (num + 1) (slice_index s.words j))); keys = []; masks = []; lengths = []; cells = []; counts = drop n s.words; workers = set s.views id (after_try 0 i t num (slice_index s.words j) v) })) front
+    (try_keeps (setting_of start) (race_of start s.words s.views) id v s.words 0 i t work (ap (λ k. take k s.words) (sym long)) (omega arith) has (inl refl)) in
+    let kept' : MeetsRaceInvariant (setting_of start) (record { slots = take n (set s.words i new); keys = []; masks = []; lengths = []; cells = []; counts = drop n s.words; workers = set s.views id w }) =
+    subst (λ x. MeetsRaceInvariant (setting_of start) (record { slots = take n (set s.words i new); keys = []; masks = []; lengths = []; cells = []; counts = drop n s.words; workers = set s.views id (after_try 0 i t x word v) })) (sym back)
+    (subst (λ k. MeetsRaceInvariant (setting_of start) (record { slots = take k (set s.words i new); keys = []; masks = []; lengths = []; cells = []; counts = drop n s.words; workers = set s.views id (after_try 0 i t num word v) })) long kept) in
+    let small = slot-small start.links [] start.stock (length start.stock ∷ []) (race_of start s.words s.views) i links numbers r.kept in (
       w,
       keeps,
       tt,
       record {
         wide = length-set s.words i new ∙ r.wide;
-        kept = as_words start (set s.words i new) (set s.views id w) (set (take n s.words) i new) (drop n s.words) (take-set-lt n s.words i new inside) (drop-set-lt n s.words i new inside) kept';
+        kept = kept_as (setting_of start) (take n (set s.words i new)) (take n (set s.words i new)) [] [] (drop n s.words) (drop n (set s.words i new)) (set s.views id w) refl refl (sym (drop-set-lt n s.words i new inside)) kept';
       },
       ((λ u is. let same : t ≡ u = one_pair t u (sym spare ∙ is) in ap (λ u. (after_try 0 i u (num + 1 - 1) word v, me.1)) same), omega arith),
     )

@@ -8,7 +8,7 @@ use Rattle.sg_words.specs.declared.race.Worker.{Worker}
 use Rattle.sg_words.specs.RaceMachine.{nobody, after_split, other_half, after_join}
 use Rattle.sg_pointer.specs.declared.seat.PointerPass.{PointerPass}
 use Rattle.sg_pointer.specs.PointerRace.{looks, draws, tries}
-use Rattle.sg_pointer.specs.Asking.{is_dry}
+use Rattle.sg_words.specs.Stocks.{is_dry}
 use Rattle.sg_pointer.proofs.Moves.{Holds, looks-allowed, draws-allowed, tries-allowed, splits-allowed, joins-allowed}
 
 module _ (p : PointerPass) where

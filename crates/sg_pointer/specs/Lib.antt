@@ -1,6 +1,6 @@
 pub mod Asking
-pub mod Finishing
 pub mod PointerLaws
 pub mod PointerRace
+pub mod RangeLaws
+pub mod RangeSettled
 pub mod Seats
-pub mod steps

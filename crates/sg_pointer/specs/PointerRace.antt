@@ -1,43 +1,21 @@
 -- A pass over the slots of one node as a race: the words are the slots, then the count of drawn tickets. Every container counts as live.
-use Rattle.std.specs.Prelude.{◌≡◌, ℕ, ◌+◌, ◌-◌, ◌^◌, ◌<◌, ◌≤◌, true, List, [], ◌∷◌, length, take, drop, slice_index}
+use Rattle.std.specs.Prelude.{◌≡◌, ℕ, ◌+◌, ◌-◌, ◌^◌, ◌<◌, ◌≤◌, List, [], ◌∷◌, length, take, drop, slice_index}
 use Rattle.atomic_table.specs.Table.{Step, Me}
 use Rattle.sg_words.specs.declared.race.Worker.{Worker}
 use Rattle.sg_words.specs.Counts.{pairs}
 use Rattle.sg_words.specs.RaceMachine.{Setting, Race, newcomer, after_draw}
 use Rattle.sg_words.specs.RaceInvariant.{MeetsRaceInvariant}
+use Rattle.sg_words.specs.SlotRaces.{slot_setting, slot_race}
 use Rattle.sg_words.specs.steps.RaceSteps.{after_look, after_try}
 use Rattle.sg_pointer.specs.declared.rule.Start.{Start}
 
 -- the setting of a race for the slots of one node: the links and the stock at the start, and each worker is told how long the stock is
 abbrev pub setting_of : Start → Setting
-setting_of start = record {
-  slots = start.links;
-  keys = [];
-  masks = [];
-  lengths = [];
-  cells = [];
-  nodes = 1;
-  stock = λ _. start.stock;
-  node = λ _. 0;
-  over_slot = λ _. (0, 0);
-  over_bit = λ _. (0, 0);
-  over_length = λ _. (0, 0);
-  live = λ _. true;
-  into = λ a x. a;
-  told = length start.stock ∷ [];
-}
+setting_of start = slot_setting start.links [] start.stock (length start.stock ∷ [])
 
 -- the state of the race for which words stand: as many slots as links at the start, then the count, and the workers
 abbrev pub race_of : Start → List ℕ → List Worker → Race
-race_of start words views = record {
-  slots = take (length start.links) words;
-  keys = [];
-  masks = [];
-  lengths = [];
-  cells = [];
-  counts = drop (length start.links) words;
-  workers = views;
-}
+race_of start words views = slot_race (take (length start.links) words) [] (drop (length start.links) words) views
 
 -- between any two atomic steps the words and the views are a state of the race machine that meets its invariant
 pub record Racing (start : Start) (words : List ℕ) (views : List Worker) : Type 0 where

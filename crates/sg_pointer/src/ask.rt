@@ -3,8 +3,9 @@ ghost use Rattle.std.specs.Prelude.{◌≡◌, ℕ, ◌+◌, ◌-◌, ◌^◌, �
 ghost use Rattle.sg_words.specs.Counts.{pairs};
 ghost use Rattle.sg_words.specs.RaceMachine.{newcomer, after_split, other_half, after_join, after_draw};
 ghost use Rattle.sg_words.specs.steps.RaceSteps.{after_look, after_try};
-ghost use Rattle.sg_pointer.specs.Asking.{AreLinks, IsFreshStock, Answered, SameTeam, is_dry};
-ghost use Rattle.sg_pointer.specs.steps.Draws.{Provided};
+ghost use Rattle.sg_words.specs.Stocks.{AreLinks, IsFreshStock, SameTeam, is_dry};
+ghost use Rattle.sg_words.specs.steps.SlotSteps.{Provided};
+ghost use Rattle.sg_pointer.specs.Asking.{Answered};
 ghost use Rattle.sg_pointer.specs.Seats.{old_links, stock_of, worker_of, IsSeatOf};
 ghost use Rattle.sg_pointer.specs.declared.ask.Ask.TheVariants as ask;
 

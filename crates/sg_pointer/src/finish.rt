@@ -1,16 +1,16 @@
 //! The end of a pass: its last seat takes the table apart.
-ghost use Rattle.std.specs.Prelude.{◌≡◌, ℕ, ◌+◌, ◌^◌, ◌<◌, ◌≤◌, false, min, nat_lt, length, take, IfOk, slice_index, slice_index_or};
+ghost use Rattle.std.specs.Prelude.{◌≡◌, ◌<◌, [], length, take, IfOk};
 ghost use Rattle.std.specs.Mem.Slots.{slots_items, slots_len, IsFull};
-ghost use Rattle.sg_words.specs.Counts.{times_in};
 ghost use Rattle.sg_words.specs.RaceInvariant.{handed_share};
-ghost use Rattle.sg_pointer.specs.Asking.{AreLinks, is_dry};
-ghost use Rattle.sg_pointer.specs.Finishing.{Settled, AreSpares, taken_of};
-ghost use Rattle.sg_pointer.specs.steps.Ending.{Ended, outside};
+ghost use Rattle.sg_words.specs.Stocks.{AreLinks, is_dry, Settled, AreSpares, taken_of};
+ghost use Rattle.sg_words.specs.steps.SlotSteps.{Ended};
+ghost use Rattle.sg_pointer.specs.PointerRace.{setting_of};
 ghost use Rattle.sg_pointer.specs.Seats.{old_links, stock_of, worker_of, IsSeatOf};
 
 use crate::rule::Start;
 use crate::seat::{AskSeat, PointerPass};
 use atomic_table::Closed;
+use sg_words::links::{spare_numbers, taken_numbers};
 use sg_words::{Items, Memory};
 use std::alloc::Global;
 
@@ -49,8 +49,7 @@ impl PointerPass {
             dry,
         } = self.gather(seat, links);
         let taken = taken_numbers(alloc, start.links.as_slice(), links.as_slice())?;
-        let set = set_of(alloc, taken.as_slice())?;
-        let spares = spare_numbers(alloc, start.stock.as_slice(), &set, count)?;
+        let spares = spare_numbers(alloc, start.stock.as_slice(), taken.as_slice(), count)?;
         Ok(Linked {
             links,
             taken,
@@ -64,7 +63,7 @@ impl PointerPass {
         requires own { IsSeatOf self seat }
         requires long { length links ≡ length (old_links self) }
         ensures start { result.start ≡ self.start }
-        ensures ended { Ended self.start (worker_of seat) result.links result.count }
+        ensures ended { Ended (setting_of self.start) (worker_of seat) result.links [] result.count }
         ensures dry { result.dry ≡ is_dry (worker_of seat) }
         ensures links { AreLinks result.links }
         ensures long { length result.links ≡ length (old_links self) }
@@ -98,71 +97,4 @@ fn copy_words(closed: &Closed<(), Global>, links: &mut Items<u64>)
     for i in 0..links.len() {
         links.set(i, closed.word(i));
     }
-}
-
-// The numbers of the new links.
-fn taken_numbers(alloc: Global, old: &[u64], new: &[u64]) -> Result<Items<u32>, Memory>
-    requires long { length new.now ≡ length old.now }
-    requires links { AreLinks new.now }
-    ensures { IfOk result (λ taken. taken ≡ taken_of old.now new.now) }
-{
-    let mut taken = Items::new(alloc);
-    for i in 0..old.len() {
-        if old[i] == 0 && new[i] != 0 {
-            taken.push((new[i] - 1) as u32)?;
-        }
-    }
-    Ok(taken)
-}
-
-// For each number up to the greatest of these, whether it is one of them.
-fn set_of(alloc: Global, numbers: &[u32]) -> Result<Items<bool>, Memory>
-    ensures { IfOk result (λ set. (x : ℕ) → slice_index_or set x false ≡ nat_lt 0 (times_in x numbers.now)) }
-{
-    let places = places_for(numbers);
-    let mut set = Items::from_vec(vec![in alloc; false; places]?);
-    for number in numbers {
-        set.set(*number as usize, true);
-    }
-    Ok(set)
-}
-
-// One more than the greatest of these numbers, 0 if there is none.
-fn places_for(numbers: &[u32]) -> usize
-    ensures { (i : ℕ) → i < length numbers.now → slice_index numbers.now i < result }
-{
-    let mut places = 0;
-    for number in numbers {
-        places = places.max(*number as usize + 1);
-    }
-    places
-}
-
-fn is_in(set: &Items<bool>, number: u32) -> bool
-    ensures { result ≡ slice_index_or set.now number false }
-{
-    match set.get(number as usize) {
-        Some(marked) => *marked,
-        None => false,
-    }
-}
-
-// The drawn numbers of the stock that aren't in the set.
-fn spare_numbers(
-    alloc: Global,
-    stock: &[u32],
-    taken: &Items<bool>,
-    count: u64,
-) -> Result<Items<u32>, Memory>
-    ensures { IfOk result (λ spares. spares ≡ outside (λ x. slice_index_or taken.now x false) (take (min count (length stock.now)) stock.now)) }
-{
-    let most = count.min(stock.len() as u64) as usize;
-    let drawn = &stock[..most];
-    let mut spares = Items::new(alloc);
-    for number in drawn {
-        if !is_in(taken, *number) {
-            spares.push(*number)?;
-        }
-    }
-    Ok(spares)
 }

@@ -1,6 +1,6 @@
 //! The pass and its seats: the two values that callers hold.
 ghost use Rattle.std.specs.Prelude.{◌≡◌, ℕ, ◌+◌, ◌^◌, ◌<◌, [], length, slice_index};
-ghost use Rattle.sg_pointer.specs.Asking.{AreLinks, IsFreshStock, is_dry, listed};
+ghost use Rattle.sg_words.specs.Stocks.{AreLinks, IsFreshStock, is_dry, listed};
 
 use crate::rule::{Half, PointerRule, Start};
 use atomic_table::{Seat, Table};

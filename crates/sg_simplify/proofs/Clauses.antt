@@ -26,7 +26,7 @@ use Rattle.sg_ir.specs.WellTyped.{is_well_typed}
 use Rattle.sg_simplify.specs.steps.Pass.{Next, given_of, first_pass, first_next, simple, simplified}
 use Rattle.sg_simplify.specs.Simplified.{IsSimplified}
 use Rattle.sg_simplify.specs.steps.Left.{IsSimple, IsLeft}
-use Rattle.sg_ir.specs.steps.InScope.{nothing, IsScoped}
+use Rattle.sg_ir.specs.InScope.{nothing, IsScoped}
 use Rattle.sg_simplify.specs.steps.Counted.{has_words, regs_set, places_set}
 use Rattle.sg_simplify.proofs.Laid.{are_laid}
 use Rattle.sg_simplify.proofs.Meaning.{simple_tells}

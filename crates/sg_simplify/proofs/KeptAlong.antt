@@ -4,8 +4,8 @@ use Rattle.std.specs.List.{list_all}
 use Rattle.std.proofs.Common.{sym, ◌∙◌}
 use Rattle.std.proofs.lemmas.Bool.{and_parts, and_from}
 use Rattle.std.proofs.lemmas.List.Folds.{list_all-append}
-use Rattle.sg_ir.specs.steps.InScope.{AreSet}
-use Rattle.sg_simplify.specs.declared.spreads.Link.{Link}
+use Rattle.sg_ir.specs.InScope.{AreSet}
+use Rattle.sg_words.specs.declared.spreads.Link.{Link}
 use Rattle.sg_simplify.specs.steps.Needed.{link_all}
 use Rattle.sg_simplify.proofs.KeptTests.{none_set}
 

@@ -9,7 +9,7 @@ use Rattle.sg_ir.specs.declared.op.Step.{Step}
 use Rattle.sg_ir.specs.declared.op.Step.TheVariants as step
 use Rattle.sg_ir.specs.Trimmed.{AxisCheck, Ways, way_to, way_behind, checks_of, passed_in}
 use Rattle.sg_ir.specs.Blocks.{Block, End, Word, Spot, Cell, Do, Branch, Loop, Act, SetVar, WriteOwn, Contribute, Wish}
-use Rattle.sg_ir.specs.steps.InScope.{InScope, and_reg, and_place, nothing, AreSet, IsScoped, op_regs, op_places, step_regs, step_places}
+use Rattle.sg_ir.specs.InScope.{InScope, and_reg, and_place, nothing, AreSet, IsScoped, op_regs, op_places, step_regs, step_places}
 use Rattle.sg_simplify.specs.steps.Counted.{one_where, places_set}
 use Rattle.sg_simplify.specs.Kept.{Keep, behind_where, is_end, keeps_act, kept_part, op_vars, ReadsKept, IsLean}
 use Rattle.sg_simplify.proofs.KeptTests.{none_set, clash}

@@ -4,7 +4,7 @@ use Rattle.std.proofs.Common.{sym}
 use Rattle.sg_ir.specs.declared.op.Op.{Op}
 use Rattle.sg_ir.specs.declared.op.Step.{Step}
 use Rattle.sg_ir.specs.Blocks.{Block, End, Word, Spot, Cell, Do, Branch, Loop, Act, SetVar, WriteOwn, Contribute, Wish}
-use Rattle.sg_ir.specs.steps.InScope.{op_regs, op_places, step_regs, step_places}
+use Rattle.sg_ir.specs.InScope.{op_regs, op_places, step_regs, step_places}
 use Rattle.sg_simplify.specs.Kept.{behind_where, is_end, kept_part, op_vars, ReadsKept}
 use Rattle.sg_simplify.specs.steps.Needed.{reg_node, place_node, var_node, block_node, outermost, link_all, blocks_in, act_needs, needs_of, kept_by}
 use Rattle.sg_simplify.proofs.KeptTests.{none_set, clash}

@@ -4,7 +4,7 @@ use Rattle.std.specs.List.{list_all}
 use Rattle.std.proofs.Common.{arith, sym, ap, ◌∙◌}
 use Rattle.std.proofs.lemmas.Bool.{and_parts, and_from}
 use Rattle.sg_ir.specs.Blocks.{Block}
-use Rattle.sg_simplify.specs.steps.Spread.{has_spread, bears_mark, IsLeastSpread}
+use Rattle.sg_words.specs.Spread.{has_spread, bears_mark, IsLeastSpread}
 use Rattle.sg_simplify.specs.Kept.{Keep, kept_part, ReadsKept, IsLean}
 use Rattle.sg_simplify.specs.steps.Needed.{reg_node, place_node, var_node, outermost, needs_of, kept_by, left_in, nodes_of}
 use Rattle.sg_simplify.proofs.KeptLean.{Within, kept_is_lean}

@@ -7,7 +7,7 @@ use Rattle.sg_ir.specs.declared.code.Inst.{Inst}
 use Rattle.sg_ir.specs.declared.code.Inst.TheVariants as v
 use Rattle.sg_ir.specs.Blocks.{Block, Link, link_step, link, block_of}
 use Rattle.sg_ir.proofs.Uses.{fold-If, fold-For}
-use Rattle.sg_simplify.specs.declared.spreads.Link.{Link as Needs}
+use Rattle.sg_words.specs.declared.spreads.Link.{Link as Needs}
 use Rattle.sg_simplify.specs.steps.Needed.{reg_node, var_node, block_node, link_all, blocks_in, needs_of}
 
 -- an instruction without blocks needs this, and what follows as much as before

@@ -9,8 +9,8 @@ use Rattle.sg_ir.specs.Runs.{Seen, coord_of}
 use Rattle.sg_ir.specs.Places.{place_at}
 use Rattle.sg_ir.specs.Blocks.{Block, End, Word, Spot, Cell, Do, Branch, Loop, Act, SetVar, WriteOwn, Contribute, Wish}
 use Rattle.sg_ir.specs.SpanLaws.{WhereTest, EachTurn}
-use Rattle.sg_ir.specs.steps.InScope.{AreSet}
-use Rattle.sg_ir.specs.steps.Scoped.{RunMoment, Room, room_reg, room_place, op_word, step_place, moment_after_act, at_turn, run}
+use Rattle.sg_ir.specs.InScope.{AreSet}
+use Rattle.sg_ir.specs.Scoped.{RunMoment, Room, room_reg, room_place, op_word, step_place, moment_after_act, at_turn, run}
 use Rattle.sg_simplify.specs.steps.Serves.{IsAt, NamesAll}
 use Rattle.sg_simplify.specs.Kept.{Keep, behind_where, is_end, kept_part, ReadsKept}
 use Rattle.sg_simplify.proofs.KeptRuns.{SameRoom, SameMoment, reg_both, reg_past, place_both, place_past, op_same, step_same, words_same, act_same, act_past, turn_both, leaves, turns_same, turns_past, left_of, right_of, keeps_run}

@@ -7,8 +7,8 @@ use Rattle.std.proofs.lemmas.List.{length-append, get_or_append_left, get_or-app
 use Rattle.sg_ir.specs.declared.op.Op.{Op}
 use Rattle.sg_ir.specs.declared.op.Step.{Step}
 use Rattle.sg_ir.specs.Blocks.{Block, End, Word, Spot, Cell, Do, Branch, Loop, Act, SetVar, WriteOwn, Contribute, Wish}
-use Rattle.sg_ir.specs.steps.InScope.{AreSet, op_regs, op_places, step_regs, step_places}
-use Rattle.sg_simplify.specs.declared.spreads.Link.{Link}
+use Rattle.sg_ir.specs.InScope.{AreSet, op_regs, op_places, step_regs, step_places}
+use Rattle.sg_words.specs.declared.spreads.Link.{Link}
 use Rattle.sg_simplify.specs.Kept.{Keep, behind_where, is_end, kept_part, op_vars, ReadsKept}
 use Rattle.sg_simplify.specs.steps.Needed.{reg_node, place_node, var_node, block_node, outermost, link_all, blocks_in, needs_of, left_in, marked_by, nodes_of}
 use Rattle.sg_simplify.proofs.KeptTests.{clash, end_is}

@@ -9,8 +9,8 @@ use Rattle.sg_ir.specs.declared.op.Step.{Step}
 use Rattle.sg_ir.specs.declared.op.Step.TheVariants as step
 use Rattle.sg_ir.specs.Runs.{Seen, Place}
 use Rattle.sg_ir.specs.Blocks.{Block, End, Word, Spot, Cell, Do, Branch, Loop, Act, SetVar, WriteOwn, Contribute, Wish}
-use Rattle.sg_ir.specs.steps.InScope.{AreSet, op_regs, op_places, step_regs, step_places, act_regs, act_places}
-use Rattle.sg_ir.specs.steps.Scoped.{RunMoment, Room, room_reg, room_place, op_word, step_place, moment_after_act, at_turn, run}
+use Rattle.sg_ir.specs.InScope.{AreSet, op_regs, op_places, step_regs, step_places, act_regs, act_places}
+use Rattle.sg_ir.specs.Scoped.{RunMoment, Room, room_reg, room_place, op_word, step_place, moment_after_act, at_turn, run}
 use Rattle.sg_simplify.specs.Kept.{Keep, behind_where, is_end, keeps_act, kept_part, op_vars, ReadsKept}
 use Rattle.sg_simplify.proofs.KeptTests.{both_if, past, end_is}
 

@@ -4,7 +4,7 @@ use Rattle.std.proofs.Common.{◌∙◌}
 use Rattle.sg_ir.specs.declared.op.Op.{Op}
 use Rattle.sg_ir.specs.declared.op.Step.{Step}
 use Rattle.sg_ir.specs.Blocks.{Block, End, Word, Spot, Cell, Do, Branch, Loop, Act}
-use Rattle.sg_ir.specs.steps.InScope.{InScope, and_reg, and_place, AreSet, IsScoped, op_regs, op_places, step_regs, step_places, act_regs, act_places}
+use Rattle.sg_ir.specs.InScope.{InScope, and_reg, and_place, AreSet, IsScoped, op_regs, op_places, step_regs, step_places, act_regs, act_places}
 use Rattle.sg_simplify.specs.Kept.{Keep, behind_where, is_end, keeps_act, kept_part, ReadsKept}
 use Rattle.sg_simplify.proofs.KeptTests.{both_if, past}
 

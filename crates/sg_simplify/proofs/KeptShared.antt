@@ -8,7 +8,7 @@ use Rattle.sg_ir.specs.declared.op.Op.TheVariants as op
 use Rattle.sg_ir.specs.declared.op.Step.{Step}
 use Rattle.sg_ir.specs.Blocks.{Block, End, Word, Spot, Cell, Do, Branch, Loop, Act}
 use Rattle.sg_ir.specs.Shared.{same_op, same_step, is_pure, shares}
-use Rattle.sg_ir.specs.steps.InScope.{AreSet}
+use Rattle.sg_ir.specs.InScope.{AreSet}
 use Rattle.sg_simplify.specs.Kept.{Keep, behind_where, is_end, keeps_act, kept_part, op_vars, ReadsKept}
 use Rattle.sg_simplify.proofs.KeptTests.{none_set}
 

@@ -13,7 +13,7 @@ use Rattle.sg_ir.specs.Places.{extents_in}
 use Rattle.sg_ir.specs.Span.{whole_i32, Spans, bin_span, range_span, reg_span, var_span, op_span, with_span, in_loop}
 use Rattle.sg_ir.specs.Trimmed.{AxisCheck, Ways, is_within, and_check, are_checks, way_to, way_behind, needed, needed_in, is_trim, accesses_are_trim}
 use Rattle.sg_ir.specs.Blocks.{Block, End, Word, Spot, Cell, Do, Branch, Loop, Act, SetVar, WriteOwn, Contribute, Wish}
-use Rattle.sg_ir.specs.steps.InScope.{AreSet, op_regs, step_places}
+use Rattle.sg_ir.specs.InScope.{AreSet, op_regs, step_places}
 use Rattle.sg_simplify.specs.Kept.{Keep, behind_where, is_end, kept_part, op_vars, ReadsKept}
 use Rattle.sg_simplify.proofs.KeptTests.{clash, both_if, past}
 

@@ -11,7 +11,7 @@ use Rattle.sg_ir.specs.declared.op.Step.{Step}
 use Rattle.sg_ir.specs.declared.op.Step.TheVariants as step
 use Rattle.sg_ir.specs.Blocks.{Block, End, Word, Spot, Cell, Do, Branch, Loop, Act, SetVar, WriteOwn, Contribute, Wish}
 use Rattle.sg_ir.specs.WellTyped.{KnownPlace, Scope, Frame, with_reg, with_var, is_truth, is_truth_as, reads, indexes, is_i32, takes_truth, is_lnot, holds_of, checkable, descends, is_cell}
-use Rattle.sg_ir.specs.steps.InScope.{AreSet, op_regs, op_places, step_regs, step_places, act_regs, act_places}
+use Rattle.sg_ir.specs.InScope.{AreSet, op_regs, op_places, step_regs, step_places, act_regs, act_places}
 use Rattle.sg_simplify.specs.steps.Judged.{gives_type, field_truth, truth_of, operands_fit, index_fits, way_by, step_reads, step_known, and_known, act_fits, behind_act, is_no_read, fits_scope}
 use Rattle.sg_simplify.specs.Kept.{Keep, behind_where, is_end, keeps_act, kept_part, op_vars, ReadsKept}
 use Rattle.sg_simplify.proofs.KeptTests.{both_if, past}

@@ -16,9 +16,9 @@ use Rattle.sg_ir.specs.Span.{whole_i32, domain_span, first_spans, sets}
 use Rattle.sg_ir.specs.Shared.{is_single, is_shared}
 use Rattle.sg_ir.specs.Trimmed.{accesses_are_trim, is_trimmed}
 use Rattle.sg_ir.specs.WellTyped.{Frame, Scope, with_reg, with_var, frame_of, first_scope, judged, set_regs, set_places, setters_in, has_no_twice, most_loop_vars, is_well_typed}
-use Rattle.sg_ir.specs.steps.InScope.{nothing, IsScoped, op_places}
-use Rattle.sg_ir.specs.steps.Scoped.{RunMoment, first_room, run}
-use Rattle.sg_ir.specs.steps.Flat.{moment_of}
+use Rattle.sg_ir.specs.InScope.{nothing, IsScoped, op_places}
+use Rattle.sg_ir.specs.Scoped.{RunMoment, first_room, run}
+use Rattle.sg_ir.specs.Flat.{moment_of}
 use Rattle.sg_ir.proofs.Uses.{forms_alike}
 use Rattle.sg_simplify.specs.Simplified.{TellsTheSame, IsSimplified}
 use Rattle.sg_simplify.specs.steps.Left.{IsSimple}
@@ -32,7 +32,7 @@ use Rattle.sg_simplify.proofs.Tallying.{code_regs, code_places, code_vars}
 use Rattle.sg_simplify.proofs.UsesKept.{only_given}
 use Rattle.sg_simplify.proofs.UsesOfCode.{code_uses}
 use Rattle.sg_simplify.proofs.TypingWhole.{not_twice}
-use Rattle.sg_simplify.specs.steps.Spread.{IsLeastSpread, bears_mark}
+use Rattle.sg_words.specs.Spread.{IsLeastSpread, bears_mark}
 use Rattle.sg_simplify.specs.Kept.{Keep, kept_part, ReadsKept, IsLean}
 use Rattle.sg_simplify.specs.steps.Needed.{outermost, needs_of, kept_by}
 use Rattle.sg_simplify.proofs.KeptRuns.{SameRoom, SameMoment, keeps_run}

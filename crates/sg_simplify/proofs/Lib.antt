@@ -40,7 +40,6 @@ pub mod Numbering
 pub mod TypingWhole
 pub mod UsesKept
 pub mod Clauses
-pub mod Spreading
 pub mod KeptTests
 pub mod KeptRuns
 pub mod KeptCounts

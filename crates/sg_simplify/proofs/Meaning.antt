@@ -18,9 +18,9 @@ use Rattle.sg_ir.specs.Runs.{Seen, iteration_start, iteration}
 use Rattle.sg_ir.specs.Named.{IsNamed, AreNamed}
 use Rattle.sg_ir.specs.Blocks.{Block, block_of}
 use Rattle.sg_ir.specs.SpanLaws.{StateIsWords}
-use Rattle.sg_ir.specs.steps.Scoped.{RunMoment, first_room, run}
-use Rattle.sg_ir.specs.steps.Flat.{moment_of}
-use Rattle.sg_ir.specs.steps.InScope.{nothing, IsScoped}
+use Rattle.sg_ir.specs.Scoped.{RunMoment, first_room, run}
+use Rattle.sg_ir.specs.Flat.{moment_of}
+use Rattle.sg_ir.specs.InScope.{nothing, IsScoped}
 use Rattle.sg_ir.proofs.Uses.{op_exact, step_exact}
 use Rattle.sg_ir.proofs.Uses.{lies_whole, bin_lies, range_lies, op_lies}
 use Rattle.sg_ir.proofs.Uses.{sound}

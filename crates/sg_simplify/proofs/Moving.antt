@@ -10,7 +10,7 @@ use Rattle.sg_ir.specs.Runs.{Seen, put}
 use Rattle.sg_ir.specs.Blocks.{Block, End, Word, Spot, Cell, Do, Branch, Loop, SetVar, WriteOwn, Contribute, Wish}
 use Rattle.sg_ir.specs.Span.{sets}
 use Rattle.sg_ir.specs.SpanLaws.{FitsSpans}
-use Rattle.sg_ir.specs.steps.Scoped.{RunMoment, Room, room_reg, room_place, op_word, step_place, moment_after_act, at_turn, run}
+use Rattle.sg_ir.specs.Scoped.{RunMoment, Room, room_reg, room_place, op_word, step_place, moment_after_act, at_turn, run}
 use Rattle.sg_simplify.specs.steps.Pass.{Given, Pass, Next, vars_of}
 use Rattle.sg_simplify.specs.steps.Serves.{EachByRecursion, OpStays, OpHolds, HoldsInRoom}
 use Rattle.sg_simplify.proofs.Tables.{each_map}

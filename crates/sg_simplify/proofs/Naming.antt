@@ -14,9 +14,9 @@ use Rattle.sg_ir.specs.Places.{place_at}
 use Rattle.sg_ir.specs.Named.{IsNamedAccess, AreNamed}
 use Rattle.sg_ir.specs.Blocks.{Block, End, Word, Spot, Cell, Do, Branch, Loop, SetVar, WriteOwn, Contribute, Wish, block_of}
 use Rattle.sg_ir.specs.SpanLaws.{WhereTest, EachTurn}
-use Rattle.sg_ir.specs.steps.Scoped.{RunMoment, Room, room_reg, room_place, op_word, step_place, moment_after_act, at_turn, run, first_room}
-use Rattle.sg_ir.specs.steps.Flat.{room_of, moment_of, moved_by, moved_by_read, goes}
-use Rattle.sg_ir.specs.steps.InScope.{InScope, and_reg, and_place, nothing, IsScoped, AgreesInScope}
+use Rattle.sg_ir.specs.Scoped.{RunMoment, Room, room_reg, room_place, op_word, step_place, moment_after_act, at_turn, run, first_room}
+use Rattle.sg_ir.specs.Flat.{room_of, moment_of, moved_by, moved_by_read, goes}
+use Rattle.sg_ir.specs.InScope.{InScope, and_reg, and_place, nothing, IsScoped, AgreesInScope}
 use Rattle.sg_ir.proofs.Uses.{goes-runs}
 use Rattle.sg_ir.proofs.Uses.{put_same, put_all, mapped, op_same, step_same, act_same, reg_same, scoped_same}
 use Rattle.sg_ir.proofs.Uses.{all_one}

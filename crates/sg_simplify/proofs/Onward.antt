@@ -7,7 +7,7 @@ use Rattle.sg_ir.specs.declared.op.Step.{Step}
 use Rattle.sg_ir.specs.declared.op.Step.TheVariants as step
 use Rattle.sg_ir.specs.Runs.{put}
 use Rattle.sg_ir.specs.Trimmed.{AxisCheck, Ways, way_to, way_behind}
-use Rattle.sg_ir.specs.steps.InScope.{InScope, step_places, AreSet}
+use Rattle.sg_ir.specs.InScope.{InScope, step_places, AreSet}
 use Rattle.sg_simplify.specs.steps.Pass.{Pass, Next, offset}
 use Rattle.sg_simplify.specs.steps.Sets.{Sets}
 use Rattle.sg_simplify.specs.steps.Trims.{Onward}

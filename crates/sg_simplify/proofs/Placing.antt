@@ -16,7 +16,7 @@ use Rattle.sg_ir.specs.Blocks.{Block}
 use Rattle.sg_ir.specs.declared.span.Span.{Span}
 use Rattle.sg_ir.specs.Trimmed.{is_within}
 use Rattle.sg_ir.specs.SpanLaws.{Lies}
-use Rattle.sg_ir.specs.steps.Scoped.{RunMoment, Room}
+use Rattle.sg_ir.specs.Scoped.{RunMoment, Room}
 use Rattle.sg_ir.specs.Places.{extents_in}
 use Rattle.sg_ir.specs.steps.Walks.{checks, digit, offset_from, node_offset, led}
 use Rattle.sg_simplify.specs.steps.Pass.{Given, Pass, Next, Making, span_in, taken, stepped, check_at, checks_made, part, offset_made, offset, descent_of, descended, placed_in, place_made}

@@ -17,8 +17,8 @@ use Rattle.sg_ir.specs.SpanLaws.{Lies, HasConstantWord}
 use Rattle.sg_ir.specs.Trimmed.{Ways, is_within}
 use Rattle.sg_ir.specs.Span.{Spans}
 use Rattle.sg_ir.specs.WellTyped.{Scope, Frame, is_truth, is_truth_as, reads}
-use Rattle.sg_ir.specs.steps.InScope.{InScope, AreSet, op_regs, op_places}
-use Rattle.sg_ir.specs.steps.Scoped.{RunMoment, Room, op_word}
+use Rattle.sg_ir.specs.InScope.{InScope, AreSet, op_regs, op_places}
+use Rattle.sg_ir.specs.Scoped.{RunMoment, Room, op_word}
 use Rattle.sg_ir.specs.Apt.{Use}
 use Rattle.sg_simplify.specs.steps.Pass.{Given, Next, span_in, first_of, reg_where, operand_again, plainest}
 use Rattle.sg_simplify.specs.steps.Judged.{gives_type, truth_of, operands_fit, IndexIsGood}

@@ -12,8 +12,8 @@ use Rattle.sg_ir.specs.declared.span.Span.{Span}
 use Rattle.sg_ir.specs.Span.{whole_i32, Spans, range_span, var_span, with_span, in_loop, op_span}
 use Rattle.sg_ir.specs.Shared.{is_pure}
 use Rattle.sg_ir.specs.SpanLaws.{Lies, HasConstantWord, IsSpanned}
-use Rattle.sg_ir.specs.steps.Scoped.{RunMoment, Room, room_reg, room_place, op_word}
-use Rattle.sg_ir.specs.steps.InScope.{InScope, and_reg, and_place, op_regs, AreSet}
+use Rattle.sg_ir.specs.Scoped.{RunMoment, Room, room_reg, room_place, op_word}
+use Rattle.sg_ir.specs.InScope.{InScope, and_reg, and_place, op_regs, AreSet}
 use Rattle.sg_simplify.specs.steps.Pass.{Next, made_name, with_name, span_in, renamed}
 use Rattle.sg_simplify.specs.steps.Serves.{EachByRecursion, Later, OpBelow, OpStays, OpIsAt, OpLies, IsIndex}
 use Rattle.sg_simplify.specs.steps.Ruled.{OpSettles, IsNotRead, IsRenamed, AllRenamed, Grown}

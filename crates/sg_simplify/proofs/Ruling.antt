@@ -11,7 +11,7 @@ use Rattle.sg_ir.specs.declared.span.Span.{Span}
 use Rattle.sg_ir.specs.Span.{whole_i32, range_span, Spans, held, sets, var_span, with_span, op_span}
 use Rattle.sg_ir.specs.SpanLaws.{HasConstantWord}
 use Rattle.sg_ir.specs.WellTyped.{KnownPlace, Scope, Frame, with_reg, with_place, with_var}
-use Rattle.sg_ir.specs.steps.InScope.{InScope, and_reg, and_place, op_regs, op_places, step_regs, step_places, AreSet}
+use Rattle.sg_ir.specs.InScope.{InScope, and_reg, and_place, op_regs, op_places, step_regs, step_places, AreSet}
 use Rattle.sg_simplify.specs.steps.Ruled.{OpSettles, IndexFits, IsNotRead}
 use Rattle.sg_simplify.specs.steps.Counted.{one_where, regs_set, places_set, Counts, AddsUp, IsWhole, Meets, Rules}
 use Rattle.sg_simplify.proofs.Renaming.{spanned_same}

@@ -21,7 +21,7 @@ use Rattle.sg_ir.specs.Blocks.{Block, End, Spot, Link, chained, link_step, link}
 use Rattle.sg_ir.specs.declared.span.Span.{Span}
 use Rattle.sg_ir.specs.Span.{range_span, sets}
 use Rattle.sg_ir.specs.WellTyped.{KnownPlace, Scope, Frame, with_var, is_truth, is_truth_as, joins, reads, indexes, is_i32, takes_truth, is_lnot, Way_down, ByChild, ByKey, ByBit, ByLength, holds_of, Judge, judge_step, judge_all, checkable, descends, is_cell, field_type_at, goes_on, step_fits, inst_fits, judges}
-use Rattle.sg_ir.specs.steps.InScope.{InScope, AreSet, step_regs, step_places}
+use Rattle.sg_ir.specs.InScope.{InScope, AreSet, step_regs, step_places}
 use Rattle.sg_ir.proofs.Uses.{fold-Const, fold-Var, fold-Set, fold-Bin, fold-Un, fold-Mulq, fold-Root, fold-Check, fold-Extract, fold-Offset, fold-Child, fold-HashChild, fold-MaskBit, fold-DynCell, fold-ReadCell, fold-OwnRead, fold-OwnWrite, fold-Acc, fold-Want, fold-If, fold-For}
 use Rattle.sg_simplify.specs.steps.Serves.{EachByRecursion}
 use Rattle.sg_simplify.specs.steps.Ruled.{IndexFits}

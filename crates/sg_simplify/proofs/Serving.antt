@@ -14,7 +14,7 @@ use Rattle.sg_ir.specs.declared.span.Span.{Span}
 use Rattle.sg_ir.specs.Span.{whole_i32}
 use Rattle.sg_ir.specs.Shared.{same_op, same_step}
 use Rattle.sg_ir.specs.SpanLaws.{Lies, HasConstantWord}
-use Rattle.sg_ir.specs.steps.Scoped.{RunMoment, Room, room_reg, room_place, op_word, step_place, run}
+use Rattle.sg_ir.specs.Scoped.{RunMoment, Room, room_reg, room_place, op_word, step_place, run}
 use Rattle.sg_simplify.specs.steps.Pass.{Given, Pass, Next, Making, next_with_reg, next_with_place, span_in, vars_of, span_of, and_op, and_step, put_in_front, set_word, fresh, taken_at, looked_up, operand_again, plainest, taken_or, taken, stepped_at, stepped}
 use Rattle.sg_simplify.specs.steps.Serves.{Laws, NamesAll, OpBelow, StepBelow, OpStays, OpHolds, StepHolds, HoldsInRoom, Later, Alike, Good, Serves, ServesPlace, OpIsAt, OpLies}
 use Rattle.sg_simplify.proofs.Tables.{each_push, each_map, IsFound, each_found, length_push, get_last, get_kept}

@@ -16,8 +16,8 @@ use Rattle.sg_ir.specs.declared.span.Span.{Span}
 use Rattle.sg_ir.specs.Span.{whole_i32, Spans, var_span, with_span, in_loop, op_span, sets}
 use Rattle.sg_ir.specs.Shared.{is_pure}
 use Rattle.sg_ir.specs.SpanLaws.{Lies, HasConstantWord, WhereTest, EachTurn, IsSpanned, FitsSpans}
-use Rattle.sg_ir.specs.steps.Scoped.{RunMoment, Room, room_reg, room_place, op_word, step_place, moment_after_act, at_turn, run}
-use Rattle.sg_ir.specs.steps.InScope.{InScope, and_reg, and_place, op_regs, AreSet}
+use Rattle.sg_ir.specs.Scoped.{RunMoment, Room, room_reg, room_place, op_word, step_place, moment_after_act, at_turn, run}
+use Rattle.sg_ir.specs.InScope.{InScope, and_reg, and_place, op_regs, AreSet}
 use Rattle.sg_ir.proofs.Uses.{entered, left, counted}
 use Rattle.sg_simplify.specs.steps.Pass.{Given, Pass, Next, Making, made_name, with_name, given_type, span_in, vars_of, renamed, put_in_front, taken, numbered, looped, simplified}
 use Rattle.sg_simplify.specs.steps.Serves.{Laws, NamesAll, OpStays, HoldsInRoom, Later, Alike, Good, Serves}

@@ -19,7 +19,7 @@ use Rattle.sg_ir.specs.declared.span.Span.{Span}
 use Rattle.sg_ir.specs.Span.{whole_i32, Spans, range_span, bin_span, reg_span, op_span, with_span, in_loop}
 use Rattle.sg_ir.specs.Shared.{same_op, same_step, is_pure}
 use Rattle.sg_ir.specs.Trimmed.{is_within, AxisCheck, Ways, way_to, way_behind, and_check, needed, needed_in, are_checks, is_trim, accesses_are_trim}
-use Rattle.sg_ir.specs.steps.InScope.{InScope, and_reg, and_place, op_regs, step_places, AreSet, IsScoped}
+use Rattle.sg_ir.specs.InScope.{InScope, and_reg, and_place, op_regs, step_places, AreSet, IsScoped}
 use Rattle.sg_ir.specs.Places.{extents_in}
 use Rattle.sg_ir.proofs.Uses.{step_exact}
 use Rattle.sg_simplify.specs.steps.Pass.{Given, Pass, Next, Making, made_name, with_name, next_with_reg, next_with_place, given_type, span_in, span_of, renamed, and_op, and_step, put_in_front, set_word, fresh, taken_at, looked_up, operand_again, plainest, taken_or, taken, numbered, stepped_at, stepped, check_at, checks_made, offset_made, offset, descent_of, descended, placed_in, place_made, looped, simplified}

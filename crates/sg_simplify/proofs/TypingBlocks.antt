@@ -16,7 +16,7 @@ use Rattle.sg_ir.specs.Blocks.{Block, End, Word, Spot, Cell, Do, Branch, Loop, S
 use Rattle.sg_ir.specs.Shared.{is_pure}
 use Rattle.sg_ir.specs.WellTyped as well
 use Rattle.sg_ir.specs.WellTyped.{KnownPlace, Scope, Frame, is_truth, is_truth_as, reads, indexes, holds_of, is_i32, takes_truth, is_lnot, is_cell, checkable}
-use Rattle.sg_ir.specs.steps.InScope.{InScope, and_reg, and_place, IsScoped}
+use Rattle.sg_ir.specs.InScope.{InScope, and_reg, and_place, IsScoped}
 use Rattle.sg_simplify.specs.steps.Pass.{Given, Pass, Next, Making, made_name, with_name, given_type, renamed, put_in_front, taken, place_made, looped, simplified}
 use Rattle.sg_simplify.specs.steps.Judged.{gives_type, field_truth, truth_of, operands_fit, index_fits, IndexIsGood, step_known, and_known, act_fits, is_no_read, fits_scope}
 use Rattle.sg_simplify.specs.steps.Typed.{Fixed, frame_by, Starts, Widens, Types, Typed, GoesDown, AllRead, ChecksFit, IsWalked, AreWalked, IsNamedTyped, NamesTyped}

@@ -12,7 +12,7 @@ use Rattle.sg_ir.specs.declared.code.Code.{Code}
 use Rattle.sg_ir.specs.Blocks.{Block, block_in}
 use Rattle.sg_ir.specs.Span.{sets}
 use Rattle.sg_ir.specs.WellTyped.{Frame, Scope, frame_of, first_scope, judged, set_regs, set_places, setters_in, has_no_twice, most_loop_vars, is_well_typed}
-use Rattle.sg_ir.specs.steps.InScope.{nothing, IsScoped}
+use Rattle.sg_ir.specs.InScope.{nothing, IsScoped}
 use Rattle.sg_simplify.specs.steps.Pass.{Given, Next, given_of, first_pass, first_next, simplified}
 use Rattle.sg_simplify.specs.steps.Counted.{regs_set, places_set}
 use Rattle.sg_simplify.specs.steps.Judged.{fits_scope}

@@ -12,7 +12,7 @@ use Rattle.sg_ir.specs.declared.span.Span.{Span}
 use Rattle.sg_ir.specs.Span.{whole_i32, sets, domain_span, first_spans}
 use Rattle.sg_ir.specs.Shared.{is_single}
 use Rattle.sg_ir.specs.WellTyped.{Frame, frame_of, first_scope, judged, set_regs, set_places, setters_in, has_no_twice, most_loop_vars, is_well_typed}
-use Rattle.sg_ir.specs.steps.InScope.{nothing}
+use Rattle.sg_ir.specs.InScope.{nothing}
 use Rattle.sg_simplify.specs.steps.Pass.{given_of, first_pass, vars_of}
 use Rattle.sg_simplify.specs.steps.Ruled.{IsRuled}
 use Rattle.sg_simplify.specs.steps.Counted.{regs_set, places_set, Counts, AddsUp, IsWhole, Meets, CanBeWalked, has_words}

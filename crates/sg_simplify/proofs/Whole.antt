@@ -8,8 +8,8 @@ use Rattle.sg_ir.specs.Runs.{Seen}
 use Rattle.sg_ir.specs.Blocks.{Block}
 use Rattle.sg_ir.specs.Span.{whole_i32, first_spans}
 use Rattle.sg_ir.specs.SpanLaws.{Lies, FitsSpans}
-use Rattle.sg_ir.specs.steps.Scoped.{RunMoment, first_room, run}
-use Rattle.sg_ir.specs.steps.InScope.{nothing, IsScoped}
+use Rattle.sg_ir.specs.Scoped.{RunMoment, first_room, run}
+use Rattle.sg_ir.specs.InScope.{nothing, IsScoped}
 use Rattle.sg_simplify.specs.steps.Pass.{given_of, first_pass, first_next, vars_of, simple, simplified}
 use Rattle.sg_simplify.specs.steps.Serves.{Laws, NamesAll, Good}
 use Rattle.sg_simplify.specs.steps.Ruled.{IsRuled}

@@ -8,7 +8,7 @@ use Rattle.sg_flat.specs.declared.effects.Domain.{Domain}
 use Rattle.sg_ir.specs.Blocks.{Block}
 use Rattle.sg_ir.specs.Span.{whole_i32, domain_span, first_spans}
 use Rattle.sg_ir.specs.Trimmed.{AxisCheck, checks_of, passed_in, accesses_are_trim, is_trimmed}
-use Rattle.sg_ir.specs.steps.InScope.{nothing}
+use Rattle.sg_ir.specs.InScope.{nothing}
 use Rattle.sg_simplify.specs.steps.Pass.{given_of, first_pass, first_next, vars_of, simple}
 use Rattle.sg_simplify.specs.steps.Serves.{EachByRecursion}
 use Rattle.sg_simplify.specs.steps.Ruled.{IsRuled}

@@ -13,6 +13,5 @@ pub mod Tally
 pub mod Made
 pub mod Judged
 pub mod Typed
-pub mod Spread
 pub mod Needed
 pub mod Left

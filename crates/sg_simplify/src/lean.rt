@@ -3,13 +3,13 @@ ghost use Rattle.std.specs.Prelude.{◌≡◌, IfOk, OnOk, List, map, reverse};
 ghost use Rattle.sg_words.specs.declared.operators.Ty.{Ty};
 ghost use Rattle.sg_ir.specs.Blocks.{Block, chained, link, block_of};
 ghost use Rattle.sg_simplify.specs.Kept.{kept_part};
-ghost use Rattle.sg_simplify.specs.steps.Spread.{bears_mark};
+ghost use Rattle.sg_words.specs.Spread.{bears_mark};
 ghost use Rattle.sg_simplify.specs.steps.Needed.{kept_by};
 ghost use Rattle.sg_simplify.specs.steps.Left.{IsLeft, stays};
 
 use crate::needs::{Needs, OUTERMOST, place_node, reg_node, var_node};
-use crate::spreads::{is_marked, spread};
 use sg_ir::{Code, Inst};
+use sg_words::spreads::{is_marked, spread};
 use sg_words::{Items, Memory};
 use std::alloc::Global;
 

@@ -13,7 +13,6 @@ mod pass;
 mod places;
 mod setters;
 mod simple;
-mod spreads;
 mod words;
 
 pub use simple::simplify;

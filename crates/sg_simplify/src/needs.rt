@@ -4,8 +4,8 @@ ghost use Rattle.sg_words.specs.declared.operators.Ty.{Ty};
 ghost use Rattle.sg_ir.specs.Blocks.{Block, chained, link, block_of};
 ghost use Rattle.sg_simplify.specs.steps.Needed.{reg_node, place_node, var_node, block_node, link_all, blocks_in, needs_of};
 
-use crate::spreads::Link;
 use sg_ir::Inst;
+use sg_words::spreads::Link;
 use sg_words::{Items, Memory};
 use std::alloc::Global;
 

@@ -1,5 +1,7 @@
 pub mod DivisionLemmas
 pub mod FoldLemmas
+pub mod LinkLoops
+pub mod OutsideSums
 pub mod RaceFound
 pub mod RaceKeys
 pub mod RaceLinks
@@ -8,5 +10,10 @@ pub mod RacePools
 pub mod RaceRuns
 pub mod RaceSteps
 pub mod RaceTotals
+pub mod RangeLemmas
+pub mod SlotEnds
+pub mod SlotEvents
+pub mod SlotViews
+pub mod Spreading
 pub mod Uses
 pub mod WordLemmas

@@ -38,7 +38,7 @@ past-few ws l k =
     let few = sizes-few ws k in omega arith
 
 -- ---- counting tickets one by one
-pub sum_below : (ℕ → ℕ) → ℕ → ℕ
+unfoldable pub sum_below : (ℕ → ℕ) → ℕ → ℕ
 sum_below f zero = 0
 sum_below f (suc n) = sum_below f n + f n
 
@@ -131,6 +131,13 @@ key_stands_once g s k' i j k a b is is' = dite (ℕ_discrete i j) (λ e. e) (λ 
     (λ gt. let none = (k.keys.probed k' i j a is (omega arith)).1 in absurd (none is')))
 
 -- ---- links
+-- a ticket with which a link was made is held
+pub made-held : (g : Setting) (i t : ℕ) (ws : List Worker) → total (has_made i t) ws ≤ total (holds_ticket g.node (g.node i) t) ws
+made-held g i t ws = total-le (has_made i t) (holds_ticket g.node (g.node i) t) ws (λ v.
+    let le = total-le (λ (x : ℕ × ℕ). one ((x.0 == i) && (x.1 == t))) (λ (x : ℕ × ℕ). one ((g.node x.0 == g.node i) && (x.1 == t))) v.made
+    (λ x. pair_cases (λ n. n ≤ one ((g.node x.0 == g.node i) && (x.1 == t))) x.0 x.1 i t
+    (λ e e'. pair_cases (λ n. 1 ≤ n) (g.node x.0) x.1 (g.node i) t (λ _ _. omega arith) (λ miss. absurd (miss (ap g.node e) e'))) (λ _. omega arith)) in omega arith)
+
 -- a new link was made by a worker with a ticket of the stock
 pub made-ticket : (g : Setting) (s : Race) (i : ℕ) → MeetsRaceInvariant g s → slice_index g.slots i ≡ 0 → 0 < slice_index s.slots i
     → (t : ℕ) × (0 < total (has_made i t) s.workers) × (slice_index s.slots i ≡ ticket_number g (g.node i) t + 1) × (t < length (g.stock (g.node i)))
@@ -145,12 +152,6 @@ made-ticket g s i k start full =
     let w = k.tickets.within (g.node i) q.0 in
     let held = made-held g i q.0 s.workers in
     (q.0, more, m.2, omega arith)
-  where
-    made-held : (g : Setting) (i t : ℕ) (ws : List Worker) → total (has_made i t) ws ≤ total (holds_ticket g.node (g.node i) t) ws
-    made-held g i t ws = total-le (has_made i t) (holds_ticket g.node (g.node i) t) ws (λ v.
-        let le = total-le (λ (x : ℕ × ℕ). one ((x.0 == i) && (x.1 == t))) (λ (x : ℕ × ℕ). one ((g.node x.0 == g.node i) && (x.1 == t))) v.made
-        (λ x. pair_cases (λ n. n ≤ one ((g.node x.0 == g.node i) && (x.1 == t))) x.0 x.1 i t
-        (λ e e'. pair_cases (λ n. 1 ≤ n) (g.node x.0) x.1 (g.node i) t (λ _ _. omega arith) (λ miss. absurd (miss (ap g.node e) e'))) (λ _. omega arith)) in omega arith)
 
 -- two slots of a node aren't linked by one ticket
 made-apart : (g : Setting) (s : Race) (i j t : ℕ) → MeetsRaceInvariant g s → i ≢ j → g.node i ≡ g.node j → 0 < total (has_made i t) s.workers → 0 < total (has_made j t) s.workers → ⊥

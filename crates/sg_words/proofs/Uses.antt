@@ -12,7 +12,13 @@ pub use Rattle.sg_words.proofs.RaceParts.{stands}
 pub use Rattle.sg_words.proofs.RaceSteps.{kept-first, kept-enrol, kept-draw, kept-see, kept-miss, kept-link, kept-found, kept-put, kept-mark, kept-raise, kept-add, kept-join}
 pub use Rattle.sg_words.proofs.RaceFound.{found_case, kept-look, kept-try, alone}
 pub use Rattle.sg_words.proofs.RaceRuns.{starts_kept, event_keeps, key_case}
-pub use Rattle.sg_words.proofs.RacePools.{few_workers, count_is_small, made-ticket, new_links_differ, spares_never_fill, total-each, sum_below, sum-same, sum-add, sum-range, spread}
+pub use Rattle.sg_words.proofs.RacePools.{few_workers, count_is_small, made-held, made-ticket, new_links_differ, spares_never_fill, total-each, sum_below, sum-same, sum-add, sum-range, spread}
+-- ---- ranges of a table; slots that get numbers of a stock: what an event leaves of a view, words copied from a table, the last seat's
+pub use Rattle.sg_words.proofs.RangeLemmas.{range-get, range-long, range-in, range-before, range-behind, take-all, rest-is_range, word-there, written}
+pub use Rattle.sg_words.proofs.SlotViews.{drawn-past, drawn-spare, tried-link, tried-see, look-dry, provided-dry, asked-dry, dry-join, spare-stands}
+pub use Rattle.sg_words.proofs.LinkLoops.{copied}
+pub use Rattle.sg_words.proofs.SlotEvents.{look_happens, draw_happens, try_happens}
+pub use Rattle.sg_words.proofs.SlotEnds.{same_race, kept_as, last-word, slot-small, settled, are_spares}
 
 -- of two faults that may be there neither is
 pub neither : {A : Type 0} (first second : Option A) → option_or first second ≡ None → (first ≡ None) × (second ≡ None)

@@ -6,6 +6,10 @@ pub mod RaceInvariant
 pub mod RaceLaws
 pub mod RaceMachine
 pub mod steps
+pub mod Ranges
 pub mod Results
+pub mod SlotRaces
+pub mod Spread
+pub mod Stocks
 pub mod WordLaws
 pub mod Words

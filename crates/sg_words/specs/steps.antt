@@ -1,1 +1,3 @@
 pub mod RaceSteps
+pub mod SlotSteps
+pub mod SpreadSteps

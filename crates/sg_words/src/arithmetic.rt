@@ -90,13 +90,7 @@ pub fn number(ty: Ty, w: u32) -> i64
     ensures high { result <ℤ pos (2 ^ 32) }
 {
     match ty {
-        Ty::I32 => {
-            if w < 0x8000_0000 {
-                w as i64
-            } else {
-                w as i64 - 0x1_0000_0000
-            }
-        }
+        Ty::I32 => i64::from(w.cast_signed()),
         Ty::U32 | Ty::Bool => w as i64,
     }
 }
@@ -105,7 +99,7 @@ pub fn number(ty: Ty, w: u32) -> i64
 pub fn word_of(z: i64) -> u32
     ensures { result ≡ word_of z }
 {
-    z.rem_euclid(0x1_0000_0000) as u32
+    (z.cast_unsigned() % 0x1_0000_0000) as u32
 }
 
 /// 1 or 0.

@@ -3,9 +3,11 @@
 
 pub mod arithmetic;
 pub mod laws;
+pub mod links;
 pub mod memory;
 pub mod operators;
 pub mod race;
+pub mod spreads;
 pub mod text;
 
 pub use arithmetic::{apply, apply_un, fold, mulq, number, rank, unrank, word_of};

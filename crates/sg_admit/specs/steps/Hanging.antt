@@ -10,7 +10,7 @@ use Rattle.sg_admit.specs.Lines.{Around, Line}
 use Rattle.sg_admit.specs.Clean.{Unclean, is_clean, Giving, givings, is_clean_giving}
 use Rattle.sg_admit.specs.Rules.{is_of_field}
 use Rattle.sg_admit.specs.steps.Noting.{tests_in}
-use Rattle.sg_admit.specs.steps.Spread.{has_spread, bears_mark}
+use Rattle.sg_words.specs.Spread.{has_spread, bears_mark}
 
 -- a set of variables, and one of places
 abbrev pub Vars : Type 0

@@ -12,7 +12,7 @@ use Rattle.sg_ir.specs.declared.span.Span.{Span}
 use Rattle.sg_ir.specs.Span.{whole_i32, held, sets}
 use Rattle.sg_ir.specs.SpanLaws.{IsSpanned}
 use Rattle.sg_ir.specs.WellTyped.{KnownPlace, Scope, Frame, Judge}
-use Rattle.sg_ir.specs.steps.InScope.{InScope, IsScoped}
+use Rattle.sg_ir.specs.InScope.{InScope, IsScoped}
 use Rattle.sg_simplify.specs.steps.Serves.{EachByRecursion, Leads}
 use Rattle.sg_simplify.specs.steps.Ruled.{HasSettledOps, HasAccessLayouts}
 

@@ -14,7 +14,7 @@ use Rattle.sg_ir.specs.Shared.{is_shared}
 use Rattle.sg_ir.specs.Trimmed.{is_trimmed}
 use Rattle.sg_simplify.specs.Kept.{Keep, kept_part}
 use Rattle.sg_simplify.specs.Simplified.{AlwaysTellsTheSame}
-use Rattle.sg_simplify.specs.steps.Spread.{IsLeastSpread, bears_mark}
+use Rattle.sg_words.specs.Spread.{IsLeastSpread, bears_mark}
 use Rattle.sg_simplify.specs.steps.Needed.{outermost, needs_of, kept_by}
 
 -- what the pass makes of code: all that simplified code is, but that something may be left out

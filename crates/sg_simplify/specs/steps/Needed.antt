@@ -1,8 +1,8 @@
 -- What instructions need, as links between nodes: registers, places, variables and blocks have a node each.
 use Rattle.std.specs.Prelude.{ℕ, zero, suc, ◌+◌, ◌*◌, ◌/◌, ◌%◌, Bool, true, false, not, ◌&&◌, List, [], ◌∷◌, ◌++◌, map, get_or}
 use Rattle.sg_ir.specs.Blocks.{Block, End, Word, Spot, Cell, Do, Branch, Loop, Act, SetVar, WriteOwn, Contribute, Wish}
-use Rattle.sg_ir.specs.steps.InScope.{op_regs, op_places, step_regs, step_places}
-use Rattle.sg_simplify.specs.declared.spreads.Link.{Link}
+use Rattle.sg_ir.specs.InScope.{op_regs, op_places, step_regs, step_places}
+use Rattle.sg_words.specs.declared.spreads.Link.{Link}
 use Rattle.sg_simplify.specs.Kept.{Keep, is_end, kept_part, op_vars}
 
 -- the nodes of registers, places, variables and blocks

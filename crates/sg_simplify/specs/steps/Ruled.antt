@@ -7,8 +7,8 @@ use Rattle.sg_ir.specs.declared.op.Op.TheVariants as op
 use Rattle.sg_ir.specs.Blocks.{Block, End, Word, Spot, Cell, Do, Branch, Loop, Act, SetVar, WriteOwn, Contribute, Wish}
 use Rattle.sg_ir.specs.Span.{Spans, sets}
 use Rattle.sg_ir.specs.SpanLaws.{Lies, IsSpanned}
-use Rattle.sg_ir.specs.steps.Scoped.{Room}
-use Rattle.sg_ir.specs.steps.InScope.{InScope, IsScoped}
+use Rattle.sg_ir.specs.Scoped.{Room}
+use Rattle.sg_ir.specs.InScope.{InScope, IsScoped}
 use Rattle.sg_simplify.specs.steps.Pass.{Next, made_name, span_in}
 use Rattle.sg_simplify.specs.steps.Serves.{EachByRecursion, Leads}
 

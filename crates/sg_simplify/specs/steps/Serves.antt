@@ -18,7 +18,7 @@ use Rattle.sg_ir.specs.declared.span.Span.{Span}
 use Rattle.sg_ir.specs.Span.{whole_i32, Spans, bin_span, range_span, op_span, sets}
 use Rattle.sg_ir.specs.Shared.{same_op, same_step}
 use Rattle.sg_ir.specs.SpanLaws.{Lies, HasConstantWord, WhereTest, EachTurn, IsSpanned, RoomFits, FitsSpans}
-use Rattle.sg_ir.specs.steps.Scoped.{RunMoment, Room, room_reg, room_place, op_word, step_place, moment_after_act, at_turn, run}
+use Rattle.sg_ir.specs.Scoped.{RunMoment, Room, room_reg, room_place, op_word, step_place, moment_after_act, at_turn, run}
 use Rattle.sg_ir.specs.Places.{extents_in}
 use Rattle.sg_ir.specs.steps.Walks.{checks, led}
 use Rattle.sg_simplify.specs.steps.Pass.{Given, Pass, Next, Making, span_in, vars_of}

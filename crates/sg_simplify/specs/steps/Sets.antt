@@ -2,7 +2,7 @@
 use Rattle.std.specs.Prelude.{◌≡◌, ℕ, ◌≤◌, true, false, List, length}
 use Rattle.sg_ir.specs.declared.op.Op.{Op}
 use Rattle.sg_ir.specs.declared.op.Op.TheVariants as op
-use Rattle.sg_ir.specs.steps.InScope.{InScope, AreSet, IsScoped}
+use Rattle.sg_ir.specs.InScope.{InScope, AreSet, IsScoped}
 use Rattle.sg_simplify.specs.steps.Pass.{Pass, Next, Making, made_name}
 use Rattle.sg_simplify.specs.steps.Serves.{EachByRecursion}
 

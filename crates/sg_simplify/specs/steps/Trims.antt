@@ -5,7 +5,7 @@ use Rattle.sg_ir.specs.declared.op.Op.TheVariants as op
 use Rattle.sg_ir.specs.declared.op.Step.{Step}
 use Rattle.sg_ir.specs.Span.{Spans, reg_span, var_span}
 use Rattle.sg_ir.specs.Trimmed.{is_within, AxisCheck, Ways, way_to, way_behind, and_check, are_checks, is_trim, accesses_are_trim}
-use Rattle.sg_ir.specs.steps.InScope.{InScope, step_places, AreSet}
+use Rattle.sg_ir.specs.InScope.{InScope, step_places, AreSet}
 use Rattle.sg_simplify.specs.steps.Pass.{Given, Pass, Next, Making, span_in, vars_of}
 use Rattle.sg_simplify.specs.steps.Serves.{EachByRecursion}
 use Rattle.sg_simplify.specs.steps.Sets.{Wider, Sets}

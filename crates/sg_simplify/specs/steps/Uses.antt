@@ -7,7 +7,7 @@ use Rattle.sg_ir.specs.declared.op.Step.{Step}
 use Rattle.sg_ir.specs.Blocks.{Block}
 use Rattle.sg_ir.specs.Shared.{same_op, same_step}
 use Rattle.sg_ir.specs.Trimmed.{AxisCheck, Ways, way_to, checks_of, passed_in}
-use Rattle.sg_ir.specs.steps.InScope.{op_places, step_places}
+use Rattle.sg_ir.specs.InScope.{op_places, step_places}
 use Rattle.sg_simplify.specs.steps.Pass.{Pass, Next}
 use Rattle.sg_simplify.specs.steps.Serves.{EachByRecursion}
 

@@ -6,7 +6,7 @@ use Rattle.sg_types.specs.declared.typed.TypedStmt.{TypedStmt}
 use Rattle.sg_admit.specs.Limits.{most_box_points}
 use Rattle.sg_admit.specs.Slices.{block_slice}
 use Rattle.sg_admit.specs.Bounds.{box_size}
-use Rattle.sg_admit.specs.steps.Spread.{bears_mark}
+use Rattle.sg_words.specs.Spread.{bears_mark}
 use Rattle.sg_admit.specs.steps.Marked.{unclean_of}
 use Rattle.sg_admit.proofs.Admitting.{refused_rule, refused_box, accepted}
 use Rattle.sg_admit.proofs.admission.examined.Goals as goal

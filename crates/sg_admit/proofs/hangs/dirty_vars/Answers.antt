@@ -1,9 +1,9 @@
 use Rattle.std.proofs.Common.{ℕ, List, [], Result, Ok, Err, ap, subst, ◌∙◌}
 use Rattle.std.specs.Result.{IfOk}
-use Rattle.sg_admit.specs.declared.spreads.Link.{Link}
+use Rattle.sg_words.specs.declared.spreads.Link.{Link}
 use Rattle.sg_admit.specs.declared.hangs.Hangs.{Hangs}
 use Rattle.sg_admit.specs.Lines.{block_lines}
-use Rattle.sg_admit.specs.steps.Spread.{IsLeastSpread}
+use Rattle.sg_words.specs.Spread.{IsLeastSpread}
 use Rattle.sg_admit.proofs.LeastGiven.{least_given}
 use Rattle.sg_admit.proofs.hangs.dirty_vars.Goals as goal
 

@@ -1,7 +1,7 @@
 use Rattle.std.proofs.Common.{length, ◌∙◌, ap, take, ◌+◌, arith}
 use Rattle.std.proofs.lemmas.List.{length-set}
 use Rattle.std.specs.Mem.Slots.{slots_items}
-use Rattle.sg_pointer.proofs.Loops.{copied}
+use Rattle.sg_words.proofs.Uses.{copied}
 use Rattle.sg_pointer.proofs.finish.copy_words.Goals as goal
 
 pub loop-i-preserved : goal.loop-i-preserved

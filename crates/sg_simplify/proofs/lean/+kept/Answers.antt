@@ -5,7 +5,7 @@ use Rattle.sg_ir.specs.declared.code.Inst.{Inst}
 use Rattle.sg_ir.specs.declared.code.Inst.TheVariants as v
 use Rattle.sg_ir.specs.Blocks.{chained, link, block_of}
 use Rattle.sg_simplify.specs.Kept.{Keep, kept_part}
-use Rattle.sg_simplify.specs.steps.Spread.{bears_mark}
+use Rattle.sg_words.specs.Spread.{bears_mark}
 use Rattle.sg_simplify.specs.steps.Needed.{kept_by}
 use Rattle.sg_simplify.proofs.KeptDepths.{depths, depths-reverse, popped, in_if, in_for}
 use Rattle.sg_simplify.proofs.KeptTests.{first_fails, second_fails, neither_fails, first_holds, or_fails, only_second}

@@ -3,7 +3,7 @@ use Rattle.sg_words.specs.declared.operators.Ty.{Ty}
 use Rattle.sg_ir.specs.Blocks.{chained, link, block_of}
 use Rattle.sg_ir.proofs.Uses.{depth}
 use Rattle.sg_simplify.specs.Kept.{kept_part}
-use Rattle.sg_simplify.specs.steps.Spread.{bears_mark}
+use Rattle.sg_words.specs.Spread.{bears_mark}
 use Rattle.sg_simplify.specs.steps.Needed.{kept_by}
 use Rattle.sg_simplify.proofs.KeptDepths.{depths}
 use Rattle.sg_simplify.proofs.lean.+kept.Given as goal

@@ -1,8 +1,8 @@
 use Rattle.std.proofs.Common.{List, [], ◌∷◌, refl, ap, subst, ◌∙◌}
 use Rattle.sg_ir.specs.declared.code.Inst.{Inst}
 use Rattle.sg_ir.specs.Blocks.{block_of}
-use Rattle.sg_simplify.specs.declared.spreads.Link.{Link}
-use Rattle.sg_simplify.specs.steps.Spread.{IsLeastSpread}
+use Rattle.sg_words.specs.declared.spreads.Link.{Link}
+use Rattle.sg_words.specs.Spread.{IsLeastSpread}
 use Rattle.sg_simplify.specs.steps.Needed.{outermost, needs_of}
 use Rattle.sg_simplify.proofs.lean.lean.Goals as goal
 

@@ -1,7 +1,7 @@
 use Rattle.std.proofs.Common.{ℕ, Bool, List, [], ◌∷◌, ◌++◌, ◌||◌, ◌==◌, not, map, sym, ap, ◌∙◌, arith}
 use Rattle.std.specs.List.{list_any, range_with_len}
 use Rattle.std.proofs.lemmas.List.FromFn.{map-range_with_len_more}
-use Rattle.sg_admit.specs.steps.Spread.{bears_mark}
+use Rattle.sg_words.specs.Spread.{bears_mark}
 use Rattle.sg_admit.proofs.admission.Known.clean_vars.Goals as goal
 
 pub loop-var-preserved : goal.loop-var-preserved

@@ -1,6 +1,6 @@
 use Rattle.std.proofs.Common.{◌≡◌, ◌||◌, ◌==◌, not, map}
 use Rattle.std.specs.List.{list_any, range_with_len}
-use Rattle.sg_admit.specs.steps.Spread.{bears_mark}
+use Rattle.sg_words.specs.Spread.{bears_mark}
 use Rattle.sg_admit.proofs.admission.Known.clean_vars.Given as goal
 
 abbrev pub invariant-loop-var : goal.invariant-loop-var

@@ -1,7 +1,7 @@
 use Rattle.std.proofs.Common.{rules, ◌+◌, length, ap, ◌∙◌, arith}
 use Rattle.std.specs.Prelude.{slice_index}
 use Rattle.sg_hash.proofs.Passes.{draw-allowed}
-use Rattle.sg_hash.proofs.Views.{drawn-past}
+use Rattle.sg_words.proofs.Uses.{drawn-past}
 use Rattle.sg_hash.proofs.seat.HashPass.draw.Goals as goal
 
 pub fetch_add-ticket-requires : goal.fetch_add-ticket-requires

@@ -1,7 +1,9 @@
-use Rattle.std.proofs.Common.{◌≡◌, ◌+◌, length, take, drop, ap, sym, ◌∙◌, subst}
+use Rattle.std.proofs.Common.{◌≡◌, ◌+◌, [], ◌∷◌, length, take, drop, ap, sym, ◌∙◌, subst}
 use mathlib.Core.Option.{some}
 use lib.ListN.{get_elem?}
-use Rattle.sg_hash.proofs.Endings.{ended, ended-links}
+use Rattle.sg_words.specs.SlotRaces.{slot_race}
+use Rattle.sg_words.proofs.Uses.{slot-small}
+use Rattle.sg_hash.proofs.Endings.{ended}
 use Rattle.sg_hash.proofs.seat.HashPass.gather.Goals.{After-free}
 use Rattle.sg_hash.proofs.seat.HashPass.gather.Goals as goal
 
@@ -16,4 +18,7 @@ returns-clause-ended c =
     (ap (λ l. get_elem? l (c.len-places.result + c.len-places.result)) last.2 ∙ c.word-count.ensures))
 
 pub returns-clause-links : goal.returns-clause-links
-returns-clause-links c = ended-links c.args.self.start c.args.seat.seat.me.0 c.copy_words.new.words c.copy_words-2.new.words c.word-count.result c.args.self.links c.args.self.numbers (returns-clause-ended c).2.slots_stay.0 (returns-clause-ended c)
+returns-clause-links c i =
+    let start = c.args.self.start in
+    slot-small start.links start.keys start.stock (length start.stock ∷ length start.links ∷ []) (slot_race c.copy_words.new.words c.copy_words-2.new.words (c.word-count.result ∷ []) (returns-clause-ended c).0) i
+    c.args.self.links c.args.self.numbers (returns-clause-ended c).2

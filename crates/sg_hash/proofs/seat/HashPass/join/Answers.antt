@@ -3,7 +3,7 @@ use Rattle.sg_words.specs.Counts.{pairs}
 use Rattle.sg_words.specs.RaceMachine.{after_join}
 use Rattle.sg_hash.proofs.Searches.{full-joins, others-same, beside-joined}
 use Rattle.sg_hash.proofs.Passes.{join-allowed}
-use Rattle.sg_hash.proofs.Views.{dry-join}
+use Rattle.sg_words.proofs.Uses.{dry-join}
 use Rattle.sg_hash.proofs.seat.HashPass.join.Goals as goal
 
 pub join_seat-requires : goal.join_seat-requires
@@ -12,7 +12,7 @@ join_seat-requires c =
     (search rules, search rules, search rules, omega arith, join-allowed c.args.self.now _ _ _ _ (search rules) (search rules))
 
 pub invariant_of-seat-clause-dries : goal.invariant_of-seat-clause-dries
-invariant_of-seat-clause-dries c = c.either-seat.ensures ∙ dry-join c.args.seat.now.seat.me.0 c.args.other.seat.me.0 _ _ c.args.seat.now.dries c.args.other.dries ∙ sym (ap (λ m. Rattle.sg_hash.specs.Asking.is_dry m.0) c.join_seat.ensures.2)
+invariant_of-seat-clause-dries c = c.either-seat.ensures ∙ dry-join c.args.seat.now.seat.me.0 c.args.other.seat.me.0 _ _ c.args.seat.now.dries c.args.other.dries ∙ sym (ap (λ m. Rattle.sg_words.specs.Stocks.is_dry m.0) c.join_seat.ensures.2)
 
 pub returns-clause-own : goal.returns-clause-own
 returns-clause-own c =

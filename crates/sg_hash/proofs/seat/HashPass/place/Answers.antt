@@ -1,7 +1,7 @@
 use Rattle.std.proofs.Common.{rules, ◌+◌, ◌<◌, sym, ap, ◌∙◌, subst, arith}
 use Rattle.std.specs.Prelude.{slice_index}
 use Rattle.sg_hash.proofs.Passes.{try-allowed}
-use Rattle.sg_hash.proofs.Views.{tried-link, tried-see}
+use Rattle.sg_words.proofs.Uses.{tried-link, tried-see}
 use Rattle.sg_hash.proofs.Keys.{tried-keys}
 use Rattle.sg_hash.proofs.seat.HashPass.place.Goals as goal
 

@@ -1,6 +1,6 @@
 use Rattle.std.proofs.Common.{ap, ◌∙◌}
-use Rattle.sg_hash.specs.Asking.{listed}
-use Rattle.sg_hash.proofs.Views.{spare-stands}
+use Rattle.sg_words.specs.Stocks.{listed}
+use Rattle.sg_words.proofs.Uses.{spare-stands}
 use Rattle.sg_hash.proofs.seat.HashPass.provide.Goals as goal
 
 pub returns-in-Some-clause-spare : goal.returns-in-Some-clause-spare

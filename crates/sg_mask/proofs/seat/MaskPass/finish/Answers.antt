@@ -1,4 +1,4 @@
-use Rattle.std.proofs.Common.{rules, ◌≡◌, refl, sym, ap, ◌∙◌}
+use Rattle.std.proofs.Common.{sym, ◌∙◌}
 use Rattle.sg_mask.proofs.Moves.{are_marked}
 use Rattle.sg_mask.proofs.seat.MaskPass.finish.Goals as goal
 

@@ -1,4 +1,4 @@
-use Rattle.std.proofs.Common.{rules, ◌≡◌, arith}
+use Rattle.std.proofs.Common.{rules, arith}
 use Rattle.sg_mask.proofs.Moves.{join-allowed}
 use Rattle.sg_mask.proofs.seat.MaskPass.join.Goals as goal
 

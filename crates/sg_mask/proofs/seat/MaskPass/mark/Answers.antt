@@ -1,4 +1,4 @@
-use Rattle.std.proofs.Common.{rules, ◌≡◌, ◌<◌, ◌/◌, length, refl, sym, ap, ◌∙◌, arith}
+use Rattle.std.proofs.Common.{rules, ◌<◌, ◌/◌, length, refl, ap, arith}
 use Rattle.sg_mask.proofs.Moves.{mark-allowed}
 use Rattle.sg_mask.proofs.seat.MaskPass.mark.Goals as goal
 

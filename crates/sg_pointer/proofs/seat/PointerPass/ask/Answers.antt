@@ -1,5 +1,5 @@
 use Rattle.std.specs.Prelude.{slice_index}
-use Rattle.sg_pointer.proofs.Views.{asked-dry}
+use Rattle.sg_words.proofs.Uses.{asked-dry}
 use Rattle.sg_pointer.proofs.seat.PointerPass.ask.Goals as goal
 
 pub returns-in-Some-clause-stays_dry : goal.returns-in-Some-clause-stays_dry

@@ -1,7 +1,7 @@
 use Rattle.std.proofs.Common.{rules, ap, ◌∙◌, arith}
 use Rattle.std.specs.Prelude.{slice_index}
 use Rattle.sg_pointer.proofs.Passes.{draw-allowed}
-use Rattle.sg_pointer.proofs.Views.{drawn-past}
+use Rattle.sg_words.proofs.Uses.{drawn-past}
 use Rattle.sg_pointer.proofs.seat.PointerPass.draw.Goals as goal
 
 pub fetch_add-ticket-requires : goal.fetch_add-ticket-requires

@@ -1,6 +1,8 @@
-use Rattle.std.proofs.Common.{length, take, ap, sym, ◌∙◌}
+use Rattle.std.proofs.Common.{[], ◌∷◌, length, take, ap, sym, ◌∙◌}
 use lib.ListN.{get_elem?}
-use Rattle.sg_pointer.proofs.Endings.{ended, ended-links}
+use Rattle.sg_words.specs.SlotRaces.{slot_race}
+use Rattle.sg_words.proofs.Uses.{slot-small}
+use Rattle.sg_pointer.proofs.Endings.{ended}
 use Rattle.sg_pointer.proofs.seat.PointerPass.gather.Goals.{After-free}
 use Rattle.sg_pointer.proofs.seat.PointerPass.gather.Goals as goal
 
@@ -12,4 +14,6 @@ returns-clause-ended c =
     (ap (λ l. get_elem? l (length c.copy_words.new.links)) last.2 ∙ ap (get_elem? _) (sym c.len.ensures) ∙ c.word-count.ensures)
 
 pub returns-clause-links : goal.returns-clause-links
-returns-clause-links c = ended-links c.args.self.start c.args.seat.seat.me.0 c.copy_words.new.links c.word-count.result c.args.self.links c.args.self.numbers (returns-clause-ended c).2.slots_stay.0 (returns-clause-ended c)
+returns-clause-links c i =
+    let start = c.args.self.start in
+    slot-small start.links [] start.stock (length start.stock ∷ []) (slot_race c.copy_words.new.links [] (c.word-count.result ∷ []) (returns-clause-ended c).0) i c.args.self.links c.args.self.numbers (returns-clause-ended c).2

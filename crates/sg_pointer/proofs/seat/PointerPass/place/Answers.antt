@@ -1,7 +1,7 @@
 use Rattle.std.proofs.Common.{rules, ◌+◌, ◌<◌, sym, ap, ◌∙◌, subst, arith}
 use Rattle.std.specs.Prelude.{slice_index}
 use Rattle.sg_pointer.proofs.Passes.{try-allowed}
-use Rattle.sg_pointer.proofs.Views.{tried-link, tried-see}
+use Rattle.sg_words.proofs.Uses.{tried-link, tried-see}
 use Rattle.sg_pointer.proofs.seat.PointerPass.place.Goals as goal
 
 pub compare_exchange-found-requires : goal.compare_exchange-found-requires

@@ -1,6 +1,6 @@
 use Rattle.std.proofs.Common.{ap, ◌∙◌}
-use Rattle.sg_pointer.specs.Asking.{listed}
-use Rattle.sg_pointer.proofs.Views.{spare-stands}
+use Rattle.sg_words.specs.Stocks.{listed}
+use Rattle.sg_words.proofs.Uses.{spare-stands}
 use Rattle.sg_pointer.proofs.seat.PointerPass.provide.Goals as goal
 
 pub returns-in-Some-clause-spare : goal.returns-in-Some-clause-spare

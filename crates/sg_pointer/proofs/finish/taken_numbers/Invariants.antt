@@ -1,6 +1,0 @@
-use Rattle.std.proofs.Common.{◌≡◌, ◌++◌, drop}
-use Rattle.sg_pointer.specs.Finishing.{taken_of}
-use Rattle.sg_pointer.proofs.finish.taken_numbers.Given as goal
-
-abbrev pub invariant-loop-i : goal.invariant-loop-i
-invariant-loop-i l = l.taken ++ taken_of (drop l.i l.old) (drop l.i l.new) ≡ taken_of l.old l.new
