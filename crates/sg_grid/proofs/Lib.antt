@@ -1,3 +1,4 @@
+pub mod GoingOn
 pub mod Accepting
 pub mod Dumps
 pub mod Firsts

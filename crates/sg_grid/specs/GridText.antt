@@ -1,11 +1,15 @@
 -- The text of a grid: a line `grid AXES COUNT`, then a line for each row with the parts of its coordinate and its value.
-use Rattle.std.specs.Prelude.{ℕ, ℤ, List, [], ◌∷◌, ◌++◌, length, if◌then◌else◌, nat_le, codes}
+use Rattle.std.specs.Prelude.{◌≡◌, ℕ, ℤ, List, [], ◌∷◌, ◌++◌, length, if◌then◌else◌, nat_le, codes}
 use Rattle.std.specs.List.{flat_map}
 use Rattle.std.specs.Fmt.{decimal, signed_decimal}
 use Rattle.sg_coord.specs.declared.coord.Coord.{Coord}
 use Rattle.sg_words.specs.declared.operators.Ty.{Ty}
 use Rattle.sg_words.specs.Words.{number}
 use Rattle.sg_grid.specs.declared.grid.GridRow.{GridRow}
+
+-- a text goes on from another: that one stands at its front
+abbrev pub GoesOn : List ℕ → List ℕ → Type 0
+GoesOn old new = (more : List ℕ) × (new ≡ old ++ more)
 
 -- a further part of a coordinate, after a space, where the axis is there
 abbrev pub further_part : ℕ → Coord → ℤ → List ℕ

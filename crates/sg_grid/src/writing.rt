@@ -1,9 +1,12 @@
 //! Writing a grid text.
 
-ghost use Rattle.std.specs.Prelude.{◌≡◌, [], ◌∷◌, ◌++◌, decimal, IfOk, OnOk, string_bytes};
+ghost use Rattle.std.specs.Prelude.{◌≡◌, [], ◌∷◌, ◌++◌, decimal, if◌then◌else◌, IfOk, OnOk, string_bytes};
+ghost use Rattle.std.specs.Fmt.{signed_decimal};
 ghost use Rattle.sg_grid.specs.GridText as spec;
+ghost use Rattle.sg_grid.specs.GridText.{GoesOn};
 
 use crate::grid::GridRow;
+use itoa::Buffer;
 use sg_coord::Coord;
 use sg_words::{Memory, Ty, number};
 use std::alloc::{AllocError, Global};
@@ -27,26 +30,51 @@ pub(crate) fn first_line(alloc: Global, axes: u32, count: usize) -> Result<Strin
     Ok(line)
 }
 
-/// Adds the line of a row.
+/// Adds the line of a row. Where memory runs out some of it may stand after the text.
 pub fn push_row(text: &mut String, ty: Ty, row: GridRow) -> Result<(), AllocError>
-    ensures { OnOk result (string_bytes text.new ≡ string_bytes text.old ++ spec.row_text ty row) }
+    ensures line { OnOk result (string_bytes text.new ≡ string_bytes text.old ++ spec.row_text ty row) }
+    ensures on { GoesOn (string_bytes text.old) (string_bytes text.new) }
 {
     push_coordinate(text, row.at)?;
-    let value = number(ty, row.word);
-    write!(text, " {value}\n")
+    push_text(text, " ")?;
+    push_number(text, number(ty, row.word))?;
+    push_text(text, "\n")
 }
 
-/// Adds the parts of a coordinate, with a space between them.
+/// Adds the parts of a coordinate, with a space between them. Where memory runs out some of them may stand after the text.
 pub fn push_coordinate(text: &mut String, at: Coord) -> Result<(), AllocError>
-    ensures { OnOk result (string_bytes text.new ≡ string_bytes text.old ++ spec.coordinate_text at) }
+    ensures parts { OnOk result (string_bytes text.new ≡ string_bytes text.old ++ spec.coordinate_text at) }
+    ensures on { GoesOn (string_bytes text.old) (string_bytes text.new) }
 {
-    let Coord { n, a, b, c } = at;
-    write!(text, "{a}")?;
-    if n >= 2 {
-        write!(text, " {b}")?;
+    push_number(text, at.a as i64)?;
+    push_further(text, at.n >= 2, at.b as i64)?;
+    push_further(text, at.n >= 3, at.c as i64)
+}
+
+/// Adds a space and a number, if there is one.
+fn push_further(text: &mut String, there: bool, number: i64) -> Result<(), AllocError>
+    ensures part { OnOk result (string_bytes text.new ≡ string_bytes text.old ++ (if there then 32 ∷ signed_decimal number else [])) }
+    ensures on { GoesOn (string_bytes text.old) (string_bytes text.new) }
+{
+    if !there {
+        return Ok(());
     }
-    if n >= 3 {
-        write!(text, " {c}")?;
-    }
-    Ok(())
+    push_text(text, " ")?;
+    push_number(text, number)
+}
+
+/// Adds a number.
+fn push_number(text: &mut String, number: i64) -> Result<(), AllocError>
+    ensures digits { OnOk result (string_bytes text.new ≡ string_bytes text.old ++ signed_decimal number) }
+    ensures on { GoesOn (string_bytes text.old) (string_bytes text.new) }
+{
+    push_text(text, Buffer::new().format(number))
+}
+
+/// Adds a piece.
+fn push_text(text: &mut String, piece: &str) -> Result<(), AllocError>
+    ensures piece { OnOk result (string_bytes text.new ≡ string_bytes text.old ++ piece.now) }
+    ensures on { GoesOn (string_bytes text.old) (string_bytes text.new) }
+{
+    text.push_str(piece)
 }

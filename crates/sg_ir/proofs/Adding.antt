@@ -9,8 +9,8 @@ use Rattle.sg_layout.specs.declared.shape.Shape.{Shape}
 use Rattle.sg_ir.specs.declared.code.Inst.{Inst, fold-Inst}
 use Rattle.sg_ir.specs.declared.names.Names.{Names}
 use Rattle.sg_ir.specs.WellTyped.{Scope, Frame, judge_step, with_reg, is_truth_as, judges, judged, SetName, SetsReg, SetsPlace, sets_step, settings, set_regs, set_places, reg_number, place_number}
-use Rattle.sg_ir.specs.steps.Emits.{AddsReg, PutsReg, PutsPlace}
-use Rattle.sg_ir.specs.steps.Types.{GoesOn, Begins, IsFinal, KeepsScope, Adds, CanRead}
+use Rattle.sg_ir.specs.Emits.{AddsReg, PutsReg, PutsPlace}
+use Rattle.sg_ir.specs.EmitTypes.{GoesOn, Begins, IsFinal, KeepsScope, Adds, CanRead}
 use Rattle.sg_ir.proofs.Judging.{judged-more, set_regs-append, set_places-append}
 use Rattle.sg_ir.proofs.Emitting.{put-other}
 

@@ -18,9 +18,9 @@ use Rattle.sg_ir.specs.declared.names.Names.{Names}
 use Rattle.sg_ir.specs.Runs.{put, node_in}
 use Rattle.sg_ir.specs.WellTyped.{KnownPlace, Scope, Frame, Way_down, ByChild, ByKey, ByBit, ByLength, goes_down, reads, is_truth_as, holds_of, checkable, descends, goes_on, step_fits, judges, judged, SetName, SetsPlace, sets_step, set_vars, var_number, with_place}
 use Rattle.sg_ir.specs.Apt.{Use, uses_step, uses_in}
-use Rattle.sg_ir.specs.steps.Emits.{NamesGrow, PutsReg, PutsPlace}
-use Rattle.sg_ir.specs.steps.Steps.{child_inst}
-use Rattle.sg_ir.specs.steps.Types.{KeepsVarsAndUses, AddsSteps, KeepsScope, CanRead, HasPassed, AddsWord, AddsChecks, AddsDescent}
+use Rattle.sg_ir.specs.Emits.{NamesGrow, PutsReg, PutsPlace}
+use Rattle.sg_ir.specs.StepDown.{child_inst}
+use Rattle.sg_ir.specs.EmitTypes.{KeepsVarsAndUses, AddsSteps, KeepsScope, CanRead, HasPassed, AddsWord, AddsChecks, AddsDescent}
 use Rattle.sg_ir.specs.Places.{extents_in}
 use Rattle.sg_ir.proofs.Folds.{fold-Root, fold-Check, fold-Extract, fold-Offset, fold-Child, fold-HashChild, fold-MaskBit, fold-DynCell}
 use Rattle.sg_ir.proofs.Judging.{judges-Root, judges-Check, judges-Extract, judges-Offset, judges-Child, judges-HashChild, judges-MaskBit, judges-DynCell, set_vars-append, uses-append}

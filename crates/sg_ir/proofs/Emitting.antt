@@ -7,7 +7,7 @@ use Rattle.sg_layout.specs.declared.shape.Shape.{Shape}
 use Rattle.sg_ir.specs.declared.code.Inst.{Inst}
 use Rattle.sg_ir.specs.declared.names.Names.{Names}
 use Rattle.sg_ir.specs.Runs.{Seen, Place, Access, Moved, put, set_reg, set_place, add_access, does, runs}
-use Rattle.sg_ir.specs.steps.Emits.{NamesGrow, Computes, Reaches, Fetches, AddsReg, AddsPlace, PutsReg, PutsPlace}
+use Rattle.sg_ir.specs.Emits.{NamesGrow, Computes, Reaches, Fetches, AddsReg, AddsPlace, PutsReg, PutsPlace}
 use Rattle.sg_ir.proofs.Equations.{runs-more}
 
 pub put-same : {A : Type 0} (to : ℕ) (new : A) (old : ℕ → A) → put to new old to ≡ new

@@ -6,7 +6,7 @@ use Rattle.sg_layout.specs.declared.shape.Shape.{Shape}
 use Rattle.sg_ir.specs.declared.code.Inst.{Inst}
 use Rattle.sg_ir.specs.declared.names.Names.{Names}
 use Rattle.sg_ir.specs.Runs.{Seen, Place, Moved, runs}
-use Rattle.sg_ir.specs.steps.Emits.{Keeps, NamesGrow, Extends, IsQuiet, Computes, Reaches}
+use Rattle.sg_ir.specs.Emits.{Keeps, NamesGrow, Extends, IsQuiet, Computes, Reaches}
 
 module _ (shapes : List Shape) where
   pub extends-same : (names : Names) (block : List Inst) → Extends shapes names names block block

@@ -12,9 +12,9 @@ use Rattle.sg_ir.specs.declared.op.Step.{Step}
 use Rattle.sg_ir.specs.declared.op.Step.TheVariants as step
 use Rattle.sg_ir.specs.Runs.{Seen, Moved, put, set_reg, set_place, set_var_word, iteration_start, iteration}
 use Rattle.sg_ir.specs.Blocks.{Block, End, Word, Spot, Cell, Do, Branch, Loop, Act, SetVar, WriteOwn, Contribute, Wish, block_of}
-use Rattle.sg_ir.specs.steps.Scoped.{RunMoment, Room, room_reg, room_place, op_word, step_place, moment_after_act, at_turn, run, first_room}
-use Rattle.sg_ir.specs.steps.Flat.{room_of, moment_of, moved_by, moved_by_read, goes}
-use Rattle.sg_ir.specs.steps.InScope.{InScope, and_reg, and_place, nothing, op_regs, op_places, step_regs, step_places, act_regs, act_places, AreSet, IsScoped, AgreesInScope}
+use Rattle.sg_ir.specs.Scoped.{RunMoment, Room, room_reg, room_place, op_word, step_place, moment_after_act, at_turn, run, first_room}
+use Rattle.sg_ir.specs.Flat.{room_of, moment_of, moved_by, moved_by_read, goes}
+use Rattle.sg_ir.specs.InScope.{InScope, and_reg, and_place, nothing, op_regs, op_places, step_regs, step_places, act_regs, act_places, AreSet, IsScoped, AgreesInScope}
 use Rattle.sg_ir.proofs.Chained.{goes-runs}
 
 -- where one number is given something new

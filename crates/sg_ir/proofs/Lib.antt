@@ -2,6 +2,7 @@ pub mod Folds
 pub mod Equations
 pub mod Judging
 pub mod Emitting
+pub mod Fronts
 pub mod Stepping
 pub mod Extending
 pub mod Adding
@@ -27,3 +28,4 @@ pub mod FormsAlike
 pub mod Uses
 pub mod WorkedRuns
 pub mod WorkedTypes
+pub mod WorkedApt

@@ -18,7 +18,7 @@ use Rattle.sg_ir.specs.declared.code.Inst.{Inst}
 use Rattle.sg_ir.specs.declared.names.Names.{Names}
 use Rattle.sg_ir.specs.Runs.{Place, Moved, named_by, runs}
 use Rattle.sg_ir.specs.Places.{place_at, extents_in}
-use Rattle.sg_ir.specs.steps.Emits.{Extends, Reaches, LeadsToPlace}
+use Rattle.sg_ir.specs.Emits.{Extends, Reaches, LeadsToPlace}
 use Rattle.sg_ir.specs.steps.Walks.{AreWalkable, checks, led}
 use Rattle.sg_ir.proofs.Extending.{extends-trans, quiet-trans, words-kept}
 use Rattle.sg_ir.proofs.Leading.{walk-leads}

@@ -20,7 +20,7 @@ use Rattle.sg_ir.specs.Blocks.{Block, End, Word, Spot, Cell, Do, Branch, Loop, S
 use Rattle.sg_ir.specs.declared.span.Span.{Span}
 use Rattle.sg_ir.specs.Span.{whole_i32, range_span, Spans, reg_span, var_span, op_span, with_span, in_loop}
 use Rattle.sg_ir.specs.SpanLaws.{Lies, HasConstantWord, WhereTest, EachTurn, SpansHold, IsSpanned, StateIsWords, RoomFits, FitsSpans}
-use Rattle.sg_ir.specs.steps.Scoped.{RunMoment, Room, room_reg, room_place, op_word, step_place, moment_after_act, at_turn, run}
+use Rattle.sg_ir.specs.Scoped.{RunMoment, Room, room_reg, room_place, op_word, step_place, moment_after_act, at_turn, run}
 use Rattle.sg_ir.proofs.SpanWords.{lies_whole, range_lies, op_lies, all_one}
 
 -- the spans hold along a run, and what is known holds after it

@@ -30,8 +30,8 @@ use Rattle.sg_ir.specs.Runs.{iteration_start, part_words}
 use Rattle.sg_ir.specs.Blocks.{Block}
 use Rattle.sg_ir.specs.Span.{whole_i32, only, range_span, sets, extent_span, walk_span, box_span, domain_span, first_spans}
 use Rattle.sg_ir.specs.SpanLaws.{Lies, FitsSpans, WordsLieInSpans}
-use Rattle.sg_ir.specs.steps.Flat.{moment_of}
-use Rattle.sg_ir.specs.steps.Scoped.{first_room}
+use Rattle.sg_ir.specs.Flat.{moment_of}
+use Rattle.sg_ir.specs.Scoped.{first_room}
 use Rattle.sg_ir.proofs.SpanWords.{lies_whole, range_lies}
 use Rattle.sg_ir.proofs.SpanSound.{sound}
 

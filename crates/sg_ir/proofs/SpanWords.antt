@@ -21,7 +21,7 @@ use Rattle.sg_ir.specs.Runs.{Seen, CodeWrite, at_of, cell_value, is_own, value_o
 use Rattle.sg_ir.specs.declared.span.Span.{Span}
 use Rattle.sg_ir.specs.Span.{whole_i32, only, fits_i32, cut_to_i32, bin_span, range_span, Spans, reg_span, op_span}
 use Rattle.sg_ir.specs.SpanLaws.{Lies, HasConstantWord, StateIsWords, RoomFits, FitsSpans}
-use Rattle.sg_ir.specs.steps.Scoped.{RunMoment, Room, op_word}
+use Rattle.sg_ir.specs.Scoped.{RunMoment, Room, op_word}
 use Rattle.sg_ir.proofs.Products.{products_lie}
 
 in_whole : (z : ℤ) → FitsSigned w32 z → (negsuc 2147483647 ≤ℤ z) × (z ≤ℤ pos 2147483647)

@@ -3,7 +3,7 @@ use Rattle.std.proofs.Common.{◌≡◌, ℕ}
 use Rattle.sg_layout.specs.declared.shape.Kind.{Kind}
 use Rattle.sg_layout.specs.declared.shape.Kind.TheVariants.{Dense, Bitmasked, Pointer, Hash, Dynamic}
 use Rattle.sg_ir.specs.Runs.{Seen, Moved, set_place, down, does}
-use Rattle.sg_ir.specs.steps.Steps.{child_inst}
+use Rattle.sg_ir.specs.StepDown.{child_inst}
 use Rattle.sg_ir.proofs.Equations.{does-Child, does-HashChild, does-MaskBit, does-DynCell}
 
 pub does-step : (seen : Seen) (kind : Kind) (to place node offset : ℕ) (now : Moved) → does seen (child_inst kind to place node offset) now ≡ set_place to (down seen.shapes node (now.regs offset) (now.places place)) now

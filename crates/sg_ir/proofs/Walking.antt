@@ -7,7 +7,7 @@ use Rattle.sg_layout.specs.Axes.{extent_in, extent_over}
 use Rattle.sg_ir.specs.declared.code.Inst.{Inst}
 use Rattle.sg_ir.specs.declared.names.Names.{Names}
 use Rattle.sg_ir.specs.Runs.{Place, Moved, check, down, runs}
-use Rattle.sg_ir.specs.steps.Emits.{Keeps, Extends, Computes, Reaches}
+use Rattle.sg_ir.specs.Emits.{Keeps, Extends, Computes, Reaches}
 use Rattle.sg_ir.specs.steps.Walks.{checks, digit, offset_from, node_offset, led}
 use Rattle.sg_ir.proofs.Extending.{extends-same, extends-trans, quiet-trans, reaches-then, computes-then, words-kept, first_rest, rest-whole, all_rest, empty_from}
 

@@ -5,10 +5,16 @@ pub mod Apt
 pub mod WellTyped
 pub mod Texts
 pub mod Laws
+pub mod Emits
+pub mod StepDown
+pub mod EmitTypes
 pub mod steps
 pub mod Blocks
 pub mod Span
 pub mod Shared
 pub mod Trimmed
 pub mod BlockExamples
+pub mod Scoped
+pub mod Flat
+pub mod InScope
 pub mod SpanLaws

@@ -16,8 +16,8 @@ use Rattle.sg_ir.specs.Runs.{Seen, CodeWrite, iteration_start}
 use Rattle.sg_ir.specs.Blocks.{Block, End, Word, Spot, Cell, Do, Branch, Loop, Act, SetVar, WriteOwn, Contribute, Wish}
 use Rattle.sg_ir.specs.declared.span.Span.{Span}
 use Rattle.sg_ir.specs.Span.{whole_i32, Spans, reg_span, var_span, op_span, with_span, in_loop, first_spans}
-use Rattle.sg_ir.specs.steps.Scoped.{RunMoment, Room, room_reg, room_place, op_word, step_place, moment_after_act, at_turn, run, first_room}
-use Rattle.sg_ir.specs.steps.Flat.{moment_of}
+use Rattle.sg_ir.specs.Scoped.{RunMoment, Room, room_reg, room_place, op_word, step_place, moment_after_act, at_turn, run, first_room}
+use Rattle.sg_ir.specs.Flat.{moment_of}
 
 -- a word whose number, as I32, is in the span
 pub record Lies (span : Span) (word : ℕ) : Type 0 where

@@ -4,8 +4,8 @@ ghost use Rattle.sg_words.specs.Words.{applied, applied_un, mulq_of};
 ghost use Rattle.sg_layout.specs.declared.shape.Shape.{Shape};
 ghost use Rattle.sg_ir.specs.declared.code.Inst.TheVariants as v;
 ghost use Rattle.sg_ir.specs.Runs.{check, down, at_of, cell_value, own_value, named_by};
-ghost use Rattle.sg_ir.specs.steps.Emits.{Computes, Reaches, Fetches, PutsReg, PutsPlace};
-ghost use Rattle.sg_ir.specs.steps.Steps.{child_inst};
+ghost use Rattle.sg_ir.specs.Emits.{Computes, Reaches, Fetches, PutsReg, PutsPlace, StandInFront};
+ghost use Rattle.sg_ir.specs.StepDown.{child_inst};
 
 use crate::code::Inst;
 use crate::names::Names;
@@ -22,6 +22,7 @@ pub fn constant(
     ensures puts { IfOk result (λ to. PutsReg ty (λ reg. v.Const reg word) to names.old names.new block.old block.new) }
     ensures small { word < 2 ^ 32 }
     ensures computes { IfOk result (λ to. (shapes : List Shape) → Computes shapes (λ seen now. word) to names.old names.new block.old block.new) }
+    ensures front { StandInFront names.old names.new block.old block.new }
 {
     let to = names.reg(ty)?;
     block.push(Inst::Const { to, word })?;
@@ -32,6 +33,7 @@ pub fn constant(
 pub fn variable(names: &mut Names, block: &mut Items<Inst>, ty: Ty, var: u32) -> Result<u32, Memory>
     ensures puts { IfOk result (λ to. PutsReg ty (λ reg. v.Var reg var) to names.old names.new block.old block.new) }
     ensures computes { IfOk result (λ to. (shapes : List Shape) → Computes shapes (λ seen now. now.vars var) to names.old names.new block.old block.new) }
+    ensures front { StandInFront names.old names.new block.old block.new }
 {
     let to = names.reg(ty)?;
     block.push(Inst::Var { to, var })?;
@@ -50,6 +52,7 @@ pub fn binary(
 ) -> Result<u32, Memory>
     ensures puts { IfOk result (λ to. PutsReg result_ty (λ reg. v.Bin reg op ty a b) to names.old names.new block.old block.new) }
     ensures computes { IfOk result (λ to. (shapes : List Shape) → Computes shapes (λ seen now. applied op ty (now.regs a) (now.regs b)) to names.old names.new block.old block.new) }
+    ensures front { StandInFront names.old names.new block.old block.new }
 {
     let to = names.reg(result_ty)?;
     block.push(Inst::Bin { to, op, ty, a, b })?;
@@ -67,6 +70,7 @@ pub fn unary(
 ) -> Result<u32, Memory>
     ensures puts { IfOk result (λ to. PutsReg result_ty (λ reg. v.Un reg op ty a) to names.old names.new block.old block.new) }
     ensures computes { IfOk result (λ to. (shapes : List Shape) → Computes shapes (λ seen now. applied_un op (now.regs a)) to names.old names.new block.old block.new) }
+    ensures front { StandInFront names.old names.new block.old block.new }
 {
     let to = names.reg(result_ty)?;
     block.push(Inst::Un { to, op, ty, a })?;
@@ -83,6 +87,7 @@ pub fn product(
 ) -> Result<u32, Memory>
     ensures puts { IfOk result (λ to. PutsReg ty.I32 (λ reg. v.Mulq reg a b s) to names.old names.new block.old block.new) }
     ensures computes { IfOk result (λ to. (shapes : List Shape) → Computes shapes (λ seen now. mulq_of (now.regs a) (now.regs b) (now.regs s)) to names.old names.new block.old block.new) }
+    ensures front { StandInFront names.old names.new block.old block.new }
 {
     let to = names.reg(Ty::I32)?;
     block.push(Inst::Mulq { to, a, b, s })?;
@@ -99,6 +104,7 @@ pub fn extract(
 ) -> Result<u32, Memory>
     ensures puts { IfOk result (λ to. PutsReg ty.U32 (λ reg. v.Extract reg div size from) to names.old names.new block.old block.new) }
     ensures computes { IfOk result (λ to. (shapes : List Shape) → Computes shapes (λ seen now. now.regs from / div % size) to names.old names.new block.old block.new) }
+    ensures front { StandInFront names.old names.new block.old block.new }
 {
     let to = names.reg(Ty::U32)?;
     block.push(Inst::Extract {
@@ -120,6 +126,7 @@ pub fn offset(
 ) -> Result<u32, Memory>
     ensures puts { IfOk result (λ to. PutsReg ty.U32 (λ reg. v.Offset reg high size low) to names.old names.new block.old block.new) }
     ensures computes { IfOk result (λ to. (shapes : List Shape) → Computes shapes (λ seen now. (now.regs high * size + now.regs low) % 2 ^ 32) to names.old names.new block.old block.new) }
+    ensures front { StandInFront names.old names.new block.old block.new }
 {
     let to = names.reg(Ty::U32)?;
     block.push(Inst::Offset {
@@ -141,6 +148,7 @@ pub fn own_read(
 ) -> Result<u32, Memory>
     ensures puts { IfOk result (λ to. PutsReg ty (λ reg. v.OwnRead reg layout field) to names.old names.new block.old block.new) }
     ensures computes { IfOk result (λ to. (shapes : List Shape) → Computes shapes (λ seen now. own_value seen layout field now) to names.old names.new block.old block.new) }
+    ensures front { StandInFront names.old names.new block.old block.new }
 {
     let to = names.reg(ty)?;
     block.push(Inst::OwnRead { to, layout, field })?;
@@ -151,6 +159,7 @@ pub fn own_read(
 pub fn root(names: &mut Names, block: &mut Items<Inst>, layout: u32) -> Result<u32, Memory>
     ensures puts { IfOk result (λ to. PutsPlace (λ place_to. v.Root place_to layout) to names.old names.new block.old block.new) }
     ensures reaches { IfOk result (λ to. (shapes : List Shape) → Reaches shapes (λ seen now. Some (record { layout = layout; path = [] })) to names.old names.new block.old block.new) }
+    ensures front { StandInFront names.old names.new block.old block.new }
 {
     let to = names.place()?;
     block.push(Inst::Root { to, layout })?;
@@ -168,6 +177,7 @@ pub fn checked(
 ) -> Result<u32, Memory>
     ensures puts { IfOk result (λ to. PutsPlace (λ place_to. v.Check place_to place axis extent index) to names.old names.new block.old block.new) }
     ensures reaches { IfOk result (λ to. (shapes : List Shape) → Reaches shapes (λ seen now. check extent (now.regs index) (now.places place)) to names.old names.new block.old block.new) }
+    ensures front { StandInFront names.old names.new block.old block.new }
 {
     let to = names.place()?;
     block.push(Inst::Check {
@@ -191,6 +201,7 @@ pub fn stepped(
 ) -> Result<u32, Memory>
     ensures puts { IfOk result (λ to. PutsPlace (λ place_to. child_inst kind place_to place node offset) to names.old names.new block.old block.new) }
     ensures reaches { IfOk result (λ to. (shapes : List Shape) → Reaches shapes (λ seen now. down seen.shapes node (now.regs offset) (now.places place)) to names.old names.new block.old block.new) }
+    ensures front { StandInFront names.old names.new block.old block.new }
 {
     let to = names.place()?;
     block.push(step(kind, to, place, node, offset))?;
@@ -241,6 +252,7 @@ pub fn read_cell(
 ) -> Result<u32, Memory>
     ensures puts { IfOk result (λ to. PutsReg ty (λ reg. v.ReadCell reg place layout field index) to names.old names.new block.old block.new) }
     ensures fetches { IfOk result (λ to. (shapes : List Shape) → Fetches shapes (λ seen now. cell_value seen layout field (at_of seen.shapes (now.places place))) (λ now. record { layout = layout; place = now.places place; at = named_by index now }) to names.old names.new block.old block.new) }
+    ensures front { StandInFront names.old names.new block.old block.new }
 {
     let to = names.reg(ty)?;
     block.push(Inst::ReadCell {

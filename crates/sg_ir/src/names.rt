@@ -1,4 +1,4 @@
-ghost use Rattle.std.specs.Prelude.{◌≡◌, ◌+◌, ◌++◌, ◌∷◌, [], length, IfOk};
+ghost use Rattle.std.specs.Prelude.{◌≡◌, ◌+◌, ◌++◌, ◌∷◌, [], length, IfOk, OnErr};
 
 use sg_words::{Items, Memory, Ty};
 use std::alloc::Global;
@@ -11,7 +11,7 @@ pub struct Names {
 }
 
 impl Names {
-    ghost use Rattle.sg_ir.specs.steps.Emits.{AddsReg, AddsPlace};
+    ghost use Rattle.sg_ir.specs.Emits.{AddsReg, AddsPlace};
 
     /// No registers and no places.
     pub fn new(alloc: Global) -> Names
@@ -25,7 +25,8 @@ impl Names {
 
     /// A new register of a type. Running out of memory where the numbers of a u32 are used up.
     pub fn reg(&mut self, ty: Ty) -> Result<u32, Memory>
-        ensures { IfOk result (λ to. AddsReg ty to self.old self.new) }
+        ensures adds { IfOk result (λ to. AddsReg ty to self.old self.new) }
+        ensures kept { OnErr result (self.new ≡ self.old) }
     {
         let Ok(to) = u32::try_from(self.regs.len()) else {
             return Err(Memory);
@@ -36,7 +37,8 @@ impl Names {
 
     /// A new place. Running out of memory where the numbers of a u32 are used up.
     pub fn place(&mut self) -> Result<u32, Memory>
-        ensures { IfOk result (λ to. AddsPlace to self.old self.new) }
+        ensures adds { IfOk result (λ to. AddsPlace to self.old self.new) }
+        ensures kept { OnErr result (self.new ≡ self.old) }
     {
         let to = self.places;
         let Some(next) = to.checked_add(1) else {

@@ -8,8 +8,8 @@ ghost use Rattle.sg_layout.specs.Rules.{has_good_extents};
 ghost use Rattle.sg_ir.specs.Runs.{named_by};
 ghost use Rattle.sg_ir.specs.Places.{place_at, extents_in};
 ghost use Rattle.sg_ir.specs.WellTyped.{reads};
-ghost use Rattle.sg_ir.specs.steps.Emits.{Computes, Reaches, NamesGrow, LeadsToPlace};
-ghost use Rattle.sg_ir.specs.steps.Types.{AddsSteps, AddsWord, AddsChecks, AddsDescent, CanRead, HasPassed};
+ghost use Rattle.sg_ir.specs.Emits.{Computes, Reaches, NamesGrow, LeadsToPlace, StandInFront};
+ghost use Rattle.sg_ir.specs.EmitTypes.{AddsSteps, AddsWord, AddsChecks, AddsDescent, CanRead, HasPassed};
 ghost use Rattle.sg_ir.specs.steps.Walks.{AreWalkable, checks, digit, offset_from, node_offset, led};
 
 use crate::code::Inst;
@@ -35,6 +35,7 @@ pub fn place(
         (λ seen now. place_at shapes number (named_by index.now now)) to names.old names.new block.old block.new) }
     ensures typed { IfOk result (λ to. (shapes : List Shape) → slice_get shapes number ≡ Some layout.now → AddsSteps shapes (CanRead index.now)
         (HasPassed to number (length layout.now.nodes)) names.old names.new block.old block.new) }
+    ensures front { StandInFront names.old names.new block.old block.new }
 {
     let extents = layout.extents();
     // for the laws that they ensure
@@ -61,6 +62,7 @@ fn check_from(
     ensures reaches { IfOk result (λ to. (shapes : List Shape) → Reaches shapes
         (λ seen now. checks (drop axis (extents_in (bounds_of extents))) (map now.regs index.now) (now.places place)) to names.old names.new block.old block.new) }
     ensures typed { IfOk result (λ to. (shapes : List Shape) → AddsChecks shapes (bounds_of extents) axis index.now place to names.old names.new block.old block.new) }
+    ensures front { StandInFront names.old names.new block.old block.new }
 {
     let [first, rest @ ..] = index else {
         return Ok(place);
@@ -99,6 +101,7 @@ fn descend(
     ensures reaches { IfOk result (λ to. (shapes : List Shape) → Reaches shapes
         (λ seen now. led shapes number nodes.now (map now.regs index.now) (now.places place)) to names.old names.new block.old block.new) }
     ensures typed { IfOk result (λ to. (shapes : List Shape) → AddsDescent shapes number nodes.now index.now place to names.old names.new block.old block.new) }
+    ensures front { StandInFront names.old names.new block.old block.new }
 {
     let [node, later @ ..] = nodes else {
         return Ok(place);
@@ -123,6 +126,7 @@ fn offset_at(
     ensures computes { IfOk result (λ to. (shapes : List Shape) → Computes shapes
         (λ seen now. node_offset node.now later.now (map now.regs index.now)) to names.old names.new block.old block.new) }
     ensures typed { IfOk result (λ to. (shapes : List Shape) → AddsWord shapes index.now to names.old names.new block.old block.new) }
+    ensures front { StandInFront names.old names.new block.old block.new }
 {
     let [first, rest @ ..] = index else {
         unreachable!();
@@ -150,6 +154,7 @@ fn offset_from(
         (λ seen now. offset_from node.now later.now axis (map now.regs index.now) (now.regs high)) to names.old names.new block.old block.new) }
     ensures typed { IfOk result (λ to. (shapes : List Shape) → AddsSteps shapes
         (λ at scope. (reads at scope false high ≡ true) × CanRead index.now at scope) (λ at scope. reads at scope false to ≡ true) names.old names.new block.old block.new) }
+    ensures front { StandInFront names.old names.new block.old block.new }
 {
     let [first, rest @ ..] = index else {
         return Ok(high);
@@ -175,6 +180,7 @@ fn digit(
         (λ seen now. digit node.now later.now axis (now.regs from)) to names.old names.new block.old block.new) }
     ensures typed { IfOk result (λ to. (shapes : List Shape) → AddsSteps shapes
         (λ at scope. reads at scope false from ≡ true) (λ at scope. reads at scope false to ≡ true) names.old names.new block.old block.new) }
+    ensures front { StandInFront names.old names.new block.old block.new }
 {
     let size = node_extent(node, later, axis);
     extract(names, block, extent_over(later, axis), size, from)

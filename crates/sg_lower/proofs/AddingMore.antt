@@ -9,8 +9,8 @@ use Rattle.sg_ir.specs.declared.code.Inst.{Inst, fold-Inst}
 use Rattle.sg_ir.specs.declared.names.Names.{Names}
 use Rattle.sg_ir.specs.WellTyped as ir
 use Rattle.sg_ir.specs.WellTyped.{Frame, Scope, with_reg, is_truth, is_truth_as, reads, judges, judged, sets_step}
-use Rattle.sg_ir.specs.steps.Emits.{PutsReg}
-use Rattle.sg_ir.specs.steps.Types.{KeepsScope, Adds}
+use Rattle.sg_ir.specs.Emits.{PutsReg}
+use Rattle.sg_ir.specs.EmitTypes.{KeepsScope, Adds}
 use Rattle.sg_ir.proofs.Uses.{put-same, adds-reg, adds-trans}
 use Rattle.sg_lower.specs.steps.Typing.{Ready, HoldsWordOf}
 use Rattle.sg_lower.proofs.TypeWords.{of_itself}

@@ -28,7 +28,7 @@ use Rattle.sg_ir.specs.Runs as ir
 use Rattle.sg_ir.specs.Runs.{Seen, Place, Access, CodeWrite, Moved, at_of, cell_value, own_value, named_by, runs}
 use Rattle.sg_ir.specs.Places.{place_at}
 use Rattle.sg_ir.specs.Named.{IsNamedAccess, AreNamed}
-use Rattle.sg_ir.specs.steps.Emits.{Computes, LeadsToPlace, Fetches}
+use Rattle.sg_ir.specs.Emits.{Computes, LeadsToPlace, Fetches}
 use Rattle.sg_lower.specs.Lowered.{code_write}
 use Rattle.sg_lower.specs.steps.Basis.{Basis, is_owned}
 use Rattle.sg_lower.specs.steps.Fitting.{fits_owned, can_be_lowered, is_own_index, typed_read}

@@ -15,7 +15,7 @@ use Rattle.sg_types.specs.Values.{expr_word}
 use Rattle.sg_types.proofs.Uses.{value-Literal, value-Constant, value-Var, value-Paren, value-Un, value-Bin, value-Mulq, value-Convert}
 use Rattle.sg_ir.specs.declared.code.Inst.{Inst}
 use Rattle.sg_ir.specs.declared.names.Names.{Names}
-use Rattle.sg_ir.specs.steps.Emits.{Computes}
+use Rattle.sg_ir.specs.Emits.{Computes}
 use Rattle.sg_lower.specs.steps.Basis.{Basis}
 use Rattle.sg_lower.specs.steps.Fitting.{can_be_lowered, typed_read}
 use Rattle.sg_lower.specs.steps.Agreeing.{Values}

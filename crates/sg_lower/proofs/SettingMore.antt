@@ -6,7 +6,7 @@ use Rattle.sg_layout.specs.declared.shape.Shape.{Shape}
 use Rattle.sg_ir.specs.declared.code.Inst.{Inst}
 use Rattle.sg_ir.specs.declared.names.Names.{Names}
 use Rattle.sg_ir.specs.WellTyped.{Frame, Scope, judge_step, judges, judged, set_regs, set_places}
-use Rattle.sg_ir.specs.steps.Types.{GoesOn, Begins, IsFinal, Adds}
+use Rattle.sg_ir.specs.EmitTypes.{GoesOn, Begins, IsFinal, Adds}
 use Rattle.sg_ir.proofs.Uses.{goes_on-same, goes_on-trans, final-before, judged-more, set_regs-append, set_places-append}
 use Rattle.sg_lower.specs.steps.Typing.{KeepsNames, AddsSet}
 

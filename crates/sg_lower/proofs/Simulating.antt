@@ -10,7 +10,7 @@ use Rattle.sg_ir.specs.declared.code.Inst.{Inst}
 use Rattle.sg_ir.specs.declared.names.Names.{Names}
 use Rattle.sg_ir.specs.Runs.{Seen, Moved, runs}
 use Rattle.sg_ir.specs.Named.{AreNamed}
-use Rattle.sg_ir.specs.steps.Emits.{Keeps, Extends, Computes}
+use Rattle.sg_ir.specs.Emits.{Keeps, Extends, Computes}
 use Rattle.sg_lower.specs.steps.Basis.{Basis}
 use Rattle.sg_lower.specs.steps.Agreeing.{IsWorld, IsPoint, seen_of, AgreesWithIteration, ShowsAll, Values, AllValues}
 

@@ -31,7 +31,7 @@ use Rattle.sg_ir.specs.Runs as ir
 use Rattle.sg_ir.specs.Runs.{Seen, Place, Moved, actions_in_turn, at_of, named_by, does, runs}
 use Rattle.sg_ir.specs.Places.{place_at}
 use Rattle.sg_ir.specs.Named.{IsNamedAccess}
-use Rattle.sg_ir.specs.steps.Emits.{LeadsToPlace}
+use Rattle.sg_ir.specs.Emits.{LeadsToPlace}
 use Rattle.sg_ir.proofs.Uses.{runs-more, does-Set, does-OwnWrite, does-Acc, does-Want, does-If, does-For}
 use Rattle.sg_admit.specs.Bounds.{is_constant, is_constant_range, constant_word}
 use Rattle.sg_lower.specs.Lowered.{code_write, want_of}

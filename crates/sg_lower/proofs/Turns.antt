@@ -5,7 +5,7 @@ use Rattle.std.proofs.lemmas.Bool.{and_parts}
 use Rattle.std.proofs.lemmas.List.{take_more}
 use Rattle.std.proofs.lemmas.List.Elements.{All-push, All-weaker}
 use Rattle.sg_ir.specs.declared.names.Names.{Names}
-use Rattle.sg_ir.specs.steps.Emits.{NamesGrow}
+use Rattle.sg_ir.specs.Emits.{NamesGrow}
 
 -- the item of a turn passes a test that all pass
 pub item_holds : {X : Type 0} (p : X → Bool) (xs : List X) (i : ℕ) (x : X) → i < length xs → x ≡ get_or xs i x → list_all p xs ≡ true → p x ≡ true

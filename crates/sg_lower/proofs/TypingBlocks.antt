@@ -22,7 +22,7 @@ use Rattle.sg_ir.specs.declared.code.Inst.TheVariants as v
 use Rattle.sg_ir.specs.declared.names.Names.{Names}
 use Rattle.sg_ir.specs.WellTyped as ir
 use Rattle.sg_ir.specs.WellTyped.{Frame, Scope, with_var, reads, holds_of, is_i32, judges, judged, sets_step, reg_number, place_number, settings, set_regs, set_places}
-use Rattle.sg_ir.specs.steps.Types.{Begins}
+use Rattle.sg_ir.specs.EmitTypes.{Begins}
 use Rattle.sg_ir.proofs.Uses.{fold-If, fold-For, judges-If, judges-For, goes_on-trans, final-before}
 use Rattle.sg_lower.specs.steps.Typing.{Ready, HoldsWordOf, AddsExpr, AddsSet, Once, AddsStmt, AddsBlock}
 use Rattle.sg_lower.proofs.LineWords.{lines-If, lines-For, all_front, all_back}

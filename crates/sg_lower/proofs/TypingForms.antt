@@ -22,8 +22,8 @@ use Rattle.sg_ir.specs.declared.code.Inst.{Inst}
 use Rattle.sg_ir.specs.declared.code.Inst.TheVariants as v
 use Rattle.sg_ir.specs.declared.names.Names.{Names}
 use Rattle.sg_ir.specs.WellTyped.{Frame, Scope, is_truth, is_truth_as, joins, reads, indexes, takes_truth, gives_truth, is_lnot, holds_of, is_cell, field_type_at, sets_step}
-use Rattle.sg_ir.specs.steps.Emits.{PutsReg}
-use Rattle.sg_ir.specs.steps.Types.{Adds, CanRead}
+use Rattle.sg_ir.specs.Emits.{PutsReg}
+use Rattle.sg_ir.specs.EmitTypes.{Adds, CanRead}
 use Rattle.sg_ir.proofs.Uses.{fold-Const, fold-Var, fold-Bin, fold-Un, fold-Mulq, fold-ReadCell, fold-OwnRead, judges-Const, judges-Var, judges-Bin, judges-Un, judges-Mulq, judges-ReadCell, judges-OwnRead, adds-reg, adds-trans, adds-same, can_read-kept}
 use Rattle.sg_lower.specs.steps.Fitting.{typed_read}
 use Rattle.sg_lower.specs.steps.Typing.{IsCell, Ready, HoldsWordOf, AddsExpr, is_part, AddsIndex}

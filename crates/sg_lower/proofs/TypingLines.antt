@@ -20,7 +20,7 @@ use Rattle.sg_ir.specs.declared.code.Inst.TheVariants as v
 use Rattle.sg_ir.specs.declared.names.Names.{Names}
 use Rattle.sg_ir.specs.WellTyped as ir
 use Rattle.sg_ir.specs.WellTyped.{Frame, Scope, with_var, is_truth, is_truth_as, joins, reads, indexes, holds_of, is_i32, is_cell, field_type_at, inst_fits, judges, judged, sets_step, reg_number, place_number, settings, set_regs, set_places}
-use Rattle.sg_ir.specs.steps.Types.{GoesOn, Begins, IsFinal, Adds, CanRead}
+use Rattle.sg_ir.specs.EmitTypes.{GoesOn, Begins, IsFinal, Adds, CanRead}
 use Rattle.sg_ir.proofs.Uses.{fold-Set, fold-OwnWrite, fold-Acc, fold-Want, judges-Set, judges-OwnWrite, judges-Acc, judges-Want, goes_on-same, adds-trans, can_read-kept}
 use Rattle.sg_lower.specs.steps.Fitting.{write_stmt}
 use Rattle.sg_lower.specs.steps.Typing.{IsCell, Ready, HoldsWordOf, AddsExpr, is_part, AddsIndex, KeepsNames, AddsSet, Once, AddsStmt}

@@ -15,7 +15,7 @@ use Rattle.sg_ir.specs.declared.code.Inst.{Inst, fold-Inst}
 use Rattle.sg_ir.specs.declared.code.Inst.TheVariants as v
 use Rattle.sg_ir.specs.declared.names.Names.{Names}
 use Rattle.sg_ir.specs.Apt.{Use, Reads, ReadsOwn, uses_step, uses_in}
-use Rattle.sg_ir.specs.steps.Emits.{PutsReg}
+use Rattle.sg_ir.specs.Emits.{PutsReg}
 use Rattle.sg_ir.proofs.Uses.{fold-Const, fold-Var, fold-Bin, fold-Un, fold-Mulq, fold-ReadCell, fold-OwnRead, uses-append}
 use Rattle.sg_lower.specs.declared.lowering.Field.{Field}
 use Rattle.sg_lower.specs.steps.Basis.{is_owned}

@@ -1,6 +1,6 @@
 ghost use Rattle.std.specs.Prelude.{◌≡◌, ◌<◌, length, All, IfOk, true};
 ghost use Rattle.std.specs.List.{list_all};
-ghost use Rattle.sg_ir.specs.steps.Emits.{NamesGrow};
+ghost use Rattle.sg_ir.specs.Emits.{NamesGrow};
 ghost use Rattle.sg_lower.specs.steps.Basis.{basis_of};
 ghost use Rattle.sg_lower.specs.steps.Fitting.{can_be_lowered, typed_read};
 ghost use Rattle.sg_lower.specs.steps.Agreeing.{Values, AllValues};

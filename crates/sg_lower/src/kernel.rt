@@ -41,14 +41,15 @@ pub fn lower(alloc: Global, kernel: &Admitted, layouts: &Layouts) -> Result<Kern
     requires admitted { admission kernel.now.kernel ≡ Ok kernel.now }
     requires typed { is_well_typed_kernel layouts.now.list kernel.now.kernel ≡ true }
     requires numbered { kernel_vars kernel.now.kernel ≡ range_with_len 0 (length kernel.now.kernel.types) }
+    requires few { kernel.now.kernel.vars ≤ 3 }
     ensures domain { IfOk result (λ it. it.domain ≡ kernel.now.domain) }
     ensures writes { IfOk result (λ it. WritesAsKernel layouts.now.list kernel.now.kernel it.code.body) }
     ensures wants { IfOk result (λ it. WantsAsKernel layouts.now.list kernel.now.kernel it.slice.body) }
     ensures code_named { IfOk result (λ it. NamesItsAccesses layouts.now.list kernel.now.kernel it.code.body) }
     ensures slice_named { IfOk result (λ it. NamesItsAccesses layouts.now.list kernel.now.kernel it.slice.body) }
-    ensures points { IfOk result (λ it. kernel.now.kernel.vars ≤ 3 → PointsAreWhole layouts.now.list kernel.now) }
-    ensures well_typed { IfOk result (λ it. kernel.now.kernel.vars ≤ 3 → (is_well_typed layouts.now.list it.code ≡ true) × (is_well_typed layouts.now.list it.slice ≡ true)) }
-    ensures apt { IfOk result (λ it. kernel.now.kernel.vars ≤ 3 → IsApt layouts.now.list it) }
+    ensures points { IfOk result (λ it. PointsAreWhole layouts.now.list kernel.now) }
+    ensures well_typed { IfOk result (λ it. (is_well_typed layouts.now.list it.code ≡ true) × (is_well_typed layouts.now.list it.slice ≡ true)) }
+    ensures apt { IfOk result (λ it. IsApt layouts.now.list it) }
 {
     // for the laws that they ensure
     operators_give_words();

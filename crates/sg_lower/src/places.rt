@@ -6,8 +6,8 @@ ghost use Rattle.sg_ir.specs.Runs.{named_by};
 ghost use Rattle.sg_ir.specs.Places.{place_at};
 ghost use Rattle.sg_ir.specs.WellTyped.{set_vars};
 ghost use Rattle.sg_ir.specs.Apt.{uses_in};
-ghost use Rattle.sg_ir.specs.steps.Emits.{NamesGrow, LeadsToPlace};
-ghost use Rattle.sg_ir.specs.steps.Types.{Adds, CanRead};
+ghost use Rattle.sg_ir.specs.Emits.{NamesGrow, LeadsToPlace};
+ghost use Rattle.sg_ir.specs.EmitTypes.{Adds, CanRead};
 ghost use Rattle.sg_lower.specs.steps.Typing.{IsCell};
 
 use sg_ir::emit::root;

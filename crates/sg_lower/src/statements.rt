@@ -1,7 +1,7 @@
 ghost use Rattle.std.specs.Prelude.{◌≡◌, [], map, IfOk, true};
 ghost use Rattle.std.specs.List.{list_all};
 ghost use Rattle.sg_types.specs.Iterations.{run_all, action_of};
-ghost use Rattle.sg_ir.specs.steps.Emits.{NamesGrow};
+ghost use Rattle.sg_ir.specs.Emits.{NamesGrow};
 ghost use Rattle.sg_lower.specs.steps.Basis.{basis_of};
 ghost use Rattle.sg_lower.specs.steps.Fitting.{stmt_fits, write_stmt};
 ghost use Rattle.sg_lower.specs.steps.Agreeing.{Steps};

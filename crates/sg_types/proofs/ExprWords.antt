@@ -1,5 +1,5 @@
 -- What the words on expressions are at each variant.
-use Rattle.std.proofs.Common.{◌≡◌, ℕ, Bool, true, ◌&&◌, List, map, length, Option, Some, option_map, is_some, refl, sym, ap, ◌∙◌}
+use Rattle.std.proofs.Common.{◌≡◌, ℕ, Bool, true, ◌&&◌, List, map, length, Some, option_map, is_some, refl, sym, ap, ◌∙◌}
 use Rattle.std.specs.Option.{option_and_then}
 use Rattle.std.specs.List.{list_all}
 use Rattle.std.proofs.lemmas.List.Folds.{list_all-map}
@@ -14,7 +14,6 @@ use Rattle.sg_ast.specs.declared.expr.Expr.{Expr}
 use Rattle.sg_ast.specs.declared.expr.Expr.TheVariants as e
 use Rattle.sg_ast.proofs.Uses.{fold-Number_expr, fold-Truth_expr, fold-Name_expr, fold-Read_expr, fold-Paren_expr, fold-Un_expr, fold-Bin_expr, fold-Call_expr}
 use Rattle.sg_names.specs.Tables.{Tables, field_named}
-use Rattle.sg_types.specs.declared.typed.TypedExpr.{TypedExpr}
 use Rattle.sg_types.specs.declared.typed.Form.TheVariants as form
 use Rattle.sg_types.specs.Scopes.{Known, NamedLocal, is_taken, name_expr}
 use Rattle.sg_types.specs.Expressions.{knows, knows_step, counts, counts_step, field_axes, equals_some, typed_expr, typed_step, number_ty, all_some, un_expr, bin_expr, call_expr, access_expr}

@@ -25,4 +25,16 @@ pub mod NamesKept
 pub mod Numbered
 pub mod DeclaredFit
 pub mod VarNumbers
+pub mod TableWords
+pub mod HasWords
+pub mod UseWords
+pub mod LineWords
+pub mod Tellings
+pub mod Deciding
+pub mod FaultLaws
+pub mod GoodLines
+pub mod TypedLaws
+pub mod TreeBack
+pub mod OneType
+pub mod WorkedTyping
 pub mod Uses

@@ -10,5 +10,8 @@ pub mod WellTyped
 pub mod Written
 pub mod NamesBack
 pub mod Numbers
+pub mod HasType
+pub mod TypingLines
+pub mod TypingLaws
 pub mod Laws
 pub mod steps

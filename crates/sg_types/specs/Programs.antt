@@ -1,5 +1,5 @@
 -- Kernels and programs: typed, or the first fault.
-use Rattle.std.specs.Prelude.{ℕ, suc, Bool, true, false, not, ◌&&◌, ◌||◌, ◌==◌, List, [], ◌∷◌, map, length, fold, is_some, Option, option_map, option_and_then, Result, Ok, Err}
+use Rattle.std.specs.Prelude.{ℕ, suc, Bool, true, false, not, ◌&&◌, ◌||◌, ◌==◌, List, [], ◌∷◌, map, length, fold, is_some, Option, option_map, option_and_then, Result, Ok}
 use Rattle.std.specs.List.{list_all, list_any}
 use Rattle.sg_words.specs.declared.operators.Ty.TheVariants as ty
 use Rattle.sg_ast.specs.declared.token.Name.{Name}

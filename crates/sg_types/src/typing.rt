@@ -18,7 +18,8 @@ use sg_words::{Items, Stop};
 use std::alloc::Global;
 
 /// The program's kernels, typed, or the first fault: of the first kernel with one, in it of the first statement, in it the first
-/// of the codes 4, 5, 3, 2, 1. The grammar's limits on depth and nesting bound how deep the calls go.
+/// of the codes 4, 5, 3, 2, 1; `laws::faults_decide` says which these are, apart from typing. The grammar's limits on depth and
+/// nesting bound how deep the calls go.
 pub fn type_program(
     alloc: Global,
     program: &Program,

@@ -18,7 +18,7 @@ use Rattle.sg_ir.specs.declared.names.Names.{Names}
 use Rattle.sg_ir.specs.Runs.{Seen, CodeWrite, CodeWant, Moved, at_of, runs, iteration}
 use Rattle.sg_ir.specs.Places.{place_at}
 use Rattle.sg_ir.specs.Named.{AreNamed}
-use Rattle.sg_ir.specs.steps.Emits.{Extends}
+use Rattle.sg_ir.specs.Emits.{Extends}
 use Rattle.sg_lower.specs.Lowered.{code_write, want_of}
 use Rattle.sg_lower.specs.steps.Basis.{Basis, is_owned}
 

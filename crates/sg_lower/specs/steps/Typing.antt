@@ -11,7 +11,7 @@ use Rattle.sg_admit.specs.Lines.{Deed, Sets, Writes, Tests, Turns, Opens, Around
 use Rattle.sg_ir.specs.declared.code.Inst.{Inst}
 use Rattle.sg_ir.specs.declared.names.Names.{Names}
 use Rattle.sg_ir.specs.WellTyped.{Frame, Scope, holds_of, is_cell, is_truth, reads, judged, set_regs, set_places, set_vars}
-use Rattle.sg_ir.specs.steps.Types.{GoesOn, Begins, IsFinal, Adds, CanRead}
+use Rattle.sg_ir.specs.EmitTypes.{GoesOn, Begins, IsFinal, Adds, CanRead}
 
 -- a place at a cell of a layout
 abbrev pub IsCell : ℕ → ℕ → Frame → Scope → Type 0

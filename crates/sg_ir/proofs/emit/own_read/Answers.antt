@@ -1,9 +1,21 @@
+use Rattle.std.proofs.Common.{refl}
 use Rattle.sg_ir.specs.declared.code.Inst.TheVariants as v
 use Rattle.sg_ir.proofs.Equations.{does-OwnRead}
 use Rattle.sg_ir.proofs.Emitting.{computes}
+use Rattle.sg_ir.proofs.Fronts.{front-kept, front-reg, front-put-reg}
 use Rattle.sg_ir.proofs.emit.own_read.Goals as goal
 
 pub returns-clause-computes : goal.returns-clause-computes
 returns-clause-computes c =
     computes _ _ (λ to. v.OwnRead to c.args.layout c.args.field) _ _ _ _ _ (λ seen now. does-OwnRead seen c.in_ok-to.to c.args.layout c.args.field now)
-    (record { names = c.in_ok-to.ensures; block = c.in_ok-push.ensures.ok })
+    (record { names = c.in_ok-to.ensures.adds; block = c.in_ok-push.ensures.ok })
+
+pub returns-in_err-to-clause-front : goal.returns-in_err-to-clause-front
+returns-in_err-to-clause-front c = front-kept _ _ _ _ c.in_err-to.ensures.kept refl
+
+pub returns-in_err-push-clause-front : goal.returns-in_err-push-clause-front
+returns-in_err-push-clause-front c = front-reg _ _ _ _ _ _ c.in_ok-to.ensures.adds c.in_err-push.ensures.err
+
+pub returns-clause-front : goal.returns-clause-front
+returns-clause-front c =
+    front-put-reg _ (λ to. v.OwnRead to c.args.layout c.args.field) _ _ _ _ _ (record { names = c.in_ok-to.ensures.adds; block = c.in_ok-push.ensures.ok })

@@ -1,14 +1,16 @@
-use Rattle.std.proofs.Common.{◌<◌, [], All, length, sym, ap, subst, arith}
+use Rattle.std.proofs.Common.{refl, ◌<◌, [], All, length, sym, ap, subst, arith}
 use Rattle.std.proofs.lemmas.Result.{IfOk-weaker}
 use Rattle.sg_coord.specs.Bounds.{bounds_of}
 use Rattle.sg_ir.specs.Places.{extents_in}
 use Rattle.sg_ir.proofs.Extending.{rest-whole, rest-shorter, all_rest, all_named}
 use Rattle.sg_ir.proofs.Walking.{checks-done, checks-next}
+use Rattle.sg_ir.proofs.Fronts.{front-kept, front-trans}
 use Rattle.sg_ir.proofs.AddingPlaces.{checks-added-done, checks-added}
 use Rattle.sg_ir.proofs.place.+check_from.Goals as goal
 
 pub returns-in_default : goal.returns-in_default
 returns-in_default t c = record {
+  front = front-kept _ _ _ _ refl refl;
   typed = λ shapes. checks-added-done shapes (bounds_of c.args.extents) c.args.axis c.args.index.now c.args.place c.args.names.now c.args.block.now;
   reaches = λ shapes. checks-done shapes _ c.args.index.now c.args.place c.args.names.now c.args.block.now c.in_default.len_below c.requires.place;
 }
@@ -32,6 +34,7 @@ returns t c =
     let index = c.args.index.now in
     let bounds = bounds_of c.args.extents in
     record {
+      front = front-trans _ _ _ _ _ _ c.in_ok-next.ensures.front c.check_from.ensures.front;
       reaches =
           IfOk-weaker c.check_from.result _ _ (λ to rest shapes. checks-next shapes (extents_in bounds) c.args.axis _ index c.args.place c.in_ok-next.next to _ _ _ _ _ _ c.extent_of.ensures c.in-len1-up.len_at_least c.requires.named (c.in_ok-next.ensures.reaches shapes) (rest shapes)) c.check_from.ensures.reaches;
       typed =

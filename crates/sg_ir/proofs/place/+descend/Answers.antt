@@ -1,13 +1,15 @@
-use Rattle.std.proofs.Common.{[], length, drop, take, ◌-◌, ap, arith}
+use Rattle.std.proofs.Common.{refl, [], length, drop, take, ◌-◌, ap, arith}
 use Rattle.std.proofs.lemmas.Result.{IfOk-weaker}
 use Rattle.sg_ir.proofs.Extending.{rest-whole, rest-shorter, split_first, all_named, extends-trans}
 use Rattle.sg_ir.proofs.Walkable.{tail-walkable, split-walkable}
 use Rattle.sg_ir.proofs.Walking.{led-done, led-next}
+use Rattle.sg_ir.proofs.Fronts.{front-kept, front-trans}
 use Rattle.sg_ir.proofs.AddingPlaces.{descent-added-done, descent-added}
 use Rattle.sg_ir.proofs.place.+descend.Goals as goal
 
 pub returns-in_default : goal.returns-in_default
 returns-in_default t c = record {
+  front = front-kept _ _ _ _ refl refl;
   typed = λ shapes. descent-added-done shapes c.args.number c.args.nodes.now c.args.index.now c.args.place c.args.names.now c.args.block.now c.in_default.len_below;
   reaches = λ shapes. led-done shapes c.args.number c.args.nodes.now c.args.index.now c.args.place c.args.names.now c.args.block.now c.in_default.len_below c.requires.place;
 }
@@ -44,6 +46,7 @@ returns t c =
     let node = c.node-item.result in
     let split = split_first nodes node c.in-len1-up.len_at_least c.node-item.is in
     record {
+      front = front-trans _ _ _ _ _ _ c.in_ok-offset.ensures.front (front-trans _ _ _ _ _ _ c.in_ok-next.ensures.front c.descend.ensures.front);
       reaches =
           IfOk-weaker c.descend.result _ _ (λ to rest shapes. led-next shapes c.args.number nodes node c.args.index.now c.args.place c.in_ok-offset.offset c.in_ok-next.next to _ _ _ _ _ _ _ _ split c.requires.place c.requires.named (c.in_ok-offset.ensures.computes shapes) (c.in_ok-next.ensures.reaches shapes) (rest shapes)) c.descend.ensures.reaches;
       typed =

@@ -52,29 +52,29 @@ returns-clause-slice_named c =
     (slice_fit shapes kept owned c.dirty_is_closed.ensures c.faults_are_first.ensures c.requires.admitted c.requires.typed c.requires.numbered c.as_slice.result.now c.as_slice.ensures c.in_ok-owned.ensures))
 
 pub returns-clause-apt : goal.returns-clause-apt
-returns-clause-apt c = λ few.
+returns-clause-apt c =
     let kept = c.args.kernel.now in
     let shapes = c.args.layouts.now.list in
     let owned = c.in_ok-owned.owned in
     let basis : Basis = record { shapes = shapes; owned = owned; vars = kept.kernel.vars; slicing = false } in
     let fit = body_fit shapes kept owned c.dirty_is_closed.ensures c.faults_are_first.ensures c.requires.admitted c.requires.typed c.requires.numbered c.as_slice.result.now c.as_slice.ensures c.in_ok-owned.ensures in
-    code_apt (c.words_are_numbers.ensures.word ty.I32) c.closure_members.ensures.inside c.box_has_its_size.ensures c.faults_are_first.ensures shapes kept c.requires.admitted c.requires.typed few
+    code_apt (c.words_are_numbers.ensures.word ty.I32) c.closure_members.ensures.inside c.box_has_its_size.ensures c.faults_are_first.ensures shapes kept c.requires.admitted c.requires.typed c.requires.few
     c.domain_bounds.ensures.walked c.domain_bounds.ensures.boxed owned c.as_slice.result.now c.as_slice.ensures c.in_ok-owned.ensures c.in_ok-slice.slice c.in_ok-code.code fit
     (returns-clause-writes c) (returns-clause-wants c) (returns-clause-slice_named c) (returns-clause-code_named c)
     (uses_same basis c.as_slice-2.result.now kept.kernel.body [] c.in_ok-code.code.body c.as_slice-2.ensures c.in_ok-code.ensures.uses)
 
 pub returns-clause-well_typed : goal.returns-clause-well_typed
-returns-clause-well_typed c = λ few.
+returns-clause-well_typed c =
     let kept = c.args.kernel.now in
     let shapes = c.args.layouts.now.list in
     let owned = c.in_ok-owned.owned in (
-      body_code shapes kept c.requires.admitted c.requires.typed c.requires.numbered few c.as_slice-2.result.now c.as_slice-2.ensures c.in_ok-code.code (c.in_ok-code.ensures.vars ∙ c.as_slice-types.ensures) c.in_ok-code.ensures.typed c.in_ok-code.ensures.sets,
-      slice_code shapes kept c.requires.admitted c.requires.typed c.requires.numbered few c.dirty_is_closed.ensures c.faults_are_first.ensures owned
+      body_code shapes kept c.requires.admitted c.requires.typed c.requires.numbered c.requires.few c.as_slice-2.result.now c.as_slice-2.ensures c.in_ok-code.code (c.in_ok-code.ensures.vars ∙ c.as_slice-types.ensures) c.in_ok-code.ensures.typed c.in_ok-code.ensures.sets,
+      slice_code shapes kept c.requires.admitted c.requires.typed c.requires.numbered c.requires.few c.dirty_is_closed.ensures c.faults_are_first.ensures owned
           (owned_is shapes kept owned c.dirty_is_closed.ensures c.faults_are_first.ensures c.requires.admitted c.requires.typed c.requires.numbered c.as_slice.result.now c.as_slice.ensures c.in_ok-owned.ensures)
           c.as_slice-3.result.now c.as_slice-3.ensures c.in_ok-slice.slice (c.in_ok-slice.ensures.vars ∙ c.as_slice-types.ensures) c.in_ok-slice.ensures.typed c.in_ok-slice.ensures.sets,
     )
 
 pub returns-clause-points : goal.returns-clause-points
-returns-clause-points c = λ few.
-    point (c.words_are_numbers.ensures.word ty.I32) c.closure_members.ensures.inside c.box_has_its_size.ensures c.faults_are_first.ensures c.args.layouts.now.list c.args.kernel.now c.requires.admitted c.requires.typed few
+returns-clause-points c =
+    point (c.words_are_numbers.ensures.word ty.I32) c.closure_members.ensures.inside c.box_has_its_size.ensures c.faults_are_first.ensures c.args.layouts.now.list c.args.kernel.now c.requires.admitted c.requires.typed c.requires.few
     c.domain_bounds.ensures.walked c.domain_bounds.ensures.boxed

@@ -5,7 +5,7 @@ use Rattle.sg_types.specs.declared.typed.Form.TheVariants as form
 use Rattle.sg_lower.specs.steps.Agreeing.{AllValues}
 use Rattle.sg_ir.specs.Runs.{named_by}
 use Rattle.sg_ir.specs.Places.{place_at}
-use Rattle.sg_ir.specs.steps.Emits.{LeadsToPlace}
+use Rattle.sg_ir.specs.Emits.{LeadsToPlace}
 use Rattle.sg_types.specs.Expressions.{equals_some}
 use Rattle.sg_types.specs.WellTyped.{axes_in}
 use Rattle.sg_ir.specs.Apt.{Use}
@@ -13,7 +13,7 @@ use Rattle.sg_lower.specs.steps.Basis.{basis_of}
 use Rattle.sg_lower.specs.steps.Using.{expr_uses, all_uses, Uses}
 use Rattle.sg_lower.specs.steps.Typing.{IsCell, AddsIndex}
 use Rattle.sg_ir.specs.WellTyped.{sets_step}
-use Rattle.sg_ir.specs.steps.Types.{Adds, CanRead}
+use Rattle.sg_ir.specs.EmitTypes.{Adds, CanRead}
 use Rattle.sg_ir.proofs.Uses.{fold-Const, fold-Var, fold-Bin, fold-Un, fold-Mulq, fold-ReadCell, fold-OwnRead}
 use Rattle.sg_lower.proofs.SettingVars.{vars_kept}
 use Rattle.sg_lower.proofs.TypingForms.{const_ok, var_typed, paren_typed, convert_typed, un_typed, bin_typed, mulq_typed, own_read_typed, cell_read_typed, read_form_typed, index_more}

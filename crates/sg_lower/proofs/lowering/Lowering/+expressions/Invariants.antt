@@ -1,6 +1,6 @@
 use Rattle.std.proofs.Common.{◌≡◌, ◌<◌, true, take, length, All}
 use Rattle.std.specs.List.{list_all}
-use Rattle.sg_ir.specs.steps.Emits.{NamesGrow}
+use Rattle.sg_ir.specs.Emits.{NamesGrow}
 use Rattle.sg_lower.specs.steps.Basis.{basis_of}
 use Rattle.sg_lower.specs.steps.Fitting.{can_be_lowered}
 use Rattle.sg_lower.specs.steps.Agreeing.{AllValues}

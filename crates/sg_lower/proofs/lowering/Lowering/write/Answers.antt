@@ -3,10 +3,10 @@ use Rattle.sg_types.specs.Expressions.{equals_some}
 use Rattle.sg_types.specs.WellTyped.{axes_in}
 use Rattle.sg_ir.specs.Runs.{named_by}
 use Rattle.sg_ir.specs.Places.{place_at}
-use Rattle.sg_ir.specs.steps.Emits.{LeadsToPlace}
+use Rattle.sg_ir.specs.Emits.{LeadsToPlace}
 use Rattle.sg_lower.specs.steps.Basis.{basis_of}
 use Rattle.sg_lower.proofs.Stepping.{does_want, does_own, does_acc}
-use Rattle.sg_ir.specs.steps.Types.{Adds, CanRead}
+use Rattle.sg_ir.specs.EmitTypes.{Adds, CanRead}
 use Rattle.sg_lower.specs.steps.Typing.{IsCell}
 use Rattle.sg_ir.specs.declared.code.Inst.TheVariants as v
 use Rattle.sg_ir.specs.WellTyped.{sets_step}

@@ -31,6 +31,15 @@ pub record AddsPlace (to : ℕ) (old new : Names) : Type 0 where
   pub regs : new.regs ≡ old.regs
   pub places : new.places ≡ old.places + 1
 
+-- What was there stands in front, whether or not memory ran out: the types of the registers, and the instructions of the block. There are no
+-- fewer places.
+pub record StandInFront (old new : Names) (before after : List Inst) : Type 0 where
+  pub types : List Ty
+  pub regs : new.regs ≡ old.regs ++ types
+  pub places : old.places ≤ new.places
+  pub insts : List Inst
+  pub block : after ≡ before ++ insts
+
 -- the block after keeps what the block before made
 pub record Extends (shapes : List Shape) (old new : Names) (before after : List Inst) : Type 0 where
   pub grows : NamesGrow old new

@@ -6,7 +6,7 @@ use Rattle.sg_flat.specs.Domain.{numbers}
 use Rattle.sg_ir.specs.declared.op.Op.TheVariants as op
 use Rattle.sg_ir.specs.Runs.{Seen, Moved, set_reg, set_place, set_var_word, add_code_write, add_want, add_access, at_of, named_by}
 use Rattle.sg_ir.specs.Blocks.{Block, End, Word, Spot, Cell, Do, Branch, Loop, Act, SetVar, WriteOwn, Contribute, Wish}
-use Rattle.sg_ir.specs.steps.Scoped.{Room, RunMoment, op_word, step_place}
+use Rattle.sg_ir.specs.Scoped.{Room, RunMoment, op_word, step_place}
 
 -- what a run has made, as registers and places in scope, and as a moment
 abbrev pub room_of : Moved → Room

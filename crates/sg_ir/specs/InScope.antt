@@ -6,7 +6,7 @@ use Rattle.sg_ir.specs.declared.op.Step.{Step}
 use Rattle.sg_ir.specs.declared.op.Step.TheVariants as step
 use Rattle.sg_ir.specs.Runs.{Moved, put}
 use Rattle.sg_ir.specs.Blocks.{Block, End, Word, Spot, Cell, Do, Branch, Loop, Act, SetVar, WriteOwn, Contribute, Wish}
-use Rattle.sg_ir.specs.steps.Scoped.{Room, RunMoment}
+use Rattle.sg_ir.specs.Scoped.{Room, RunMoment}
 
 -- which registers and places are set in scope
 pub record InScope : Type 0 where
