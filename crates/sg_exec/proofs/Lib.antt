@@ -2,6 +2,8 @@ pub mod Going
 pub mod Keeping
 pub mod KeptLand
 pub mod Rows
+pub mod EachLane
+pub mod LowBits
 pub mod Seeing
 pub mod CellsLanded
 pub mod RowsMoved

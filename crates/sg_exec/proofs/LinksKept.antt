@@ -1,12 +1,12 @@
 -- Links of stores that stay: where nothing but fields changes, and where copies with more in them take the places of stores.
-use Rattle.std.proofs.Common.{◌≡◌, ℕ, zero, suc, ◌+◌, ◌<◌, inl, inr, List, [], ◌∷◌, ◌++◌, length, Option, Some, None, refl, sym, ap, ◌∙◌, subst, arith}
+use Rattle.std.proofs.Common.{◌≡◌, ℕ, suc, ◌+◌, ◌<◌, inl, inr, List, [], ◌∷◌, ◌++◌, length, Option, Some, refl, sym, ap, ◌∙◌, subst, arith}
 use Rattle.std.specs.Prelude.{slice_get, unwrap_or}
 use Rattle.std.specs.List.{AllZip}
 use Rattle.std.proofs.lemmas.Bool.{cases_lt}
 use Rattle.std.proofs.lemmas.Option.{same_Some, slice_get_within}
 use Rattle.std.proofs.lemmas.List.{length-append}
 use Rattle.sg_store.specs.StoreWords.{StoreWords}
-use Rattle.sg_store.specs.Links.{IsLink, GrowsLinks}
+use Rattle.sg_store.specs.Links.{GrowsLinks}
 use Rattle.sg_exec.specs.steps.Landing.{current, HasTree}
 use Rattle.sg_exec.specs.steps.Made.{HaveTrees}
 use Rattle.sg_exec.proofs.Reaching.{before_push, at_push}

@@ -1,5 +1,5 @@
 -- Parts of a list from one number up to below another.
-use Rattle.std.proofs.Common.{◌≡◌, ℕ, ◌+◌, ◌-◌, ◌≤◌, ◌<◌, List, length, take, drop, refl, sym, ap, ◌∙◌, subst, arith}
+use Rattle.std.proofs.Common.{◌≡◌, ℕ, ◌+◌, ◌-◌, ◌≤◌, List, length, take, drop, sym, ap, ◌∙◌, subst, arith}
 use Rattle.std.specs.Prelude.{Contains}
 use Rattle.std.proofs.lemmas.List.{take_all, take-take, drop-drop, drop-take, length-take, length-drop, take-append-drop}
 use Rattle.std.proofs.lemmas.List.Elements.{Contains-append_right}

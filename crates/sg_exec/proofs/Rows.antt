@@ -4,6 +4,8 @@ use Rattle.std.specs.Prelude.{◌⊎◌, slice_get, slice_set}
 use Rattle.std.proofs.lemmas.Bool.{cases_eq}
 use Rattle.std.proofs.lemmas.List.{get_or-set_same, get_or-set_other, length-set}
 use Rattle.std.proofs.lemmas.Option.{slice_get-get_or, get_or_from_slice_get}
+use Rattle.std.proofs.lemmas.Simd.{length-put_chunk, get_or-put_chunk_at, get_or-put_chunk_below, get_or-put_chunk_above}
+use lib.Lanes.{put_chunk}
 use Rattle.sg_exec.specs.steps.Rows.{item_in, IsAmong, IsPut}
 
 -- one more item that is as those past the end
@@ -140,3 +142,23 @@ word_more f first at to a b c old now word from below room so is =
     (is ∙ ap (λ (x : ℕ). f x (item_in now 0 at b) (item_in now 0 at c)) (still Holds first at to 0 old now a below so)
     ∙ ap (λ (y : ℕ). f (item_in old 0 at a) y (item_in now 0 at c)) (still Holds first at to 0 old now b below so)
     ∙ ap (λ (z : ℕ). f (item_in old 0 at a) (item_in old 0 at b) z) (still Holds first at to 0 old now c below so))
+
+-- a row that was stored at once
+pub stored_all : (Holds : ℕ → ℕ → Type 0) (news old : List ℕ) (to : ℕ) → length news ≡ 32 → to * 32 + 32 ≤ length old → ((k : ℕ) → k < 32 → Holds k (get_or news k 0))
+    → IsPut Holds 0 32 to 0 old (put_chunk (to * 32) old news)
+stored_all Holds news old to whole room holds = record {
+  long = length-put_chunk (to * 32) old news;
+  there = λ k among. subst (Holds k) (sym (get_or-put_chunk_at (to * 32) old news k 0 (omega (arith, among.1, whole)) (omega (arith, whole, room)))) (holds k among.1);
+  others = λ place other. elim (below_or_past place (to * 32)) [
+    | inl low ↦ get_or-put_chunk_below (to * 32) old news place 0 low
+    | inr high ↦ elim (below_or_past place (to * 32 + 32)) [
+      | inl within ↦ absurd (other (omega (arith, high), within))
+      | inr past ↦ get_or-put_chunk_above (to * 32) old news place 0 (omega (arith, past, whole))
+    ]
+  ];
+}
+
+-- all columns are those from the first on
+pub put_whole : {A : Type 0} (Holds : ℕ → A → Type 0) (first end to : ℕ) (none : A) (old new : List A) → 0 ≡ first → 32 ≡ end → IsPut Holds 0 32 to none old new → IsPut Holds first end to none old new
+put_whole Holds first end to none old new from up put =
+    subst (λ (e : ℕ). IsPut Holds first e to none old new) up (subst (λ (f : ℕ). IsPut Holds f 32 to none old new) from put)

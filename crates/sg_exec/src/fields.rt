@@ -165,7 +165,8 @@ fn add_pass<R: Threads + Sync>(
     // for the laws that they ensure
     cells_are_active();
     paths_tell();
-    let values = store.field_front(field);
+    let front = store.field_front(alloc, field)?;
+    let values = front.as_slice();
     if values.len() == 0 {
         return Ok(());
     }

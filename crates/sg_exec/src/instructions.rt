@@ -4,11 +4,13 @@ ghost use Rattle.std.specs.Prelude.{◌≡◌, ◌≤◌, ◌+◌, ◌*◌, ◌/
 ghost use Rattle.sg_words.specs.Words.{applied, applied_un, mulq_of};
 ghost use Rattle.sg_exec.specs.steps.Rows.{item_in, IsPut};
 
-use crate::columns::Columns;
+use crate::columns::{Columns, are_all};
+use crate::operators::{operate, products_of};
+use crate::row::{put_row, row};
 use sg_coord::Digits;
 use sg_words::{BinOp, Ty, UnOp, apply, apply_un, mulq};
 
-/// An operator on two words. Which it is, is asked once for all columns.
+/// An operator on two words.
 #[inline(always)]
 pub(crate) fn combine(
     regs: &mut [u32],
@@ -19,6 +21,34 @@ pub(crate) fn combine(
     a: u32,
     b: u32,
 )
+    requires to { to * 32 + 32 ≤ length regs.old }
+    requires a { a * 32 + 32 ≤ length regs.old }
+    requires b { b * 32 + 32 ≤ length regs.old }
+    ensures { IsPut (λ k word. word ≡ applied op ty (item_in regs.old 0 k a) (item_in regs.old 0 k b)) columns.first columns.end to 0 regs.old regs.new }
+{
+    if are_all(columns) {
+        combine_all(regs, to, op, ty, a, b);
+    } else {
+        combine_some(regs, columns, to, op, ty, a, b);
+    }
+}
+
+/// An operator on two words in all columns.
+#[inline(never)]
+fn combine_all(regs: &mut [u32], to: u32, op: BinOp, ty: Ty, a: u32, b: u32)
+    requires to { to * 32 + 32 ≤ length regs.old }
+    requires a { a * 32 + 32 ≤ length regs.old }
+    requires b { b * 32 + 32 ≤ length regs.old }
+    ensures { IsPut (λ k word. word ≡ applied op ty (item_in regs.old 0 k a) (item_in regs.old 0 k b)) 0 32 to 0 regs.old regs.new }
+{
+    let x = row(regs, a);
+    let y = row(regs, b);
+    put_row(regs, to, operate(op, ty, x, y));
+}
+
+/// An operator on two words in some columns. Which it is, is asked once for all of them.
+#[inline(always)]
+fn combine_some(regs: &mut [u32], columns: Columns, to: u32, op: BinOp, ty: Ty, a: u32, b: u32)
     requires to { to * 32 + 32 ≤ length regs.old }
     requires a { a * 32 + 32 ≤ length regs.old }
     requires b { b * 32 + 32 ≤ length regs.old }
@@ -69,6 +99,37 @@ fn combine_by(regs: &mut [u32], columns: Columns, to: u32, op: BinOp, ty: Ty, a:
 /// A product, shifted down.
 #[inline(always)]
 pub(crate) fn multiply(regs: &mut [u32], columns: Columns, to: u32, a: u32, b: u32, s: u32)
+    requires to { to * 32 + 32 ≤ length regs.old }
+    requires a { a * 32 + 32 ≤ length regs.old }
+    requires b { b * 32 + 32 ≤ length regs.old }
+    requires s { s * 32 + 32 ≤ length regs.old }
+    ensures { IsPut (λ k word. word ≡ mulq_of (item_in regs.old 0 k a) (item_in regs.old 0 k b) (item_in regs.old 0 k s)) columns.first columns.end to 0 regs.old regs.new }
+{
+    if are_all(columns) {
+        multiply_all(regs, to, a, b, s);
+    } else {
+        multiply_some(regs, columns, to, a, b, s);
+    }
+}
+
+/// A product, shifted down, in all columns.
+#[inline(never)]
+fn multiply_all(regs: &mut [u32], to: u32, a: u32, b: u32, s: u32)
+    requires to { to * 32 + 32 ≤ length regs.old }
+    requires a { a * 32 + 32 ≤ length regs.old }
+    requires b { b * 32 + 32 ≤ length regs.old }
+    requires s { s * 32 + 32 ≤ length regs.old }
+    ensures { IsPut (λ k word. word ≡ mulq_of (item_in regs.old 0 k a) (item_in regs.old 0 k b) (item_in regs.old 0 k s)) 0 32 to 0 regs.old regs.new }
+{
+    let x = row(regs, a);
+    let y = row(regs, b);
+    let shifts = row(regs, s);
+    put_row(regs, to, products_of(x, y, shifts));
+}
+
+/// A product, shifted down, in some columns.
+#[inline(always)]
+fn multiply_some(regs: &mut [u32], columns: Columns, to: u32, a: u32, b: u32, s: u32)
     requires to { to * 32 + 32 ≤ length regs.old }
     requires a { a * 32 + 32 ≤ length regs.old }
     requires b { b * 32 + 32 ≤ length regs.old }

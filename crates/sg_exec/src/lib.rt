@@ -22,6 +22,7 @@ mod lanes;
 mod layout_wants;
 mod made;
 mod moment;
+mod operators;
 mod outside;
 mod own;
 mod own_cell;

@@ -1,9 +1,11 @@
 //! Rows of items, each with an item in each of 32 columns. The item of a row in a column stands in a list at 32 times the row's number plus
 //! the column's.
 
-ghost use Rattle.std.specs.Prelude.{◌≡◌, ◌≤◌, ◌+◌, ◌*◌, ℕ, length, get_or, OnOk, IsTrue};
+ghost use Rattle.std.specs.Prelude.{◌≡◌, ◌<◌, ◌≤◌, ◌+◌, ◌*◌, ℕ, length, get_or, OnOk, IsTrue};
+ghost use Rattle.sg_exec.specs.steps.Rows.{item_in, IsPut};
 
 use sg_words::Memory;
+use std::simd::prelude::*;
 
 /// Makes a list long enough for a row, by items `none`. False if memory runs out.
 #[inline(always)]
@@ -54,4 +56,22 @@ fn reset_all<T: Copy>(items: &mut [T], none: T)
     for place in 0..items.len() {
         items[place] = none;
     }
+}
+
+/// A row of words.
+#[inline(always)]
+pub(crate) fn row(items: &[u32], number: u32) -> u32x32
+    requires room { number * 32 + 32 ≤ length items.now }
+    ensures { (k : ℕ) → k < 32 → get_or result k 0 ≡ item_in items.now 0 k number }
+{
+    u32x32::from_slice(&items[number as usize * 32..])
+}
+
+/// A row of words becomes another in all columns.
+#[inline(always)]
+pub(crate) fn put_row(items: &mut [u32], to: u32, words: u32x32)
+    requires room { to * 32 + 32 ≤ length items.old }
+    ensures { IsPut (λ k word. word ≡ get_or words k 0) 0 32 to 0 items.old items.new }
+{
+    words.copy_to_slice(&mut items[to as usize * 32..]);
 }

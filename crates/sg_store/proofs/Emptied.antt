@@ -1,7 +1,7 @@
 -- Rows that are emptied one after the other, and cells that hold words.
-use Rattle.std.proofs.Common.{◌≡◌, ◌≢◌, ℕ, zero, suc, ◌+◌, ◌<◌, ◌≤◌, Bool, true, false, not, ◌==◌, List, [], ◌∷◌, length, drop, get_or, replicate, refl, sym, ap, ◌∙◌, subst, arith, inl, inr}
-use Rattle.std.specs.Prelude.{slice_set, slice_index, slice_index_or}
-use Rattle.std.specs.List.{All, list_any}
+use Rattle.std.proofs.Common.{◌≡◌, ◌≢◌, ℕ, ◌+◌, ◌<◌, ◌≤◌, Bool, true, false, not, ◌==◌, List, [], length, drop, get_or, refl, sym, ap, ◌∙◌, subst, arith, inl, inr}
+use Rattle.std.specs.Prelude.{slice_index, slice_index_or}
+use Rattle.std.specs.List.{All}
 use Rattle.std.proofs.lemmas.Bool.{cases_eq, cases_lt, false≢true, ne_eqb}
 use Rattle.std.proofs.lemmas.List.{length-set, get_or-set_same, get_or-set_other, get_or_past, drop_all}
 use Rattle.std.proofs.lemmas.List.Elements.{All-from_get_or, All-get_or}
@@ -9,12 +9,11 @@ use Rattle.std.proofs.lemmas.List.Folds.{Any-from_list_any, list_any_at}
 use Rattle.sg_layout.specs.declared.shape.NodeShape.{NodeShape}
 use Rattle.sg_store.specs.declared.node.NodeWords.{NodeWords}
 use Rattle.sg_store.specs.StoreWords.{StoreWords}
-use Rattle.sg_store.specs.WellFormed.{IsReached, IsFieldRow, IsWellFormed, cell_count}
+use Rattle.sg_store.specs.WellFormed.{IsReached, IsWellFormed}
 use Rattle.sg_store.specs.steps.Fresh.{IsZeroRow}
 use Rattle.sg_store.specs.steps.Trimming.{kept_above}
 use Rattle.sg_store.specs.steps.KeptWords.{in_row}
-use Rattle.sg_store.specs.steps.StorePlans.{has_word, IsRowAt, IsSomeRow, EmptiesRow, AreEmptied}
-use Rattle.sg_store.proofs.CellWords.{reached_within}
+use Rattle.sg_store.specs.steps.StorePlans.{has_word, IsRowAt, EmptiesRow, AreEmptied}
 use Rattle.sg_store.proofs.TrimmedStore.{AreKeptRows}
 
 -- ── Rows of zeros ──
@@ -48,12 +47,6 @@ all_emptied old now cells are long =
     (λ i below.
     let low : i < length old = omega (arith, below, are.many) in
     subst (λ n. IsZeroRow n (get_or now i [])) (All-get_or (λ (row : List ℕ). length row ≡ cells) old i [] low long) (are.done i low))
-
-pub zero_past : (row : List ℕ) (through cell : ℕ) → length row ≤ through → ((c : ℕ) → c < through → slice_index row c ≡ 0) → slice_index row cell ≡ 0
-zero_past row through cell all zeros = elim (cases_lt cell through) [
-  | inl below ↦ zeros cell below
-  | inr past ↦ get_or_past row cell 0 (omega (arith, all, past))
-]
 
 -- ── Cells ──
 

@@ -1,23 +1,28 @@
 -- A field's row read and written whole.
-use Rattle.std.proofs.Common.{◌≡◌, ℕ, zero, suc, ◌+◌, ◌-◌, ◌<◌, ◌≤◌, List, [], ◌∷◌, ◌++◌, length, take, drop, get_or, append_assoc, refl, sym, ap, ◌∙◌, subst, arith, inl, inr}
+use Rattle.std.proofs.Common.{◌≡◌, ◌≢◌, ℕ, zero, suc, ◌+◌, ◌-◌, ◌<◌, ◌≤◌, List, [], ◌∷◌, ◌++◌, length, take, drop, get_or, append_assoc, refl, sym, ap, ◌∙◌, subst, arith, inl, inr}
 use Rattle.std.specs.Prelude.{Some, slice_index, slice_index_or, slice_set}
 use Rattle.std.specs.List.{concat}
 use Rattle.std.proofs.lemmas.Bool.{cases_eq, cases_lt}
-use Rattle.std.proofs.lemmas.List.{get_or-set_same, get_or-set_other, get_or_default, length-set, set-append_right, length-take-le, drop_all, length-append, length-drop, take-append-drop, append-nil, take_more, drop_more}
+use Rattle.std.proofs.lemmas.List.{get_or-set_same, get_or-set_other, get_or_default, length-set, set-append_right, length-take-le, drop_all, length-append, length-drop, take-append-drop, append-nil, take_all, take_more, drop_more}
 use Rattle.std.proofs.lemmas.List.Folds.{concat-append}
 use Rattle.std.proofs.lemmas.Slice.{drop-append-drop}
 use Rattle.std.proofs.Math.Seq.{take-append_seam, drop-nil}
 use Rattle.sg_coord.specs.declared.coord.Coord.{Coord}
+use Rattle.sg_coord.specs.Laws.{InsideTest}
 use Rattle.sg_layout.specs.declared.shape.Shape.{Shape}
+use Rattle.sg_layout.specs.Axes.{bounds_of_shape}
 use Rattle.sg_layout.specs.Live.{is_live}
+use Rattle.sg_layout.specs.PathLaws.{SlotIsPath}
+use Rattle.sg_layout.specs.Slots.{coordinate_of}
 use Rattle.sg_flat.specs.declared.state.FlatLayout.{FlatLayout}
 use Rattle.sg_flat.specs.State.{value_at}
 use Rattle.sg_store.specs.declared.node.NodeWords.{NodeWords}
 use Rattle.sg_store.specs.StoreWords.{StoreWords, word_in}
 use Rattle.sg_store.specs.WellFormed.{cell_count, IsReached, IsFieldRow, IsWellFormed}
 use Rattle.sg_store.specs.StandsFor.{IsSlotOf, StandsFor}
-use Rattle.sg_store.specs.Walks.{cell_in}
+use Rattle.sg_store.specs.Walks.{cell_along, cell_in}
 use Rattle.sg_store.specs.Rows.{IsFieldFront, put_over, SetsRow}
+use Rattle.sg_store.proofs.ActiveCells.{cell_from_parts}
 use Rattle.sg_store.proofs.CellWords.{row_of_field, same_rows}
 
 -- ── Writing ──
@@ -244,3 +249,18 @@ front_stands store place words well field within flat now stands sets =
       here = λ at cell leads. sets.here at cell leads ∙ sym (over_at words (drop (length words) row) cell (within at cell leads));
       elsewhere = sets.elsewhere;
     })
+
+-- all words of a row
+pub whole_front : (row front : List ℕ) (cells : ℕ) → front ≡ take cells row → cells ≡ length row → front ≡ row
+whole_front row front cells is all = is ∙ take_all cells row (omega (arith, all))
+
+-- the word of a cell that is that of no coordinate
+pub idle_word : (store : StoreWords) → IsWellFormed store → InsideTest → SlotIsPath store.shape → (place cell : ℕ) → place < length store.shape.fields → ((at : Coord) → cell_in store at ≢ Some cell) → slice_index (slice_index_or store.fields place []) cell ≡ 0
+idle_word store well inside is_path place cell field none = elim (cases_eq (slice_index (slice_index_or store.fields place []) cell) 0) [
+  | inl idle ↦ idle
+  | inr some ↦
+      let reached = (row_of_field store well place [] field).only_reached cell some in
+      let told = is_path well.accepted reached.slot reached.is_slot in
+      let at : Coord = coordinate_of store.shape reached.slot in
+      absurd (none at (cell_from_parts store at cell ((inside (bounds_of_shape store.shape) at).1 told.0) (ap (cell_along store) told.1 ∙ reached.leads)))
+]

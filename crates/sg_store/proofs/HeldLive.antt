@@ -1,19 +1,18 @@
 -- What a slot holds is live, in a live container, and what is live is held.
-use Rattle.std.proofs.Common.{◌≡◌, ◌≢◌, ℕ, zero, suc, ◌+◌, ◌-◌, ◌*◌, ◌/◌, ◌%◌, ◌<◌, ◌≤◌, Bool, true, false, cond, List, [], ◌∷◌, length, get_or, refl, sym, ap, ◌∙◌, subst, arith, inl, inr}
-use Rattle.std.specs.Prelude.{Option, Some, None, IsTrue, slice_get, slice_index, slice_index_or, sum_by}
-use Rattle.std.specs.List.{Contains}
+use Rattle.std.proofs.Common.{◌≡◌, ◌≢◌, ℕ, suc, ◌+◌, ◌-◌, ◌*◌, ◌/◌, ◌%◌, ◌<◌, ◌≤◌, Bool, false, List, [], ◌∷◌, length, sym, ap, ◌∙◌, subst, arith, inl, inr}
+use Rattle.std.specs.Prelude.{Some, IsTrue, slice_get, slice_index, slice_index_or}
 use Rattle.std.proofs.lemmas.Bool.{cases_eq, cases_Bool, false≢true, lt-ltb}
-use Rattle.std.proofs.lemmas.Nat.{div-mul-add, mod-mul-add, mod_below, div_below, div-add-mod', same_from_place}
+use Rattle.std.proofs.lemmas.Nat.{div-mul-add, mod-mul-add, div_below, div-add-mod', same_from_place}
 use Rattle.std.proofs.lemmas.List.{get_or_default}
 use Rattle.std.proofs.lemmas.List.Sums.{sum_by-cons}
-use Rattle.std.proofs.lemmas.Option.{none-some, same_Some, slice_get_within}
+use Rattle.std.proofs.lemmas.Option.{none-some, slice_get_within}
 use Rattle.std.proofs.Math.Nat.{pos_of_ne-zero, le-div_iff_mul-le}
 use Rattle.sg_layout.specs.declared.shape.Kind.{Kind}
 use Rattle.sg_layout.specs.declared.shape.Kind.TheVariants.{Dense, Bitmasked, Pointer, Hash, Dynamic}
 use Rattle.sg_layout.specs.declared.shape.NodeShape.{NodeShape}
 use Rattle.sg_layout.specs.Axes.{count_of, size_of}
 use Rattle.sg_links.specs.Lists.{list_of, times, times_in_lists}
-use Rattle.sg_links.proofs.Uses.{there_is_list, stands, times_at, times_same, times_other, one_if}
+use Rattle.sg_links.proofs.Uses.{there_is_list, stands, times_at, times_other, one_if}
 use Rattle.sg_pool.specs.Numbers.{is_live_number}
 use Rattle.sg_dynamic.specs.Chunks.{chunks_of}
 use Rattle.sg_store.specs.declared.node.NodeWords.{NodeWords}

@@ -16,6 +16,8 @@ pub mod PastCap
 pub mod KeysFill
 pub mod LevelLaws
 pub mod SlotsOpen
+pub mod CanBeSettled
+pub mod NodeFacts
 pub mod Masked
 pub mod CellWords
 pub mod Marking
@@ -80,7 +82,10 @@ pub mod Turns
 pub mod RowTests
 pub mod PrunedStands
 pub mod LengthsKept
-pub mod KeptWithin
+pub mod MarkedKept
+pub mod Padded
+pub mod LikeRows
+pub mod StandingWords
 pub mod PlansTrimmed
 pub mod TablesKept
 pub mod StorePlans

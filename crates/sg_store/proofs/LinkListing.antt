@@ -1,5 +1,5 @@
 -- What the listing of a node's links has counted, and the link of the next number.
-use Rattle.std.proofs.Common.{◌≡◌, ◌≢◌, ℕ, zero, suc, ◌+◌, ◌-◌, ◌*◌, ◌/◌, ◌%◌, ◌^◌, ◌<◌, ◌≤◌, Bool, true, false, cond, List, [], ◌∷◌, ◌++◌, length, get_or, refl, sym, ap, ◌∙◌, subst, arith, inl, inr}
+use Rattle.std.proofs.Common.{◌≡◌, ◌≢◌, ℕ, zero, suc, ◌+◌, ◌-◌, ◌*◌, ◌/◌, ◌%◌, ◌^◌, ◌<◌, ◌≤◌, Bool, true, false, cond, List, [], ◌∷◌, ◌++◌, length, get_or, refl, sym, ap, ◌∙◌, subst, arith}
 use Rattle.std.specs.Prelude.{Option, Some, None, IsTrue, is_some, slice_get, slice_index}
 use Rattle.std.proofs.lemmas.Bool.{false≢true}
 use Rattle.std.proofs.lemmas.Nat.{div-add-mod', mod_below}
@@ -22,14 +22,13 @@ use Rattle.sg_store.specs.StoreWords.{StoreWords}
 use Rattle.sg_store.specs.WellFormed.{IsNode, AreNodes, IsWellFormed, is_root, kind_has_cap, live_slot}
 use Rattle.sg_store.specs.Spots.{width_after}
 use Rattle.sg_store.specs.Links.{IsLink, full_chain, slots_per_place, node_above, copy_slots, link_for}
-use Rattle.sg_store.specs.LinkLaws.{AreSound, IsLiveAt}
+use Rattle.sg_store.specs.LinkLaws.{AreSound}
 use Rattle.sg_store.specs.steps.Fresh.{IsCapped}
 use Rattle.sg_store.specs.steps.Noting.{IsSomeNode, HasSlots, LinksBelow}
 use Rattle.sg_store.specs.steps.Widths.{IsWidths}
-use Rattle.sg_store.proofs.AtNumber.{at_number, IsAt}
-use Rattle.sg_store.proofs.Beginning.{caps_of, capped}
-use Rattle.sg_store.proofs.HeldLive.{chunks_rise}
-use Rattle.sg_store.proofs.LinksListed.{below_more, below_skipped}
+use Rattle.sg_store.proofs.AtNumber.{at_number}
+use Rattle.sg_store.proofs.Beginning.{capped}
+use Rattle.sg_store.proofs.LinksListed.{below_more}
 use Rattle.sg_store.proofs.LinksSound.{CopyHolds, copy_of_link, link_there}
 use Rattle.sg_store.proofs.Stepping.{size_at, read_as}
 use Rattle.sg_store.proofs.Walking.{node_is}

@@ -1,17 +1,16 @@
 -- Links of stores: they stay where what led to a place still does, and each number has one.
-use Rattle.std.proofs.Common.{◌≡◌, ℕ, zero, suc, Bool, List, [], ◌∷◌, length, refl, sym, ap, ◌∙◌, subst, arith}
-use Rattle.std.specs.Prelude.{Option, Some, None, slice_get}
+use Rattle.std.proofs.Common.{◌≡◌, ℕ, zero, suc, Bool, List, [], ◌∷◌, refl, sym, ap, ◌∙◌, subst}
+use Rattle.std.specs.Prelude.{Option, Some, slice_get}
 use Rattle.std.proofs.lemmas.Option.{none-some, same_Some}
-use Rattle.sg_layout.specs.declared.shape.Kind.{Kind}
 use Rattle.sg_layout.specs.declared.shape.NodeShape.{NodeShape}
 use Rattle.sg_layout.specs.declared.shape.Shape.{Shape}
 use Rattle.sg_store.specs.declared.node.NodeWords.{NodeWords}
 use Rattle.sg_store.specs.declared.links.LinkAt.{LinkAt}
 use Rattle.sg_store.specs.StoreWords.{StoreWords}
 use Rattle.sg_store.specs.Slots.{place_below}
-use Rattle.sg_store.specs.WellFormed.{AreNodes, IsNode, IsWellFormed, is_root}
-use Rattle.sg_store.specs.Reaching.{KeepsCells, leads_from, leads_at}
-use Rattle.sg_store.specs.Links.{IsLink, GrowsLinks, KeepsLinks, held_at, link_for}
+use Rattle.sg_store.specs.WellFormed.{AreNodes, IsWellFormed, is_root}
+use Rattle.sg_store.specs.Reaching.{leads_from, leads_at}
+use Rattle.sg_store.specs.Links.{IsLink, GrowsLinks, held_at, link_for}
 use Rattle.sg_store.specs.LinkLaws.{CellsKeepLinks, GrownAreKept, ShrunkAreKept}
 use Rattle.sg_store.proofs.Walking.{AreOne, IsOne, links_are_one, node_is}
 use Rattle.sg_store.proofs.HeldSlots.{element_of, place_of_number, held_leads, leads_held, same_element, held_kind, IfDynamic}

@@ -1,6 +1,6 @@
 -- The links of a node are sound.
-use Rattle.std.proofs.Common.{◌≡◌, ◌≢◌, ℕ, zero, suc, ◌+◌, ◌-◌, ◌*◌, ◌/◌, ◌%◌, ◌<◌, ◌≤◌, Bool, true, false, cond, List, [], ◌∷◌, length, refl, sym, ap, ◌∙◌, subst, arith, inl, inr}
-use Rattle.std.specs.Prelude.{Option, Some, None, IsTrue, is_some, slice_get, if◌then◌else◌}
+use Rattle.std.proofs.Common.{◌≡◌, ◌≢◌, ℕ, zero, suc, ◌+◌, ◌-◌, ◌*◌, ◌/◌, ◌%◌, ◌<◌, ◌≤◌, Bool, true, false, cond, List, [], ◌∷◌, refl, sym, ap, ◌∙◌, subst, arith}
+use Rattle.std.specs.Prelude.{Option, Some, None, IsTrue, is_some, slice_get}
 use Rattle.std.proofs.lemmas.Bool.{false≢true}
 use Rattle.std.proofs.lemmas.Nat.{mod_below, div_below, div-add-mod'}
 use Rattle.std.proofs.lemmas.Option.{none-some, same_Some}
@@ -11,7 +11,7 @@ use Rattle.sg_layout.specs.declared.shape.NodeShape.{NodeShape}
 use Rattle.sg_layout.specs.Axes.{size_of}
 use Rattle.sg_layout.specs.Live.{kind_or}
 use Rattle.sg_layout.specs.StorageWords.{ends_segment}
-use Rattle.sg_pool.specs.Numbers.{place_count, is_live_number}
+use Rattle.sg_pool.specs.Numbers.{is_live_number}
 use Rattle.sg_pool.proofs.Uses.{live_is_number}
 use Rattle.sg_store.specs.declared.node.NodeWords.{NodeWords}
 use Rattle.sg_store.specs.declared.links.LinkAt.{LinkAt}
@@ -19,7 +19,7 @@ use Rattle.sg_store.specs.StoreWords.{StoreWords}
 use Rattle.sg_store.specs.WellFormed.{AreNodes, IsWellFormed, is_root, kind_has_cap, live_slot, live_below, places_below}
 use Rattle.sg_store.specs.Spots.{width_past, width_from}
 use Rattle.sg_store.specs.Links.{IsLink, held_at, slots_per_place, node_above, copy_slots, link_for}
-use Rattle.sg_store.specs.LinkLaws.{AreSound, LinksAreSound, FitsNode, HasParent, IsLiveAt}
+use Rattle.sg_store.specs.LinkLaws.{LinksAreSound, FitsNode, HasParent, IsLiveAt}
 use Rattle.sg_store.proofs.Walking.{node_is}
 use Rattle.sg_store.proofs.HeldLive.{IsHeldIn, held_in, held_is_live, live_is_held}
 use Rattle.sg_store.proofs.LinksKept.{links_once, link_of_slot, holds_again}

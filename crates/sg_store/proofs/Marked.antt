@@ -1,20 +1,20 @@
 -- Live numbers are below the high water marks, and so all that is reached is below the places and cells that these leave.
-use Rattle.std.proofs.Common.{◌≡◌, ℕ, zero, suc, ◌+◌, ◌*◌, ◌/◌, ◌%◌, ◌<◌, ◌≤◌, ◌^◌, Bool, true, false, nat_le, cond, List, [], ◌∷◌, length, drop, get_or, refl, sym, ap, ◌∙◌, subst, arith, inl, inr}
-use Rattle.std.specs.Prelude.{Option, Some, IsTrue, option_and_then, slice_get}
+use Rattle.std.proofs.Common.{◌≡◌, ℕ, ◌+◌, ◌*◌, ◌/◌, ◌%◌, ◌<◌, ◌≤◌, ◌^◌, Bool, true, false, nat_le, cond, List, [], ◌∷◌, length, drop, get_or, refl, sym, ap, ◌∙◌, subst, arith, inl, inr}
+use Rattle.std.specs.Prelude.{Some}
 use Rattle.std.specs.List.{All}
 use Rattle.std.proofs.lemmas.Bool.{false≢true}
 use Rattle.std.proofs.lemmas.Bool.Decides.{leb_tells}
 use Rattle.std.proofs.lemmas.Nat.{mul-add-lt, mul-le, mod_below}
 use Rattle.std.proofs.lemmas.List.{drop_all, drop_more}
 use Rattle.std.proofs.lemmas.List.Elements.{All-head, All-tail}
-use Rattle.std.proofs.lemmas.Option.{none-some, same_Some, option_and_then_some}
+use Rattle.std.proofs.lemmas.Option.{same_Some, option_and_then_some}
 use Rattle.sg_layout.specs.declared.shape.Kind.{Kind}
 use Rattle.sg_layout.specs.declared.shape.Kind.TheVariants.{Dense, Bitmasked, Pointer, Hash, Dynamic}
 use Rattle.sg_layout.specs.declared.shape.NodeShape.{NodeShape}
 use Rattle.sg_layout.specs.Axes.{count_of, size_of}
 use Rattle.sg_links.specs.Lists.{list_of, times_in_lists}
-use Rattle.sg_links.proofs.Uses.{one_if, stands, times_at, there_is_list}
-use Rattle.sg_pool.specs.Numbers.{PoolNumbers, place_count, is_live_number, IsParted}
+use Rattle.sg_links.proofs.Uses.{stands, times_at, there_is_list}
+use Rattle.sg_pool.specs.Numbers.{PoolNumbers, is_live_number, IsParted}
 use Rattle.sg_store.specs.declared.node.NodeWords.{NodeWords}
 use Rattle.sg_store.specs.StoreWords.{StoreWords}
 use Rattle.sg_store.specs.Slots.{slot_under, place_below}
@@ -25,7 +25,7 @@ use Rattle.sg_store.specs.steps.Marks.{marked_below, marked_from, AreMarked}
 use Rattle.sg_store.proofs.ActiveCells.{slot_offsets, slot_length}
 use Rattle.sg_store.proofs.BySlots.{hash_leads}
 use Rattle.sg_store.proofs.Chains.{cell_in_chunk}
-use Rattle.sg_store.proofs.Stepping.{links_lead, words_many}
+use Rattle.sg_store.proofs.Stepping.{links_lead}
 use Rattle.sg_store.proofs.Walking.{linked_is, index_contains}
 
 -- ── Numbers ──
@@ -36,7 +36,7 @@ before_mark true false free one is = refl
 before_mark false past free one is = absurd (false≢true is)
 
 -- a live number is below the mark
-live_is_marked : (pool : PoolNumbers) (n : ℕ) → IsParted pool → is_live_number pool n ≡ true → n < pool.mark
+pub live_is_marked : (pool : PoolNumbers) (n : ℕ) → IsParted pool → is_live_number pool n ≡ true → n < pool.mark
 live_is_marked pool n parted live = elim (leb_tells pool.mark n) [
   | inl past ↦
       let no : nat_le pool.mark n ≡ false = before_mark (is_live_number pool n) (nat_le pool.mark n) _ (parted.one_of n) live in
@@ -76,7 +76,7 @@ leads_marked Hash node kept slots live is parted used q n below e =
 leads_marked Dynamic node kept slots live is parted used q n below e = chunk_marked node kept slots live is parted q n e
 
 -- no more places may be live than there are
-marked_within : (kind : Kind) (node : NodeShape) (kept : NodeWords) (slots : ℕ) (live : ℕ → Bool) → IsNode kind node kept slots live → IsParted kept.pool → (used : ℕ) → used ≤ slots → marked_below kind node kept used ≤ places_below kind node slots
+pub marked_within : (kind : Kind) (node : NodeShape) (kept : NodeWords) (slots : ℕ) (live : ℕ → Bool) → IsNode kind node kept slots live → IsParted kept.pool → (used : ℕ) → used ≤ slots → marked_below kind node kept used ≤ places_below kind node slots
 marked_within Dense node kept slots live is parted used few = few
 marked_within Bitmasked node kept slots live is parted used few = few
 marked_within Pointer node kept slots live is parted used few = omega (arith, parted.within, is.places)

@@ -1,19 +1,17 @@
 -- What the slots of a node of each kind have, once they are written beside the numbers that they hold.
-use Rattle.std.proofs.Common.{◌≡◌, ◌≢◌, ℕ, zero, suc, ◌+◌, ◌-◌, ◌*◌, ◌/◌, ◌%◌, ◌<◌, ◌≤◌, Bool, List, [], length, refl, sym, ap, ◌∙◌, subst, arith, inl, inr}
-use Rattle.std.specs.Prelude.{Some, None, IsTrue, slice_index, slice_get}
+use Rattle.std.proofs.Common.{◌≡◌, ℕ, suc, ◌-◌, ◌/◌, ◌%◌, ◌≤◌, Bool, List, [], length, sym, ap, ◌∙◌, subst, arith, inl, inr}
+use Rattle.std.specs.Prelude.{Some, slice_index}
 use Rattle.std.proofs.lemmas.Bool.{cases_lt}
 use Rattle.std.proofs.lemmas.Nat.{div-add-mod'}
 use Rattle.std.proofs.lemmas.List.{get_or_past}
-use Rattle.std.proofs.lemmas.Option.{none-some}
 use Rattle.sg_layout.specs.declared.shape.Kind.{Kind}
-use Rattle.sg_layout.specs.declared.shape.Kind.TheVariants.{Dense, Bitmasked, Pointer, Hash, Dynamic}
+use Rattle.sg_layout.specs.declared.shape.Kind.TheVariants.{Pointer, Hash, Dynamic}
 use Rattle.sg_layout.specs.declared.shape.NodeShape.{NodeShape}
 use Rattle.sg_layout.specs.Axes.{count_of, size_of}
 use Rattle.sg_links.specs.Lists.{list_of}
 use Rattle.sg_links.proofs.Uses.{there_is_list}
 use Rattle.sg_pool.specs.Numbers.{place_count}
 use Rattle.sg_pool.proofs.Uses.{live_is_number}
-use Rattle.sg_dynamic.specs.Chunks.{chunks_of}
 use Rattle.sg_store.specs.declared.node.NodeWords.{NodeWords}
 use Rattle.sg_store.specs.WellFormed.{IsNode, IsPointerNode, IsHashNode, IsDynamicNode}
 use Rattle.sg_store.specs.Links.{held_at, full_chain}

@@ -20,10 +20,10 @@ use Rattle.sg_store.specs.steps.Cuts.{HasLinks, CutSoFar}
 use Rattle.sg_store.specs.steps.KeptWords.{in_row, kept_link, AreKeptBits, AreKeptLinks, last_kept, keeps_cell, kept_length, AreKeptLengths}
 use Rattle.sg_store.proofs.LengthsKept.{last_within, lengths_kept, stays_below}
 
-below_true : (a b : ℕ) → a < b → nat_lt a b ≡ true
+pub below_true : (a b : ℕ) → a < b → nat_lt a b ≡ true
 below_true a b h = grind (arith, nat_tests)
 
-past_false : (a b : ℕ) → b ≤ a → nat_lt a b ≡ false
+pub past_false : (a b : ℕ) → b ≤ a → nat_lt a b ≡ false
 past_false a b h = grind (arith, nat_tests)
 
 -- ── Links ──

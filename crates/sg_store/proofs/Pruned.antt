@@ -1,31 +1,27 @@
 -- The layout with only the coordinates kept that have a value: it is flat, and a cell has a word where its coordinate has a value.
-use Rattle.std.proofs.Common.{◌≡◌, inl, inr, ℕ, zero, suc, ◌+◌, ◌<◌, Bool, true, false, not, cond, ◌||◌, ◌==◌, List, [], ◌∷◌, ◌++◌, length, map, get_or, Option, Some, None, is_some, refl, sym, ap, ◌∙◌, subst, arith}
+use Rattle.std.proofs.Common.{◌≡◌, ℕ, suc, ◌+◌, ◌<◌, Bool, true, false, not, ◌||◌, ◌==◌, List, [], ◌∷◌, length, map, get_or, Some, refl, sym, ap, ◌∙◌, subst, arith}
 use Rattle.std.specs.Prelude.{slice_get, slice_index, slice_index_or}
 use Rattle.std.specs.List.{All, Contains, list_any, range_with_len}
-use Rattle.std.proofs.lemmas.Bool.{cases_Bool, cases_eq, cond-true, cond-false, ne_eqb, or_right, false≢true}
-use Rattle.std.proofs.lemmas.List.Elements.{Contains-get_or, All-head, All-tail}
+use Rattle.std.proofs.lemmas.Bool.{cond-true, ne_eqb, false≢true}
+use Rattle.std.proofs.lemmas.List.Elements.{Contains-get_or}
 use Rattle.std.proofs.lemmas.List.Folds.{list_any_at}
 use Rattle.std.proofs.lemmas.List.FromFn.{length-range_with_len, get_or-range_with_len}
 use Rattle.sg_words.proofs.Uses.{from_filter, into_filter, from_map}
-use Rattle.sg_words.specs.declared.operators.Ty.{Ty}
 use Rattle.sg_coord.specs.declared.coord.Coord.{Coord}
 use Rattle.sg_coord.specs.Bounds.{Bounds, volume}
-use Rattle.sg_coord.specs.Coord.{Inside, is_inside, row_of, point_at}
-use Rattle.sg_coord.specs.Laws.{InsideTest, RowOfPoint, PointOfRow}
+use Rattle.sg_coord.specs.Coord.{is_inside, row_of, point_at}
+use Rattle.sg_coord.specs.Laws.{InsideTest, RowOfPoint}
 use Rattle.sg_layout.specs.declared.shape.Shape.{Shape}
 use Rattle.sg_layout.specs.Axes.{bounds_of_shape}
-use Rattle.sg_layout.specs.Path.{offsets}
 use Rattle.sg_layout.specs.Closure.{closure}
-use Rattle.sg_layout.specs.ClosureLaws.{ClosureIsInside, ClosureExtends, ClosureIsOfMembers, ClosureIsClosed, ClosureAbsorbs}
+use Rattle.sg_layout.specs.ClosureLaws.{ClosureIsInside, ClosureExtends, ClosureIsClosed}
 use Rattle.sg_flat.specs.declared.state.FlatLayout.{FlatLayout}
-use Rattle.sg_flat.specs.State.{IsFlatField, IsFlatLayout, words_or_none, value_in, value_at, opening_layout}
+use Rattle.sg_flat.specs.State.{IsFlatField, IsFlatLayout, words_or_none, value_in}
 use Rattle.sg_flat.specs.Words.{word_at, words_of}
-use Rattle.sg_flat.proofs.Uses.{word_is_active}
-use Rattle.sg_store.specs.declared.node.NodeWords.{NodeWords}
-use Rattle.sg_store.specs.StoreWords.{StoreWords, word_in}
-use Rattle.sg_store.specs.Walks.{cell_along, cell_in}
+use Rattle.sg_store.specs.StoreWords.{StoreWords}
+use Rattle.sg_store.specs.Walks.{cell_in}
 use Rattle.sg_store.specs.WellFormed.{IsWellFormed}
-use Rattle.sg_store.specs.StandsFor.{HasLiveSlots, StandsFor}
+use Rattle.sg_store.specs.StandsFor.{StandsFor}
 use Rattle.sg_store.specs.StoreLaws.{CellsAreActive}
 use Rattle.sg_store.specs.Pruning.{has_value, valued_coordinates, pruned}
 use Rattle.sg_store.specs.steps.StorePlans.{has_word}

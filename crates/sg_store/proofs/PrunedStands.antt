@@ -1,12 +1,11 @@
 -- A store that is trimmed to the cells with words stands for the pruned layout, and one that is emptied for the opening layout.
-use Rattle.std.proofs.Common.{◌≡◌, ◌≢◌, ℕ, suc, ◌*◌, ◌<◌, ◌≤◌, Bool, true, false, List, [], ◌∷◌, ◌++◌, length, Option, Some, None, is_some, refl, sym, ap, ◌∙◌, subst, arith}
+use Rattle.std.proofs.Common.{◌≡◌, ◌≢◌, ℕ, ◌<◌, Bool, false, List, [], length, is_some, sym, ap, ◌∙◌, arith}
 use Rattle.std.specs.List.{All, Contains}
 use Rattle.std.proofs.lemmas.Bool.{false≢true}
 use Rattle.std.proofs.lemmas.List.{append-nil}
 use Rattle.sg_words.proofs.Uses.{from_filter, into_filter}
 use Rattle.sg_coord.specs.declared.coord.Coord.{Coord}
 use Rattle.sg_coord.specs.Coord.{Inside}
-use Rattle.sg_layout.specs.declared.shape.Shape.{Shape}
 use Rattle.sg_layout.specs.Axes.{bounds_of_shape}
 use Rattle.sg_layout.specs.Closure.{closure}
 use Rattle.sg_layout.specs.Live.{is_live}
@@ -17,7 +16,7 @@ use Rattle.sg_store.specs.declared.node.NodeWords.{NodeWords}
 use Rattle.sg_store.specs.StoreWords.{StoreWords}
 use Rattle.sg_store.specs.Walks.{cell_in}
 use Rattle.sg_store.specs.WellFormed.{IsWellFormed, cell_count}
-use Rattle.sg_store.specs.StandsFor.{IsSlotOf, StandsFor}
+use Rattle.sg_store.specs.StandsFor.{StandsFor}
 use Rattle.sg_store.specs.Pruning.{has_value, valued_coordinates, pruned}
 use Rattle.sg_store.specs.steps.Fresh.{IsZeroRow}
 use Rattle.sg_store.specs.steps.StorePlans.{has_word}

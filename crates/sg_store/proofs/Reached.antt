@@ -162,18 +162,21 @@ need_fits Hash shape all number node kept e capped count = omega (arith, count r
 need_fits Dynamic shape all number node kept e capped count = omega (arith, count refl, capped)
 
 -- so the needs of the nodes that are open fit
-pub open_fits : (next : StoreWords) (i : ℕ) (old all : List Coord) → ReachLaws next.shape → IsWellFormed next → IsOpenThrough next old all i → (j : ℕ) (node : NodeShape) → j < i → slice_get next.shape.nodes j ≡ Some node → need_of next.shape all (1 + j) node ≤ count_of node.cap
-open_fits next i old all laws well is_open j node below at =
+pub needs_fit : (next : StoreWords) (i : ℕ) (old all : List Coord) → NeedLaws next.shape → IsWellFormed next → IsOpenThrough next old all i → (j : ℕ) (node : NodeShape) → j < i → slice_get next.shape.nodes j ≡ Some node → need_of next.shape all (1 + j) node ≤ count_of node.cap
+needs_fit next i old all laws well is_open j node below at =
     let one : 1 + j ≡ suc j = omega arith in
     let found = node_of OfWellFormed next.shape.nodes next.nodes 1 is_root j
     (nodes_at next.shape.nodes next.nodes 1 is_root j well.nodes_fit (slice_get_within next.shape.nodes j node at)) in
     let fits : need_of next.shape all (suc j) found.node ≤ count_of found.node.cap =
     need_fits found.node.kind next.shape all (suc j) found.node found.kept refl
     (cap_at next.shape.nodes next.nodes j found.node found.kept well.within_caps found.at found.has)
-    (λ capped. node_need next j found.node found.kept all (need_laws next.shape laws) well found.at found.has capped (λ slot is_slot.
+    (λ capped. node_need next j found.node found.kept all laws well found.at found.has capped (λ slot is_slot.
     is_open (suc j) slot is_slot ∙ ap (λ b. is_live next.shape (cond b all old) (suc j) slot) (le-leb (suc j) i (omega (arith, below))))) in
     subst (λ n. need_of next.shape all n node ≤ count_of node.cap) (sym one)
     (subst (λ (n : NodeShape). need_of next.shape all (suc j) n ≤ count_of n.cap) (same_Some found.node node (sym found.at ∙ at)) fits)
+
+pub open_fits : (next : StoreWords) (i : ℕ) (old all : List Coord) → ReachLaws next.shape → IsWellFormed next → IsOpenThrough next old all i → (j : ℕ) (node : NodeShape) → j < i → slice_get next.shape.nodes j ≡ Some node → need_of next.shape all (1 + j) node ≤ count_of node.cap
+open_fits next i old all laws = needs_fit next i old all (need_laws next.shape laws)
 
 -- ── What a refusal names ──
 

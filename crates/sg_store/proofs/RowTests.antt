@@ -1,5 +1,5 @@
 -- Rows of truth values as tests of places.
-use Rattle.std.proofs.Common.{◌≡◌, ◌≢◌, ℕ, ◌+◌, ◌*◌, ◌/◌, ◌<◌, ◌≤◌, Bool, true, false, List, length, sym, ap, ◌∙◌, subst, arith, inl, inr}
+use Rattle.std.proofs.Common.{◌≡◌, ◌≢◌, ℕ, ◌+◌, ◌*◌, ◌/◌, ◌<◌, ◌≤◌, Bool, true, false, List, length, sym, ap, ◌∙◌, subst, arith, inl, inr, zero, suc, [], ◌∷◌, ◌++◌, replicate, refl}
 use Rattle.std.specs.Prelude.{slice_set}
 use Rattle.std.proofs.lemmas.Bool.{cases_eq, false≢true}
 use Rattle.std.proofs.lemmas.Nat.{div-mul-add}
@@ -65,3 +65,14 @@ row_is_above keeps node kept above places through size sized some all within mar
     let slot : ℕ = slot_under node place found.0 in
     let low : slot < places * size = within slot found.2 in
     ap (in_row above) (sym (div-mul-add place (size_of node.sizes) found.0 found.1)) ∙ marked.marked slot (omega (arith, low, all)) found.2)
+
+-- what is added to a row as false isn't kept, as nothing past its end is
+false_at : (n place : ℕ) → in_row (replicate n false) place ≡ false
+false_at zero place = refl
+false_at (suc n) zero = refl
+false_at (suc n) (suc place) = false_at n place
+
+pub fit_same : (row : List Bool) (n place : ℕ) → in_row (row ++ replicate n false) place ≡ in_row row place
+fit_same [] n place = false_at n place
+fit_same (kept ∷ row) n zero = refl
+fit_same (kept ∷ row) n (suc place) = fit_same row n place

@@ -1,13 +1,10 @@
 -- Rows that are made one after the other, and in halves.
-use Rattle.std.proofs.Common.{◌≡◌, ℕ, zero, suc, ◌+◌, ◌-◌, ◌<◌, ◌≤◌, List, [], ◌∷◌, ◌++◌, length, replicate, get_or, refl, sym, ap, ◌∙◌, subst, arith}
+use Rattle.std.proofs.Common.{◌≡◌, ℕ, zero, suc, ◌+◌, ◌-◌, ◌≤◌, List, [], ◌∷◌, ◌++◌, length, replicate, refl, sym, ap, ◌∙◌, arith}
 use Rattle.std.specs.Prelude.{slice_index_or}
-use Rattle.std.specs.List.{All}
 use Rattle.sg_layout.specs.declared.shape.Shape.{Shape}
 use Rattle.sg_store.specs.declared.node.NodeWords.{NodeWords}
 use Rattle.sg_store.specs.StoreWords.{StoreWords}
-use Rattle.sg_store.specs.steps.Fresh.{IsZeroRow}
 use Rattle.sg_store.specs.steps.RowsMade.{rows_from}
-use Rattle.sg_store.proofs.Zeros.{zero_row}
 
 -- some, and then those from the next place on
 pub rows_split : (rows : List (List ℕ)) (cells place a b : ℕ) → rows_from rows cells place a ++ rows_from rows cells (place + a) b ≡ rows_from rows cells place (a + b)
@@ -63,24 +60,3 @@ copied_whole store cells was now olds nodes rows read fields whole shape words s
   where
     make : Shape → List NodeWords → List (List ℕ) → StoreWords
     make s n f = record { shape = s; nodes = n; fields = f }
-
--- ── Rows of zeros ──
-
-rows_many : (rows : List (List ℕ)) (cells place many : ℕ) → length (rows_from rows cells place many) ≡ many
-rows_many rows cells place zero = refl
-rows_many rows cells place (suc many) = ap suc (rows_many rows cells (suc place) many)
-
-rows_zero : (cells place many k : ℕ) (d : List ℕ) → k < length (rows_from [] cells place many) → IsZeroRow cells (get_or (rows_from [] cells place many) k d)
-rows_zero cells place zero k d within = absurd (omega (arith, within))
-rows_zero cells place (suc many) zero d within = zero_row cells
-rows_zero cells place (suc many) (suc k) d within = rows_zero cells (suc place) many k d (omega (arith, within))
-
--- if no row stands
-pub zeros_many : (cells fields : ℕ) (none made : List (List ℕ)) → made ≡ rows_from none cells 0 (fields - 0) → length made ≡ fields
-zeros_many cells fields none made is =
-    let many : fields - 0 ≡ fields = omega arith in
-    ap length is ∙ rows_many none cells 0 (fields - 0) ∙ many
-
-pub zeros_zero : (cells fields : ℕ) (none made : List (List ℕ)) → none ≡ [] → made ≡ rows_from none cells 0 (fields - 0) → All (IsZeroRow cells) made
-zeros_zero cells fields none made empty is =
-    subst (All (IsZeroRow cells)) (sym (is ∙ ap (λ rows. rows_from rows cells 0 (fields - 0)) empty)) (rows_zero cells 0 (fields - 0))

@@ -23,7 +23,7 @@ use Rattle.sg_pool.specs.Numbers.{PoolNumbers, place_count, is_live_number, live
 use Rattle.sg_pool.proofs.Uses.{fewer, live_is_number, live_numbers, live_numbers_once, in_live_numbers, from_live_numbers, length-live_numbers, stock_is_rest}
 use Rattle.sg_store.specs.declared.node.NodeWords.{NodeWords}
 use Rattle.sg_store.specs.StoreWords.{StoreWords}
-use Rattle.sg_store.specs.WellFormed.{IsPointerNode, IsMaskNode, IsHashNode, IsDynamicNode, places_below, AreNodes, IsWellFormed, is_root}
+use Rattle.sg_store.specs.WellFormed.{IsPointerNode, IsMaskNode, IsHashNode, IsDynamicNode, places_below, AreNodes, is_root}
 use Rattle.sg_store.specs.WellFormed as well
 use Rattle.sg_store.specs.Opening.{link_words_of, masks_of, lengths_of, pool_of, filled_count, IsInLive}
 use Rattle.sg_store.specs.steps.AtNode.{OfNode, AtNode, AtNodeOf}

@@ -1,25 +1,27 @@
 -- The plans of a store's nodes, from the cells that are kept up to the root, and nodes that are trimmed by them.
-use Rattle.std.proofs.Common.{◌≡◌, ◌≢◌, ℕ, zero, suc, ◌+◌, ◌-◌, ◌*◌, ◌^◌, ◌<◌, ◌≤◌, Bool, true, List, [], ◌∷◌, ◌++◌, length, take, drop, get_or, Option, Some, None, refl, sym, ap, ◌∙◌, subst, arith, inl, inr}
+use Rattle.std.proofs.Common.{◌≡◌, ◌≢◌, ℕ, zero, suc, ◌+◌, ◌-◌, ◌*◌, ◌^◌, ◌<◌, ◌≤◌, Bool, List, [], ◌∷◌, ◌++◌, length, take, drop, get_or, Some, refl, sym, ap, ◌∙◌, subst, arith, inl, inr}
 use Rattle.std.specs.Prelude.{slice_get, slice_index}
-use Rattle.std.specs.List.{All, AllZip}
+use Rattle.std.specs.List.{All}
 use Rattle.std.proofs.lemmas.Bool.{cases_eq}
 use Rattle.std.proofs.lemmas.List.{length-append}
 use Rattle.std.proofs.lemmas.List.Elements.{All-drop, All-get_or}
+use Rattle.std.proofs.lemmas.Nat.{mul-le}
 use Rattle.std.proofs.lemmas.Option.{none-some, same_Some, slice_get_within, slice_get-get_or, slice_get_read}
-use Rattle.sg_layout.specs.declared.shape.Kind.{Kind}
-use Rattle.sg_layout.specs.declared.shape.Kind.TheVariants.{Hash, Dynamic}
+use Rattle.sg_layout.specs.declared.shape.Kind.TheVariants.{Hash}
 use Rattle.sg_layout.specs.declared.shape.NodeShape.{NodeShape}
 use Rattle.sg_layout.specs.declared.shape.Shape.{Shape}
 use Rattle.sg_layout.specs.Axes.{count_of, size_of, sizes_of}
 use Rattle.sg_layout.specs.RuleLaws.{AcceptedKeepsRules}
+use Rattle.sg_pool.specs.Numbers.{IsParted}
 use Rattle.sg_store.specs.declared.node.NodeWords.{NodeWords}
 use Rattle.sg_store.specs.declared.node_plan.NodePlan.{NodePlan}
 use Rattle.sg_store.specs.StoreWords.{StoreWords}
-use Rattle.sg_store.specs.WellFormed.{AreNodes, IsWellFormed, is_root, cell_count, cells_below, places_below}
-use Rattle.sg_store.specs.steps.Trimming.{place_kept, kept_above, IsTrimmed, AreTrimmed}
+use Rattle.sg_store.specs.WellFormed.{AreNodes, IsWellFormed, is_root, cells_below}
+use Rattle.sg_store.specs.steps.Marks.{marked_below, marked_from}
+use Rattle.sg_store.specs.steps.Trimming.{place_kept, kept_above}
 use Rattle.sg_store.specs.steps.KeptWords.{in_row, LeadsWithin}
 use Rattle.sg_store.specs.steps.Planning.{IsPlannable, IsPlanFor}
-use Rattle.sg_store.specs.steps.StorePlans.{places_above, kept_at, IsRowAt, IsSomeRow, IsPlanAt, ArePlansFrom, ArePlans}
+use Rattle.sg_store.specs.steps.StorePlans.{places_above, marked_above, kept_at, IsRowAt, IsSomeRow, IsPlanAt, ArePlansFrom}
 use Rattle.sg_store.specs.steps.Fresh.{IsCapped}
 use Rattle.sg_store.proofs.Beginning.{caps_of}
 use Rattle.sg_store.proofs.Roomy.{AreLater, AreOrdered}
@@ -29,7 +31,7 @@ use Rattle.sg_store.proofs.PointerLevel.{cap_at}
 use Rattle.sg_store.proofs.Stepping.{size_at}
 use Rattle.sg_store.proofs.TrimmedWalks.{AreSized}
 use Rattle.sg_store.proofs.RowTests.{same_test}
-use Rattle.sg_store.proofs.KeptWithin.{leads_within}
+use Rattle.sg_store.proofs.MarkedKept.{leads_marked_within, marked_cut, marked_on, marked_above_few, bound_from, root_below}
 
 -- ── The nodes from an index on ──
 
@@ -38,22 +40,12 @@ drop_here [] i x is = absurd (none-some x is)
 drop_here {A = A} (first ∷ later) zero x is = ap (λ (h : A). h ∷ later) (same_Some first x is)
 drop_here (first ∷ later) (suc i) x is = drop_here later i x is
 
-pub places_on : (nodes : List NodeShape) (places i : ℕ) (node : NodeShape) → slice_get nodes i ≡ Some node → cells_below (take (suc i) nodes) places ≡ places_below node.kind node (cells_below (take i nodes) places * size_of node.sizes)
-places_on [] places i node at = absurd (none-some node at)
-places_on (first ∷ later) places zero node at = ap (λ (n : NodeShape). places_below n.kind n (places * size_of n.sizes)) (same_Some first node at)
-places_on (first ∷ later) places (suc i) node at = places_on later (places_below first.kind first (places * size_of first.sizes)) i node at
-
 nodes_from : (nodes : List NodeShape) (words : List NodeWords) (places : ℕ) (live : ℕ → Bool) (i : ℕ) → AreNodes nodes words places live → (own : ℕ → Bool) × AreNodes (drop i nodes) (drop i words) (cells_below (take i nodes) places) own
 nodes_from nodes words places live zero are = (live, are)
 nodes_from [] [] places live (suc i) are = (live, are)
 nodes_from [] (kept ∷ words) places live (suc i) are = absurd are
 nodes_from (node ∷ later) [] places live (suc i) are = absurd are
 nodes_from (node ∷ later) (kept ∷ words) places live (suc i) are = nodes_from later words _ _ i are.2
-
-cells_from : (nodes : List NodeShape) (places i : ℕ) → cells_below (drop i nodes) (cells_below (take i nodes) places) ≡ cells_below nodes places
-cells_from nodes places zero = refl
-cells_from [] places (suc i) = refl
-cells_from (node ∷ later) places (suc i) = cells_from later (places_below node.kind node (places * size_of node.sizes)) i
 
 -- the nodes from one on, among those of a store
 pub record IsNodeAt (nodes : List NodeShape) (words : List NodeWords) (i : ℕ) (node : NodeShape) (kept : NodeWords) : Type 0 where
@@ -117,19 +109,23 @@ slots_few store i node places size well at above sized =
     let few : places_above store.shape.nodes i * size_of node.sizes ≤ 2 ^ 47 = (nodes_here store.shape.nodes store.nodes i node found.0 (record { at = at; has = found.1 }) well.nodes_fit).1.0 in
     subst (λ p. p * size ≤ 2 ^ 47) (sym above) (subst (λ n. places_above store.shape.nodes i * n ≤ 2 ^ 47) (sym sized) few)
 
-pub places_more : (store : StoreWords) (i : ℕ) (node : NodeShape) (places size next : ℕ) → slice_get store.shape.nodes i ≡ Some node → places ≡ places_above store.shape.nodes i → size ≡ size_of node.sizes → next ≡ places_below node.kind node (places * size) → next ≡ places_above store.shape.nodes (i + 1)
-places_more store i node places size next at above sized is =
+-- fewer may be live
+pub marked_few : (store : StoreWords) (i : ℕ) (node : NodeShape) (places size : ℕ) → IsWellFormed store → slice_get store.shape.nodes i ≡ Some node → places ≡ marked_above store i → size ≡ size_of node.sizes → places * size ≤ 2 ^ 47
+marked_few store i node places size well at above sized =
+    let some : marked_above store i ≤ places_above store.shape.nodes i = marked_above_few store.shape.nodes store.nodes 1 1 is_root i well.nodes_fit well.numbers_parted (omega arith) in
+    let all : places_above store.shape.nodes i * size ≤ 2 ^ 47 = slots_few store i node (places_above store.shape.nodes i) size well at refl sized in
+    let low : places * size ≤ places_above store.shape.nodes i * size = mul-le places size (places_above store.shape.nodes i) size (omega (arith, above, some)) (omega arith) in
+    omega (arith, low, all)
+
+pub marked_more : (store : StoreWords) (i : ℕ) (node : NodeShape) (kept : NodeWords) (places size next : ℕ) → IsNodeAt store.shape.nodes store.nodes i node kept → places ≡ marked_above store i → size ≡ size_of node.sizes → next ≡ marked_below node.kind node kept (places * size) → next ≡ marked_above store (i + 1)
+marked_more store i node kept places size next is above sized made =
     let after : suc i ≡ i + 1 = omega arith in
-    is ∙ ap (λ p. places_below node.kind node (p * size)) above
-    ∙ ap (λ n. places_below node.kind node (places_above store.shape.nodes i * n)) sized
-    ∙ sym (places_on store.shape.nodes 1 i node at)
-    ∙ ap (places_above store.shape.nodes) after
+    made ∙ ap (λ p. marked_below node.kind node kept (p * size)) above
+    ∙ ap (λ n. marked_below node.kind node kept (marked_above store i * n)) sized
+    ∙ sym (marked_on store.shape.nodes store.nodes 1 i node kept is.at is.has)
+    ∙ ap (marked_above store) after
 
--- a node and its size, read from the layout of a store
-pub shape_read : (store : StoreWords) (nodes : List NodeShape) (i : ℕ) (node : NodeShape) → nodes ≡ store.shape.nodes → i < length store.shape.nodes → node ≡ get_or nodes i node → slice_get store.shape.nodes i ≡ Some node
-shape_read store nodes i node same within is =
-    ap (λ (ns : List NodeShape). slice_get ns i) (sym same) ∙ slice_get_read nodes (length nodes) i node refl (subst (λ (ns : List NodeShape). i < length ns) (sym same) within) is
-
+-- the size of a node, read from the layout of a store
 pub size_read : (store : StoreWords) (layout : Shape) (i : ℕ) (node : NodeShape) (size : ℕ) → layout ≡ store.shape → slice_get store.shape.nodes i ≡ Some node → size ≡ slice_index (sizes_of layout.nodes) i → size ≡ size_of node.sizes
 size_read store layout i node size same at is =
     is ∙ ap (λ (s : Shape). slice_index (sizes_of s.nodes) i) same ∙ size_at store.shape.nodes i node at
@@ -177,25 +173,32 @@ row_next nodes words cells i node kept row above is below made place =
     ∙ ap (λ (f : ℕ → Bool). place_kept f node kept place) (same_test (in_row row) (kept_at nodes words cells (suc i)) below)
     ∙ sym (kept_here nodes words cells i node kept is place)
 
--- the slots that lead to what a row keeps are among those of the node
-pub row_within : (store : StoreWords) (i : ℕ) (node : NodeShape) (kept : NodeWords) (row : List Bool) → IsWellFormed store → AreSized store.shape.nodes → IsNodeAt store.shape.nodes store.nodes i node kept → IsSomeRow store (suc i) row → LeadsWithin (in_row row) node kept (places_above store.shape.nodes i * size_of node.sizes)
+-- the slots that lead to what a row keeps are among those of the node that may be live
+pub row_within : (store : StoreWords) (i : ℕ) (node : NodeShape) (kept : NodeWords) (row : List Bool) → IsWellFormed store → AreSized store.shape.nodes → IsNodeAt store.shape.nodes store.nodes i node kept → IsSomeRow store (suc i) row → LeadsWithin (in_row row) node kept (marked_above store i * size_of node.sizes)
 row_within store i node kept row well sized is some =
     let nodes : List NodeShape = store.shape.nodes in
-    let here = nodes_here nodes store.nodes i node kept is well.nodes_fit in
-    let count : cells_below (node ∷ drop (suc i) nodes) (places_above nodes i) ≡ cell_count store.shape =
-    ap (λ (ns : List NodeShape). cells_below ns (places_above nodes i)) (sym (drop_here nodes i node is.at)) ∙ cells_from nodes 1 i in
+    let words : List NodeWords = store.nodes in
+    let bound = bound_from nodes words 1 1 is_root i sized well.nodes_fit well.numbers_parted root_below in
+    let are : AreNodes (node ∷ drop (suc i) nodes) (kept ∷ drop (suc i) words) (places_above nodes i) bound.live =
+    subst (λ (ns : List NodeShape). AreNodes ns (kept ∷ drop (suc i) words) (places_above nodes i) bound.live) (drop_here nodes i node is.at)
+    (subst (λ (ws : List NodeWords). AreNodes (drop i nodes) ws (places_above nodes i) bound.live) (drop_here words i kept is.has) bound.are) in
+    let count : marked_from (node ∷ drop (suc i) nodes) (kept ∷ drop (suc i) words) (marked_above store i) ≡ marked_from nodes words 1 =
+    ap (λ (ns : List NodeShape). marked_from ns (kept ∷ drop (suc i) words) (marked_above store i)) (sym (drop_here nodes i node is.at))
+    ∙ ap (λ (ws : List NodeWords). marked_from (drop i nodes) ws (marked_above store i)) (sym (drop_here words i kept is.has)) ∙ marked_cut nodes words 1 i in
     let sized_from : AreSized (node ∷ drop (suc i) nodes) =
     subst AreSized (drop_here nodes i node is.at) (All-drop (λ (n : NodeShape). 1 ≤ size_of n.sizes) i nodes sized) in
-    subst (λ (f : ℕ → Bool). LeadsWithin f node kept (places_above nodes i * size_of node.sizes))
-    (sym (same_test (in_row row) (kept_at nodes store.nodes some.cells (suc i)) some.is))
-    (leads_within node (drop (suc i) nodes) kept (drop (suc i) store.nodes) (places_above nodes i) here.0 some.cells sized_from here.1
+    let parted : All (λ (k : NodeWords). IsParted k.pool) (kept ∷ drop (suc i) words) =
+    subst (All (λ (k : NodeWords). IsParted k.pool)) (drop_here words i kept is.has) (All-drop (λ (k : NodeWords). IsParted k.pool) i words well.numbers_parted) in
+    subst (λ (f : ℕ → Bool). LeadsWithin f node kept (marked_above store i * size_of node.sizes))
+    (sym (same_test (in_row row) (kept_at nodes words some.cells (suc i)) some.is))
+    (leads_marked_within node (drop (suc i) nodes) kept (drop (suc i) words) (places_above nodes i) (marked_above store i) bound.live some.cells sized_from are parted bound.below
     (λ cell on. subst (λ n. cell < n) (sym count) (some.within cell on)))
 
-pub leads_to : (store : StoreWords) (i : ℕ) (node : NodeShape) (kept : NodeWords) (row own : List Bool) (places size : ℕ) → IsWellFormed store → AreSized store.shape.nodes → IsNodeAt store.shape.nodes store.nodes i node kept → IsSomeRow store (suc i) row → own ≡ row → places ≡ places_above store.shape.nodes i → size ≡ size_of node.sizes → LeadsWithin (in_row own) node kept (places * size)
+pub leads_to : (store : StoreWords) (i : ℕ) (node : NodeShape) (kept : NodeWords) (row own : List Bool) (places size : ℕ) → IsWellFormed store → AreSized store.shape.nodes → IsNodeAt store.shape.nodes store.nodes i node kept → IsSomeRow store (suc i) row → own ≡ row → places ≡ marked_above store i → size ≡ size_of node.sizes → LeadsWithin (in_row own) node kept (places * size)
 leads_to store i node kept row own places size well sized is some same above sized_is =
     subst (λ (r : List Bool). LeadsWithin (in_row r) node kept (places * size)) (sym same)
     (subst (λ p. LeadsWithin (in_row row) node kept (p * size)) (sym above)
-    (subst (λ n. LeadsWithin (in_row row) node kept (places_above store.shape.nodes i * n)) (sym sized_is) (row_within store i node kept row well sized is some)))
+    (subst (λ n. LeadsWithin (in_row row) node kept (marked_above store i * n)) (sym sized_is) (row_within store i node kept row well sized is some)))
 
 -- ── Plans ──
 

@@ -1,9 +1,8 @@
 -- A store whose nodes are trimmed to cells that are reached: it is well-formed, has only lost links, and what it stands for.
-use Rattle.std.proofs.Common.{◌≡◌, ◌≢◌, ℕ, zero, suc, ◌<◌, ◌≤◌, Bool, true, false, List, [], length, replicate, refl, sym, ap, ◌∙◌, subst, arith}
+use Rattle.std.proofs.Common.{◌≡◌, ◌≢◌, ℕ, zero, Bool, true, false, List, [], length, sym, ap, ◌∙◌, subst}
 use Rattle.std.specs.List.{All}
 use Rattle.std.proofs.lemmas.Bool.{false≢true}
 use Rattle.sg_coord.specs.Bounds.{IsBounds}
-use Rattle.sg_coord.specs.Laws.{InsideTest}
 use Rattle.sg_layout.specs.declared.shape.NodeShape.{NodeShape}
 use Rattle.sg_layout.specs.declared.shape.Shape.{Shape}
 use Rattle.sg_layout.specs.Axes.{bounds_of_shape}
@@ -16,14 +15,13 @@ use Rattle.sg_store.specs.WellFormed.{IsReached, IsWellFormed, cell_count}
 use Rattle.sg_store.specs.Links.{GrowsLinks}
 use Rattle.sg_store.specs.steps.Fresh.{IsZeroRow}
 use Rattle.sg_store.specs.steps.KeptWords.{in_row}
-use Rattle.sg_store.specs.steps.StorePlans.{has_word, ArePlans, ArePlanned, AreTrimmedTo}
+use Rattle.sg_store.specs.steps.StorePlans.{ArePlans, ArePlanned, AreTrimmedTo}
 use Rattle.sg_store.proofs.RowTests.{same_test}
 use Rattle.sg_store.proofs.TrimmedWalks.{AreSized}
 use Rattle.sg_store.proofs.TrimmedStore.{TrimsStore, with_words, AreKeptRows, trimmed_well_formed}
 use Rattle.sg_store.proofs.StorePlans.{store_long}
 use Rattle.sg_store.proofs.StoreTrims.{planned, all_trimmed, all_capped, all_parted, links_shrink}
 use Rattle.sg_store.proofs.SizedNodes.{store_sized}
-use Rattle.sg_store.proofs.Emptied.{words_kept}
 
 -- nodes that are trimmed by their plans
 pub record HasTrimmed (store : StoreWords) (cells : ℕ → Bool) (plans : List NodePlan) (afters : List NodeWords) : Type 0 where
@@ -84,13 +82,8 @@ pub zero_kept : (store : StoreWords) (cells : ℕ → Bool) (fields : List (List
 zero_kept store cells fields zeros k d below =
     let row = zeros k d below in (row.long, λ cell some. absurd (some (row.zero cell)))
 
-pub none_in_row : (n : ℕ) (row : List Bool) → row ≡ replicate n false → (cell : ℕ) → in_row row cell ≡ false
-none_in_row n row is cell = ap (λ (r : List Bool). in_row r cell) is ∙ false_row n cell
-  where
-    false_row : (m i : ℕ) → in_row (replicate m false) i ≡ false
-    false_row zero i = refl
-    false_row (suc m) zero = refl
-    false_row (suc m) (suc i) = false_row m i
+pub none_in_row : (row : List Bool) → row ≡ [] → (cell : ℕ) → in_row row cell ≡ false
+none_in_row row none cell = ap (λ (r : List Bool). in_row r cell) none
 
 pub none_reached : (store : StoreWords) (cell : ℕ) → false ≡ true → IsReached store cell
 none_reached store cell on = absurd (false≢true on)

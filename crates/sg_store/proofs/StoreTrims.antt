@@ -1,30 +1,40 @@
 -- A store whose nodes are trimmed by their plans.
-use Rattle.std.proofs.Common.{◌≡◌, ◌≢◌, ℕ, zero, suc, ◌+◌, ◌-◌, ◌*◌, ◌<◌, ◌≤◌, Bool, true, false, List, [], ◌∷◌, length, drop, get_or, Option, Some, None, refl, sym, ap, ◌∙◌, subst, arith, inl, inr}
-use Rattle.std.specs.Prelude.{slice_get, slice_set, slice_index, slice_index_or}
+use Rattle.std.proofs.Common.{◌≡◌, ◌≢◌, ℕ, zero, suc, ◌+◌, ◌-◌, ◌<◌, Bool, List, [], ◌∷◌, length, drop, get_or, Some, refl, sym, ap, ◌∙◌, subst, arith, inl, inr}
+use Rattle.std.specs.Prelude.{slice_get, slice_set}
 use Rattle.std.specs.List.{All, AllZip}
-use Rattle.std.proofs.lemmas.Bool.{cases_eq, cases_lt, false≢true}
+use Rattle.std.proofs.lemmas.Bool.{cases_eq}
 use Rattle.std.proofs.lemmas.List.{length-set}
-use Rattle.std.proofs.lemmas.Option.{none-some, same_Some, slice_get_within, slice_get-get_or, slice_get_read}
+use Rattle.std.proofs.lemmas.Option.{same_Some, slice_get_within, slice_get-get_or, slice_get_read}
 use Rattle.sg_layout.specs.declared.shape.NodeShape.{NodeShape}
 use Rattle.sg_layout.specs.RuleLaws.{AcceptedKeepsRules}
 use Rattle.sg_pool.specs.Numbers.{IsParted}
 use Rattle.sg_store.specs.declared.node.NodeWords.{NodeWords}
 use Rattle.sg_store.specs.declared.node_plan.NodePlan.{NodePlan}
 use Rattle.sg_store.specs.StoreWords.{StoreWords}
-use Rattle.sg_store.specs.Slots.{place_below}
-use Rattle.sg_store.specs.WellFormed.{AreNodes, IsWithinCap, IsReached, IsWellFormed, is_root}
-use Rattle.sg_store.specs.Reaching.{leads_from, leads_at}
+use Rattle.sg_store.specs.WellFormed.{IsWithinCap, IsWellFormed}
+use Rattle.sg_store.specs.Reaching.{leads_from}
 use Rattle.sg_store.specs.Links.{GrowsLinks}
 use Rattle.sg_store.specs.steps.Settling.{ChangesAt}
-use Rattle.sg_store.specs.steps.Trimming.{IsTrimmed, AreTrimmed}
+use Rattle.sg_store.specs.steps.Trimming.{kept_above, IsTrimmed, AreTrimmed}
 use Rattle.sg_store.specs.steps.KeptWords.{in_row}
 use Rattle.sg_store.specs.steps.StorePlans.{kept_at, ArePlans, ArePlanned, IsTrimmedBy, AreTrimmedTo}
 use Rattle.sg_store.proofs.LinksKept.{links_grow}
 use Rattle.sg_store.proofs.RowTests.{same_test}
-use Rattle.sg_store.proofs.KeptWithin.{trimmed_from}
 use Rattle.sg_store.proofs.TrimmedWalks.{AreSized}
-use Rattle.sg_store.proofs.TrimmedStore.{TrimsStore, with_words}
+use Rattle.sg_store.proofs.TrimmedStore.{with_words}
 use Rattle.sg_store.proofs.StorePlans.{item_there, store_long, plannable}
+
+-- nodes that are trimmed one by one
+trimmed_from : (nodes : List NodeShape) (words afters : List NodeWords) (cells : ℕ → Bool) → length words ≡ length nodes → length afters ≡ length nodes → ((i : ℕ) (node : NodeShape) (kept after : NodeWords) → slice_get nodes i ≡ Some node → slice_get words i ≡ Some kept → slice_get afters i ≡ Some after → IsTrimmed (kept_above (drop (suc i) nodes) (drop (suc i) words) cells) node kept after) → AreTrimmed nodes words afters cells
+trimmed_from [] [] [] cells many as_many each = tt
+trimmed_from [] [] (after ∷ afters) cells many as_many each = absurd (omega (arith, as_many))
+trimmed_from [] (kept ∷ words) afters cells many as_many each = absurd (omega (arith, many))
+trimmed_from (node ∷ later) [] afters cells many as_many each = absurd (omega (arith, many))
+trimmed_from (node ∷ later) (kept ∷ words) [] cells many as_many each = absurd (omega (arith, as_many))
+trimmed_from (node ∷ later) (kept ∷ words) (after ∷ afters) cells many as_many each = (
+  each 0 node kept after refl refl refl,
+  trimmed_from later words afters cells (omega (arith, many)) (omega (arith, as_many)) (λ i. each (suc i)),
+)
 
 -- the plans fit the nodes
 pub planned : (store : StoreWords) (cells : ℕ → Bool) (plans : List NodePlan) → IsWellFormed store → AcceptedKeepsRules store.shape → AreSized store.shape.nodes → ArePlans store cells plans → ArePlanned store.shape.nodes store.nodes plans

@@ -1,3 +1,10 @@
 -- Lemmas on stores for the crates above.
 -- a cell to which a coordinate leads is reached, and a reached cell is one of the cells
 pub use Rattle.sg_store.proofs.CellWords.{cell_is_reached, reached_within}
+-- links and bits that a node may be given can be given
+pub use Rattle.sg_store.proofs.CanBeSettled.{HasSettled, OpensSlots, OpensBits, slots_can_be_settled, bits_can_be_settled}
+-- a pointer node's stock, the places of coordinates, and the needs of nodes that are open
+pub use Rattle.sg_store.proofs.NodeFacts.{as_many_nodes, IsNodeStock, is_node_stock, slot_place, bit_place, open_need_fits}
+pub use Rattle.sg_store.proofs.NodeNeed.{NeedLaws}
+-- a hash node's links beside its keys, and those by slot
+pub use Rattle.sg_store.proofs.KeyPlaces.{links_contain, slots_contain}

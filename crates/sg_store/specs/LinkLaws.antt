@@ -1,5 +1,5 @@
 -- The laws of links.
-use Rattle.std.specs.Prelude.{◌≡◌, ◌↔◌, ℕ, suc, ◌+◌, ◌-◌, ◌*◌, ◌<◌, Option, Some, None, IsTrue, slice_get}
+use Rattle.std.specs.Prelude.{◌≡◌, ◌↔◌, ℕ, suc, ◌<◌, Option, Some, None, IsTrue, slice_get}
 use Rattle.sg_layout.specs.declared.shape.NodeShape.{NodeShape}
 use Rattle.sg_pool.specs.Numbers.{place_count, is_live_number}
 use Rattle.sg_store.specs.declared.node.NodeWords.{NodeWords}

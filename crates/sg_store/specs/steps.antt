@@ -19,3 +19,4 @@ pub mod Cuts
 pub mod KeptTables
 pub mod Planning
 pub mod StorePlans
+pub mod Padded

@@ -1,27 +1,25 @@
-//! Stores copied and made by several workers, which make the rows of the fields side by side.
+//! Stores copied by several workers, which copy the rows of the fields side by side.
 
-ghost use Rattle.std.specs.Prelude.{◌≡◌, ◌-◌, ◌<◌, ◌≤◌, [], length, replicate, slice_index_or, All, IfOk};
+ghost use Rattle.std.specs.Prelude.{◌≡◌, ◌-◌, ◌<◌, ◌≤◌, [], length, replicate, slice_index_or, IfOk};
 ghost use Rattle.std.specs.Thread.{IsSync};
 ghost use Rattle.sg_layout.specs.StorageWords.{words_of_shape, most_words};
 ghost use Rattle.sg_flat.specs.State.{opening_layout};
 ghost use Rattle.sg_store.specs.WellFormed.{IsWellFormed};
 ghost use Rattle.sg_store.specs.StandsFor.{StandsFor};
-ghost use Rattle.sg_store.specs.steps.Fresh.{IsZeroRow};
 ghost use Rattle.sg_store.specs.steps.RowsMade.{rows_from};
 
-use crate::frame::Frame;
-use crate::fresh::{FreshNodes, fresh_nodes};
+use crate::field_row::FieldRow;
 use crate::store::{Store, copied_nodes};
-use sg_layout::{Layout, laws as layouts};
-use sg_words::{Items, Memory};
+use sg_layout::Layout;
+use sg_words::Memory;
 use std::alloc::Global;
 use std::thread::{Threads, join};
 
-/// A row with fewer cells than these is made sooner than a thread for it.
-const FEW_CELLS: usize = 16_384;
+/// A row in which fewer words than these stand is copied sooner than a thread is made for it.
+const FEW_WORDS: usize = 16_384;
 
 impl Store {
-    /// As `make`, by so many workers, for which it waits: the rows of the fields are made side by side.
+    /// As `make`, for a caller that has so many workers: a row of zeros takes no time, so that one makes them.
     pub fn make_by_workers<R: Threads + Sync>(
         rt: &R,
         alloc: Global,
@@ -33,19 +31,8 @@ impl Store {
         ensures opening { IfOk result (λ store. StandsFor store (opening_layout layout.now)) }
         ensures well_formed { IfOk result IsWellFormed }
     {
-        // for the laws that they ensure
-        layouts::rules_decide();
-        layouts::paths_tell();
-        layouts::closure_closes();
-        layouts::live_absorbs();
-        let _extents = layout.extents();
-        let shape = layout.shape();
-        let FreshNodes { words, cells } = fresh_nodes(alloc, layout)?;
-        Ok(Store {
-            layout: Frame::make(alloc, layout)?,
-            nodes: words,
-            fields: zero_rows_by(rt, alloc, shape.fields.len(), cells, workers)?,
-        })
+        // rows of zeros take no time
+        Store::make(alloc, layout)
     }
 
     /// A copy of the store, by so many workers, for which it waits: the rows of the fields are copied side by side.
@@ -60,7 +47,7 @@ impl Store {
         let nodes = copied_nodes(alloc, self.nodes.as_slice())?;
         let rows = self.fields.as_slice();
         let cells = cells_of(rows);
-        let threads = workers_for(cells, workers);
+        let threads = workers_for(most_standing(rows), workers);
         let fields = rows_among(rt, alloc, rows, cells, 0, rows.len(), threads, false)?;
         Ok(Store {
             layout: self.layout.copy(alloc)?,
@@ -70,25 +57,8 @@ impl Store {
     }
 }
 
-/// A row of zeros for each of so many fields, with a word for each of so many cells.
-fn zero_rows_by<R: Threads + Sync>(
-    rt: &R,
-    alloc: Global,
-    fields: usize,
-    cells: usize,
-    workers: u32,
-) -> Result<Vec<Items<u32>>, Memory>
-    ensures many { IfOk result (λ rows. length rows.items ≡ fields) }
-    ensures zeros { IfOk result (λ rows. All (IsZeroRow cells) rows.items) }
-{
-    let none = Items::new(alloc);
-    let threads = workers_for(cells, workers);
-    let rows = rows_among(rt, alloc, none.as_slice(), cells, 0, fields, threads, false)?;
-    Ok(rows)
-}
-
 /// How many cells the first of these rows has; all rows of a store have as many.
-fn cells_of(rows: &[Items<u32>]) -> usize
+fn cells_of(rows: &[FieldRow]) -> usize
     ensures { result ≡ length (slice_index_or rows.now 0 []) }
 {
     match rows.get(0) {
@@ -97,12 +67,21 @@ fn cells_of(rows: &[Items<u32>]) -> usize
     }
 }
 
-/// How many workers make rows with so many cells: one where they are few.
-fn workers_for(cells: usize, workers: u32) -> u32
-    ensures few { cells < 16384 → result ≡ 1 }
-    ensures many { 16384 ≤ cells → result ≡ workers }
+/// How many words stand in the longest of these rows.
+fn most_standing(rows: &[FieldRow]) -> usize {
+    let mut most = 0;
+    for row in rows {
+        most = most.max(row.standing().len());
+    }
+    most
+}
+
+/// How many workers copy rows in which so many words stand: one where they are few.
+fn workers_for(words: usize, workers: u32) -> u32
+    ensures few { words < 16384 → result ≡ 1 }
+    ensures many { 16384 ≤ words → result ≡ workers }
 {
-    if cells < FEW_CELLS { 1 } else { workers }
+    if words < FEW_WORDS { 1 } else { workers }
 }
 
 /// The rows at the places from one up to below another, by fork and join over halves of them: a copy of each of these rows, and past
@@ -110,13 +89,13 @@ fn workers_for(cells: usize, workers: u32) -> u32
 fn rows_among<R: Threads + Sync>(
     rt: &R,
     alloc: Global,
-    rows: &[Items<u32>],
+    rows: &[FieldRow],
     cells: usize,
     from: usize,
     to: usize,
     workers: u32,
     waits: bool,
-) -> Result<Vec<Items<u32>>, Memory>
+) -> Result<Vec<FieldRow>, Memory>
     requires order { from ≤ to }
     ensures { IfOk result (λ made. made.items ≡ rows_from rows.now cells from (to - from)) }
 {
@@ -130,11 +109,11 @@ fn rows_among<R: Threads + Sync>(
     let middle = from + (to - from) / 2;
     let (left, right) = join(
         rt,
-        move || -> Result<Vec<Items<u32>>, Memory>
+        move || -> Result<Vec<FieldRow>, Memory>
             requires { IsSync R.row × (half ≤ workers) × (from ≤ middle) }
             ensures { IfOk result (λ made. made.items ≡ rows_from rows.entry.now cells from (middle - from)) }
         { rows_among(rt, alloc, rows, cells, from, middle, workers - half, false) },
-        move || -> Result<Vec<Items<u32>>, Memory>
+        move || -> Result<Vec<FieldRow>, Memory>
             requires { IsSync R.row × (middle ≤ to) }
             ensures { IfOk result (λ made. made.items ≡ rows_from rows.entry.now cells middle (to - middle)) }
         { rows_among(rt, alloc, rows, cells, middle, to, half, true) },
@@ -148,17 +127,17 @@ fn rows_among<R: Threads + Sync>(
 fn rows_apart<R: Threads + Sync>(
     rt: &R,
     alloc: Global,
-    rows: &[Items<u32>],
+    rows: &[FieldRow],
     cells: usize,
     from: usize,
     to: usize,
-) -> Result<Vec<Items<u32>>, Memory>
+) -> Result<Vec<FieldRow>, Memory>
     requires order { from ≤ to }
     ensures { IfOk result (λ made. made.items ≡ rows_from rows.now cells from (to - from)) }
 {
     let (made, ()) = join(
         rt,
-        move || -> Result<Vec<Items<u32>>, Memory>
+        move || -> Result<Vec<FieldRow>, Memory>
             requires { from ≤ to }
             ensures { IfOk result (λ made. made.items ≡ rows_from rows.entry.now cells from (to - from)) }
         { rows_in_order(alloc, rows, cells, from, to) },
@@ -170,11 +149,11 @@ fn rows_apart<R: Threads + Sync>(
 /// The same by one worker.
 fn rows_in_order(
     alloc: Global,
-    rows: &[Items<u32>],
+    rows: &[FieldRow],
     cells: usize,
     from: usize,
     to: usize,
-) -> Result<Vec<Items<u32>>, Memory>
+) -> Result<Vec<FieldRow>, Memory>
     requires order { from ≤ to }
     ensures { IfOk result (λ made. made.items ≡ rows_from rows.now cells from (to - from)) }
 {
@@ -186,16 +165,11 @@ fn rows_in_order(
 }
 
 /// One of these rows.
-fn row_at(
-    alloc: Global,
-    rows: &[Items<u32>],
-    cells: usize,
-    place: usize,
-) -> Result<Items<u32>, Memory>
+fn row_at(alloc: Global, rows: &[FieldRow], cells: usize, place: usize) -> Result<FieldRow, Memory>
     ensures { IfOk result (λ row. row ≡ slice_index_or rows.now place (replicate cells 0)) }
 {
     match rows.get(place) {
-        Some(row) => Ok(Items::from_slice(alloc, row.as_slice())?),
-        None => Ok(Items::from_vec(vec![in alloc; 0; cells]?)),
+        Some(row) => Ok(row.copy(alloc)?),
+        None => Ok(FieldRow::zeros(alloc, cells)?),
     }
 }

@@ -44,7 +44,7 @@ impl Store {
         ensures stands { (flat : FlatLayout) → StandsFor self.now flat → (at : Coord) → cell_in self.now at ≡ Some cell →
             result ≡ value_at self.now.shape flat place at }
     {
-        self.fields.as_slice()[place as usize].as_slice()[cell as usize]
+        self.fields.as_slice()[place as usize].get(cell as usize)
     }
 
     /// Gives a field, from 0, a value in the cell of an active coordinate.

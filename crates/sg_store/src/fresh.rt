@@ -7,7 +7,9 @@ ghost use Rattle.sg_layout.specs.StorageWords.{power_for};
 ghost use Rattle.sg_store.specs.WellFormed.{places_below, cell_count};
 ghost use Rattle.sg_store.specs.steps.Fresh.{IsFreshNode, AreFresh, AreZeroWords, IsCapped, IsRoomy, IsZeroRow};
 
+use crate::field_row::FieldRow;
 use crate::node::{NodeWords, chunk_of};
+use crate::word_row::WordRow;
 use sg_coord::count;
 use sg_layout::{Kind, Layout, NodeShape};
 use sg_links::Links;
@@ -123,7 +125,7 @@ fn fresh_node(
 }
 
 /// How many places stand below a node with so many slots.
-pub(crate) fn places_below(node: &NodeShape, slots: usize) -> usize
+fn places_below(node: &NodeShape, slots: usize) -> usize
     requires { IsCapped node.now.kind node.now }
     ensures { result ≡ places_below node.now.kind node.now slots }
 {
@@ -155,7 +157,7 @@ fn zero_words(alloc: Global, room: &Room) -> Result<NodeWords, Memory>
     pool.places();
     Ok(NodeWords {
         keys: Items::from_vec(vec![in alloc; 0; room.keys]?),
-        links: Items::from_vec(vec![in alloc; 0; room.links]?),
+        links: WordRow::zeros(alloc, room.links)?,
         masks: Items::from_vec(vec![in alloc; 0; room.masks]?),
         lengths: Items::from_vec(vec![in alloc; 0; room.lengths]?),
         chains: empty_chains(alloc, room.numbers, room.lengths as u32)?,
@@ -184,17 +186,13 @@ fn copy_chains(alloc: Global, chains: &Links) -> Result<Links, Memory>
 }
 
 /// A row of zeros for each of so many fields, with a word for each of so many cells.
-pub(crate) fn zero_rows(
-    alloc: Global,
-    fields: usize,
-    cells: usize,
-) -> Result<Vec<Items<u32>>, Memory>
+pub(crate) fn zero_rows(alloc: Global, fields: usize, cells: usize) -> Result<Vec<FieldRow>, Memory>
     ensures many { IfOk result (λ rows. length rows.items ≡ fields) }
     ensures zeros { IfOk result (λ rows. All (IsZeroRow cells) rows.items) }
 {
     let mut rows = Vec::new(alloc);
     for _field in 0..fields {
-        rows.push(Items::from_vec(vec![in alloc; 0; cells]?))?;
+        rows.push(FieldRow::zeros(alloc, cells)?)?;
     }
     Ok(rows)
 }
@@ -206,7 +204,7 @@ impl NodeWords {
     {
         Ok(NodeWords {
             keys: Items::from_slice(alloc, self.keys.as_slice())?,
-            links: Items::from_slice(alloc, self.links.as_slice())?,
+            links: self.links.copy(alloc)?,
             masks: Items::from_slice(alloc, self.masks.as_slice())?,
             lengths: Items::from_slice(alloc, self.lengths.as_slice())?,
             chains: copy_chains(alloc, &self.chains)?,

@@ -28,7 +28,7 @@ impl Store {
 }
 
 /// How many places there are below so many slots of a node, up to the last that may be live.
-fn marked_below(node: &NodeShape, kept: &NodeWords, slots: usize) -> usize
+pub(crate) fn marked_below(node: &NodeShape, kept: &NodeWords, slots: usize) -> usize
     ensures { result ≡ marked_below node.now.kind node.now kept.now slots }
 {
     match node.kind {

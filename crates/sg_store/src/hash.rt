@@ -72,7 +72,7 @@ fn plan_keys(alloc: Global, kept: &NodeWords, cap: u32, slots: &[usize]) -> Resu
 {
     let stock = kept.pool.stock(alloc)?;
     let mut keys = Vec::from_slice(alloc, kept.keys.as_slice())?;
-    let mut links = Vec::from_slice(alloc, kept.links.as_slice())?;
+    let mut links = kept.links.whole(alloc)?;
     let room = (cap - kept.pool.live()) as usize;
     let taken = fill_keys(&mut keys, &mut links, stock.as_slice(), room, slots);
     Ok(KeyPlan {
@@ -91,7 +91,7 @@ impl NodeWords {
         ensures { IsRekeyed keys.now links.now taken.now self.old self.new }
     {
         overwrite(&mut self.keys, keys);
-        overwrite(&mut self.links, links);
+        self.links.overwrite(links);
         self.pool.settle(taken);
         // for the law that it ensures
         self.pool.places();

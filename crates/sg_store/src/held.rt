@@ -9,6 +9,7 @@ ghost use Rattle.sg_store.specs.Links.{full_chain};
 ghost use Rattle.sg_store.specs.steps.Noting.{AreBelow, IsLinkedOnce, IsNoted, HeldSoFar, ChainNoted, ChainsNoted, IsSomeNode, HasSlots};
 
 use crate::node::{NodeWords, chunk_of};
+use crate::word_row::WordRow;
 use sg_layout::{Kind, NodeShape};
 use sg_links::Links;
 use sg_words::{Items, Memory};
@@ -31,32 +32,32 @@ pub(crate) fn held_slots(
     let mut slots = Items::from_vec(vec![in alloc; 0; places]?);
     match node.kind {
         Kind::Dense | Kind::Bitmasked => {}
-        Kind::Pointer => note_links(&mut slots, kept.links.as_slice()),
-        Kind::Hash => note_keys(&mut slots, kept.keys.as_slice(), kept.links.as_slice()),
+        Kind::Pointer => note_links(&mut slots, &kept.links),
+        Kind::Hash => note_keys(&mut slots, kept.keys.as_slice(), &kept.links),
         Kind::Dynamic => note_chains(&mut slots, &kept.chains, full),
     }
     Ok(slots)
 }
 
 /// Writes beside each number that a link has the place of the link.
-fn note_links(slots: &mut Items<usize>, links: &[u64])
+fn note_links(slots: &mut Items<usize>, links: &WordRow)
     requires within { AreBelow links.now (length slots.old) }
     requires once { IsLinkedOnce links.now }
     ensures { HeldSoFar (λ place. place) links.now slots.old slots.new (length links.now) }
 {
-    for (place, link) in links.iter().enumerate() {
+    for (place, link) in links.standing().iter().enumerate() {
         note(slots, *link, place);
     }
 }
 
 /// Writes beside each number that a link has the key that stands beside the link.
-fn note_keys(slots: &mut Items<usize>, keys: &[u64], links: &[u64])
+fn note_keys(slots: &mut Items<usize>, keys: &[u64], links: &WordRow)
     requires many { length keys.now ≡ length links.now }
     requires within { AreBelow links.now (length slots.old) }
     requires once { IsLinkedOnce links.now }
     ensures { HeldSoFar (λ place. slice_index keys.now place - 1) links.now slots.old slots.new (length links.now) }
 {
-    for (place, link) in links.iter().enumerate() {
+    for (place, link) in links.standing().iter().enumerate() {
         note(slots, *link, keys[place].saturating_sub(1) as usize);
     }
 }

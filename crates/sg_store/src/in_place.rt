@@ -1,6 +1,6 @@
 //! One of several stores freed in its place.
 
-ghost use Rattle.std.specs.Prelude.{◌≡◌, ◌+◌, ◌<◌, ◌≤◌, ◌++◌, ◌∷◌, [], length, OnOk, OnErr, IfOk, vec_capacity};
+ghost use Rattle.std.specs.Prelude.{◌≡◌, ◌+◌, ◌<◌, ◌≤◌, ◌++◌, ◌∷◌, [], length, OnOk, OnErr, vec_capacity};
 ghost use Rattle.sg_store.specs.Freeing.{IsCleared, IsPruned, ChangesStore};
 
 use crate::store::{Store, Stores};

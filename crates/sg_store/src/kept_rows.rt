@@ -9,7 +9,7 @@ ghost use Rattle.sg_store.specs.steps.KeptWords.{in_row, AreMarked, LeadsWithin}
 ghost use Rattle.sg_store.specs.steps.Planning.{IsPlannable, IsPlanFor};
 
 use crate::kept_words::is_in_row;
-use crate::node::{NodeWords, bit, word};
+use crate::node::{NodeWords, bit};
 use crate::node_plan::{NodePlan, StayingWords};
 use sg_layout::{Kind, NodeShape};
 use sg_words::{Items, Memory};
@@ -129,7 +129,7 @@ fn leads_to_kept(node: &NodeShape, kept: &NodeWords, slot: usize, row: &[bool]) 
     match node.kind {
         Kind::Dense => is_in_row(row, slot),
         Kind::Bitmasked => bit(&kept.masks, slot) && is_in_row(row, slot),
-        Kind::Pointer => is_link_in_row(word(&kept.links, slot), row),
+        Kind::Pointer => is_link_in_row(kept.links.get(slot), row),
         Kind::Hash => unreachable!(),
         Kind::Dynamic => unreachable!(),
     }

@@ -5,6 +5,7 @@ ghost use Rattle.sg_store.specs.steps.KeptTables.{IsOldTable, IsKeptSoFar, IsKep
 
 use crate::kept_rows::is_link_in_row;
 use crate::node::word;
+use crate::word_row::WordRow;
 use sg_hash::put;
 use sg_words::{Items, Memory};
 use std::alloc::Global;
@@ -20,7 +21,7 @@ pub(crate) struct KeptTable {
 pub(crate) fn kept_table(
     alloc: Global,
     keys: &Items<u64>,
-    links: &Items<u64>,
+    links: &WordRow,
     row: &[bool],
 ) -> Result<KeptTable, Memory>
     requires { IsOldTable keys.now links.now }
@@ -42,7 +43,7 @@ fn put_kept(
     kept: &mut [u64],
     beside: &mut [u64],
     keys: &Items<u64>,
-    links: &Items<u64>,
+    links: &WordRow,
     place: usize,
     row: &[bool],
 )
@@ -52,7 +53,7 @@ fn put_kept(
     ensures { IsKeptSoFar keys.now links.now row.now kept.new beside.new (place + 1) }
 {
     let key = word(keys, place);
-    let link = word(links, place);
+    let link = links.get(place);
     if key != 0 && is_link_in_row(link, row) {
         put(kept, beside, (key - 1) as u32, (link - 1) as u32);
     }

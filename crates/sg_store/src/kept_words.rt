@@ -5,7 +5,8 @@ ghost use Rattle.sg_store.specs.Slots.{mask_bit};
 ghost use Rattle.sg_store.specs.steps.KeptWords.{in_row, kept_link, AreKeptBits, AreKeptLinks};
 
 use crate::mask::mark;
-use crate::node::{bit, word};
+use crate::node::bit;
+use crate::word_row::WordRow;
 use sg_words::{Items, Memory};
 use std::alloc::Global;
 
@@ -43,26 +44,22 @@ fn keep_bit(kept: &mut Items<u64>, masks: &Items<u64>, row: &[bool], slot: usize
 }
 
 /// The links with those alone whose numbers are kept, and 0 in the place of the others.
-pub(crate) fn kept_links(
-    alloc: Global,
-    links: &Items<u64>,
-    row: &[bool],
-) -> Result<Items<u64>, Memory>
+pub(crate) fn kept_links(alloc: Global, links: &WordRow, row: &[bool]) -> Result<WordRow, Memory>
     ensures { IfOk result (λ kept. AreKeptLinks links.now kept row.now (length links.now)) }
 {
-    let mut kept = Items::from_slice(alloc, links.as_slice())?;
-    for slot in 0..kept.len() {
+    let mut kept = links.copy(alloc)?;
+    for slot in 0..links.standing().len() {
         keep_link(&mut kept, row, slot);
     }
     Ok(kept)
 }
 
 /// Makes a link 0, where its number is not kept.
-fn keep_link(kept: &mut Items<u64>, row: &[bool], slot: usize)
+fn keep_link(kept: &mut WordRow, row: &[bool], slot: usize)
     requires { slot < length kept.old }
     ensures { kept.new ≡ slice_set kept.old slot (kept_link (in_row row.now) (slice_index kept.old slot)) }
 {
-    let link = word(kept, slot);
+    let link = kept.get(slot);
     kept.set(slot, kept_link(link, row));
 }
 

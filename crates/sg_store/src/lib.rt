@@ -6,6 +6,7 @@ mod by_workers;
 pub mod cells;
 mod cutting;
 mod dynamic;
+pub mod field_row;
 mod frame;
 mod fresh;
 mod front;
@@ -38,7 +39,9 @@ pub mod store;
 mod trimming;
 mod valued;
 mod walk;
+pub mod word_row;
 
+pub use field_row::FieldFront;
 pub use links::LinkAt;
 pub use reach::Full;
 pub use spot::Spot;

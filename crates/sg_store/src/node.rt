@@ -5,8 +5,9 @@ ghost use Rattle.sg_links.specs.Lists.{list_of};
 ghost use Rattle.sg_layout.specs.Axes.{count_of, size_of};
 ghost use Rattle.sg_store.specs.steps.Walking.{step_of_walk, unless_unset, CanFind, IsTableFor, IsChainFor};
 
+use crate::word_row::WordRow;
 use sg_coord::{count, wide_quotient, wide_remainder};
-use sg_hash::find;
+use sg_hash::place_of;
 use sg_layout::{Kind, NodeShape};
 use sg_links::Links;
 use sg_pool::Pool;
@@ -19,7 +20,7 @@ use sg_words::Items;
 #[derive(Debug, Drop)]
 pub struct NodeWords {
     pub keys: Items<u64>,
-    pub links: Items<u64>,
+    pub links: WordRow,
     pub masks: Items<u64>,
     pub lengths: Items<u64>,
     pub chains: Links,
@@ -77,10 +78,10 @@ fn past_bit(masks: &Items<u64>, slot: usize, bits: bool) -> Option<usize>
 }
 
 /// The number that the link at an index has. None if there is no link.
-fn link_at(links: &Items<u64>, index: usize) -> Option<usize>
+fn link_at(links: &WordRow, index: usize) -> Option<usize>
     ensures { result ≡ linked (slice_index links.now index) }
 {
-    let link = word(links, index);
+    let link = links.get(index);
     if link == 0 {
         None
     } else {
@@ -107,12 +108,12 @@ pub(crate) fn chunk_of(node: &NodeShape) -> u32
 }
 
 /// The number that stands beside a slot's number as a key. None if it is no key.
-pub(crate) fn beside(keys: &Items<u64>, links: &Items<u64>, slot: usize) -> Option<usize>
+pub(crate) fn beside(keys: &Items<u64>, links: &WordRow, slot: usize) -> Option<usize>
     requires { IsTableFor keys.now links.now slot }
     ensures { result ≡ beside keys.now links.now slot }
 {
-    match find(keys.as_slice(), links.as_slice(), slot as u32) {
-        Some(number) => Some(number as usize),
+    match place_of(keys.as_slice(), slot as u32) {
+        Some(place) => Some((links.get(place) - 1) as usize),
         None => None,
     }
 }

@@ -17,6 +17,7 @@ use crate::kept_table::{KeptTable, kept_table};
 use crate::kept_words::{kept_links, kept_masks};
 use crate::node::{NodeWords, chunk_of, overwrite};
 use crate::shorten::shorten_all;
+use crate::word_row::WordRow;
 use sg_layout::{Kind, NodeShape};
 use sg_words::{Items, Memory};
 use std::alloc::Global;
@@ -33,8 +34,8 @@ pub(crate) struct NodePlan {
 pub(crate) enum StayingWords {
     Whole,
     Masks(Items<u64>),
-    Linked(Items<u64>),
-    Table(Items<u64>, KeptTable),
+    Linked(WordRow),
+    Table(WordRow, KeptTable),
     Lengths(Items<u64>),
 }
 
@@ -103,8 +104,8 @@ impl NodeWords {
         match &plan.words {
             StayingWords::Whole => {}
             StayingWords::Masks(masks) => overwrite(&mut self.masks, masks.as_slice()),
-            StayingWords::Linked(links) => self.cut_links(links.as_slice()),
-            StayingWords::Table(links, table) => self.cut_table(links.as_slice(), table),
+            StayingWords::Linked(links) => self.cut_links(links),
+            StayingWords::Table(links, table) => self.cut_table(links, table),
             StayingWords::Lengths(lengths) => self.cut_lengths(lengths.as_slice(), chunk_of(node)),
         }
         self.numbers_parted();
@@ -119,7 +120,7 @@ impl NodeWords {
     }
 
     /// Gives a pointer node those of its links that stay, and gives back the numbers of the others.
-    fn cut_links(&mut self, links: &[u64])
+    fn cut_links(&mut self, links: &WordRow)
         requires as_many { length links.now ≡ length self.old.links }
         requires linked { HasLinks self.old.pool self.old.links }
         requires once { IsLinkedOnce self.old.links }
@@ -128,12 +129,12 @@ impl NodeWords {
     {
         // for the bound that it ensures
         self.pool.places();
-        give_back_cut(&mut self.pool, self.links.as_slice(), links);
-        overwrite(&mut self.links, links);
+        give_back_cut(&mut self.pool, &self.links, links);
+        self.links.become_like(links);
     }
 
     /// Gives a hash node its new table, and gives back the numbers of the links of its old one that don't stay.
-    fn cut_table(&mut self, links: &[u64], table: &KeptTable)
+    fn cut_table(&mut self, links: &WordRow, table: &KeptTable)
         requires as_many { length links.now ≡ length self.old.links }
         requires keys_many { length table.now.keys ≡ length self.old.keys }
         requires links_many { length table.now.links ≡ length self.old.links }
@@ -144,9 +145,9 @@ impl NodeWords {
     {
         // for the bound that it ensures
         self.pool.places();
-        give_back_cut(&mut self.pool, self.links.as_slice(), links);
+        give_back_cut(&mut self.pool, &self.links, links);
         overwrite(&mut self.keys, table.keys.as_slice());
-        overwrite(&mut self.links, table.links.as_slice());
+        self.links.overwrite(table.links.as_slice());
     }
 
     /// Gives a dynamic node other lengths, and cuts its chains to them.

@@ -1,11 +1,11 @@
 //! The plans of a store's nodes, from the cells that are kept up to the root.
 
 ghost use Rattle.std.specs.Prelude.{◌≡◌, ℕ, suc, ◌<◌, ◌≤◌, Bool, true, length, IfOk, OnOk};
-ghost use Rattle.sg_store.specs.WellFormed.{cell_count};
+ghost use Rattle.sg_store.specs.steps.Marks.{marked_from};
 ghost use Rattle.sg_store.specs.steps.KeptWords.{in_row};
-ghost use Rattle.sg_store.specs.steps.StorePlans.{places_above, IsRowAt, IsSomeRow, ArePlansFrom, ArePlans};
+ghost use Rattle.sg_store.specs.steps.StorePlans.{marked_above, IsRowAt, IsSomeRow, ArePlansFrom, ArePlans};
 
-use crate::fresh::places_below;
+use crate::front::marked_below;
 use crate::kept_rows::row_above;
 use crate::node_plan::{NodePlan, plan_node};
 use crate::store::Store;
@@ -16,7 +16,7 @@ use std::alloc::Global;
 impl Store {
     /// The plans of all nodes, that of the last node first, where these cells are kept.
     pub(crate) fn plans(&self, alloc: Global, cells: Items<bool>) -> Result<Vec<NodePlan>, Memory>
-        requires { (cell : ℕ) → in_row cells cell ≡ true → cell < cell_count self.now.shape }
+        requires { (cell : ℕ) → in_row cells cell ≡ true → cell < marked_from self.now.shape.nodes self.now.nodes 1 }
         ensures { IfOk result (λ plans. ArePlans self.now (in_row cells) plans.items) }
     {
         let nodes = self.layout.nodes();
@@ -52,7 +52,7 @@ impl Store {
         let kept = &self.nodes.as_slice()[index];
         let plan = plan_node(alloc, node, kept, row)?;
         let size = self.layout.size(index) as usize;
-        let above = row_above(alloc, node, kept, size, self.places_above(index), &plan)?;
+        let above = row_above(alloc, node, kept, size, self.marked_above(index), &plan)?;
         plans.push(plan)?;
         Ok(above)
     }
@@ -78,17 +78,19 @@ impl Store {
         Ok(())
     }
 
-    /// How many places stand above the node with this index, from 0.
-    fn places_above(&self, index: usize) -> usize
+    /// How many places above the node with this index, from 0, may be live.
+    fn marked_above(&self, index: usize) -> usize
         requires { index < length self.now.shape.nodes }
-        ensures { result ≡ places_above self.now.shape.nodes index }
+        ensures { result ≡ marked_above self.now index }
     {
-        // for the laws that they ensure
-        rules_decide();
         let nodes = self.layout.shape().nodes.as_slice();
+        let words = self.nodes.as_slice();
         let mut places = 1;
         for above in 0..index {
-            places = places_below(&nodes[above], places * self.layout.size(above) as usize);
+            let node = &nodes[above];
+            let kept = &words[above];
+            let slots = places * self.layout.size(above) as usize;
+            places = marked_below(node, kept, slots);
         }
         places
     }

@@ -7,7 +7,7 @@ ghost use Rattle.sg_store.specs.steps.Settling.{CanSettleLinks, CanRelink, IsRel
 ghost use Rattle.sg_store.specs.steps.Filling.{IsUnlinkedStock, FilledTo, IsPlan};
 ghost use Rattle.sg_store.specs.steps.Levels.{IsPointerOf, OpensNext, IsPastCap, IfRefused};
 
-use crate::node::{NodeWords, overwrite, word};
+use crate::node::{NodeWords, word};
 use crate::reach::Full;
 use crate::store::Store;
 use sg_coord::Coord;
@@ -56,7 +56,7 @@ fn plan_links(alloc: Global, kept: &NodeWords, cap: u32, slots: &[usize]) -> Res
     ensures { IfOk result (IsPlan kept.now cap slots.now) }
 {
     let stock = kept.pool.stock(alloc)?;
-    let mut links = Items::from_slice(alloc, kept.links.as_slice())?;
+    let mut links = Items::from_vec(kept.links.whole(alloc)?);
     let room = (cap - kept.pool.live()) as usize;
     let taken = fill(&mut links, stock.as_slice(), room, slots);
     Ok(Plan {
@@ -73,7 +73,7 @@ impl NodeWords {
         requires { CanRelink links.now taken.now self.old }
         ensures { IsRelinked links.now taken.now self.old self.new }
     {
-        overwrite(&mut self.links, links);
+        self.links.overwrite(links);
         self.pool.settle(taken);
         // for the law that it ensures
         self.pool.places();

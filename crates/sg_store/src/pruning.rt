@@ -29,8 +29,8 @@ impl Store {
         paths_tell();
         rules_decide();
         numbering(&self.layout.extents());
-        let cells = Items::from_vec(vec![in alloc; false; self.cells()]?);
-        let plans = self.plans(alloc, cells)?;
+        let none = Items::new(alloc);
+        let plans = self.plans(alloc, none)?;
         empty_rows(&mut self.fields);
         trim_all(
             &mut self.nodes,

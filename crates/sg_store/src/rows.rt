@@ -1,4 +1,4 @@
-ghost use Rattle.std.specs.Prelude.{◌≡◌, ◌≢◌, ℕ, ◌+◌, ◌<◌, ◌≤◌, ◌++◌, List, [], length, Some, slice_index, slice_index_or, slice_set, take, drop};
+ghost use Rattle.std.specs.Prelude.{◌≡◌, ◌≢◌, ℕ, ◌+◌, ◌<◌, ◌≤◌, ◌++◌, [], length, Some, IfOk, slice_index, slice_index_or, slice_set, take, drop};
 ghost use Rattle.std.specs.List.{concat};
 ghost use Rattle.sg_coord.specs.declared.coord.Coord.{Coord};
 ghost use Rattle.sg_flat.specs.declared.state.FlatLayout.{FlatLayout};
@@ -9,36 +9,42 @@ ghost use Rattle.sg_store.specs.WellFormed.{IsFieldRow};
 ghost use Rattle.sg_store.specs.StandsFor.{StandsFor};
 ghost use Rattle.sg_store.specs.Rows.{IsFieldFront, put_over, SetsRow};
 
+use crate::field_row::{FieldFront, FieldRow};
 use crate::store::Store;
 use sg_coord::numbering;
 use sg_layout::paths_tell;
-use sg_words::Items;
+use sg_words::{Items, Memory};
+use std::alloc::Global;
 
 impl Store {
     /// The values of a field, from 0: a word for each cell, which is 0 if the cell is that of no coordinate.
-    pub fn field_row(&self, place: u32) -> &[u32]
+    pub fn field_row(&self, alloc: Global, place: u32) -> Result<FieldFront<'_>, Memory>
         requires field { place < length self.now.shape.fields }
-        ensures row { IsFieldRow self.now result.now }
-        ensures words { (cell : ℕ) → slice_index result.now cell ≡ word_in self.now place cell }
-        ensures idle { (cell : ℕ) → ((at : Coord) → cell_in self.now at ≢ Some cell) → slice_index result.now cell ≡ 0 }
-        ensures stands { (flat : FlatLayout) → StandsFor self.now flat → (at : Coord) (cell : ℕ) →
-            cell_in self.now at ≡ Some cell → slice_index result.now cell ≡ value_at self.now.shape flat place at }
+        ensures row { IfOk result (IsFieldRow self.now) }
+        ensures words { IfOk result (λ row. (cell : ℕ) → slice_index row cell ≡ word_in self.now place cell) }
+        ensures idle { IfOk result (λ row. (cell : ℕ) → ((at : Coord) → cell_in self.now at ≢ Some cell) → slice_index row cell ≡ 0) }
+        ensures stands { IfOk result (λ row. (flat : FlatLayout) → StandsFor self.now flat → (at : Coord) (cell : ℕ) →
+            cell_in self.now at ≡ Some cell → slice_index row cell ≡ value_at self.now.shape flat place at) }
     {
         // for the laws that they ensure
         paths_tell();
         numbering(&self.layout.extents());
-        self.fields.as_slice()[place as usize].as_slice()
+        let row = &self.fields.as_slice()[place as usize];
+        let front = row.front(alloc, row.len())?;
+        Ok(front)
     }
 
     /// The values of a field, from 0, in the first cells, with all cells of coordinates among them: a word for each, which is 0 if the
-    /// cell is that of no coordinate. In time by the nodes.
-    pub fn field_front(&self, place: u32) -> &[u32]
+    /// cell is that of no coordinate. In time by the nodes, and by these cells where words past the last that was given are among them.
+    pub fn field_front(&self, alloc: Global, place: u32) -> Result<FieldFront<'_>, Memory>
         requires field { place < length self.now.shape.fields }
-        ensures front { IsFieldFront self.now result.now }
-        ensures words { (cell : ℕ) → slice_index result.now cell ≡ word_in self.now place cell }
+        ensures front { IfOk result (IsFieldFront self.now) }
+        ensures words { IfOk result (λ front. (cell : ℕ) → slice_index front cell ≡ word_in self.now place cell) }
     {
         let cells = self.cells_in_use();
-        &self.fields.as_slice()[place as usize].as_slice()[..cells]
+        let row = &self.fields.as_slice()[place as usize];
+        let front = row.front(alloc, cells)?;
+        Ok(front)
     }
 
     /// Gives a field, from 0, the values that stand in these parts, one after the other: a word for each cell, which is 0 if the
@@ -73,7 +79,7 @@ impl Store {
 }
 
 /// Gives the front of a row the words of these parts.
-fn rewrite(row: &mut Items<u32>, parts: &[Items<u32>])
+fn rewrite(row: &mut FieldRow, parts: &[Items<u32>])
     requires { length (concat parts.now) ≤ length row.old }
     ensures { row.new ≡ put_over (concat parts.now) row.old }
 {
@@ -84,13 +90,14 @@ fn rewrite(row: &mut Items<u32>, parts: &[Items<u32>])
 }
 
 /// Gives a row these words from a cell on, and says at which cell they end.
-fn write(row: &mut Items<u32>, from: usize, words: &[u32]) -> usize
+fn write(row: &mut FieldRow, from: usize, words: &[u32]) -> usize
     requires { from + length words.now ≤ length row.old }
     ensures written { row.new ≡ take from row.old ++ (words.now ++ drop (from + length words.now) row.old) }
     ensures end { result ≡ from + length words.now }
 {
     // for the bound that it ensures
     let _cells = row.len();
+    row.stand(from + words.len());
     let mut cell = from;
     for word in words {
         row.set(cell, *word);

@@ -36,7 +36,7 @@ impl Store {
         rules_decide();
         let _extents = self.layout.extents();
         let kept = &self.nodes.as_slice()[node as usize - 1];
-        Ok(Items::from_slice(alloc, kept.links.as_slice())?)
+        Ok(Items::from_vec(kept.links.whole(alloc)?))
     }
 
     /// All numbers of a pointer or hash node's pool that are not live, each once. The node is numbered from 1.

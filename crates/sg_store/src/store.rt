@@ -4,6 +4,7 @@ ghost use Rattle.sg_flat.specs.State.{opening_layout};
 ghost use Rattle.sg_store.specs.WellFormed.{IsWellFormed};
 ghost use Rattle.sg_store.specs.StandsFor.{StandsFor};
 
+use crate::field_row::FieldRow;
 use crate::frame::Frame;
 use crate::fresh::{FreshNodes, fresh_nodes, zero_rows};
 use crate::node::NodeWords;
@@ -17,7 +18,7 @@ use std::marker::Model;
 pub struct Store {
     pub(crate) layout: Frame,
     pub(crate) nodes: Vec<NodeWords>,
-    pub(crate) fields: Vec<Items<u32>>,
+    pub(crate) fields: Vec<FieldRow>,
 }
 
 impl Model for Store {
@@ -60,14 +61,14 @@ impl Store {
         })
     }
 
-    /// A copy of the store.
+    /// A copy of the store. In time by the words that were given to fields, and by the words of the nodes.
     pub fn copy(&self, alloc: Global) -> Result<Store, Memory>
         ensures { IfOk result (λ copy. copy ≡ self.now) }
     {
         let nodes = copied_nodes(alloc, self.nodes.as_slice())?;
         let mut fields = Vec::new(alloc);
         for row in &self.fields {
-            fields.push(Items::from_slice(alloc, row.as_slice())?)?;
+            fields.push(row.copy(alloc)?)?;
         }
         Ok(Store {
             layout: self.layout.copy(alloc)?,

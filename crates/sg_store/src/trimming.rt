@@ -8,10 +8,10 @@ ghost use Rattle.sg_store.specs.steps.Planning.{IsPlannable, IsPlanFor};
 ghost use Rattle.sg_store.specs.steps.Settling.{ChangesAt};
 ghost use Rattle.sg_store.specs.steps.StorePlans.{ArePlanned, IsTrimmedBy, AreTrimmedTo, EmptiesRow};
 
+use crate::field_row::FieldRow;
 use crate::node::NodeWords;
 use crate::node_plan::NodePlan;
 use sg_layout::NodeShape;
-use sg_words::Items;
 
 /// Trims all nodes to their plans, of which that of the last node is the first.
 pub(crate) fn trim_all(nodes: &mut Vec<NodeWords>, shapes: &[NodeShape], plans: &[NodePlan])
@@ -37,7 +37,7 @@ fn trim_at(nodes: &mut Vec<NodeWords>, index: usize, node: &NodeShape, plan: &No
 }
 
 /// Empties rows: all their words are 0 then.
-pub(crate) fn empty_rows(rows: &mut Vec<Items<u32>>)
+pub(crate) fn empty_rows(rows: &mut Vec<FieldRow>)
     ensures many { length rows.new.items ≡ length rows.old.items }
     ensures zeros { (cells : ℕ) → All (λ row. length row ≡ cells) rows.old.items → All (IsZeroRow cells) rows.new.items }
 {
@@ -47,19 +47,10 @@ pub(crate) fn empty_rows(rows: &mut Vec<Items<u32>>)
 }
 
 /// Empties one of these rows, by its index from 0.
-fn empty_row_at(rows: &mut Vec<Items<u32>>, index: usize)
+fn empty_row_at(rows: &mut Vec<FieldRow>, index: usize)
     requires { index < length rows.old.items }
     ensures { EmptiesRow rows.old.items rows.new.items index }
 {
     let row = &mut rows[index];
-    empty_row(row);
-}
-
-/// Empties a row: all its words are 0 then.
-fn empty_row(row: &mut Items<u32>)
-    ensures { IsZeroRow (length row.old) row.new }
-{
-    for cell in 0..row.len() {
-        row.set(cell, 0);
-    }
+    row.clear();
 }

@@ -105,7 +105,7 @@ struct Race {
 }
 
 /// Up to the cap all is active, and past it nothing changes; the gate is passed once before each piece.
-static RACES: [Race; 2] = [
+static RACES: [Race; 4] = [
     Race {
         nodes: &[
             (Pointer, [16, 0, 0], 4),
@@ -150,7 +150,67 @@ static RACES: [Race; 2] = [
             },
         ],
     },
+    // the first pool is just enough for the second round, in which the second is too small, and for the first, in which both are
+    Race {
+        nodes: &[
+            (Pointer, [8, 0, 0], 4),
+            (Pointer, [8, 0, 0], 8),
+            (Dense, [4, 0, 0], 0),
+        ],
+        rounds: &[
+            Round {
+                points: 16,
+                step: 8,
+                answer: (2, 0, 16),
+            },
+            Round {
+                points: 8,
+                step: 16,
+                answer: (0, 32, 8),
+            },
+            Round {
+                points: 9,
+                step: 16,
+                answer: (1, 32, 9),
+            },
+        ],
+    },
+    Race {
+        nodes: &[
+            (Hash, [4, 0, 0], 4),
+            (Pointer, [4, 0, 0], 8),
+            (Bitmasked, [4, 0, 0], 0),
+            (Dynamic, [4, 0, 0], 16),
+        ],
+        rounds: &[
+            Round {
+                points: 16,
+                step: 3,
+                answer: (0, 36, 16),
+            },
+            Round {
+                points: 16,
+                step: 16,
+                answer: (2, 36, 16),
+            },
+        ],
+    },
 ];
+
+/// All workers want the same slot at every level.
+static SAME_SLOT: Race = Race {
+    nodes: &[
+        (Pointer, [4, 0, 0], 1),
+        (Bitmasked, [4, 0, 0], 0),
+        (Pointer, [4, 0, 0], 1),
+        (Bitmasked, [4, 0, 0], 0),
+    ],
+    rounds: &[Round {
+        points: 4,
+        step: 0,
+        answer: (0, 1, 4),
+    }],
+};
 
 static WORKERS: [u32; 4] = [1, 2, 3, 16];
 
@@ -254,6 +314,100 @@ fn workers_race_for_what_is_wanted(rt: HostRuntime) -> Result<(), Fail> {
             let wrong = told(&rt, rt.alloc(), race, *workers)?;
             assert_eq!(rt; wrong, None);
         }
+    }
+    Ok(())
+}
+
+#[test]
+fn workers_want_the_same_slot(rt: HostRuntime) -> Result<(), Fail> {
+    for _turn in 0..1000 {
+        let wrong = told(&rt, rt.alloc(), &SAME_SLOT, 4)?;
+        assert_eq!(rt; wrong, None);
+    }
+    Ok(())
+}
+
+/// Points that count how often they are asked for, and by which pieces: the sum of their numbers from 1.
+#[derive(Drop)]
+struct CountedPoints {
+    points: Points,
+    count: AtomicU64,
+    pieces: AtomicU64,
+}
+
+impl Wanted for CountedPoints {
+    type Hand = ();
+
+    ghost use Rattle.std.specs.Prelude.{◌≡◌, ℕ, length, slice_get};
+    ghost use Rattle.sg_coord.specs.Bounds.{bounds_of};
+    ghost use Rattle.trials_stores.specs.steps.Listed.{listed};
+
+    ghost count = { λ asked. length asked.points.coords };
+
+    ghost bounds = { λ asked. bounds_of asked.points.extents };
+
+    ghost Means = { λ asked list. (piece : ℕ) → list piece ≡ listed (slice_get asked.points.coords piece) };
+
+    ghost IsHand = { λ asked hand. Unit {0} };
+
+    fn pieces(&self) -> u32 {
+        self.points.pieces()
+    }
+
+    fn hand(&self, _alloc: Global) -> Result<(), Memory> {
+        Ok(())
+    }
+
+    fn wanted(&self, _hand: &mut (), piece: u32, into: &mut Vec<Coord>) -> Result<(), Memory> {
+        self.count.fetch_add(1, Ordering::SeqCst);
+        self.pieces.fetch_add(piece as u64 + 1, Ordering::SeqCst);
+        into.push(self.points.coords.as_slice()[piece as usize])?;
+        Ok(())
+    }
+}
+
+/// How often the pieces were asked for in an activation of 64 points, and the sum of the numbers of these pieces, from 1.
+fn asked_in<R: Threads + Sync>(
+    rt: &R,
+    alloc: Global,
+    store: &Store,
+    workers: u32,
+) -> Result<(u64, u64), Fail> {
+    let gate = new_gate();
+    let Some(points) = points_of(alloc, store.layout().extents(), 64, 4)? else {
+        return Err(Fail::from("outside"));
+    };
+    if workers < 1 || workers > 16 {
+        return Err(Fail::from("workers"));
+    }
+    let want = CountedPoints {
+        points,
+        count: AtomicU64::new(0),
+        pieces: AtomicU64::new(0),
+    };
+    let answer = activated(rt, alloc, store, &want, workers, &gate);
+    match answer {
+        Ok(Some(_)) => Ok((
+            want.count.load(Ordering::SeqCst),
+            want.pieces.load(Ordering::SeqCst),
+        )),
+        _ => Err(Fail::from("active")),
+    }
+}
+
+/// Whatever the number of levels, each piece is asked once what it wants.
+#[test]
+fn pieces_are_asked_once(rt: HostRuntime) -> Result<(), Fail> {
+    let nodes = [
+        (Pointer, [4, 0, 0], 4),
+        (Bitmasked, [4, 0, 0], 0),
+        (Pointer, [4, 0, 0], 64),
+        (Bitmasked, [4, 0, 0], 0),
+    ];
+    let store = store_of(rt.alloc(), 1, &nodes)?;
+    for workers in &WORKERS {
+        let seen = asked_in(&rt, rt.alloc(), &store, *workers)?;
+        assert_eq!(rt; seen, (64, 2080));
     }
     Ok(())
 }

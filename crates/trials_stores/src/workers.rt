@@ -17,21 +17,23 @@ static BLOCKS: [[Node; 2]; 2] = [
 ];
 
 /// Whether two stores have three fields each, with equal rows.
-fn are_alike(one: &Store, other: &Store) -> bool {
+fn are_alike(alloc: Global, one: &Store, other: &Store) -> Result<bool, Fail> {
     if one.layout().shape().fields.len() != 3 || other.layout().shape().fields.len() != 3 {
-        return false;
+        return Ok(false);
     }
     for place in 0..3 {
-        if one.field_row(place) != other.field_row(place) {
-            return false;
+        let row = one.field_row(alloc, place)?;
+        let same = other.field_row(alloc, place)?;
+        if row.as_slice() != same.as_slice() {
+            return Ok(false);
         }
     }
-    one.cell_of(on_line(5)) == other.cell_of(on_line(5))
+    Ok(one.cell_of(on_line(5)) == other.cell_of(on_line(5)))
 }
 
 fn copy_is_alike(alloc: Global, store: &Store) -> Result<bool, Fail> {
     let copy = store.copy(alloc)?;
-    Ok(are_alike(store, &copy))
+    are_alike(alloc, store, &copy)
 }
 
 fn copies_are_alike<R: Threads + Sync>(
@@ -41,7 +43,7 @@ fn copies_are_alike<R: Threads + Sync>(
     workers: u32,
 ) -> Result<bool, Fail> {
     let copy = store.copy_by_workers(rt, alloc, workers)?;
-    Ok(are_alike(store, &copy))
+    are_alike(alloc, store, &copy)
 }
 
 /// Whether workers make a store of the same layout like this one.
@@ -55,7 +57,7 @@ fn made_is_alike<R: Threads + Sync>(
         return Err(Fail::from("many words"));
     }
     let made = Store::make_by_workers(rt, alloc, store.layout(), workers)?;
-    Ok(are_alike(&made, store))
+    are_alike(alloc, &made, store)
 }
 
 fn lists_are_alike<R: Threads + Sync>(

@@ -26,10 +26,9 @@ pub record AreKeptLinks (links kept : List ℕ) (row : List Bool) (through : ℕ
   pub as_many : length kept ≡ length links
   pub each : (slot : ℕ) → slice_index kept slot ≡ cond (nat_lt slot through) (kept_link (in_row row) (slice_index links slot)) (slice_index links slot)
 
--- the row keeps exactly those of so many cells in which some field has a word
-pub record HasWords (fields : List (List ℕ)) (row : List Bool) (cells : ℕ) : Type 0 where
-  pub long : length row ≡ cells
-  pub each : (cell : ℕ) → in_row row cell ≡ list_any (λ words. not (slice_index words cell == 0)) fields
+-- the row keeps exactly those cells in which some field has a word
+abbrev pub HasWords : List (List ℕ) → List Bool → Type 0
+HasWords fields row = (cell : ℕ) → in_row row cell ≡ list_any (λ words. not (slice_index words cell == 0)) fields
 
 -- a slot that leads to a place that is kept is one of the first so many
 abbrev pub LeadsWithin : (ℕ → Bool) → NodeShape → NodeWords → ℕ → Type 0

@@ -6,8 +6,9 @@ use Rattle.sg_pool.specs.Numbers.{IsParted}
 use Rattle.sg_store.specs.declared.node.NodeWords.{NodeWords}
 use Rattle.sg_store.specs.declared.node_plan.NodePlan.{NodePlan}
 use Rattle.sg_store.specs.StoreWords.{StoreWords}
-use Rattle.sg_store.specs.WellFormed.{IsWithinCap, cell_count, cells_below}
+use Rattle.sg_store.specs.WellFormed.{IsWithinCap, cells_below}
 use Rattle.sg_store.specs.steps.Fresh.{IsZeroRow}
+use Rattle.sg_store.specs.steps.Marks.{marked_from}
 use Rattle.sg_store.specs.steps.Trimming.{kept_above, IsTrimmed}
 use Rattle.sg_store.specs.steps.KeptWords.{in_row}
 use Rattle.sg_store.specs.steps.Planning.{IsPlannable, IsPlanFor}
@@ -28,10 +29,14 @@ kept_at nodes words cells index = kept_above (drop index nodes) (drop index word
 abbrev pub IsRowAt : List NodeShape → List NodeWords → (ℕ → Bool) → ℕ → List Bool → Type 0
 IsRowAt nodes words cells index row = (place : ℕ) → in_row row place ≡ kept_at nodes words cells index place
 
--- some cells of the store that a test keeps, so that the row keeps the places above the node that lead to them
+-- how many of them may be live
+abbrev pub marked_above : StoreWords → ℕ → ℕ
+marked_above store index = marked_from (take index store.shape.nodes) (take index store.nodes) 1
+
+-- some cells of the store that a test keeps, among those that may be reached, so that the row keeps the places above the node that lead to them
 pub record IsSomeRow (store : StoreWords) (index : ℕ) (row : List Bool) : Type 0 where
   pub cells : ℕ → Bool
-  pub within : (cell : ℕ) → cells cell ≡ true → cell < cell_count store.shape
+  pub within : (cell : ℕ) → cells cell ≡ true → cell < marked_from store.shape.nodes store.nodes 1
   pub is : IsRowAt store.shape.nodes store.nodes cells index row
 
 -- a plan of a node, for the places below it that are kept

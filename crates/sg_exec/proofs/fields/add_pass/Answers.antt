@@ -66,7 +66,7 @@ returns-then-values-eq0 g c = λ uses have.
     (λ active.
     let same : active.store ≡ store = same_Some _ _ (sym active.there ∙ there) in
     absurd (no_cell store (c.cells_are_active.ensures.active store) (c.paths_tell.ensures.is_slot store.shape) (c.paths_tell.ensures.whole store.shape) c.layout.ensures.well_formed
-    (λ cell reached. omega (arith, c.field_front-values.ensures.front.all_reached cell reached, c.if-values-eq0.true)) active.flat
+    (λ cell reached. omega (arith, c.in_ok-front.ensures.front.all_reached cell reached, ap length c.as_slice-values.ensures, c.if-values-eq0.true)) active.flat
     (subst (λ (s : StoreWords). StandsFor s active.flat) same active.stands) active.at active.active))
 
 pub returns : goal.returns
@@ -81,7 +81,7 @@ returns g c = λ uses have.
     let is_ty : slice_get store.shape.fields field ≡ Some c.in-Some-copied.ty =
     ap (λ (s : Shape). slice_get s.fields field) (sym c.layout.ensures.layout) ∙ ap (λ (s : Shape). slice_get s.fields field) (sym c.shape.ensures.value)
     ∙ sym c.get-2.ensures.value ∙ sym c.copied.ensures ∙ c.in-Some-copied.is in
-    let front = c.field_front-values.ensures.front in
+    let front = subst (IsFieldFront store) (sym c.as_slice-values.ensures) c.in_ok-front.ensures.front in
     let values = c.in_ok-pass.ensures.values in
     let made : IsPassOf mids it = record {
       store = store;
@@ -89,7 +89,7 @@ returns g c = λ uses have.
       field = is_ty ∙ ap (λ (ty : Ty). Some ty) (sym c.in_ok-pass.ensures.order);
       operator = c.in_ok-pass.ensures.operator;
       is_front = subst (λ (list : List ℕ). IsFieldFront store list) (sym values) front;
-      words = λ cell. ap (λ (list : List ℕ). slice_index list cell) values ∙ c.field_front-values.ensures.words cell;
+      words = λ cell. ap (λ (list : List ℕ). slice_index list cell) (values ∙ c.as_slice-values.ensures) ∙ c.in_ok-front.ensures.words cell;
     } in
     subst (λ (list : List Accumulated). HaveFields mids (uses ++ Writes c.args.layout c.args.field (Acc c.args.op) ∷ []) list c.push-2.new.self.items fields.owned.items) (sym {A = List Accumulated} c.in_ok-push.ensures.items)
     (subst (λ (seats : List AccSeat). HaveFields mids (uses ++ Writes c.args.layout c.args.field (Acc c.args.op) ∷ []) (fields.accumulated.items ++ it ∷ []) seats fields.owned.items) (sym {A = List AccSeat} c.in_ok-push-2.ensures.items)

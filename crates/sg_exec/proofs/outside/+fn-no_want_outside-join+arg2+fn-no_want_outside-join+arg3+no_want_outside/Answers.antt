@@ -1,4 +1,4 @@
-use Rattle.std.proofs.Common.{◌≡◌, ◌+◌, ◌-◌, ◌/◌, ◌≤◌, Bool, Result, map, sym, subst, arith}
+use Rattle.std.proofs.Common.{◌+◌, ◌-◌, ◌/◌, ◌≤◌, Bool, Result, map, sym, subst, arith}
 use Rattle.sg_words.specs.declared.memory.Stop.{Stop}
 use Rattle.sg_flat.specs.declared.effects.RunFault.{RunFault}
 use Rattle.sg_exec.specs.steps.Moments.{slice_turn}

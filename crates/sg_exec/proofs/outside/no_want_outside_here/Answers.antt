@@ -1,5 +1,4 @@
-use Rattle.std.proofs.Common.{◌≡◌, ◌∙◌, ◌+◌, ◌-◌, ◌*◌, List, length, take, drop, arith}
-use Rattle.sg_coord.specs.declared.coord.Coord.{Coord}
+use Rattle.std.proofs.Common.{◌≡◌, ◌∙◌, ◌-◌, ◌*◌, length, take, drop, arith}
 use Rattle.sg_exec.specs.steps.Moments.{slice_turn}
 use Rattle.sg_exec.specs.steps.Racing.{between}
 use Rattle.sg_exec.proofs.Batches.{named_batch, told_more, told_stop, told_end}

@@ -1,4 +1,4 @@
-use Rattle.std.proofs.Common.{◌≡◌, ◌≢◌, ℕ, suc, ◌-◌, ◌<◌, List, length, inl, inr, refl, sym, ap, ◌∙◌, subst, arith}
+use Rattle.std.proofs.Common.{◌≡◌, ℕ, suc, ◌-◌, List, length, inl, inr, sym, ap, ◌∙◌, subst, arith}
 use Rattle.std.specs.Prelude.{slice_index}
 use Rattle.std.proofs.lemmas.Option.{none-some}
 use Rattle.sg_layout.specs.declared.shape.Kind.TheVariants.{Dense, Bitmasked, Pointer, Hash, Dynamic}
@@ -11,19 +11,17 @@ use Rattle.sg_store.proofs.held.held_slots.Goals as goal
 pub note_links-requires-clause-within : goal.note_links-requires-clause-within
 note_links-requires-clause-within c = λ place number at.
     let own = as_kind c.args.node.now c.args.kept.now Pointer c.in-Pointer.is c.requires.node in
-    let there : slice_index c.args.kept.now.links place ≡ suc number = ap (λ (xs : List ℕ). slice_index xs place) (sym c.as_slice.ensures) ∙ at in
-    omega (arith, pointer_below c.args.node.now c.args.kept.now own.0 own.1 own.2 place number there, ap length c.from_vec-slots.ensures, c.in_ok-vec.ensures.len, c.places-places.ensures.places)
+    omega (arith, pointer_below c.args.node.now c.args.kept.now own.0 own.1 own.2 place number at, ap length c.from_vec-slots.ensures, c.in_ok-vec.ensures.len, c.places-places.ensures.places)
 
 pub note_keys-requires-clause-within : goal.note_keys-requires-clause-within
 note_keys-requires-clause-within c = λ place number at.
     let own = as_kind c.args.node.now c.args.kept.now Hash c.in-Hash.is c.requires.node in
-    let there : slice_index c.args.kept.now.links place ≡ suc number = ap (λ (xs : List ℕ). slice_index xs place) (sym c.as_slice-in-Hash-2.ensures) ∙ at in
-    omega (arith, hash_below c.args.node.now c.args.kept.now own.0 own.1 own.2 place number there, ap length c.from_vec-slots.ensures, c.in_ok-vec.ensures.len, c.places-places.ensures.places)
+    omega (arith, hash_below c.args.node.now c.args.kept.now own.0 own.1 own.2 place number at, ap length c.from_vec-slots.ensures, c.in_ok-vec.ensures.len, c.places-places.ensures.places)
 
 pub note_keys-requires-clause-once : goal.note_keys-requires-clause-once
 note_keys-requires-clause-once c =
     let own = as_kind c.args.node.now c.args.kept.now Hash c.in-Hash.is c.requires.node in
-    subst IsLinkedOnce (sym c.as_slice-in-Hash-2.ensures) (hash_once c.args.node.now c.args.kept.now own.0 own.1 own.2)
+    hash_once c.args.node.now c.args.kept.now own.0 own.1 own.2
 
 pub note_chains-requires-clause-short : goal.note_chains-requires-clause-short
 note_chains-requires-clause-short c = λ head.
@@ -43,13 +41,12 @@ returns c =
       ])
       | in-Pointer w ↦ subst (HasSlots node kept) (sym w.slots-is)
           (pointer_slots node kept old w.note_links.new.slots w.in-Pointer.is many
-          (subst (λ (xs : List ℕ). HeldSoFar (λ place. place) xs old w.note_links.new.slots (length xs)) w.as_slice.ensures w.note_links.ensures))
+          w.note_links.ensures)
       | in-Hash w ↦
           let own = as_kind node kept Hash w.in-Hash.is c.requires.node in
           subst (HasSlots node kept) (sym w.slots-is)
           (hash_slots node kept own.0 own.1 old w.note_keys.new.slots w.in-Hash.is own.2 many
-          (subst (λ (ks : List ℕ). HeldSoFar (λ place. slice_index ks place - 1) kept.links old w.note_keys.new.slots (length kept.links)) w.as_slice-in-Hash.ensures
-          (subst (λ (xs : List ℕ). HeldSoFar (λ place. slice_index w.as_slice-in-Hash.result.now place - 1) xs old w.note_keys.new.slots (length xs)) w.as_slice-in-Hash-2.ensures w.note_keys.ensures)))
+          (subst (λ (ks : List ℕ). HeldSoFar (λ place. slice_index ks place - 1) kept.links old w.note_keys.new.slots (length kept.links)) w.as_slice.ensures w.note_keys.ensures))
       | in-Dynamic w ↦ subst (HasSlots node kept) (sym w.slots-is)
           (dynamic_slots node kept old w.note_chains.new.slots w.in-Dynamic.is many
           (subst (λ full. ChainsNoted kept.chains full (length kept.chains.lists) old w.note_chains.new.slots) c.requires.full w.note_chains.ensures))

@@ -1,4 +1,4 @@
-use Rattle.std.proofs.Common.{◌≡◌, ℕ, ◌+◌, ◌<◌, List, Some, sym, ◌∙◌, arith}
+use Rattle.std.proofs.Common.{ℕ, List, sym, ◌∙◌, arith}
 use Rattle.sg_links.specs.Lists.{list_of}
 use Rattle.sg_links.proofs.Uses.{stands_at_one_place}
 use Rattle.sg_store.proofs.Noted.{chain_more, chain_stands}

@@ -19,13 +19,13 @@ returns-then-is_link_in_row c =
     let own : slice_index c.args.keys.now c.args.place ≡ (c.word-key.result - 1) + 1 = omega (arith, c.word-key.ensures, c.if-key-ne0.true) in
     let on : in_row c.args.row.now (slice_index c.args.links.now c.args.place - 1) ≡ true =
     link_kept (in_row c.args.row.now) (slice_index c.args.links.now c.args.place)
-    (ap (λ w. is_kept (in_row c.args.row.now) (linked w)) (sym c.word-link.ensures) ∙ sym c.is_link_in_row.ensures ∙ c.if-is_link_in_row.true) in
+    (ap (λ w. is_kept (in_row c.args.row.now) (linked w)) (sym c.get-link.ensures) ∙ sym c.is_link_in_row.ensures ∙ c.if-is_link_in_row.true) in
     let put : c.put.result ≡ true = elim (cases_Bool c.put.result) [
       | inl yes_is ↦ yes_is
       | inr off ↦ absurd (not_full c.args.keys.now c.args.links.now c.args.row.now c.args.kept.now c.args.beside.now c.args.place (c.word-key.result - 1) c.requires.old c.requires.so_far (c.put.ensures.full.0 off))
     ] in
     put_place c.args.keys.now c.args.links.now c.args.row.now c.args.kept.now c.args.beside.now c.put.new.keys c.put.new.links c.args.place (c.word-key.result - 1) c.requires.old c.requires.there own on c.put.auto.keys c.put.ensures.table c.put.ensures.links
-    (λ k. c.put.ensures.put put k ∙ ap (λ l. if k == c.word-key.result - 1 then Some (l - 1) else beside c.args.kept.now c.args.beside.now k) c.word-link.ensures)
+    (λ k. c.put.ensures.put put k ∙ ap (λ l. if k == c.word-key.result - 1 then Some (l - 1) else beside c.args.kept.now c.args.beside.now k) c.get-link.ensures)
     c.requires.so_far
 
 pub returns-else-key-ne0 : goal.returns-else-key-ne0
@@ -35,7 +35,7 @@ returns-else-key-ne0 c = elim c.else-key-ne0.branch [
       (λ key own.
       let some : slice_index c.args.keys.now c.args.place ≢ 0 = λ none. omega (arith, none, own) in
       link_lost (in_row c.args.row.now) (slice_index c.args.links.now c.args.place) (c.requires.old.links_beside.linked c.args.place c.requires.there some).0
-      (ap (λ l. is_kept (in_row c.args.row.now) (linked l)) (sym c.word-link.ensures) ∙ sym w.is_link_in_row.ensures ∙ w.if-is_link_in_row.false))
+      (ap (λ l. is_kept (in_row c.args.row.now) (linked l)) (sym c.get-link.ensures) ∙ sym w.is_link_in_row.ensures ∙ w.if-is_link_in_row.false))
       c.requires.so_far
   | else-key-ne0-via-else-key-ne0 w ↦
       idle_place c.args.keys.now c.args.links.now c.args.row.now c.args.kept.now c.args.beside.now c.args.place c.requires.old c.requires.there

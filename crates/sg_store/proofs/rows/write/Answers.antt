@@ -1,6 +1,14 @@
-use Rattle.std.proofs.Common.{arith}
+use Rattle.std.proofs.Common.{◌≡◌, ◌+◌, ◌++◌, take, drop, sym, ap, ◌∙◌, arith}
+use Rattle.std.proofs.lemmas.List.{take-append-drop}
 use Rattle.sg_store.proofs.FieldRows.{word_put}
 use Rattle.sg_store.proofs.rows.write.Goals as goal
+
+pub loop-word-init : goal.loop-word-init
+loop-word-init c =
+    let none : c.args.from + 0 ≡ c.args.from = omega arith in (
+      sym none,
+      c.stand.ensures ∙ sym (take-append-drop c.args.from c.args.row.now) ∙ ap (λ n. take c.args.from c.args.row.now ++ drop n c.args.row.now) (sym none),
+    )
 
 pub loop-word-preserved : goal.loop-word-preserved
 loop-word-preserved c = (

@@ -1,4 +1,4 @@
-use Rattle.std.proofs.Common.{rules, ◌≡◌, ◌+◌, ◌++◌, ◌∙◌, ℕ, List, map, length, take, drop, sym, ap, subst, arith}
+use Rattle.std.proofs.Common.{◌≡◌, ◌+◌, ◌++◌, ◌∙◌, ℕ, List, map, take, drop, sym, ap, subst, arith}
 use Rattle.std.specs.List.{range_with_len}
 use Rattle.sg_coord.specs.declared.coord.Coord.{Coord}
 use Rattle.sg_exec.specs.steps.Boxes.{IsForm, region_point}

@@ -1,6 +1,6 @@
 use Rattle.std.proofs.Common.{arith}
 use Rattle.std.proofs.lemmas.Int.{ints}
-use Rattle.sg_exec.proofs.BoxPoints.{count_some, count_empty, count_unused}
+use Rattle.sg_exec.proofs.BoxPoints.{count_some}
 use Rattle.sg_exec.proofs.region.Side.count.Goals as goal
 
 pub returns-else-hi-lo : goal.returns-else-hi-lo

@@ -1,5 +1,4 @@
-use Rattle.std.proofs.Common.{ℕ, ◌<◌, ◌≤◌, ◌^◌, List, sym, subst, arith}
-use Rattle.std.specs.List.{All}
+use Rattle.std.proofs.Common.{◌<◌, ◌^◌, arith}
 use Rattle.sg_pool.specs.Numbers.{place_count}
 use Rattle.sg_store.proofs.NodesTrimmed.{links_small}
 use Rattle.sg_store.proofs.node.NodeWords.cut_table.Goals as goal
@@ -7,4 +6,4 @@ use Rattle.sg_store.proofs.node.NodeWords.cut_table.Goals as goal
 pub give_back_cut-requires-clause-small : goal.give_back_cut-requires-clause-small
 give_back_cut-requires-clause-small c =
     let few : place_count c.args.self.now.pool < 2 ^ 32 = grind (arith, c.places.ensures.places) in
-    subst (λ (links : List ℕ). All (λ link. link ≤ 2 ^ 32) links) (sym c.as_slice.ensures) (links_small c.args.self.now.pool c.args.self.now.links c.requires.linked few)
+    links_small c.args.self.now.pool c.args.self.now.links c.requires.linked few

@@ -23,8 +23,7 @@ cut_table-requires-clause-once c =
 pub cut_table-requires-clause-stays : goal.cut_table-requires-clause-stays
 cut_table-requires-clause-stays c =
     let plan = subst (λ (s : StayingWords). AreStaying s c.args.node.now.kind c.args.node.now c.args.self.now c.args.plan.now.row) c.in-Table.is c.requires.plan in
-    subst (λ (links : List ℕ). (slot : ℕ) → slice_index links slot ≢ 0 → slice_index links slot ≡ slice_index c.args.self.now.links slot) (sym c.as_slice-in-Table.ensures)
-    (link_is c.args.plan.now.row c.args.self.now.links c.in-Table.links plan.1)
+    link_is c.args.plan.now.row c.args.self.now.links c.in-Table.links plan.1
 
 pub cut_lengths-requires-clause-short : goal.cut_lengths-requires-clause-short
 cut_lengths-requires-clause-short c =
@@ -45,12 +44,12 @@ returns-clause-trimmed c = elim c.match-plan.branch [
       let plan = subst (λ (s : StayingWords). AreStaying s c.args.node.now.kind c.args.node.now c.args.self.now c.args.plan.now.row) w.in-Linked.is c.requires.plan in
       subst (λ (after : NodeWords). IsTrimmed (in_row c.args.plan.now.row) c.args.node.now c.args.self.now after) (sym w.self-is)
       (links_trim c.args.plan.now.row c.args.node.now c.args.self.now w.cut_links.new.self w.in-Linked.links plan.0 c.requires.node plan.1
-      (subst (λ (links : List ℕ). HasCutLinks links c.args.self.now w.cut_links.new.self) w.as_slice-in-Linked.ensures w.cut_links.ensures)).0
+      w.cut_links.ensures).0
   | in-Table w ↦
       let plan = subst (λ (s : StayingWords). AreStaying s c.args.node.now.kind c.args.node.now c.args.self.now c.args.plan.now.row) w.in-Table.is c.requires.plan in
       subst (λ (after : NodeWords). IsTrimmed (in_row c.args.plan.now.row) c.args.node.now c.args.self.now after) (sym w.self-is)
       (table_trims c.args.plan.now.row c.args.node.now c.args.self.now w.cut_table.new.self w.in-Table.links w.in-Table.table plan.0 c.requires.node plan.1 plan.2
-      (subst (λ (links : List ℕ). HasCutTable links w.in-Table.table c.args.self.now w.cut_table.new.self) w.as_slice-in-Table.ensures w.cut_table.ensures)).0
+      w.cut_table.ensures).0
   | in-Lengths w ↦
       let plan = subst (λ (s : StayingWords). AreStaying s c.args.node.now.kind c.args.node.now c.args.self.now c.args.plan.now.row) w.in-Lengths.is c.requires.plan in
       subst (λ (after : NodeWords). IsTrimmed (in_row c.args.plan.now.row) c.args.node.now c.args.self.now after) (sym w.self-is)

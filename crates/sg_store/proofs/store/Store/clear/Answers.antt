@@ -1,25 +1,20 @@
-use Rattle.std.proofs.Common.{◌≡◌, ℕ, ◌<◌, Bool, true, false, List, length, refl, sym, ap, ◌∙◌, subst}
+use Rattle.std.proofs.Common.{◌≡◌, ℕ, Bool, true, false, List, length, refl, sym, ap, ◌∙◌, subst}
 use Rattle.std.specs.List.{All}
-use Rattle.sg_coord.specs.Bounds.{IsBounds}
-use Rattle.sg_layout.specs.declared.shape.NodeShape.{NodeShape}
+use Rattle.std.proofs.lemmas.Bool.{false≢true}
 use Rattle.sg_layout.specs.declared.shape.Shape.{Shape}
-use Rattle.sg_layout.specs.Axes.{bounds_of_shape}
-use Rattle.sg_flat.specs.declared.state.FlatLayout.{FlatLayout}
 use Rattle.sg_flat.specs.State.{opening_layout}
 use Rattle.sg_store.specs.StoreWords.{StoreWords}
-use Rattle.sg_store.specs.WellFormed.{IsWellFormed, cell_count}
+use Rattle.sg_store.specs.WellFormed.{cell_count}
 use Rattle.sg_store.specs.StandsFor.{StandsFor}
-use Rattle.sg_store.specs.Pruning.{pruned}
 use Rattle.sg_store.specs.Links.{GrowsLinks}
 use Rattle.sg_store.specs.steps.Fresh.{IsZeroRow}
-use Rattle.sg_store.specs.steps.KeptWords.{in_row}
-use Rattle.sg_store.specs.steps.StorePlans.{has_word}
-use Rattle.sg_store.proofs.CellWords.{reached_within}
-use Rattle.sg_store.proofs.Emptied.{word_reached, words_kept}
-use Rattle.sg_store.proofs.PrunedStands.{trimmed_stands, emptied_stands}
+use Rattle.sg_store.proofs.PrunedStands.{emptied_stands}
 use Rattle.sg_store.proofs.TrimmedStore.{with_words}
 use Rattle.sg_store.proofs.StoreTrimmed as lemmas
 use Rattle.sg_store.proofs.store.Store.clear.Goals as goal
+
+pub plans-requires : goal.plans-requires
+plans-requires c = λ cell on. absurd (false≢true (sym (lemmas.none_in_row c.new-none.result c.new-none.ensures cell) ∙ on))
 
 pub trim_all-requires-clause-many : goal.trim_all-requires-clause-many
 trim_all-requires-clause-many c =
@@ -32,17 +27,17 @@ trim_all-requires-clause-planned c =
     let inside : StoreWords = record { shape = c.self.inside.layout; nodes = c.self.inside.nodes.items; fields = c.self.inside.fields.items } in
     let laws : lemmas.TrimLaws inside.shape = record { rules = c.rules_decide.ensures.accepted inside.shape; fill = c.paths_tell.ensures.fill inside.shape; bounds = c.extents.ensures.bounds } in
     let shapes : c.as_slice.result.now ≡ inside.shape.nodes = c.as_slice.ensures ∙ ap (λ (s : Shape). s.nodes) c.shape.ensures.value in
-    lemmas.fit_plans inside c.args.self.now c.from_vec-cells.result c.in_ok-plans.plans.items c.as_slice-2.result.now c.as_slice.result.now c.self.view_is c.self.invariant laws c.in_ok-plans.ensures c.as_slice-2.ensures.value shapes
+    lemmas.fit_plans inside c.args.self.now c.new-none.result c.in_ok-plans.plans.items c.as_slice-2.result.now c.as_slice.result.now c.self.view_is c.self.invariant laws c.in_ok-plans.ensures c.as_slice-2.ensures.value shapes
 
 pub invariant_of-self : goal.invariant_of-self
 invariant_of-self c =
     let inside : StoreWords = record { shape = c.self.inside.layout; nodes = c.self.inside.nodes.items; fields = c.self.inside.fields.items } in
     let laws : lemmas.TrimLaws inside.shape = record { rules = c.rules_decide.ensures.accepted inside.shape; fill = c.paths_tell.ensures.fill inside.shape; bounds = c.extents.ensures.bounds } in
     let shapes : c.as_slice.result.now ≡ inside.shape.nodes = c.as_slice.ensures ∙ ap (λ (s : Shape). s.nodes) c.shape.ensures.value in
-    let none = lemmas.none_in_row c.cells.result c.from_vec-cells.result (c.from_vec-cells.ensures ∙ c.in_ok-vec.ensures.items_if_clones_equal (λ y e. e)) in
+    let none = lemmas.none_in_row c.new-none.result c.new-none.ensures in
     let nothing : ℕ → Bool = λ _. false in
     let has : lemmas.HasTrimmed inside nothing c.in_ok-plans.plans.items c.trim_all.new.nodes.items =
-    lemmas.run inside c.args.self.now nothing c.from_vec-cells.result c.in_ok-plans.plans.items c.as_slice-2.result.now c.as_slice.result.now c.trim_all.new.nodes.items c.self.view_is c.self.invariant laws
+    lemmas.run inside c.args.self.now nothing c.new-none.result c.in_ok-plans.plans.items c.as_slice-2.result.now c.as_slice.result.now c.trim_all.new.nodes.items c.self.view_is c.self.invariant laws
     none (lemmas.none_reached inside) c.in_ok-plans.ensures c.as_slice-2.ensures.value shapes c.trim_all.ensures in
     let fields : List (List ℕ) = c.empty_rows.new.rows.items in
     let many : length fields ≡ length inside.shape.fields = c.empty_rows.ensures.many ∙ c.self.invariant.field_count in
@@ -54,10 +49,10 @@ returns-clause-cleared c =
     let inside : StoreWords = record { shape = c.self.inside.layout; nodes = c.self.inside.nodes.items; fields = c.self.inside.fields.items } in
     let laws : lemmas.TrimLaws inside.shape = record { rules = c.rules_decide.ensures.accepted inside.shape; fill = c.paths_tell.ensures.fill inside.shape; bounds = c.extents.ensures.bounds } in
     let shapes : c.as_slice.result.now ≡ inside.shape.nodes = c.as_slice.ensures ∙ ap (λ (s : Shape). s.nodes) c.shape.ensures.value in
-    let none = lemmas.none_in_row c.cells.result c.from_vec-cells.result (c.from_vec-cells.ensures ∙ c.in_ok-vec.ensures.items_if_clones_equal (λ y e. e)) in
+    let none = lemmas.none_in_row c.new-none.result c.new-none.ensures in
     let nothing : ℕ → Bool = λ _. false in
     let has : lemmas.HasTrimmed inside nothing c.in_ok-plans.plans.items c.trim_all.new.nodes.items =
-    lemmas.run inside c.args.self.now nothing c.from_vec-cells.result c.in_ok-plans.plans.items c.as_slice-2.result.now c.as_slice.result.now c.trim_all.new.nodes.items c.self.view_is c.self.invariant laws
+    lemmas.run inside c.args.self.now nothing c.new-none.result c.in_ok-plans.plans.items c.as_slice-2.result.now c.as_slice.result.now c.trim_all.new.nodes.items c.self.view_is c.self.invariant laws
     none (lemmas.none_reached inside) c.in_ok-plans.ensures c.as_slice-2.ensures.value shapes c.trim_all.ensures in
     let fields : List (List ℕ) = c.empty_rows.new.rows.items in
     let many : length fields ≡ length inside.shape.fields = c.empty_rows.ensures.many ∙ c.self.invariant.field_count in
@@ -75,10 +70,10 @@ returns-clause-links c =
     let inside : StoreWords = record { shape = c.self.inside.layout; nodes = c.self.inside.nodes.items; fields = c.self.inside.fields.items } in
     let laws : lemmas.TrimLaws inside.shape = record { rules = c.rules_decide.ensures.accepted inside.shape; fill = c.paths_tell.ensures.fill inside.shape; bounds = c.extents.ensures.bounds } in
     let shapes : c.as_slice.result.now ≡ inside.shape.nodes = c.as_slice.ensures ∙ ap (λ (s : Shape). s.nodes) c.shape.ensures.value in
-    let none = lemmas.none_in_row c.cells.result c.from_vec-cells.result (c.from_vec-cells.ensures ∙ c.in_ok-vec.ensures.items_if_clones_equal (λ y e. e)) in
+    let none = lemmas.none_in_row c.new-none.result c.new-none.ensures in
     let nothing : ℕ → Bool = λ _. false in
     let has : lemmas.HasTrimmed inside nothing c.in_ok-plans.plans.items c.trim_all.new.nodes.items =
-    lemmas.run inside c.args.self.now nothing c.from_vec-cells.result c.in_ok-plans.plans.items c.as_slice-2.result.now c.as_slice.result.now c.trim_all.new.nodes.items c.self.view_is c.self.invariant laws
+    lemmas.run inside c.args.self.now nothing c.new-none.result c.in_ok-plans.plans.items c.as_slice-2.result.now c.as_slice.result.now c.trim_all.new.nodes.items c.self.view_is c.self.invariant laws
     none (lemmas.none_reached inside) c.in_ok-plans.ensures c.as_slice-2.ensures.value shapes c.trim_all.ensures in
     let fields : List (List ℕ) = c.empty_rows.new.rows.items in
     let many : length fields ≡ length inside.shape.fields = c.empty_rows.ensures.many ∙ c.self.invariant.field_count in

@@ -51,8 +51,8 @@ row_above-requires-clause-within c =
     (subst (λ (s : StoreWords). IsBounds (bounds_of_shape s.shape)) c.self.view_is c.extents-extents.ensures.bounds) in
     let at = lemmas.node_read (record { shape = c.self.inside.layout; nodes = c.self.inside.nodes.items; fields = c.self.inside.fields.items }) store c.as_slice.result.now c.as_slice-2.result.now c.args.index
     c.index-as_slice-index.result c.index-as_slice-index-2.result c.self.view_is c.self.invariant (c.as_slice.ensures ∙ ap (λ (s : Shape). s.nodes) c.shape.ensures.value) c.as_slice-2.ensures.value c.requires.there c.index-as_slice-index.is c.index-as_slice-index-2.is in
-    lemmas.leads_to store c.args.index c.index-as_slice-index.result c.index-as_slice-index-2.result c.args.row c.in_ok-plan.plan.row c.places_above.result c.size-size.result well sized at c.requires.row
-    c.in_ok-plan.ensures.row c.places_above.ensures (lemmas.size_read store c.self.inside.layout c.args.index c.index-as_slice-index.result c.size-size.result (ap (λ (s : StoreWords). s.shape) c.self.view_is) at.at c.size-size.ensures.value)
+    lemmas.leads_to store c.args.index c.index-as_slice-index.result c.index-as_slice-index-2.result c.args.row c.in_ok-plan.plan.row c.marked_above.result c.size-size.result well sized at c.requires.row
+    c.in_ok-plan.ensures.row c.marked_above.ensures (lemmas.size_read store c.self.inside.layout c.args.index c.index-as_slice-index.result c.size-size.result (ap (λ (s : StoreWords). s.shape) c.self.view_is) at.at c.size-size.ensures.value)
 
 pub row_above-requires-clause-room : goal.row_above-requires-clause-room
 row_above-requires-clause-room c =
@@ -60,7 +60,7 @@ row_above-requires-clause-room c =
     let well : IsWellFormed store = subst IsWellFormed c.self.view_is c.self.invariant in
     let at = lemmas.node_read (record { shape = c.self.inside.layout; nodes = c.self.inside.nodes.items; fields = c.self.inside.fields.items }) store c.as_slice.result.now c.as_slice-2.result.now c.args.index
     c.index-as_slice-index.result c.index-as_slice-index-2.result c.self.view_is c.self.invariant (c.as_slice.ensures ∙ ap (λ (s : Shape). s.nodes) c.shape.ensures.value) c.as_slice-2.ensures.value c.requires.there c.index-as_slice-index.is c.index-as_slice-index-2.is in
-    lemmas.slots_few store c.args.index c.index-as_slice-index.result c.places_above.result c.size-size.result well at.at c.places_above.ensures
+    lemmas.marked_few store c.args.index c.index-as_slice-index.result c.marked_above.result c.size-size.result well at.at c.marked_above.ensures
     (lemmas.size_read store c.self.inside.layout c.args.index c.index-as_slice-index.result c.size-size.result (ap (λ (s : StoreWords). s.shape) c.self.view_is) at.at c.size-size.ensures.value)
 
 pub returns : goal.returns

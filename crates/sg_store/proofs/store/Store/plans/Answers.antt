@@ -1,5 +1,4 @@
-use Rattle.std.proofs.Common.{◌≡◌, ◌<◌, ℕ, suc, ◌+◌, ◌-◌, Bool, sym, ap, ◌∙◌, subst, arith}
-use Rattle.sg_layout.specs.declared.shape.Shape.{Shape}
+use Rattle.std.proofs.Common.{◌≡◌, ℕ, suc, ◌+◌, ◌-◌, Bool, subst, arith}
 use Rattle.sg_store.specs.StoreWords.{StoreWords}
 use Rattle.sg_store.specs.steps.KeptWords.{in_row}
 use Rattle.sg_store.specs.steps.StorePlans.{IsRowAt, ArePlansFrom}

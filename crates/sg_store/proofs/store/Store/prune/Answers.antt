@@ -1,22 +1,16 @@
-use Rattle.std.proofs.Common.{◌≡◌, ℕ, ◌<◌, Bool, true, false, List, length, sym, ap, ◌∙◌, subst}
-use Rattle.std.specs.List.{All}
-use Rattle.sg_coord.specs.Bounds.{IsBounds}
-use Rattle.sg_layout.specs.declared.shape.NodeShape.{NodeShape}
+use Rattle.std.proofs.Common.{◌≡◌, refl, sym, ap, ◌∙◌, subst}
 use Rattle.sg_layout.specs.declared.shape.Shape.{Shape}
-use Rattle.sg_layout.specs.Axes.{bounds_of_shape}
 use Rattle.sg_flat.specs.declared.state.FlatLayout.{FlatLayout}
-use Rattle.sg_flat.specs.State.{opening_layout}
 use Rattle.sg_store.specs.StoreWords.{StoreWords}
-use Rattle.sg_store.specs.WellFormed.{IsWellFormed, cell_count}
+use Rattle.sg_store.specs.WellFormed.{IsWellFormed}
 use Rattle.sg_store.specs.StandsFor.{StandsFor}
 use Rattle.sg_store.specs.Pruning.{pruned}
 use Rattle.sg_store.specs.Links.{GrowsLinks}
-use Rattle.sg_store.specs.steps.Fresh.{IsZeroRow}
-use Rattle.sg_store.specs.steps.KeptWords.{in_row}
+use Rattle.sg_store.specs.steps.Marks.{marked_from}
 use Rattle.sg_store.specs.steps.StorePlans.{has_word}
-use Rattle.sg_store.proofs.CellWords.{reached_within}
+use Rattle.sg_store.proofs.Marked.{used_all}
 use Rattle.sg_store.proofs.Emptied.{word_reached, words_kept}
-use Rattle.sg_store.proofs.PrunedStands.{trimmed_stands, emptied_stands}
+use Rattle.sg_store.proofs.PrunedStands.{trimmed_stands}
 use Rattle.sg_store.proofs.TrimmedStore.{with_words}
 use Rattle.sg_store.proofs.StoreTrimmed as lemmas
 use Rattle.sg_store.proofs.store.Store.prune.Goals as goal
@@ -25,7 +19,7 @@ pub plans-requires : goal.plans-requires
 plans-requires c = λ cell on.
     let store : StoreWords = c.args.self.now in
     let well : IsWellFormed store = subst IsWellFormed c.self.view_is c.self.invariant in
-    reached_within store well cell (word_reached store well cell (sym (c.in_ok-cells.ensures cell) ∙ on))
+    used_all store (marked_from store.shape.nodes store.nodes 1) well refl cell (word_reached store well cell (sym (c.in_ok-cells.ensures cell) ∙ on))
 
 pub trim_all-requires-clause-many : goal.trim_all-requires-clause-many
 trim_all-requires-clause-many c =

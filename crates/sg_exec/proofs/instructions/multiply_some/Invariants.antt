@@ -1,7 +1,7 @@
 use Rattle.std.proofs.Common.{◌≡◌, ℕ}
 use Rattle.sg_words.specs.Words.{mulq_of}
 use Rattle.sg_exec.specs.steps.Rows.{item_in, IsPut}
-use Rattle.sg_exec.proofs.instructions.multiply.Given as goal
+use Rattle.sg_exec.proofs.instructions.multiply_some.Given as goal
 
 abbrev pub invariant-loop-k : goal.invariant-loop-k
 invariant-loop-k l =
