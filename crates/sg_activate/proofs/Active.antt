@@ -1,63 +1,58 @@
 -- From node to node: what is open, and what the store stands for in the end.
-use Rattle.std.proofs.Common.{◌≡◌, ℕ, suc, ◌+◌, ◌-◌, ◌<◌, inl, inr, Bool, true, false, cond, List, ◌++◌, length, get_or, refl, sym, ap, ◌∙◌, subst, arith}
-use Rattle.std.specs.Prelude.{Result, Ok, Err, nat_le, slice_get, All, IsSome, ◌↔◌}
+use Rattle.std.proofs.Common.{◌≡◌, ℕ, ◌<◌, ◌⊎◌, inl, inr, Bool, true, false, cond, List, [], ◌++◌, length, get_or, refl, sym, ap, ◌∙◌, subst, arith}
+use Rattle.std.specs.Prelude.{Result, Ok, Err, nat_le, All, ◌↔◌}
 use Rattle.std.specs.List.{Contains}
-use Rattle.std.proofs.lemmas.List.Elements.{Contains-append_cases, Contains-append_left, All-contains}
-use Rattle.std.proofs.lemmas.Option.{slice_get-get_or}
+use Rattle.std.proofs.lemmas.List.Elements.{Contains-append_cases, Contains-append_left, Contains-append_right, Contains-get_or, All-contains}
 use Rattle.sg_words.specs.declared.memory.Stop.{Stop}
 use Rattle.sg_words.specs.declared.memory.Stop.TheVariants as stop
+use Rattle.sg_words.specs.Answers.{AnswersAs}
 use Rattle.sg_coord.specs.declared.coord.Coord.{Coord}
 use Rattle.sg_coord.specs.Bounds.{Bounds}
 use Rattle.sg_coord.specs.Coord.{Inside}
-use Rattle.sg_layout.specs.declared.shape.Kind.{Kind}
-use Rattle.sg_layout.specs.declared.shape.Kind.TheVariants.{Dense}
-use Rattle.sg_layout.specs.declared.shape.NodeShape.{NodeShape}
 use Rattle.sg_layout.specs.declared.shape.Shape.{Shape}
 use Rattle.sg_layout.specs.Axes.{bounds_of_shape}
-use Rattle.sg_layout.specs.Live.{kind_or, kind_at, is_live}
+use Rattle.sg_layout.specs.Live.{is_live}
 use Rattle.sg_layout.specs.LiveLaws.{LiveIsOfMembers}
 use Rattle.sg_layout.specs.Need.{first_full}
-use Rattle.sg_layout.specs.NeedLaws.{AllInside}
+use Rattle.sg_layout.specs.NeedLaws.{AllInside, FullIsOfMembers}
 use Rattle.sg_flat.specs.declared.state.FlatLayout.{FlatLayout}
 use Rattle.sg_store.specs.StoreWords.{StoreWords}
-use Rattle.sg_store.specs.Walks.{cell_in}
 use Rattle.sg_store.specs.WellFormed.{IsWellFormed}
 use Rattle.sg_store.specs.StandsFor.{StandsFor}
 use Rattle.sg_store.specs.StoreLaws.{CellsAreActive}
 use Rattle.sg_store.specs.Reaching.{KeepsCells, IsOpenThrough}
-use Rattle.sg_store.specs.Opening.{OpensNode}
-use Rattle.sg_store.specs.OpeningLaws.{DenseOpens, OpenHasRoom}
+use Rattle.sg_store.specs.OpeningLaws.{OpenHasRoom}
 use Rattle.sg_activate.specs.declared.fault.ActFault.{ActFault}
 use Rattle.sg_activate.specs.Activating.{wanted_below, unless_full}
-use Rattle.sg_activate.specs.steps.Levels.{OpensIndex, IsFirstFull, IfActRefused}
-use Rattle.sg_activate.proofs.Raced.{from_below}
+use Rattle.sg_activate.specs.Descending.{open_before}
+use Rattle.sg_activate.specs.steps.Looked.{IsKnown}
+use Rattle.sg_activate.specs.steps.Levels.{open_after, OpensTo, IsFirstFull, IfActRefused}
+use Rattle.sg_activate.proofs.Looking.{from_below}
 
--- ---- one node, by its number from 1 and its index from 0
-pub opens_index : (store now : StoreWords) (number index : ℕ) (wanted : List Coord) → number ≡ index + 1 → OpensNode store now number wanted → OpensIndex store now index wanted
-opens_index store now number index wanted is opens = λ old open_before.
-    let e : index ≡ number - 1 = omega arith in
-    let e' : number ≡ suc index = omega arith in
-    subst (IsOpenThrough now old (old ++ wanted)) e' (opens old (subst (IsOpenThrough store old (old ++ wanted)) e open_before))
+-- ---- answers
+pub refused_then : {A : Type 0} (r : Result A (Stop ActFault)) (Says Tells : ActFault → Type 0) → IfActRefused r Says → ((fault : ActFault) → Says fault → Tells fault) → IfActRefused r Tells
+refused_then (Ok x) Says Tells h then = tt
+refused_then (Err stop.Memory) Says Tells h then = tt
+refused_then (Err (stop.Refused fault)) Says Tells h then = then fault h
 
-pub first_full_index : (store : StoreWords) (number index : ℕ) (wanted : List Coord) (fault : ActFault) → number - 1 ≡ index → IsFirstFull store (number - 1) wanted fault → IsFirstFull store index wanted fault
-first_full_index store number index wanted fault is full = subst (λ (n : ℕ). IsFirstFull store n wanted fault) is full
+-- ---- from node to node
+pub full_before : (store now : StoreWords) (from to : ℕ) (wanted : List Coord) (fault : ActFault) → now.shape ≡ store.shape → OpensTo store now from to wanted → IsFirstFull now to wanted fault → IsFirstFull store from wanted fault
+full_before store now from to wanted fault same opens full old before =
+    ap (λ (s : Shape). unless_full (first_full s (old ++ wanted))) (sym same) ∙ full old (opens old before)
 
-pub dense_index : (store : StoreWords) (index : ℕ) (wanted : List Coord) → DenseOpens store → kind_at store.shape.nodes (index + 1) ≡ Dense → OpensIndex store store index wanted
-dense_index store index wanted law kind = opens_index store store (index + 1) index wanted refl (λ old open_before. law old (old ++ wanted) (index + 1) (omega arith) kind open_before)
+-- the first node, the descent, and the rest
+pub opens_before : (store mid : StoreWords) (wanted : List Coord) → mid.shape ≡ store.shape → OpensTo store mid 0 (open_before store.shape) wanted → OpensTo store mid 0 (open_before mid.shape) wanted
+opens_before store mid wanted same first old before = subst (λ (s : Shape). IsOpenThrough mid old (old ++ wanted) (open_before s)) (sym same) (first old before)
 
--- the kind of a node that was read by its index
-pub kind_read : (nodes read : List NodeShape) (index : ℕ) (d : NodeShape) (kind : Kind) → read ≡ nodes → index < length nodes → (get_or read index d).kind ≡ kind → kind_at nodes (index + 1) ≡ kind
-kind_read nodes read index d kind same below is =
-    let at : index + 1 - 1 ≡ index = omega arith in
-    ap (λ n. kind_or (slice_get nodes n)) at ∙ ap kind_or (slice_get-get_or nodes index d below) ∙ ap (λ (l : List NodeShape). (get_or l index d).kind) (sym same) ∙ is
+pub opens_two : (store mid now : StoreWords) (wanted : List Coord) → mid.shape ≡ store.shape → now.shape ≡ mid.shape → OpensTo store mid 0 (open_before store.shape) wanted
+    → OpensTo mid now (open_before mid.shape) (open_after mid.shape) wanted → OpensTo store now 0 (open_after now.shape) wanted
+opens_two store mid now wanted same same' first second old before =
+    subst (λ (s : Shape). IsOpenThrough now old (old ++ wanted) (open_after s)) (sym same') (second old (opens_before store mid wanted same first old before))
 
--- a refusal of the first node
-pub first_full_one : {A : Type 0} (r : Result A (Stop ActFault)) (store : StoreWords) (index : ℕ) (Means : (ℕ → List Coord) → Type 0) (count : ℕ) → index + 1 ≡ 1
-    → IfActRefused r (λ fault. (list : ℕ → List Coord) → Means list → IsFirstFull store 0 (wanted_below list count) fault)
-    → IfActRefused r (λ fault. (list : ℕ → List Coord) → Means list → IsFirstFull store index (wanted_below list count) fault)
-first_full_one r store index Means count one full =
-    let e : 0 ≡ index = omega arith in
-    subst (λ (n : ℕ). IfActRefused r (λ fault. (list : ℕ → List Coord) → Means list → IsFirstFull store n (wanted_below list count) fault)) e full
+pub opens_three : (store now last : StoreWords) (wanted : List Coord) → now.shape ≡ store.shape → OpensTo store now 0 (open_after now.shape) wanted → OpensTo now last (open_after now.shape) (length now.shape.nodes) wanted
+    → OpensTo store last 0 (length store.shape.nodes) wanted
+opens_three store now last wanted same two third old before =
+    subst (λ (s : Shape). IsOpenThrough last old (old ++ wanted) (length s.nodes)) same (third old (two old before))
 
 -- ---- keeping
 pub keeps_same : (store : StoreWords) → KeepsCells store store
@@ -83,9 +78,14 @@ all_active store law flat stands wanted active through number slot is = stands.l
     go true = law flat.active (flat.active ++ wanted) same number slot
     go false = refl
 
-pub cells_active : (store : StoreWords) → CellsAreActive store → IsWellFormed store → (flat : FlatLayout) → StandsFor store flat → (wanted : List Coord)
-    → ((at : Coord) → Contains wanted at → IsSome (cell_in store at)) → (at : Coord) → Contains wanted at → Contains flat.active at
-cells_active store law well flat stands wanted cells at is = (law well flat stands at).0 (cells at is)
+-- what a look knows is active or found
+pub known_active : (store : StoreWords) → CellsAreActive store → IsWellFormed store → (flat : FlatLayout) → StandsFor store flat → (found : List Coord) → (at : Coord) → IsKnown store found at → Contains flat.active at ⊎ Contains found at
+known_active store law well flat stands found at (inl cell) = inl ((law well flat stands at).0 cell)
+known_active store law well flat stands found at (inr has) = inr has
+
+pub only_active : (A : Type 0) (found : List Coord) (at : Coord) → found ≡ [] → A ⊎ Contains found at → A
+only_active A found at none (inl here) = here
+only_active A found at none (inr has) = absurd (let h : Contains [] at = subst (λ l. Contains l at) none has in omega (arith, h.1))
 
 -- ---- the end
 pub wanted_inside : (shape : Shape) (bounds : Bounds) (list : ℕ → List Coord) (count : ℕ) → bounds ≡ bounds_of_shape shape
@@ -100,11 +100,57 @@ no_node_full store now law well same old all opens =
     ap (λ (s : Shape). unless_full (first_full s all)) (sym same)
     ∙ ap unless_full (law well old all (subst (λ (s : Shape). IsOpenThrough now old all (length s.nodes)) (sym same) opens))
 
-pub first_full_of : (store now : StoreWords) (index : ℕ) (wanted : List Coord) (fault : ActFault) (old : List Coord) → now.shape ≡ store.shape → IsFirstFull now index wanted fault
-    → IsOpenThrough now old (old ++ wanted) index → unless_full (first_full store.shape (old ++ wanted)) ≡ Err fault
-first_full_of store now index wanted fault old same full opens = ap (λ (s : Shape). unless_full (first_full s (old ++ wanted))) (sym same) ∙ full old opens
+-- ---- what was found in the place of what is wanted
+pub found_members : (active wanted found : List Coord) → ((at : Coord) → Contains found at → Contains wanted at) → ((at : Coord) → Contains wanted at → Contains active at ⊎ Contains found at)
+    → (at : Coord) → Contains (active ++ found) at ↔ Contains (active ++ wanted) at
+found_members active wanted found only all at = (
+  λ has. elim (Contains-append_cases active found at has) [
+    | inl old ↦ Contains-append_left active wanted at old
+    | inr new ↦ Contains-append_right active wanted at (only at new)
+  ],
+  λ has. elim (Contains-append_cases active wanted at has) [
+    | inl old ↦ Contains-append_left active found at old
+    | inr new ↦ elim (all at new) [
+      | inl old ↦ Contains-append_left active found at old
+      | inr is ↦ Contains-append_right active found at is
+    ]
+  ],
+)
+
+pub open_for_members : (store : StoreWords) → LiveIsOfMembers store.shape → (old left right : List Coord) → ((at : Coord) → Contains left at ↔ Contains right at) → (through : ℕ)
+    → IsOpenThrough store old left through → IsOpenThrough store old right through
+open_for_members store law old left right same through opens number slot is = opens number slot is ∙ go (nat_le number through)
+  where
+    go : (b : Bool) → is_live store.shape (cond b left old) number slot ≡ is_live store.shape (cond b right old) number slot
+    go true = law left right same number slot
+    go false = refl
 
 -- a refusal, whatever would have been answered else
 pub refused_as : (A B : Type 0) (e : Stop ActFault) (Says : ActFault → Type 0) → IfActRefused {A = A} (Err e) Says → IfActRefused {A = B} (Err e) Says
 refused_as A B stop.Memory Says h = tt
 refused_as A B (stop.Refused fault) Says h = h
+
+-- and the answer that it is
+pub refused_answers : {A B : Type 0} (view : A → B) (e : Stop ActFault) (meaning : Result B ActFault) → IfActRefused {A = A} (Err e) (λ fault. meaning ≡ Err fault) → AnswersAs view (Err e) meaning
+refused_answers view stop.Memory meaning h = tt
+refused_answers view (stop.Refused fault) meaning h = h
+
+-- a refusal that names the first node that is too full for what was found, where all that is wanted is active or found
+pub refused_wanted : (r : Result Unit (Stop ActFault)) (e : Stop ActFault) → r ≡ Err e → (store : StoreWords) (found : List Coord) → IfActRefused r (IsFirstFull store 0 found) → FullIsOfMembers store.shape
+    → (old wanted : List Coord) → IsOpenThrough store old (old ++ found) 0 → ((at : Coord) → Contains (old ++ found) at ↔ Contains (old ++ wanted) at)
+    → IfActRefused {A = Unit} (Err e) (λ fault. unless_full (first_full store.shape (old ++ wanted)) ≡ Err fault)
+refused_wanted r e is store found full law old wanted opens same =
+    refused_then {A = Unit} (Err e) (IsFirstFull store 0 found) (λ fault. unless_full (first_full store.shape (old ++ wanted)) ≡ Err fault)
+    (subst (λ (x : Result Unit (Stop ActFault)). IfActRefused x (IsFirstFull store 0 found)) is full)
+    (λ fault says. ap unless_full (sym (law (old ++ found) (old ++ wanted) same)) ∙ says old opens)
+
+-- what was opened for what was found is open for what is wanted
+pub opened_wanted : (store copy next : StoreWords) → copy ≡ store → LiveIsOfMembers next.shape → (active found wanted : List Coord) → ((at : Coord) → Contains (active ++ found) at ↔ Contains (active ++ wanted) at)
+    → OpensTo copy next 0 (length copy.shape.nodes) found → IsOpenThrough store active (active ++ found) 0 → IsOpenThrough next active (active ++ wanted) (length store.shape.nodes)
+opened_wanted store copy next is law active found wanted same opens begins =
+    subst (λ (s : StoreWords). IsOpenThrough next active (active ++ wanted) (length s.shape.nodes)) is
+    (open_for_members next law active (active ++ found) (active ++ wanted) same (length copy.shape.nodes)
+    (opens active (subst (λ (s : StoreWords). IsOpenThrough s active (active ++ found) 0) (sym is) begins)))
+
+pub all_of : (Is : Coord → Type 0) (list : List Coord) → ((at : Coord) → Contains list at → Is at) → All Is list
+all_of Is list is k d below = is (get_or list k d) (Contains-get_or list k d below)

@@ -14,9 +14,8 @@ use Rattle.sg_layout.specs.Axes.{count_of}
 use Rattle.sg_layout.specs.Need.{first_full}
 use Rattle.sg_layout.specs.NeedLaws.{IsNumberedNode}
 use Rattle.sg_pool.specs.Numbers.{PoolNumbers, live_count, IsFree, IsStock}
-use Rattle.sg_pointer.specs.Finishing.{taken_of as pointer_taken_of}
-use Rattle.sg_hash.specs.Asking.{IsFreshStock, is_dry}
-use Rattle.sg_hash.specs.Finishing.{full_words, taken_of, Settled, KeysSettled}
+use Rattle.sg_words.specs.Stocks.{taken_of as pointer_taken_of, IsFreshStock, is_dry, full_words, taken_of}
+use Rattle.sg_hash.specs.Finishing.{Settled, KeysSettled}
 use Rattle.sg_hash.specs.Tables.{AreBeside}
 use Rattle.sg_hash.proofs.Uses.{stands_once}
 use Rattle.sg_store.specs.StoreWords.{StoreWords}

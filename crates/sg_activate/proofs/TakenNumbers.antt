@@ -8,7 +8,7 @@ use Rattle.std.proofs.lemmas.List.Elements.{Contains-get_or}
 use Rattle.std.proofs.lemmas.List.Kept.{AllPairs-cons}
 use Rattle.sg_words.specs.Counts.{one}
 use Rattle.sg_words.proofs.Uses.{contains_none, contains_head, contains_rest, contains_cases}
-use Rattle.sg_pointer.specs.Finishing.{full_words, taken_of}
+use Rattle.sg_words.specs.Stocks.{full_words, taken_of}
 
 -- a word that isn't 0 stands in the list
 pub index_within : (words : List ℕ) (i : ℕ) → 0 < slice_index words i → i < length words

@@ -1,3 +1,9 @@
 pub mod Activating
+pub mod Descending
+pub mod DescentExamples
+pub mod DescentLaws
+pub mod DescentRace
+pub mod Descents
 pub mod Examples
+pub mod TableParts
 pub mod steps

@@ -1,4 +1,4 @@
-ghost use Rattle.std.specs.Prelude.{◌≡◌, ℕ, ◌+◌, ◌<◌, ◌≤◌, ◌++◌, List, length, All, IfOk, OnOk, OnErr, unwrap_or};
+ghost use Rattle.std.specs.Prelude.{◌≡◌, ℕ, ◌<◌, ◌≤◌, ◌++◌, List, length, All, IfOk, OnOk, OnErr, unwrap_or};
 ghost use Rattle.sg_words.specs.Answers.{Answers, AnswersAs};
 ghost use Rattle.sg_coord.specs.declared.coord.Coord.{Coord};
 ghost use Rattle.sg_layout.specs.Axes.{bounds_of_shape};
@@ -10,22 +10,23 @@ ghost use Rattle.sg_store.specs.StandsFor.{StandsFor};
 ghost use Rattle.sg_store.specs.Reaching.{KeepsCells};
 ghost use Rattle.sg_store.specs.Links.{GrowsLinks};
 ghost use Rattle.sg_activate.specs.Activating.{wanted_below, unless_full};
-ghost use Rattle.sg_activate.specs.steps.Levels.{OpensIndex, IfActRefused, IsFirstFull};
+ghost use Rattle.sg_activate.specs.Descending.{open_before};
+ghost use Rattle.sg_activate.specs.steps.Finding.{found_in};
+ghost use Rattle.sg_activate.specs.steps.Levels.{open_after, OpensTo, IfActRefused, IsFirstFull};
 
+use crate::asking::Work;
+use crate::descend::{descend, has_kind, last_fused};
 use crate::fault::ActFault;
 use crate::gates::{pass_gate, workers_at};
 use crate::keys::open_keys;
 use crate::lengths::open_lengths;
-use crate::links::open_links;
-use crate::look::is_active;
-use crate::masks::open_masks;
-use crate::race::Work;
+use crate::look::find_new;
 use crate::wanted::Wanted;
-use sg_layout::{Kind, live_grows};
+use sg_layout::{Kind, live_grows, need_grows};
 use sg_outside::Gate;
 use sg_store::laws::{cells_are_active, links_stay};
 use sg_store::{Store, levels};
-use sg_words::{Memory, Stop};
+use sg_words::Stop;
 use std::alloc::Global;
 use std::thread::Threads;
 
@@ -40,6 +41,8 @@ pub fn activate<R: Threads + Sync, W: Wanted + Sync, G: Gate + Sync>(
     workers: u32,
     gate: &G,
 ) -> Result<(), Stop<ActFault>>
+where
+    W::Hand: Send,
     requires some { 1 ≤ workers }
     requires few { workers ≤ 16 }
     requires inside { W.bounds want.now ≡ bounds_of_shape store.old.shape }
@@ -65,8 +68,9 @@ pub fn activate<R: Threads + Sync, W: Wanted + Sync, G: Gate + Sync>(
 
 /// The store with the closure of what is active and what is wanted in the place of what is active, and all values kept;
 /// none if all that is wanted is active already, so that nothing changes. Refused where the need passes a cap. Up to 16
-/// workers race for it, node after node, each with a slice of the pieces, in order. In the first pass, or if there is
-/// none, each passes the gate before each of its pieces. Where the gate can't hold anyone, only as many race as have enough
+/// workers race for it, each with a slice of the pieces, in order: for the keys of a hash node, then for the links and bits of all pointer and
+/// bitmasked nodes, then for the lengths of a dynamic node. In the first of these passes, or if there is none, each passes the gate before
+/// each of its pieces. Where the gate can't hold anyone, only as many race as have enough
 /// to do. It waits for its workers.
 pub fn activated<R: Threads + Sync, W: Wanted + Sync, G: Gate + Sync>(
     rt: &R,
@@ -76,6 +80,8 @@ pub fn activated<R: Threads + Sync, W: Wanted + Sync, G: Gate + Sync>(
     workers: u32,
     gate: &G,
 ) -> Result<Option<Store>, Stop<ActFault>>
+where
+    W::Hand: Send,
     requires some { 1 ≤ workers }
     requires few { workers ≤ 16 }
     requires inside { W.bounds want.now ≡ bounds_of_shape store.now.shape }
@@ -88,82 +94,152 @@ pub fn activated<R: Threads + Sync, W: Wanted + Sync, G: Gate + Sync>(
     ensures keeps { IfOk result (λ next. KeepsCells store.now (unwrap_or next store.now)) }
     ensures links { IfOk result (λ next. GrowsLinks store.now (unwrap_or next store.now)) }
 {
-    // for the laws that they ensure, and the invariant
+    // for the laws that they ensure
     levels::opening_by_nodes();
     live_grows();
+    need_grows();
     cells_are_active();
     links_stay();
     store.layout();
-    let effort = want.effort().saturating_mul(want.pieces() as usize);
-    let racing = workers_at(gate, effort, workers);
-    let work = Work {
-        want,
-        workers: racing,
-        gate,
-        gated: false,
-    };
-    if is_active(rt, alloc, store, &work)? {
-        pass_gate(rt, want.pieces(), workers, gate);
+    let pieces = want.pieces();
+    let effort = want.effort().saturating_mul(pieces as usize);
+    let racing = with_pieces(workers_at(gate, effort, workers), pieces);
+    let found = find_new(rt, alloc, store, want, racing)?;
+    if found.is_empty() {
+        pass_gate(rt, pieces, workers, gate);
         return Ok(None);
     }
     let mut next = store.copy_by_workers(rt, alloc, workers)?;
-    let mut gated = true;
-    for index in 0..store.layout().nodes() {
-        let work = Work {
-            want,
-            workers: racing,
-            gate,
-            gated,
-        };
-        match open_node(rt, alloc, &mut next, index, &work) {
-            Ok(first) => gated = first,
-            Err(stop) => return Err(stop),
-        }
-        // for the invariant that it ensures
-        next.layout();
+    let work = Work {
+        found: found.as_slice(),
+        axes: store.layout().extents().n,
+        pieces,
+        workers: racing,
+        gate,
+        gated: gate.may_hold(),
+    };
+    match open_all(rt, alloc, &mut next, &work) {
+        Ok(()) => {}
+        Err(stop) => return Err(stop),
     }
+    // for the fact that it ensures
+    next.layout();
     Ok(Some(next))
 }
 
-/// Opens the node with this index, from 0, for what is wanted. Whether the next pass is still the first.
-fn open_node<R: Threads + Sync, W: Wanted + Sync, G: Gate + Sync>(
+/// As many of so many workers as there are pieces; one at least. The slices of these are the same.
+fn with_pieces(workers: u32, pieces: u32) -> u32
+    requires some { 1 ≤ workers }
+    ensures some { 1 ≤ result }
+    ensures few { result ≤ workers }
+{
+    if pieces < 1 {
+        return 1;
+    }
+    workers.min(pieces)
+}
+
+/// Opens all nodes for what was found: a hash node first, then the pointer and bitmasked nodes, and then a dynamic one.
+fn open_all<R: Threads + Sync, G: Gate + Sync>(
     rt: &R,
     alloc: Global,
     store: &mut Store,
-    index: usize,
-    work: &Work<W, G>,
-) -> Result<bool, Stop<ActFault>>
-    requires there { index < length store.old.shape.nodes }
-    requires inside { W.bounds work.now.want.now ≡ bounds_of_shape store.old.shape }
-    ensures opened { OnOk result ((list : ℕ → List Coord) → W.Means work.now.want.now list →
-        OpensIndex store.old store.new index (wanted_below list (W.count work.now.want.now))) }
+    work: &Work<G>,
+) -> Result<(), Stop<ActFault>>
+    requires inside { All (Inside (bounds_of_shape store.old.shape)) (found_in work.now.axes work.now.found.now) }
+    ensures opened { OnOk result (OpensTo store.old store.new 0 (length store.old.shape.nodes) (found_in work.now.axes work.now.found.now)) }
     ensures keeps { OnOk result (KeepsCells store.old store.new) }
-    ensures full { IfActRefused result (λ fault. (list : ℕ → List Coord) → W.Means work.now.want.now list →
-        IsFirstFull store.old index (wanted_below list (W.count work.now.want.now)) fault) }
+    ensures full { IfActRefused result (IsFirstFull store.old 0 (found_in work.now.axes work.now.found.now)) }
 {
-    // for the laws that they ensure, and the invariant
-    levels::opening_by_nodes();
-    store.layout();
-    let node = index as u32 + 1;
-    match store.layout().shape().nodes.as_slice()[index].kind {
-        Kind::Dense => Ok(work.gated),
-        Kind::Pointer => {
-            open_links(rt, alloc, store, node, work)?;
-            Ok(false)
-        }
-        Kind::Bitmasked => {
-            open_masks(rt, alloc, store, node, work)?;
-            Ok(false)
-        }
-        Kind::Hash => {
-            match open_keys(rt, alloc, store, work) {
-                Ok(()) => Ok(false),
-                Err(stop) => Err(stop),
-            }
-        }
-        Kind::Dynamic => {
-            open_lengths(rt, alloc, store, node, work)?;
-            Ok(false)
-        }
+    let gated = match open_head(rt, alloc, store, work) {
+        Ok(gated) => gated,
+        Err(stop) => return Err(stop),
+    };
+    let below = Work {
+        found: work.found,
+        axes: work.axes,
+        pieces: work.pieces,
+        workers: work.workers,
+        gate: work.gate,
+        gated,
+    };
+    let gated = match open_middle(rt, alloc, store, &below) {
+        Ok(gated) => gated,
+        Err(stop) => return Err(stop),
+    };
+    let last = Work {
+        found: work.found,
+        axes: work.axes,
+        pieces: work.pieces,
+        workers: work.workers,
+        gate: work.gate,
+        gated,
+    };
+    open_tail(rt, alloc, store, &last)
+}
+
+/// Opens the first node if it is a hash node. Whether the next pass has the gate.
+fn open_head<R: Threads + Sync, G: Gate + Sync>(
+    rt: &R,
+    alloc: Global,
+    store: &mut Store,
+    work: &Work<G>,
+) -> Result<bool, Stop<ActFault>>
+    requires inside { All (Inside (bounds_of_shape store.old.shape)) (found_in work.now.axes work.now.found.now) }
+    ensures opened { OnOk result (OpensTo store.old store.new 0 (open_before store.old.shape) (found_in work.now.axes work.now.found.now)) }
+    ensures keeps { OnOk result (KeepsCells store.old store.new) }
+    ensures full { IfActRefused result (IsFirstFull store.old 0 (found_in work.now.axes work.now.found.now)) }
+{
+    // for the fact that there is a node
+    let _nodes = store.layout().nodes();
+    if has_kind(store, 1, Kind::Hash) {
+        return match open_keys(rt, alloc, store, work) {
+            Ok(()) => Ok(false),
+            Err(stop) => Err(stop),
+        };
     }
+    Ok(work.gated)
+}
+
+/// Opens the pointer and bitmasked nodes, if there are any. Whether the next pass has the gate.
+fn open_middle<R: Threads + Sync, G: Gate + Sync>(
+    rt: &R,
+    alloc: Global,
+    store: &mut Store,
+    work: &Work<G>,
+) -> Result<bool, Stop<ActFault>>
+    requires inside { All (Inside (bounds_of_shape store.old.shape)) (found_in work.now.axes work.now.found.now) }
+    ensures opened { OnOk result (OpensTo store.old store.new (open_before store.old.shape) (open_after store.old.shape) (found_in work.now.axes work.now.found.now)) }
+    ensures keeps { OnOk result (KeepsCells store.old store.new) }
+    ensures full { IfActRefused result (IsFirstFull store.old (open_before store.old.shape) (found_in work.now.axes work.now.found.now)) }
+{
+    let last = last_fused(store);
+    if last < 1 {
+        return Ok(work.gated);
+    }
+    match descend(rt, alloc, store, work) {
+        Ok(()) => Ok(false),
+        Err(stop) => Err(stop),
+    }
+}
+
+/// Opens the dense nodes that are left, and a dynamic node, which is the last.
+fn open_tail<R: Threads + Sync, G: Gate + Sync>(
+    rt: &R,
+    alloc: Global,
+    store: &mut Store,
+    work: &Work<G>,
+) -> Result<(), Stop<ActFault>>
+    requires inside { All (Inside (bounds_of_shape store.old.shape)) (found_in work.now.axes work.now.found.now) }
+    ensures opened { OnOk result (OpensTo store.old store.new (open_after store.old.shape) (length store.old.shape.nodes) (found_in work.now.axes work.now.found.now)) }
+    ensures keeps { OnOk result (KeepsCells store.old store.new) }
+    ensures full { IfActRefused result (IsFirstFull store.old (open_after store.old.shape) (found_in work.now.axes work.now.found.now)) }
+{
+    // for the laws that they ensure
+    levels::opening_by_nodes();
+    let nodes = store.layout().nodes() as u32;
+    if has_kind(store, nodes, Kind::Dynamic) {
+        return open_lengths(rt, alloc, store, nodes, work);
+    }
+    Ok(())
 }

@@ -1,18 +1,19 @@
-ghost use Rattle.std.specs.Prelude.{◌≡◌, ℕ, ◌+◌, ◌-◌, ◌^◌, ◌<◌, ◌≤◌, List, length, OnOk, slice_index};
+ghost use Rattle.std.specs.Prelude.{◌≡◌, ℕ, ◌+◌, ◌-◌, ◌^◌, ◌<◌, ◌≤◌, All, List, length, OnOk, slice_index};
 ghost use Rattle.sg_coord.specs.declared.coord.Coord.{Coord};
+ghost use Rattle.sg_coord.specs.Coord.{Inside};
 ghost use Rattle.sg_layout.specs.Axes.{bounds_of_shape};
 ghost use Rattle.sg_layout.specs.declared.shape.Kind.TheVariants.{Hash};
 ghost use Rattle.sg_layout.specs.Live.{kind_at};
 ghost use Rattle.sg_store.specs.Reaching.{KeepsCells};
 ghost use Rattle.sg_store.specs.Opening.{OpensNode};
-ghost use Rattle.sg_activate.specs.Activating.{wanted_below};
+ghost use Rattle.sg_activate.specs.steps.Finding.{found_in};
 ghost use Rattle.sg_activate.specs.steps.Levels.{IfActRefused, IsFirstFull};
 
+use crate::asking::{Work, ask_all};
+use crate::caps::{SPARES, cap_of};
 use crate::fault::ActFault;
-use crate::links::{SPARES, cap_of};
 use crate::pass::Pass;
-use crate::race::{Raced, Work, race_all};
-use crate::wanted::Wanted;
+use crate::race::Raced;
 use sg_coord::Coord;
 use sg_hash::{HashPass, HashSeat};
 use sg_outside::Gate;
@@ -48,10 +49,6 @@ impl<'a> Pass for KeyRace<'a> {
 
     ghost IsMadeFor = { λ race wanted seat. HasPutFor race.store.now wanted (worker_of seat) };
 
-    fn is_over(&self, _seat: &HashSeat) -> bool {
-        false
-    }
-
     fn ask(&self, seat: &mut HashSeat, at: Coord) {
         if let Some(key) = self.store.place_in(1, at) {
             self.pass.ask(seat, key as u32);
@@ -68,19 +65,17 @@ impl<'a> Pass for KeyRace<'a> {
 }
 
 /// Opens a hash node, which is the first, for what is wanted.
-pub(crate) fn open_keys<R: Threads + Sync, W: Wanted + Sync, G: Gate + Sync>(
+pub(crate) fn open_keys<R: Threads + Sync, G: Gate + Sync>(
     rt: &R,
     alloc: Global,
     store: &mut Store,
-    work: &Work<W, G>,
+    work: &Work<G>,
 ) -> Result<(), Stop<ActFault>>
     requires hash { kind_at store.old.shape.nodes 1 ≡ Hash }
-    requires inside { W.bounds work.now.want.now ≡ bounds_of_shape store.old.shape }
-    ensures opened { OnOk result ((list : ℕ → List Coord) → W.Means work.now.want.now list →
-        OpensNode store.old store.new 1 (wanted_below list (W.count work.now.want.now))) }
+    requires inside { All (Inside (bounds_of_shape store.old.shape)) (found_in work.now.axes work.now.found.now) }
+    ensures opened { OnOk result (OpensNode store.old store.new 1 (found_in work.now.axes work.now.found.now)) }
     ensures keeps { OnOk result (KeepsCells store.old store.new) }
-    ensures full { IfActRefused result (λ fault. (list : ℕ → List Coord) → W.Means work.now.want.now list →
-        IsFirstFull store.old 0 (wanted_below list (W.count work.now.want.now)) fault) }
+    ensures full { IfActRefused result (IsFirstFull store.old 0 (found_in work.now.axes work.now.found.now)) }
 {
     // for the laws that they ensure
     levels::opening_by_nodes();
@@ -97,7 +92,7 @@ pub(crate) fn open_keys<R: Threads + Sync, W: Wanted + Sync, G: Gate + Sync>(
         store: &*store,
         pass,
     };
-    let Raced { seat, done } = race_all(rt, alloc, work, &raced, seat);
+    let Raced { seat, done } = ask_all(rt, alloc, work, &raced, seat);
     let KeyRace { store: _, pass } = raced;
     let linked = pass.finish(alloc, seat)?;
     done?;

@@ -1,19 +1,20 @@
-ghost use Rattle.std.specs.Prelude.{◌≡◌, ℕ, ◌+◌, ◌-◌, ◌<◌, ◌≤◌, List, length, OnOk};
+ghost use Rattle.std.specs.Prelude.{◌≡◌, ℕ, ◌+◌, ◌-◌, ◌<◌, ◌≤◌, All, List, length, OnOk};
 ghost use Rattle.sg_coord.specs.declared.coord.Coord.{Coord};
+ghost use Rattle.sg_coord.specs.Coord.{Inside};
 ghost use Rattle.sg_layout.specs.Axes.{bounds_of_shape};
 ghost use Rattle.sg_layout.specs.declared.shape.Kind.TheVariants.{Dynamic};
 ghost use Rattle.sg_layout.specs.Live.{kind_at};
 ghost use Rattle.sg_dynamic.specs.Raising.{old_lengths};
 ghost use Rattle.sg_store.specs.Reaching.{KeepsCells};
 ghost use Rattle.sg_store.specs.Opening.{lengths_of, OpensNode};
-ghost use Rattle.sg_activate.specs.Activating.{wanted_below};
+ghost use Rattle.sg_activate.specs.steps.Finding.{found_in};
 ghost use Rattle.sg_activate.specs.steps.Levels.{IfActRefused, IsFirstFull};
 
+use crate::asking::{Work, ask_all};
+use crate::caps::cap_of;
 use crate::fault::ActFault;
-use crate::links::cap_of;
 use crate::pass::Pass;
-use crate::race::{Raced, Work, race_all};
-use crate::wanted::Wanted;
+use crate::race::Raced;
 use sg_coord::Coord;
 use sg_dynamic::{LengthPass, RaiseSeat};
 use sg_outside::Gate;
@@ -53,10 +54,6 @@ impl<'a> Pass for LengthRace<'a> {
 
     ghost IsMadeFor = { λ race wanted seat. HasRaisedFor race.store.now race.node wanted (worker_of seat) };
 
-    fn is_over(&self, _seat: &RaiseSeat) -> bool {
-        false
-    }
-
     fn ask(&self, seat: &mut RaiseSeat, at: Coord) {
         if let Some(parent) = self.store.place_in(self.node, at) {
             let index = self.store.layout().offset(self.node as usize - 1, at);
@@ -74,22 +71,20 @@ impl<'a> Pass for LengthRace<'a> {
 }
 
 /// Opens a dynamic node, numbered from 1, for what is wanted. It is the last.
-pub(crate) fn open_lengths<R: Threads + Sync, W: Wanted + Sync, G: Gate + Sync>(
+pub(crate) fn open_lengths<R: Threads + Sync, G: Gate + Sync>(
     rt: &R,
     alloc: Global,
     store: &mut Store,
     node: u32,
-    work: &Work<W, G>,
+    work: &Work<G>,
 ) -> Result<(), Stop<ActFault>>
     requires first { 1 ≤ node }
     requires dynamic { kind_at store.old.shape.nodes node ≡ Dynamic }
     requires last { length store.old.shape.nodes ≡ node }
-    requires inside { W.bounds work.now.want.now ≡ bounds_of_shape store.old.shape }
-    ensures opened { OnOk result ((list : ℕ → List Coord) → W.Means work.now.want.now list →
-        OpensNode store.old store.new node (wanted_below list (W.count work.now.want.now))) }
+    requires inside { All (Inside (bounds_of_shape store.old.shape)) (found_in work.now.axes work.now.found.now) }
+    ensures opened { OnOk result (OpensNode store.old store.new node (found_in work.now.axes work.now.found.now)) }
     ensures keeps { OnOk result (KeepsCells store.old store.new) }
-    ensures full { IfActRefused result (λ fault. (list : ℕ → List Coord) → W.Means work.now.want.now list →
-        IsFirstFull store.old (node - 1) (wanted_below list (W.count work.now.want.now)) fault) }
+    ensures full { IfActRefused result (IsFirstFull store.old (node - 1) (found_in work.now.axes work.now.found.now)) }
 {
     // for the laws that they ensure
     levels::opening_by_nodes();
@@ -102,7 +97,7 @@ pub(crate) fn open_lengths<R: Threads + Sync, W: Wanted + Sync, G: Gate + Sync>(
         node,
         pass,
     };
-    let Raced { seat, done } = race_all(rt, alloc, work, &raced, seat);
+    let Raced { seat, done } = ask_all(rt, alloc, work, &raced, seat);
     let LengthRace {
         store: _,
         node: _,

@@ -1,15 +1,15 @@
-ghost use Rattle.std.specs.Prelude.{◌≡◌, ℕ, ◌+◌, ◌-◌, ◌/◌, ◌<◌, ◌≤◌, List, Contains, IsTrue};
+ghost use Rattle.std.specs.Prelude.{◌≡◌, ℕ, ◌+◌, ◌-◌, ◌/◌, ◌≤◌, List, Contains};
 ghost use Rattle.sg_coord.specs.declared.coord.Coord.{Coord};
 ghost use Rattle.sg_coord.specs.Coord.{Inside};
 ghost use Rattle.sg_coord.specs.Bounds.{Bounds};
 
 use sg_coord::Coord;
 
-/// What workers do side by side with wanted coordinates, each through a seat of its own: they ask for them, one after the
+/// What workers do side by side with coordinates, each through a seat of its own: they ask for them, one after the
 /// other. `IsMet` tells that a seat has met what a coordinate wants, and `IsMadeFor` that whatever it made is for some of
 /// these coordinates.
 pub(crate) trait Pass {
-    type Seat: Drop + Send;
+    type Seat: Drop;
 
     ghost bounds: { Self → Bounds };
 
@@ -22,11 +22,6 @@ pub(crate) trait Pass {
     ghost IsMet: { Self → Coord → Self.Seat → Type 0 };
 
     ghost IsMadeFor: { Self → List Coord → Self.Seat → Type 0 };
-
-    /// Whether the seat need not ask any more.
-    fn is_over(&self, seat: &Self::Seat) -> bool
-        requires { IsSeatOf self.now seat.now }
-        ensures { IsTrue result → (at : Coord) → IsMet self.now at seat.now };
 
     /// Asks for a coordinate.
     fn ask(&self, seat: &mut Self::Seat, at: Coord)
@@ -49,7 +44,6 @@ pub(crate) trait Pass {
         ensures share { share seat.new ≡ share seat.old - share seat.old / 2 }
         ensures other_share { share result ≡ share seat.old / 2 }
         ensures weight { weight seat.new + weight result ≡ weight seat.old }
-        ensures stays { (at : Coord) → IsMet self.now at seat.old → IsMet self.now at seat.new }
         ensures made { (wanted : List Coord) → IsMadeFor self.now wanted seat.old →
             IsMadeFor self.now wanted seat.new }
         ensures none { (wanted : List Coord) → IsMadeFor self.now wanted result };

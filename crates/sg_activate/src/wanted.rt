@@ -13,7 +13,7 @@ use std::alloc::Global;
 pub trait Wanted {
     /// What a worker needs to tell what pieces want, such as a machine with its rows: it makes one at its start, and uses
     /// it for all its pieces.
-    type Hand: Drop + Send;
+    type Hand: Drop;
 
     ghost count: { Self → ℕ };
 

@@ -123,15 +123,13 @@ module _ (constant : DomainIsConstant) (own_stand : OwnWritesStand) (shapes : Li
 -- what the clauses of lowering say
 pub lowered_is : (constant : DomainIsConstant) (own_stand : OwnWritesStand) (shapes : List Shape) (kernel : Admitted) (result : Result KernelCode Memory) → IsLowerable shapes kernel
     → IfOk result (λ it. it.domain ≡ kernel.domain) → IfOk result (λ it. WritesAsKernel shapes kernel.kernel it.code.body) → IfOk result (λ it. WantsAsKernel shapes kernel.kernel it.slice.body)
-    → IfOk result (λ it. kernel.kernel.vars ≤ 3 → (is_well_typed shapes it.code ≡ true) × (is_well_typed shapes it.slice ≡ true)) → IfOk result (λ it. kernel.kernel.vars ≤ 3 → IsApt shapes it)
-    → IfOk result (λ it. kernel.kernel.vars ≤ 3 → PointsAreWhole shapes kernel) → IfOk result (IsLoweredOf shapes kernel)
+    → IfOk result (λ it. (is_well_typed shapes it.code ≡ true) × (is_well_typed shapes it.slice ≡ true)) → IfOk result (λ it. IsApt shapes it)
+    → IfOk result (λ it. PointsAreWhole shapes kernel) → IfOk result (IsLoweredOf shapes kernel)
 lowered_is constant own_stand shapes kernel (Ok code) lowerable goes writes wants typed is_apt points =
-    let few = lowerable.ready.few in
-    let fine = typed few in
     record {
-      runnable = record { slice_typed = fine.1; code_typed = fine.0; apt = is_apt few };
+      runnable = record { slice_typed = typed.1; code_typed = typed.0; apt = is_apt };
       domain = goes;
-      effects = turns_same constant own_stand shapes kernel lowerable code goes writes wants (points few);
+      effects = turns_same constant own_stand shapes kernel lowerable code goes writes wants points;
     }
 lowered_is constant own_stand shapes kernel (Err why) lowerable goes writes wants typed is_apt points = tt
 

@@ -5,7 +5,7 @@ ghost use Rattle.clap.specs.Matches.{found_of};
 ghost use Rattle.clap.specs.Simple.{app_of};
 ghost use Rattle.clap.specs.Walk.{rows_of};
 ghost use Rattle.sparsegrid.specs.steps.Splitting as steps;
-ghost use Rattle.sparsegrid.specs.steps.WordTurns.{AnswersOption};
+ghost use Rattle.sg_words.specs.Answers.{AnswersOption};
 
 use crate::words::BadWords;
 use clap::error::ErrorKind;

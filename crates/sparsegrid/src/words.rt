@@ -5,7 +5,7 @@ ghost use Rattle.std.specs.Prelude.{◌≡◌, ◌∷◌, ◌≤◌, [], IfOk, I
 ghost use Rattle.std.specs.Option.{option_copied};
 ghost use Rattle.sg_session.specs.Bindings.{binding_read};
 ghost use Rattle.sparsegrid.specs.Words as spec;
-ghost use Rattle.sparsegrid.specs.steps.WordTurns.{AnswersOption};
+ghost use Rattle.sg_words.specs.Answers.{AnswersOption};
 ghost use Rattle.clap.specs.Matches.{found_of};
 ghost use Rattle.clap.specs.Walk.{rows_of};
 ghost use Rattle.sparsegrid.specs.steps.Splitting.{asked_in, parts_of_rows};

@@ -3,7 +3,7 @@ use Rattle.std.specs.Prelude.{◌≡◌, ℕ, ◌<◌, ◌⊎◌, Bool, true, Li
 use Rattle.sg_words.specs.declared.race.Worker.{Worker}
 use Rattle.sg_words.specs.Counts.{pairs, times_in}
 use Rattle.sg_coord.specs.declared.coord.Coord.{Coord}
-use Rattle.sg_hash.specs.Asking.{is_dry}
+use Rattle.sg_words.specs.Stocks.{is_dry}
 use Rattle.sg_store.specs.StoreWords.{StoreWords}
 use Rattle.sg_store.specs.Walks.{place_in}
 use Rattle.sg_store.specs.Opening.{IsPlaceOf, IsInLive}

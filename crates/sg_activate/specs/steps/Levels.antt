@@ -1,24 +1,29 @@
--- A store of which one more node has been opened, or was found too full.
-use Rattle.std.specs.Prelude.{◌≡◌, ℕ, suc, List, ◌++◌, Result, Ok, Err}
+-- A store of which more nodes have been opened, or were found too full.
+use Rattle.std.specs.Prelude.{◌≡◌, ℕ, nat_lt, if◌then◌else◌, List, ◌++◌, Result, Ok, Err}
 use Rattle.sg_words.specs.declared.memory.Stop.{Stop}
 use Rattle.sg_words.specs.declared.memory.Stop.TheVariants as stop
 use Rattle.sg_coord.specs.declared.coord.Coord.{Coord}
+use Rattle.sg_layout.specs.declared.shape.Shape.{Shape}
 use Rattle.sg_layout.specs.Need.{first_full}
 use Rattle.sg_store.specs.StoreWords.{StoreWords}
 use Rattle.sg_store.specs.Reaching.{IsOpenThrough}
 use Rattle.sg_activate.specs.declared.fault.ActFault.{ActFault}
 use Rattle.sg_activate.specs.Activating.{unless_full}
+use Rattle.sg_activate.specs.Descending.{open_before, last_fused}
 
--- whatever was active before: a store that was open through the nodes before this one, by its index from 0, has become
--- one that is open through this one too
-abbrev pub OpensIndex : StoreWords → StoreWords → ℕ → List Coord → Type 0
-OpensIndex store now index wanted =
-    (old : List Coord) → IsOpenThrough store old (old ++ wanted) index → IsOpenThrough now old (old ++ wanted) (suc index)
+-- how many nodes are open after a descent, if there is one
+abbrev pub open_after : Shape → ℕ
+open_after shape = if nat_lt (last_fused shape) 1 then open_before shape else last_fused shape
 
--- the fault names the first node that is too full, whatever was active before
+-- whatever was active before: a store that was open through so many nodes has become one that is open through so many
+abbrev pub OpensTo : StoreWords → StoreWords → ℕ → ℕ → List Coord → Type 0
+OpensTo store now from to wanted =
+    (old : List Coord) → IsOpenThrough store old (old ++ wanted) from → IsOpenThrough now old (old ++ wanted) to
+
+-- the fault names the first node that is too full, whatever was active before, where so many nodes were open
 abbrev pub IsFirstFull : StoreWords → ℕ → List Coord → ActFault → Type 0
-IsFirstFull store index wanted fault =
-    (old : List Coord) → IsOpenThrough store old (old ++ wanted) index →
+IsFirstFull store from wanted fault =
+    (old : List Coord) → IsOpenThrough store old (old ++ wanted) from →
     unless_full (first_full store.shape (old ++ wanted)) ≡ Err fault
 
 -- a fact of the refusal, and nothing if memory ran out

@@ -21,13 +21,14 @@ pub struct Setting<'a> {
 }
 
 /// What is looked at when a run has ended: its status, whether there is a session, how many of the coordinates from 0 to 3 and from 0 to 15 are
-/// active in the first store, and the numbers of the first two containers below the root of that store.
+/// active in the first store, the numbers of the first two containers below the root of that store, and the cells of the coordinates 0 and 2.
 #[derive(Clone, Copy)]
 pub struct Seen {
     pub status: u8,
     pub session: bool,
     pub active: Option<(u32, u32)>,
     pub containers: Option<(u32, u32)>,
+    pub cells: Option<(u32, u32)>,
 }
 
 /// A gate that is open and doesn't say so: all workers start, however little there is to do.
@@ -53,11 +54,13 @@ pub(crate) fn run_over<R: Threads + Sync, S: Sink, G: Gate + Sync>(
         session: done.session.is_some(),
         active: None,
         containers: None,
+        cells: None,
     };
     if let Some(session) = &done.session {
         if let Some(store) = session.stores.list.get(0) {
             seen.active = Some(active(store));
             seen.containers = containers(store);
+            seen.cells = cells(store);
         }
     }
     seen
@@ -94,6 +97,20 @@ fn container(store: &Store, offset: u32) -> Option<u32> {
 
 fn containers(store: &Store) -> Option<(u32, u32)> {
     Some((container(store, 0)?, container(store, 1)?))
+}
+
+/// The cell of a coordinate, if it is active.
+fn cell(store: &Store, a: i32) -> Option<u32> {
+    store.cell_of(Coord {
+        n: 1,
+        a,
+        b: 0,
+        c: 0,
+    })
+}
+
+fn cells(store: &Store) -> Option<(u32, u32)> {
+    Some((cell(store, 0)?, cell(store, 2)?))
 }
 
 /// What a run left: its status, whether there is a session, and the bytes that the sink took.

@@ -103,6 +103,51 @@ fn order_decides(rt: HostRuntime) -> Result<(), Fail> {
     Ok(())
 }
 
+/// Two levels of containers, in which the four points want the coordinates 0, 0, 2 and 2.
+const TWO_LEVELS: &str =
+    "layout A(i) { pointer(i: 2) cap 2; pointer(i: 2) cap 2; field x: i32; } kernel k { for p in 0..4 { x[(p >> 1) * 2] += 1; } } run k; dump x;";
+
+/// The numbers of the first two containers at each of two levels; at the lower one a container is a cell.
+type Numbers = ((u32, u32), (u32, u32));
+
+/// Those after the run in which a worker comes first; none if the other one didn't see it first.
+fn levels<R: Threads + Sync + Abort>(
+    rt: &R,
+    alloc: Global,
+    first: u32,
+) -> Result<Option<Numbers>, Fail>
+    requires { first ≤ 1 }
+{
+    let setting = on(&["--workers", "2", "p.sg"], TWO_LEVELS);
+    let gate = OrderGate::new(first, LOOKS);
+    let mut out = MemSink::new(alloc, Vec::new(alloc), 0);
+    let seen = setting.gated(rt, alloc, &mut out, &gate)?;
+    assert_eq!(rt; out.bytes(), b"grid 1 2\n0 2\n2 2\n".as_slice());
+    if !gate.kept() {
+        return Ok(None);
+    }
+    Ok(match (seen.containers, seen.cells) {
+        (Some(upper), Some(lower)) => Some((upper, lower)),
+        _ => None,
+    })
+}
+
+/// The worker that comes first draws the first number of the stock at each level.
+#[test]
+fn order_decides_below(rt: HostRuntime) -> Result<(), Fail> {
+    for _turn in 0..10 {
+        match (levels(&rt, rt.alloc(), 0)?, levels(&rt, rt.alloc(), 1)?) {
+            (Some(((zero, one), (low, high))), Some((upper, lower))) => {
+                assert!(rt; zero != one && low != high);
+                assert_eq!(rt; upper, (one, zero));
+                assert_eq!(rt; lower, (high, low));
+            }
+            _ => assert!(rt; false),
+        }
+    }
+    Ok(())
+}
+
 /// Particles that are scattered into the cells of a grid under keys, pointers and bits.
 const SCATTER: &str = "layout P(p) { dense(p: 1024); field px: i32; field py: i32; field m: i32; } \
      layout G(i, j) { hash(i: 4, j: 4) cap 16; pointer(i: 2, j: 2) cap 64; bitmasked(i: 8, j: 8); field g: i32; } \

@@ -1,65 +1,101 @@
-use Rattle.std.proofs.Common.{◌≡◌, ℕ, suc, ◌+◌, ◌≤◌, ◌++◌, length, refl, ap, ◌∙◌, subst, arith}
+use Rattle.std.proofs.Common.{◌≡◌, ℕ, ◌++◌, [], length, refl, sym, ap, ◌∙◌, subst}
+use Rattle.std.specs.Prelude.{Option}
+use Rattle.std.specs.List.{Contains}
+use Rattle.sg_coord.specs.declared.coord.Coord.{Coord}
+use Rattle.sg_coord.specs.Bounds.{Bounds}
+use Rattle.sg_coord.specs.Coord.{Inside}
+use Rattle.sg_layout.specs.Axes.{bounds_of_shape}
 use Rattle.sg_layout.specs.declared.shape.Shape.{Shape}
-use Rattle.sg_store.specs.Reaching.{IsOpenThrough}
-use Rattle.sg_activate.specs.Activating.{wanted_below}
-use Rattle.sg_activate.proofs.Active.{keeps_same, keeps_then, all_active, cells_active, wanted_inside, no_node_full}
+use Rattle.sg_layout.specs.Need.{first_full}
+use Rattle.sg_store.specs.StoreWords.{StoreWords}
+use Rattle.sg_store.specs.Reaching.{KeepsCells}
+use Rattle.sg_activate.specs.Activating.{wanted_below, unless_full}
+use Rattle.sg_activate.specs.steps.Finding.{found_in}
+use Rattle.sg_activate.specs.steps.Looked.{IsKnown}
+use Rattle.sg_activate.specs.steps.Levels.{IfActRefused, IsFirstFull}
+use Rattle.sg_activate.proofs.Active.{keeps_same, all_active, only_active, known_active, wanted_inside, no_node_full, found_members, opened_wanted, refused_wanted, refused_answers, all_of}
 use Rattle.sg_activate.proofs.activation.activated.Goals as goal
 
-pub returns-then-branch-clause-answer : goal.returns-then-branch-clause-answer
-returns-then-branch-clause-answer g c = λ list means flat stands.
+-- ---- all is active
+pub returns-then-is_empty-clause-answer : goal.returns-then-is_empty-clause-answer
+returns-then-is_empty-clause-answer g c = λ list means flat stands.
     let store = c.args.store.now in
     let wanted = wanted_below list (g.W.Wanted.count c.args.want.now) in
-    let active = cells_active store (c.cells_are_active.ensures.active store) c.layout.ensures.well_formed flat stands wanted (λ at is. c.in_ok-is_active.ensures c.if-branch.true list means at is) in
+    let none : found_in (bounds_of_shape store.shape).n c.in_ok-found.found ≡ [] = ap (found_in (bounds_of_shape store.shape).n) (c.is_empty.ensures.0 c.if-is_empty.true) in
+    let active : (at : Coord) → Contains wanted at → Contains flat.active at = λ at is. only_active (Contains flat.active at) (found_in (bounds_of_shape store.shape).n c.in_ok-found.found) at none
+    (known_active store (c.cells_are_active.ensures.active store) c.layout.ensures.well_formed flat stands (found_in (bounds_of_shape store.shape).n c.in_ok-found.found) at (c.in_ok-found.ensures.known list means at is)) in
     no_node_full store store (c.opening_by_nodes.ensures.room store) c.layout.ensures.well_formed refl flat.active (flat.active ++ wanted)
     (all_active store (c.live_grows.ensures.of_members store.shape) flat stands wanted active (length store.shape.nodes))
 
-pub returns-then-branch-clause-activated : goal.returns-then-branch-clause-activated
-returns-then-branch-clause-activated g c = λ list means flat stands.
+pub returns-then-is_empty-clause-activated : goal.returns-then-is_empty-clause-activated
+returns-then-is_empty-clause-activated g c = λ list means flat stands.
     let store = c.args.store.now in
     let wanted = wanted_below list (g.W.Wanted.count c.args.want.now) in
-    let active = cells_active store (c.cells_are_active.ensures.active store) c.layout.ensures.well_formed flat stands wanted (λ at is. c.in_ok-is_active.ensures c.if-branch.true list means at is) in
+    let none : found_in (bounds_of_shape store.shape).n c.in_ok-found.found ≡ [] = ap (found_in (bounds_of_shape store.shape).n) (c.is_empty.ensures.0 c.if-is_empty.true) in
+    let active : (at : Coord) → Contains wanted at → Contains flat.active at = λ at is. only_active (Contains flat.active at) (found_in (bounds_of_shape store.shape).n c.in_ok-found.found) at none
+    (known_active store (c.cells_are_active.ensures.active store) c.layout.ensures.well_formed flat stands (found_in (bounds_of_shape store.shape).n c.in_ok-found.found) at (c.in_ok-found.ensures.known list means at is)) in
     c.opening_by_nodes.ensures.ends store store c.layout.ensures.well_formed c.layout.ensures.well_formed (keeps_same store) flat stands wanted
     (wanted_inside store.shape (g.W.Wanted.bounds c.args.want.now) list (g.W.Wanted.count c.args.want.now) c.requires.inside (c.requires.within list means))
     (all_active store (c.live_grows.ensures.of_members store.shape) flat stands wanted active (length store.shape.nodes))
 
-pub loop-index-preserved : goal.loop-index-preserved
-loop-index-preserved g c =
-    let before = c.loop-index.invariant in
-    let next : suc c.loop-index.index ≡ c.loop-index.index + 1 = omega arith in
-    record {
-      well = c.layout-in-loop-index.ensures.well_formed;
-      keeps = keeps_then c.args.store.now c.loop-index.next c.open_node.new.store before.keeps c.in-Ok.ensures.keeps;
-      opens = λ list means flat stands. subst (λ (n : ℕ). IsOpenThrough c.open_node.new.store flat.active (flat.active ++ wanted_below list (g.W.Wanted.count c.args.want.now)) n) next
-          (c.in-Ok.ensures.opened list means flat.active (before.opens list means flat stands));
-    }
+pub returns-then-is_empty-clause-links : goal.returns-then-is_empty-clause-links
+returns-then-is_empty-clause-links g c = λ index link is. is
 
+-- ---- what was found was opened
 pub returns-clause-answer : goal.returns-clause-answer
 returns-clause-answer g c = λ list means flat stands.
     let store = c.args.store.now in
-    let end = c.loop-index.invariant in
-    let nodes : c.nodes-index-end.result ≡ length store.shape.nodes = c.nodes-index-end.ensures.value ∙ ap (λ (s : Shape). length s.nodes) c.layout-2.ensures.layout in
-    let past : c.nodes-index-end.result ≤ c.loop-index.index = c.loop-index-test.false in
-    let within = c.loop-index.auto.index-end in
-    let all : c.loop-index.index ≡ length store.shape.nodes = omega arith in
+    let next = c.open_all.new.store in
     let wanted = wanted_below list (g.W.Wanted.count c.args.want.now) in
-    no_node_full store c.loop-index.next (c.opening_by_nodes.ensures.room c.loop-index.next) end.well end.keeps.same_shape flat.active (flat.active ++ wanted)
-    (subst (λ (n : ℕ). IsOpenThrough c.loop-index.next flat.active (flat.active ++ wanted) n) all (end.opens list means flat stands))
+    let found = found_in c.extents.result.n c.as_slice.result.now in
+    let axes : c.extents.result.n ≡ store.shape.axes = ap (λ (b : Bounds). b.n) c.extents.ensures.value ∙ ap (λ (s : Shape). s.axes) c.layout-2.ensures.layout in
+    let same : found ≡ found_in store.shape.axes c.in_ok-found.found = ap (λ (n : ℕ). found_in n c.as_slice.result.now) axes ∙ ap (found_in store.shape.axes) c.as_slice.ensures in
+    let members = found_members flat.active wanted found (λ at has. (c.in_ok-found.ensures.found.says at (subst (λ l. Contains l at) same has)).1 list means)
+    (λ at is. known_active store (c.cells_are_active.ensures.active store) c.layout.ensures.well_formed flat stands found at (subst (λ l. IsKnown store l at) (sym same) (c.in_ok-found.ensures.known list means at is))) in
+    let opens = opened_wanted store c.in_ok-next.next next c.in_ok-next.ensures (c.live_grows.ensures.of_members next.shape) flat.active found wanted members c.in-Ok.ensures.opened (c.opening_by_nodes.ensures.begins store flat stands found) in
+    let keeps = subst (λ (s : StoreWords). KeepsCells s next) c.in_ok-next.ensures c.in-Ok.ensures.keeps in
+    no_node_full store next (c.opening_by_nodes.ensures.room next) c.layout-3.ensures.well_formed keeps.same_shape flat.active (flat.active ++ wanted) opens
 
 pub returns-clause-activated : goal.returns-clause-activated
 returns-clause-activated g c = λ list means flat stands.
     let store = c.args.store.now in
-    let end = c.loop-index.invariant in
-    let nodes : c.nodes-index-end.result ≡ length store.shape.nodes = c.nodes-index-end.ensures.value ∙ ap (λ (s : Shape). length s.nodes) c.layout-2.ensures.layout in
-    let past : c.nodes-index-end.result ≤ c.loop-index.index = c.loop-index-test.false in
-    let within = c.loop-index.auto.index-end in
-    let all : c.loop-index.index ≡ length store.shape.nodes = omega arith in
+    let next = c.open_all.new.store in
     let wanted = wanted_below list (g.W.Wanted.count c.args.want.now) in
-    c.opening_by_nodes.ensures.ends store c.loop-index.next c.layout.ensures.well_formed end.well end.keeps flat stands wanted
-    (wanted_inside store.shape (g.W.Wanted.bounds c.args.want.now) list (g.W.Wanted.count c.args.want.now) c.requires.inside (c.requires.within list means))
-    (subst (λ (n : ℕ). IsOpenThrough c.loop-index.next flat.active (flat.active ++ wanted) n) all (end.opens list means flat stands))
+    let found = found_in c.extents.result.n c.as_slice.result.now in
+    let axes : c.extents.result.n ≡ store.shape.axes = ap (λ (b : Bounds). b.n) c.extents.ensures.value ∙ ap (λ (s : Shape). s.axes) c.layout-2.ensures.layout in
+    let same : found ≡ found_in store.shape.axes c.in_ok-found.found = ap (λ (n : ℕ). found_in n c.as_slice.result.now) axes ∙ ap (found_in store.shape.axes) c.as_slice.ensures in
+    let members = found_members flat.active wanted found (λ at has. (c.in_ok-found.ensures.found.says at (subst (λ l. Contains l at) same has)).1 list means)
+    (λ at is. known_active store (c.cells_are_active.ensures.active store) c.layout.ensures.well_formed flat stands found at (subst (λ l. IsKnown store l at) (sym same) (c.in_ok-found.ensures.known list means at is))) in
+    let opens = opened_wanted store c.in_ok-next.next next c.in_ok-next.ensures (c.live_grows.ensures.of_members next.shape) flat.active found wanted members c.in-Ok.ensures.opened (c.opening_by_nodes.ensures.begins store flat stands found) in
+    let keeps = subst (λ (s : StoreWords). KeepsCells s next) c.in_ok-next.ensures c.in-Ok.ensures.keeps in
+    c.opening_by_nodes.ensures.ends store next c.layout.ensures.well_formed c.layout-3.ensures.well_formed keeps flat stands wanted
+    (wanted_inside store.shape (g.W.Wanted.bounds c.args.want.now) list (g.W.Wanted.count c.args.want.now) c.requires.inside (c.requires.within list means)) opens
+
+pub returns-clause-keeps : goal.returns-clause-keeps
+returns-clause-keeps g c = subst (λ (s : StoreWords). KeepsCells s c.open_all.new.store) c.in_ok-next.ensures c.in-Ok.ensures.keeps
 
 pub returns-clause-links : goal.returns-clause-links
-returns-clause-links g c = c.links_stay.ensures.grow c.args.store.now c.loop-index.next c.layout.ensures.well_formed c.loop-index.invariant.well c.loop-index.invariant.keeps
+returns-clause-links g c = c.links_stay.ensures.grow c.args.store.now c.open_all.new.store c.layout.ensures.well_formed c.layout-3.ensures.well_formed (subst (λ (s : StoreWords). KeepsCells s c.open_all.new.store) c.in_ok-next.ensures c.in-Ok.ensures.keeps)
 
-pub returns-then-branch-clause-links : goal.returns-then-branch-clause-links
-returns-then-branch-clause-links g c = λ index link is. is
+pub returns-in-Err-clause-answer : goal.returns-in-Err-clause-answer
+returns-in-Err-clause-answer g c = λ list means flat stands.
+    let store = c.args.store.now in
+    let wanted = wanted_below list (g.W.Wanted.count c.args.want.now) in
+    let found = found_in c.extents.result.n c.as_slice.result.now in
+    let axes : c.extents.result.n ≡ store.shape.axes = ap (λ (b : Bounds). b.n) c.extents.ensures.value ∙ ap (λ (s : Shape). s.axes) c.layout-2.ensures.layout in
+    let same : found ≡ found_in store.shape.axes c.in_ok-found.found = ap (λ (n : ℕ). found_in n c.as_slice.result.now) axes ∙ ap (found_in store.shape.axes) c.as_slice.ensures in
+    let members = found_members flat.active wanted found (λ at has. (c.in_ok-found.ensures.found.says at (subst (λ l. Contains l at) same has)).1 list means)
+    (λ at is. known_active store (c.cells_are_active.ensures.active store) c.layout.ensures.well_formed flat stands found at (subst (λ l. IsKnown store l at) (sym same) (c.in_ok-found.ensures.known list means at is))) in
+    refused_answers {A = Option StoreWords} (λ next. tt) c.in-Err.stop (unless_full (first_full store.shape (flat.active ++ wanted)))
+    (refused_wanted c.open_all.result c.in-Err.stop c.in-Err.is store found (subst (λ (s : StoreWords). IfActRefused c.open_all.result (IsFirstFull s 0 found)) c.in_ok-next.ensures c.open_all.ensures.full) (c.need_grows.ensures.full store.shape)
+    flat.active wanted (c.opening_by_nodes.ensures.begins store flat stands found) members)
+
+-- ---- what the opening asks for
+pub open_all-requires-clause-inside : goal.open_all-requires-clause-inside
+open_all-requires-clause-inside g c κs within =
+    let store = c.args.store.now in
+    let found = found_in c.extents.result.n c.as_slice.result.now in
+    let axes : c.extents.result.n ≡ store.shape.axes = ap (λ (b : Bounds). b.n) c.extents.ensures.value ∙ ap (λ (s : Shape). s.axes) c.layout-2.ensures.layout in
+    let same : found ≡ found_in store.shape.axes c.in_ok-found.found = ap (λ (n : ℕ). found_in n c.as_slice.result.now) axes ∙ ap (found_in store.shape.axes) c.as_slice.ensures in
+    all_of (Inside (bounds_of_shape c.in_ok-next.next.shape)) found (λ at has.
+    subst (λ (s : StoreWords). Inside (bounds_of_shape s.shape) at) (sym c.in_ok-next.ensures) (c.in_ok-found.ensures.found.says at (subst (λ l. Contains l at) same has)).0)

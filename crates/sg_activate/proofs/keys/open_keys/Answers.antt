@@ -7,7 +7,7 @@ use Rattle.sg_layout.specs.Axes.{count_of}
 use Rattle.sg_layout.specs.NeedLaws.{IsNumberedNode}
 use Rattle.sg_hash.specs.Seats.{old_keys, old_links, stock_of, worker_of, is_full}
 use Rattle.sg_store.specs.Opening.{pool_of, IsPlaceOf, CanSettleHash, WantedHaveKeys, NewKeysAreWanted}
-use Rattle.sg_activate.specs.Activating.{wanted_below}
+use Rattle.sg_activate.specs.steps.Finding.{found_in}
 use Rattle.sg_activate.specs.steps.Keys.{HasFound}
 use Rattle.sg_activate.proofs.LinkLevel.{node_there}
 use Rattle.sg_activate.proofs.KeySteps.{none_put}
@@ -30,26 +30,26 @@ settle_hash-requires-clause-fits g c = λ shape there.
 
 pub settle_hash-requires-clause-can : goal.settle_hash-requires-clause-can
 settle_hash-requires-clause-can g c =
-    let v = worker_of c.race_all-seat.result.seat in
-    let full = is_full c.race_all-seat.result.seat in
+    let v = worker_of c.ask_all-seat.result.seat in
+    let full = is_full c.ask_all-seat.result.seat in
     let linked = c.in_ok-linked.linked in
     let outcome = key_outcome c.args.store.now c.in_ok-keys.keys c.in_ok-links.links c.in_ok-stock.stock (old_keys c.in_ok-pass.pass) (old_links c.in_ok-pass.pass) (stock_of c.in_ok-pass.pass) v linked.keys linked.links linked.taken full linked.dry
     c.in_ok-keys.ensures.words c.in_ok-links.ensures.words c.in_ok-stock.ensures.stock (stock_numbers c.as_slice.result.now c.in_ok-stock.stock c.as_slice.ensures c.are_numbers.ensures) c.in_ok-pass.ensures.given c.in_ok-linked.ensures.settled c.in_ok-linked.ensures.keys c.in_ok-linked.ensures.dry
-    c.in_ok-linked.ensures.taken c.race_all-seat.ensures.own.1 c.in_ok-keys.ensures.beside c.in_ok-links.ensures.filled in
+    c.in_ok-linked.ensures.taken c.ask_all-seat.ensures.own.1 c.in_ok-keys.ensures.beside c.in_ok-links.ensures.filled in
     subst (λ (t : List ℕ). CanSettleHash c.args.store.now c.as_slice-2.result.now c.as_slice-3.result.now t) (sym c.as_slice-4.ensures)
     (subst (λ (l : List ℕ). CanSettleHash c.args.store.now c.as_slice-2.result.now l linked.taken) (sym c.as_slice-3.ensures)
     (subst (λ (k : List ℕ). CanSettleHash c.args.store.now k linked.links linked.taken) (sym c.as_slice-2.ensures)
     (can_settle_hash c.args.store.now c.in_ok-stock.stock v linked.keys linked.links linked.taken full linked.dry outcome c.if-linked.false)))
 
 pub returns-then-linked-clause-full : goal.returns-then-linked-clause-full
-returns-then-linked-clause-full g c = λ list means.
-    let wanted = wanted_below list (g.W.Wanted.count c.args.work.now.want.now) in
-    let v = worker_of c.race_all-seat.result.seat in
-    let full = is_full c.race_all-seat.result.seat in
+returns-then-linked-clause-full g c =
+    let wanted = found_in c.args.work.now.axes c.args.work.now.found.now in
+    let v = worker_of c.ask_all-seat.result.seat in
+    let full = is_full c.ask_all-seat.result.seat in
     let linked = c.in_ok-linked.linked in
     let outcome = key_outcome c.args.store.now c.in_ok-keys.keys c.in_ok-links.links c.in_ok-stock.stock (old_keys c.in_ok-pass.pass) (old_links c.in_ok-pass.pass) (stock_of c.in_ok-pass.pass) v linked.keys linked.links linked.taken full linked.dry
     c.in_ok-keys.ensures.words c.in_ok-links.ensures.words c.in_ok-stock.ensures.stock (stock_numbers c.as_slice.result.now c.in_ok-stock.stock c.as_slice.ensures c.are_numbers.ensures) c.in_ok-pass.ensures.given c.in_ok-linked.ensures.settled c.in_ok-linked.ensures.keys c.in_ok-linked.ensures.dry
-    c.in_ok-linked.ensures.taken c.race_all-seat.ensures.own.1 c.in_ok-keys.ensures.beside c.in_ok-links.ensures.filled in
+    c.in_ok-linked.ensures.taken c.ask_all-seat.ensures.own.1 c.in_ok-keys.ensures.beside c.in_ok-links.ensures.filled in
     let node = node_there c.args.store.now.shape.nodes 1 Hash c.requires.hash (λ (e : Hash ≡ Dense). (cc)) in
     let there : IsNumberedNode c.args.store.now.shape 1 node.0 = record { first = omega arith; there = node.1 } in
     let rest = c.in_ok-stock.ensures.rest node.0 there in
@@ -63,20 +63,23 @@ returns-then-linked-clause-full g c = λ list means.
           inr (omega arith)
     ] in
     keys_are_full c.args.store.now c.in_ok-stock.stock v linked.keys linked.links linked.taken full linked.dry outcome c.cap_of-cap.result (c.opening_by_nodes.ensures.keys c.args.store.now) c.layout.ensures.well_formed node.0 there node.2
-    (c.cap_of-cap.ensures node.0 there) rest more past wanted (c.race_all-seat.ensures.made list means (none_put (IsPlaceOf c.args.store.now 1 wanted) (worker_of c.in_ok-pass.seat) _ 16 c.in_ok-pass.ensures.worker))
+    (c.cap_of-cap.ensures node.0 there) rest more past wanted c.ask_all-seat.ensures.made
 
 pub returns-clause-opened : goal.returns-clause-opened
-returns-clause-opened g c = λ list means.
-    let wanted = wanted_below list (g.W.Wanted.count c.args.work.now.want.now) in
-    let v = worker_of c.race_all-seat.result.seat in
-    let full = is_full c.race_all-seat.result.seat in
+returns-clause-opened g c =
+    let wanted = found_in c.args.work.now.axes c.args.work.now.found.now in
+    let v = worker_of c.ask_all-seat.result.seat in
+    let full = is_full c.ask_all-seat.result.seat in
     let linked = c.in_ok-linked.linked in
     let outcome = key_outcome c.args.store.now c.in_ok-keys.keys c.in_ok-links.links c.in_ok-stock.stock (old_keys c.in_ok-pass.pass) (old_links c.in_ok-pass.pass) (stock_of c.in_ok-pass.pass) v linked.keys linked.links linked.taken full linked.dry
     c.in_ok-keys.ensures.words c.in_ok-links.ensures.words c.in_ok-stock.ensures.stock (stock_numbers c.as_slice.result.now c.in_ok-stock.stock c.as_slice.ensures c.are_numbers.ensures) c.in_ok-pass.ensures.given c.in_ok-linked.ensures.settled c.in_ok-linked.ensures.keys c.in_ok-linked.ensures.dry
-    c.in_ok-linked.ensures.taken c.race_all-seat.ensures.own.1 c.in_ok-keys.ensures.beside c.in_ok-links.ensures.filled in
+    c.in_ok-linked.ensures.taken c.ask_all-seat.ensures.own.1 c.in_ok-keys.ensures.beside c.in_ok-links.ensures.filled in
     let met : (at : Coord) → Contains wanted at → HasFound c.args.store.now at v full =
-    subst (λ r. OnOk r ((list : ℕ → List Coord) → g.W.Wanted.Means c.args.work.now.want.now list → (at : Coord) → Contains (wanted_below list (g.W.Wanted.count c.args.work.now.want.now)) at → HasFound c.args.store.now at v full)) c.in_ok-done.was c.race_all-seat.ensures.met list means in
+    subst (λ r. OnOk r ((at : Coord) → Contains wanted at → HasFound c.args.store.now at v full)) c.in_ok-done.was c.ask_all-seat.ensures.met in
     c.settle_hash.ensures.opened wanted
     (subst (λ (k : List ℕ). WantedHaveKeys c.args.store.now k wanted) (sym c.as_slice-2.ensures) (wanted_have_keys c.args.store.now c.in_ok-stock.stock v linked.keys linked.links linked.taken full linked.dry outcome wanted c.if-linked.false met))
     (subst (λ (k : List ℕ). NewKeysAreWanted c.args.store.now k wanted) (sym c.as_slice-2.ensures) (new_keys_are_wanted c.args.store.now c.in_ok-stock.stock v linked.keys linked.links linked.taken full linked.dry outcome wanted
-    (c.race_all-seat.ensures.made list means (none_put (IsPlaceOf c.args.store.now 1 wanted) (worker_of c.in_ok-pass.seat) _ 16 c.in_ok-pass.ensures.worker))))
+    c.ask_all-seat.ensures.made))
+
+pub ask_all-seat-requires-clause-made : goal.ask_all-seat-requires-clause-made
+ask_all-seat-requires-clause-made g c κs within = none_put (IsPlaceOf c.args.store.now 1 (found_in c.args.work.now.axes c.args.work.now.found.now)) (worker_of c.in_ok-pass.seat) _ 16 c.in_ok-pass.ensures.worker

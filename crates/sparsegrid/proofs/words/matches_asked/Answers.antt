@@ -1,7 +1,7 @@
 use Rattle.std.proofs.Common.{refl, subst}
 use Rattle.clap.specs.Matches.{found_of}
 use Rattle.sparsegrid.specs.Words as spec
-use Rattle.sparsegrid.specs.steps.WordTurns.{AnswersOption}
+use Rattle.sg_words.specs.Answers.{AnswersOption}
 use Rattle.sparsegrid.proofs.SplitParse.{parts_read}
 use Rattle.sparsegrid.proofs.words.matches_asked.Goals as goal
 

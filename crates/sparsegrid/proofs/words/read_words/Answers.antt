@@ -8,7 +8,7 @@ use Rattle.sparsegrid.specs.Words as spec
 use Rattle.sparsegrid.specs.declared.words.BadWords.{BadWords}
 use Rattle.sparsegrid.specs.declared.words.Words.{Words}
 use Rattle.sparsegrid.specs.steps.Splitting.{rows_split}
-use Rattle.sparsegrid.specs.steps.WordTurns.{AnswersOption}
+use Rattle.sg_words.specs.Answers.{AnswersOption}
 use Rattle.sparsegrid.proofs.SplitParse.{asked_of_rows, nothing_asked}
 use Rattle.sparsegrid.proofs.words.read_words.Goals as goal
 

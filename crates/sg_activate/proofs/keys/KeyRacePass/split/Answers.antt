@@ -1,8 +1,8 @@
 use Rattle.std.proofs.Common.{sym, subst}
 use Rattle.sg_hash.specs.Seats.{worker_of, is_full}
 use Rattle.sg_store.specs.Opening.{IsPlaceOf}
-use Rattle.sg_activate.specs.steps.Keys.{IsKnown, AreKeyed}
-use Rattle.sg_activate.proofs.KeySteps.{known_split, keyed_split, none_put, none_keyed}
+use Rattle.sg_activate.specs.steps.Keys.{AreKeyed}
+use Rattle.sg_activate.proofs.KeySteps.{keyed_split, none_put, none_keyed}
 use Rattle.sg_activate.proofs.keys.KeyRacePass.split.Goals as goal
 
 pub returns-clause-own : goal.returns-clause-own
@@ -14,10 +14,6 @@ returns-clause-own c = (
 
 pub returns-clause-other : goal.returns-clause-other
 returns-clause-other c = (c.split.ensures.other, none_keyed c.args.self.now.store.now (worker_of c.split.result) _ _ (is_full c.split.result) c.split.ensures.new_worker)
-
-pub returns-clause-stays : goal.returns-clause-stays
-returns-clause-stays c = λ at met key is. subst (λ b. IsKnown (worker_of c.split.new.seat) b key) (sym c.split.ensures.full)
-    (subst (λ w. IsKnown w (is_full c.args.seat.now) key) (sym c.split.ensures.worker) (known_split (worker_of c.args.seat.now) (is_full c.args.seat.now) key (met key is)))
 
 pub returns-clause-none : goal.returns-clause-none
 returns-clause-none c = λ wanted. none_put (IsPlaceOf c.args.self.now.store.now 1 wanted) (worker_of c.split.result) _ _ c.split.ensures.new_worker
