@@ -1,8 +1,9 @@
 -- What the closed table gives the last seat, and the keys at the end.
-use Rattle.std.proofs.Common.{◌≡◌, ℕ, zero, suc, ◌+◌, ◌<◌, Bool, true, not, ◌==◌, List, [], ◌∷◌, length, take, drop, refl, sym, ap, ◌∙◌, subst, arith}
+use Rattle.std.proofs.Common.{◌≡◌, ℕ, zero, suc, ◌+◌, ◌-◌, ◌<◌, ⊎_elim, Bool, true, false, not, ◌==◌, List, [], ◌∷◌, length, take, drop, refl, sym, ap, ◌∙◌, subst, arith}
 use Rattle.std.specs.Prelude.{slice_index}
 use Rattle.std.proofs.lemmas.List.{length-drop}
 use Rattle.std.proofs.lemmas.Bool.Decides.{nat_tests}
+use Rattle.std.proofs.lemmas.Bool.{false≢true}
 use mathlib.Core.Option.{some}
 use mathlib.Core.Logic.{dite}
 use native.Mathlib.Decide.{ℕ_discrete}
@@ -11,14 +12,15 @@ use Rattle.sg_words.specs.declared.race.Worker.{Worker}
 use Rattle.sg_words.specs.Counts.{one, pairs, firsts}
 use Rattle.sg_words.specs.RaceMachine.{HasOthersBefore, place_in_order}
 use Rattle.sg_words.specs.RaceInvariant.{handed_share, has_key, has_put}
-use Rattle.sg_words.specs.Stocks.{full_words}
+use Rattle.sg_words.specs.Stocks.{is_dry, full_words}
 use Rattle.sg_words.specs.steps.SlotSteps.{Ended}
 use Rattle.sg_words.proofs.Uses.{alone, le-total, firsts-pair, last-word, kept_as}
 use Rattle.sg_hash.proofs.Turns.{place_comes}
+use Rattle.sg_hash.proofs.Uses.{stands_once}
 use Rattle.sg_hash.specs.declared.rule.Start.{Start}
 use Rattle.sg_hash.specs.HashRace.{setting_of, Racing}
-use Rattle.sg_hash.specs.Asking.{HasLinkedBesideKeys}
-use Rattle.sg_hash.specs.Finishing.{Settled, KeysSettled, LinksHaveKeys}
+use Rattle.sg_hash.specs.Asking.{HasLinkedBesideKeys, HasLinkedItsKeys}
+use Rattle.sg_hash.specs.Finishing.{Settled, KeysSettled, KeysHaveLinks, LinksHaveKeys}
 
 -- ---- the closed table
 pub get-dropped : (n : ℕ) (xs : List ℕ) (i x : ℕ) → get_elem? xs (n + i) ≡ some x → get_elem? (drop n xs) i ≡ some x
@@ -88,3 +90,23 @@ links_have_keys old old_keys stock v links keys full s k beside before p linked 
     let key = beside p made.0 made.1 in
     let word = k.found p key.0 key.1 in omega arith))
     (λ was. let key = before p (omega arith) in let word = k.stay p key in omega arith)
+
+-- if a link stood beside each old key, one stands beside each key where the last seat isn't dry: it is an old one, or that seat has seen it
+pub keys_have_links : (old old_keys stock : List ℕ) (v : Worker) (links keys : List ℕ) (full : Bool) → Settled old stock v links → KeysSettled old_keys v keys full → HasLinkedItsKeys v
+    → is_dry v ≡ false → KeysHaveLinks old_keys old → KeysHaveLinks keys links
+keys_have_links old old_keys stock v links keys full s k linked wet before p stands = dite (ℕ_discrete (slice_index old_keys p) 0)
+    (λ new.
+    let key = slice_index keys p - 1 in
+    let is : slice_index keys p ≡ key + 1 = omega arith in
+    ⊎_elim (λ l.
+    let there = k.found l.0 key l.2 in
+    let same : p ≡ l.0 = stands_once keys k.table key p l.0 (before_end keys p stands) (before_end keys l.0 (omega arith)) is there in
+    let link = s.seen l.0 l.1 l.3 in
+    subst (λ q. 0 < slice_index links q) (sym same) (omega arith))
+    (λ d. absurd (false≢true (sym wet ∙ d))) (linked key (k.put p key new is)))
+    (λ was. let link = before p (omega arith) in let word = s.stay p link in omega arith)
+  where
+    before_end : (words : List ℕ) (i : ℕ) → 0 < slice_index words i → i < length words
+    before_end [] i some' = absurd (omega arith)
+    before_end (w ∷ ws) zero some' = omega arith
+    before_end (w ∷ ws) (suc i) some' = let r = before_end ws i some' in omega arith

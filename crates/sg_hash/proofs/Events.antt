@@ -11,7 +11,7 @@ use Rattle.sg_words.proofs.Uses.{same_race, look_happens, draw_happens, try_happ
 use Rattle.sg_hash.specs.declared.rule.Start.{Start}
 use Rattle.sg_hash.specs.HashRace.{race_of}
 use Rattle.sg_hash.specs.HashLaws.{IsEvent, IsWide, at, StartIsEvent, LookIsEvent, DrawIsEvent, TryIsEvent, FindIsEvent, PutIsEvent, SplitIsEvent, JoinIsEvent}
-use Rattle.sg_hash.specs.steps.Searching.{after_look_key}
+use Rattle.sg_hash.specs.KeySteps.{after_look_key}
 
 pub start_is_event : (start : Start) → StartIsEvent start
 start_is_event start many =

@@ -8,7 +8,8 @@ use Rattle.sg_words.specs.RaceMachine.{after_see, after_link, after_key, after_k
 use Rattle.sg_words.specs.steps.RaceSteps.{after_try}
 use Rattle.sg_words.proofs.Uses.{found_case, pairs-snoc, pair_cases}
 use Rattle.sg_hash.specs.declared.rule.Start.{Start}
-use Rattle.sg_hash.specs.steps.Searching.{after_look_key, SameKeys, Searched, PutAt}
+use Rattle.sg_hash.specs.KeySteps.{after_look_key}
+use Rattle.sg_hash.specs.steps.Searching.{SameKeys, Searched, PutAt}
 
 -- the place of a key word, as a play reads it
 pub at-word : (start : Start) (told : List ℕ) (at place : ℕ) → told ≡ length start.stock ∷ length start.links ∷ [] → at ≡ length start.links + place → at ≡ slice_index told 1 + place

@@ -18,7 +18,7 @@ use Rattle.sg_words.specs.SlotRaces.{slot_race}
 use Rattle.sg_words.proofs.Uses.{kept-look, kept-try, kept-draw, kept-enrol, kept-found, kept-put, found_case, kept-join, stands, le-total, set_other_at, count_is_small, pair_cases, slot-small, kept_as}
 use Rattle.sg_hash.specs.declared.rule.Start.{Start}
 use Rattle.sg_hash.specs.HashRace.{setting_of, race_of, Racing, looks, draws, tries, looks_key, tries_key}
-use Rattle.sg_hash.specs.steps.Searching.{after_look_key, TellKeys}
+use Rattle.sg_hash.specs.KeySteps.{after_look_key, TellKeys}
 use Rattle.sg_hash.specs.Tables.{IsTable}
 use Rattle.sg_hash.proofs.Uses.{stands_once}
 use Rattle.sg_words.specs.Stocks.{AreLinks, is_dry}

@@ -1,17 +1,19 @@
 -- A search for a key, place after place, and the ask for the slot beside it.
-use Rattle.std.proofs.Common.{◌≡◌, ℕ, ◌+◌, ◌<◌, ◌≢◌, inl, inr, ⊎_elim, Bool, true, false, ◌||◌, ◌&&◌, ◌==◌, [], ◌∷◌, ◌++◌, refl, sym, ap, ◌∙◌, subst, arith}
+use Rattle.std.proofs.Common.{◌≡◌, ℕ, ◌+◌, ◌<◌, ◌≢◌, inl, inr, ⊎_elim, Bool, true, false, ◌||◌, ◌&&◌, ◌==◌, nat_lt, List, [], ◌∷◌, ◌++◌, refl, sym, ap, ◌∙◌, subst, arith}
 use Rattle.std.specs.Prelude.{Some, None}
+use Rattle.std.proofs.lemmas.Bool.{false≢true}
 use mathlib.Core.Logic.{dite}
 use native.Mathlib.Decide.{ℕ_discrete}
 use Rattle.sg_words.specs.declared.race.Worker.{Worker}
-use Rattle.sg_words.specs.Counts.{one, pairs}
+use Rattle.sg_words.specs.Counts.{one, times_in, pairs, firsts}
 use Rattle.sg_words.specs.RaceMachine.{HasOthersBefore, MayPut, place_in_order, after_join}
-use Rattle.sg_words.proofs.Uses.{total-append, pairs-snoc, pair_cases}
+use Rattle.sg_words.proofs.Uses.{total-append, pairs-snoc, pair_cases, first_cases, dry-join}
 use Rattle.sg_hash.specs.declared.ask.Ask.{Ask}
 use Rattle.sg_hash.specs.declared.ask.Ask.TheVariants as ask
-use Rattle.sg_words.specs.Stocks.{SameTeam}
-use Rattle.sg_hash.specs.Asking.{HasLinkedBesideKeys, Answered, AnsweredBeside, AnsweredKey, HasPut}
-use Rattle.sg_hash.specs.steps.Searching.{TellKeys, SameKeys, Searched, PutAt, SearchFound, HasLookedPast}
+use Rattle.sg_words.specs.Stocks.{is_dry, SameTeam}
+use Rattle.sg_hash.specs.Asking.{HasLinkedBesideKeys, HasLinkedItsKeys, Answered, AnsweredBeside, AnsweredKey, HasPut}
+use Rattle.sg_hash.specs.KeySteps.{TellKeys}
+use Rattle.sg_hash.specs.steps.Searching.{SameKeys, Searched, PutAt, SearchFound, HasLookedPast}
 use Rattle.sg_hash.proofs.Turns.{place_comes}
 use Rattle.sg_hash.proofs.Keys.{same-searched, searched-twice, others-grow}
 
@@ -52,7 +54,7 @@ pub found-put : (n key turn word : ℕ) (u v w : Worker) → HasLookedPast n key
 found-put n key turn word u v w p put = ⊎_elim (λ e. inl (e ∙ p.put)) (λ e. inr (e.1 ∙ ap (λ l. l ++ key ∷ []) p.put)) put
 
 pub none-there : (n key : ℕ) (u w : Worker) → 0 < n → HasLookedPast n key n u w → SearchFound n key u w None
-none-there n key u w some p = (p.others, λ q has. let c = place_comes n key q (p.inside some q has) in p.absent q has c.0 c.1 (sym c.2))
+none-there n key u w some p = (p.others, λ q has. (let c = place_comes n key q (p.inside some q has) in p.absent q has c.0 c.1 (sym c.2)), p.put)
 
 -- ---- the ask for the slot beside the key
 answered-from : (slot : ℕ) (u v w : Worker) (answer : Ask) → Searched u v → Answered slot v answer w → Answered slot u answer w
@@ -134,3 +136,58 @@ beside-joined v w both made keys mine theirs p t has =
     dite (ℕ_discrete (pairs p t v.made) 0)
     (λ none. let o = theirs p t (omega arith) in let e = b o.0 in let h = o.1 in (o.0, omega arith))
     (λ some. let o = mine p t (omega arith) in let e = b o.0 in let h = o.1 in (o.0, omega arith))
+
+-- ---- keys that were put have links beside them
+-- if no key was put, and all that was found and seen is still there
+pub linked-kept : (v w : Worker) → w.put ≡ v.put → ((p k : ℕ) → 0 < pairs p k v.keys → 0 < pairs p k w.keys) → ((p n : ℕ) → 0 < pairs p n v.seen → 0 < pairs p n w.seen)
+    → (is_dry v ≡ true → is_dry w ≡ true) → HasLinkedItsKeys v → HasLinkedItsKeys w
+linked-kept v w same keys seen dries linked k has =
+    ⊎_elim (λ l. inl (l.0, l.1, keys l.0 k l.2, seen l.0 l.1 l.3)) (λ d. inr (dries d)) (linked k (subst (λ l. 0 < times_in k l) same has))
+
+-- the ask for the slot at the place where the key was found
+pub linked-asked : (slot key : ℕ) (u v w : Worker) (answer : Ask) → Searched u v → HasPut key u v → 0 < pairs slot key v.keys → SameKeys v w → Answered slot v answer w
+    → (is_dry v ≡ true → is_dry w ≡ true) → HasLinkedItsKeys u → HasLinkedItsKeys w
+linked-asked slot key u v w ask.Dry s put found same a dries linked = λ k has. inr a.3
+linked-asked slot key u v w (ask.Node n) s put found same a dries linked =
+    let more : (p m : ℕ) → pairs p m w.seen ≡ pairs p m v.seen + one ((slot == p) && (n == m)) = λ p m. ap (pairs p m) a.0 ∙ pairs-snoc p m v.seen (slot, n) in
+    let seen : (p m : ℕ) → 0 < pairs p m u.seen → 0 < pairs p m w.seen =
+    (λ p m has. let e = more p m in let h = subst (λ l. 0 < pairs p m l) (sym s.seen) has in omega arith) in
+    let here : 0 < pairs slot n w.seen = (let e = more slot n in
+    pair_cases (λ x. pairs slot n w.seen ≡ pairs slot n v.seen + x → 0 < pairs slot n w.seen) slot n slot n (λ _ _ e. omega arith) (λ miss _. absurd (miss refl refl)) e) in
+    let dry : is_dry u ≡ true → is_dry w ≡ true = λ d. dries (ap (λ l. nat_lt 0 (firsts 0 l)) s.past ∙ d) in
+    let keys = keys-grow u v w s same in
+    let old : w.put ≡ u.put → HasLinkedItsKeys w = λ e. linked-kept u w e keys seen dry linked in
+    let fresh : w.put ≡ u.put ++ key ∷ [] → HasLinkedItsKeys w = (λ e k has. dite (ℕ_discrete k key)
+    (λ is. inl (slot, n, subst (λ x. 0 < pairs slot x w.keys) (sym is) (subst (λ l. 0 < pairs slot key l) (sym same.0) found), here))
+    (λ other.
+    let sum : times_in k w.put ≡ times_in k u.put + (one (key == k) + 0) = ap (times_in k) e ∙ total-append (λ x. one (x == k)) u.put (key ∷ []) in
+    let before : 0 < times_in k u.put = first_cases (λ x. times_in k w.put ≡ times_in k u.put + (x + 0) → 0 < times_in k u.put) key k (λ is _. absurd (other (sym is))) (λ _ e. omega arith) sum in
+    ⊎_elim (λ l. inl (l.0, l.1, keys l.0 k l.2, seen l.0 l.1 l.3)) (λ d. inr (dry d)) (linked k before))) in
+    ⊎_elim (λ e. old (same.1 ∙ e)) (λ e. fresh (same.1 ∙ e)) put
+
+-- a seat into which another was joined
+pub linked-joined : (v w both : Worker) → both ≡ after_join v w → HasLinkedItsKeys v → HasLinkedItsKeys w → HasLinkedItsKeys both
+linked-joined v w both is mine theirs = subst HasLinkedItsKeys (sym is) joined
+  where
+    sum : (p k : ℕ) (xs ys : List (ℕ × ℕ)) → pairs p k (xs ++ ys) ≡ pairs p k xs + pairs p k ys
+    sum p k xs ys = total-append (λ (x : ℕ × ℕ). one ((x.0 == p) && (x.1 == k))) xs ys
+
+    dry : is_dry (after_join v w) ≡ (is_dry v || is_dry w)
+    dry = sym (dry-join v w (is_dry v) (is_dry w) refl refl)
+
+    either' : (a b : Bool) → a ≡ true → (a || b) ≡ true
+    either' true b e = refl
+    either' false b e = absurd (false≢true e)
+
+    or' : (a b : Bool) → b ≡ true → (a || b) ≡ true
+    or' true b e = refl
+    or' false b e = e
+
+    joined : HasLinkedItsKeys (after_join v w)
+    joined k has =
+        let parts : times_in k (v.put ++ w.put) ≡ times_in k v.put + times_in k w.put = total-append (λ x. one (x == k)) v.put w.put in
+        dite (ℕ_discrete (times_in k v.put) 0)
+        (λ none. ⊎_elim (λ l. inl (l.0, l.1, (let e = sum l.0 k v.keys w.keys in let h = l.2 in omega arith), (let e = sum l.0 l.1 v.seen w.seen in let h = l.3 in omega arith)))
+        (λ d. inr (dry ∙ or' (is_dry v) (is_dry w) d)) (theirs k (omega arith)))
+        (λ some. ⊎_elim (λ l. inl (l.0, l.1, (let e = sum l.0 k v.keys w.keys in let h = l.2 in omega arith), (let e = sum l.0 l.1 v.seen w.seen in let h = l.3 in omega arith)))
+        (λ d. inr (dry ∙ either' (is_dry v) (is_dry w) d)) (mine k (omega arith)))

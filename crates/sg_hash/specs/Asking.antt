@@ -1,7 +1,7 @@
 -- What an ask answers.
 use Rattle.std.specs.Prelude.{◌≡◌, ℕ, ◌<◌, Bool, true, ◌⊎◌, [], ◌∷◌, ◌++◌}
 use Rattle.sg_words.specs.declared.race.Worker.{Worker}
-use Rattle.sg_words.specs.Counts.{pairs}
+use Rattle.sg_words.specs.Counts.{times_in, pairs}
 use Rattle.sg_words.specs.RaceMachine.{HasOthersBefore}
 use Rattle.sg_words.specs.Stocks.{is_dry}
 use Rattle.sg_hash.specs.declared.ask.Ask.{Ask}
@@ -24,6 +24,10 @@ AnsweredBeside key v answer w = (p : ℕ) × (0 < pairs p key w.keys) × Answere
 -- each link that a worker made stands at a place where it has found or put a key
 abbrev pub HasLinkedBesideKeys : Worker → Type 0
 HasLinkedBesideKeys v = (p t : ℕ) → 0 < pairs p t v.made → (k : ℕ) × (0 < pairs p k v.keys)
+
+-- for each key that a worker put, it found the key at a place and has seen a link beside it; or it is dry
+abbrev pub HasLinkedItsKeys : Worker → Type 0
+HasLinkedItsKeys v = (k : ℕ) → 0 < times_in k v.put → ((p n : ℕ) × (0 < pairs p k v.keys) × (0 < pairs p n v.seen)) ⊎ (is_dry v ≡ true)
 
 -- What a seat knows after an ask for a key among n places: it asked for the slot beside the key. Or it found another key in every place,
 -- did no more, and is full

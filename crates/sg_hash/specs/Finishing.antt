@@ -19,6 +19,10 @@ pub record KeysSettled (old : List ℕ) (v : Worker) (new : List ℕ) (full : Bo
   pub table : IsTable new
   pub filled : full ≡ true → full_words new ≡ length new
 
+-- a link stands wherever a key stands
+abbrev pub KeysHaveLinks : List ℕ → List ℕ → Type 0
+KeysHaveLinks keys links = (p : ℕ) → 0 < slice_index keys p → 0 < slice_index links p
+
 -- a link stands only where a key stands
 abbrev pub LinksHaveKeys : List ℕ → List ℕ → Type 0
 LinksHaveKeys keys links = (p : ℕ) → 0 < slice_index links p → 0 < slice_index keys p

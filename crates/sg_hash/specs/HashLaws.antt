@@ -7,7 +7,7 @@ use Rattle.sg_words.specs.RaceMachine.{Event, first, enrol, draw, key, join, Nee
 use Rattle.sg_words.specs.steps.RaceSteps.{after_look, after_try, look_event, try_event}
 use Rattle.sg_hash.specs.declared.rule.Start.{Start}
 use Rattle.sg_hash.specs.HashRace.{setting_of, race_of, first_worker}
-use Rattle.sg_hash.specs.steps.Searching.{after_look_key}
+use Rattle.sg_hash.specs.KeySteps.{after_look_key}
 
 -- what an event needs is met by words and views, and it leads to these others
 abbrev pub IsEvent : Start → List ℕ → List Worker → Event → List ℕ → List Worker → Type 0

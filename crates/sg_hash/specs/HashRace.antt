@@ -8,7 +8,7 @@ use Rattle.sg_words.specs.RaceMachine.{Setting, Race, newcomer, after_draw, afte
 use Rattle.sg_words.specs.RaceInvariant.{MeetsRaceInvariant}
 use Rattle.sg_words.specs.SlotRaces.{slot_setting, slot_race}
 use Rattle.sg_words.specs.steps.RaceSteps.{after_look, after_try}
-use Rattle.sg_hash.specs.steps.Searching.{after_look_key, TellKeys}
+use Rattle.sg_hash.specs.KeySteps.{after_look_key, TellKeys}
 use Rattle.sg_hash.specs.declared.rule.Start.{Start}
 
 -- the setting of a race for keys and the slots beside them, of one node; each worker is told how long the stock is, and how many places there are

@@ -4,6 +4,7 @@ pub mod Examples
 pub mod Asking
 pub mod Finishing
 pub mod Seats
+pub mod KeySteps
 pub mod HashRace
 pub mod HashLaws
 pub mod steps

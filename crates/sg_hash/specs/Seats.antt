@@ -3,7 +3,7 @@ use Rattle.std.specs.Prelude.{◌≡◌, ℕ, ◌<◌, Bool, true, List, [], ◌
 use Rattle.sg_words.specs.declared.race.Worker.{Worker}
 use Rattle.sg_words.specs.Counts.{pairs}
 use Rattle.sg_words.specs.RaceMachine.{HasOthersBefore}
-use Rattle.sg_hash.specs.Asking.{HasLinkedBesideKeys}
+use Rattle.sg_hash.specs.Asking.{HasLinkedBesideKeys, HasLinkedItsKeys}
 use Rattle.sg_hash.specs.declared.seat.HashSeat.{HashSeat}
 use Rattle.sg_hash.specs.declared.seat.HashPass.{HashPass}
 
@@ -33,8 +33,10 @@ pub record IsSeatAt (p : HashPass) (s : HashSeat) : Type 0 where
   pub told : (worker_of s).told ≡ length (stock_of p) ∷ length (old_links p) ∷ []
   pub spare : (t : ℕ) → 0 < pairs 0 t (worker_of s).spare → t < length (stock_of p)
 
--- a seat of this pass: if it is full, it found another key in every place of some key's order; and its links stand beside keys
+-- a seat of this pass: if it is full, it found another key in every place of some key's order; its links stand beside keys, and links stand
+-- beside the keys that it put unless it is dry
 pub record IsSeatOf (p : HashPass) (s : HashSeat) : Type 0 where
   pub at : IsSeatAt p s
   pub others : is_full s ≡ true → (k : ℕ) × HasOthersBefore (length (old_links p)) k (length (old_links p)) (worker_of s)
   pub beside : HasLinkedBesideKeys (worker_of s)
+  pub linked : HasLinkedItsKeys (worker_of s)

@@ -8,7 +8,8 @@ ghost use Rattle.sg_words.specs.steps.SlotSteps.{Provided};
 ghost use Rattle.sg_hash.specs.Asking.{Answered, AnsweredKey, HasPut};
 ghost use Rattle.sg_hash.specs.Seats.{old_keys, old_links, stock_of, worker_of, is_full, IsSeatAt, IsSeatOf};
 ghost use Rattle.sg_hash.specs.Tables.{IsTable};
-ghost use Rattle.sg_hash.specs.steps.Searching.{after_look_key, TellKeys, SameKeys, Searched, PutAt, SearchFound};
+ghost use Rattle.sg_hash.specs.KeySteps.{after_look_key, TellKeys};
+ghost use Rattle.sg_hash.specs.steps.Searching.{SameKeys, Searched, PutAt, SearchFound};
 ghost use Rattle.sg_hash.specs.declared.ask.Ask.TheVariants as ask;
 
 use crate::rule::{Draw, Half, Link, Look, LookKey, PutKey, Start};

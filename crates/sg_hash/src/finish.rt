@@ -1,10 +1,10 @@
 //! The end of a pass: its last seat takes the table apart.
-ghost use Rattle.std.specs.Prelude.{◌≡◌, ◌+◌, ◌^◌, ◌<◌, ◌||◌, length, take, drop, IfOk};
+ghost use Rattle.std.specs.Prelude.{◌≡◌, ◌+◌, ◌^◌, ◌<◌, false, ◌||◌, length, take, drop, IfOk};
 ghost use Rattle.std.specs.Mem.Slots.{slots_items, slots_len, IsFull};
 ghost use Rattle.sg_words.specs.RaceInvariant.{handed_share};
 ghost use Rattle.sg_words.specs.Stocks.{AreLinks, is_dry, AreSpares, taken_of};
 ghost use Rattle.sg_words.specs.steps.SlotSteps.{Ended};
-ghost use Rattle.sg_hash.specs.Finishing.{Settled, KeysSettled, LinksHaveKeys};
+ghost use Rattle.sg_hash.specs.Finishing.{Settled, KeysSettled, KeysHaveLinks, LinksHaveKeys};
 ghost use Rattle.sg_hash.specs.HashRace.{setting_of};
 ghost use Rattle.sg_hash.specs.Seats.{old_keys, old_links, stock_of, worker_of, is_full, IsSeatOf};
 
@@ -46,6 +46,7 @@ impl HashPass {
         ensures settled { IfOk result (λ linked. Settled (old_links self) (stock_of self) (worker_of seat) linked.links) }
         ensures keys { IfOk result (λ linked. KeysSettled (old_keys self) (worker_of seat) linked.keys (is_full seat)) }
         ensures beside { IfOk result (λ linked. LinksHaveKeys (old_keys self) (old_links self) → LinksHaveKeys linked.keys linked.links) }
+        ensures linked { IfOk result (λ linked. linked.dry ≡ false → KeysHaveLinks (old_keys self) (old_links self) → KeysHaveLinks linked.keys linked.links) }
         ensures dry { IfOk result (λ linked. linked.dry ≡ (is_dry (worker_of seat) || is_full seat)) }
         ensures taken { IfOk result (λ linked. linked.taken ≡ taken_of (old_links self) linked.links) }
         ensures spares { IfOk result (λ linked. AreSpares (stock_of self) (worker_of seat) linked.spares) }

@@ -4,7 +4,8 @@ use Rattle.std.proofs.lemmas.Bool.{cases_eq}
 use Rattle.std.proofs.lemmas.List.{length-set, length-append, length-map, get_or-map, get_or-set_same, get_or-set_other, get_or-append-add, ext_get_or}
 use Rattle.sg_links.specs.declared.head.Head.{Head}
 use Rattle.sg_links.specs.Lists.{Lists, times, times_in_lists, AreDisjoint}
-use Rattle.sg_links.specs.steps.Rows.{IsPath, numbers_along, lists_of, IsLinked, AreLinked, AreInOrder, no_head}
+use Rattle.sg_links.specs.Heads.{numbers_along, lists_of}
+use Rattle.sg_links.specs.steps.Rows.{IsPath, IsLinked, AreLinked, AreInOrder, no_head}
 use Rattle.sg_links.proofs.Times.{times-append, times_same, times_in_set, times_at, times_two}
 use Rattle.sg_links.proofs.Paths.{path_set, path_join, walk_path, split_last}
 

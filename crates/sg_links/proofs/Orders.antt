@@ -7,7 +7,8 @@ use Rattle.std.proofs.lemmas.List.{get_or-set_same, get_or-set_other}
 use Rattle.std.proofs.lemmas.List.Sums.{sum_by-take-le, sum_by_more, sum_by_more_le}
 use Rattle.sg_links.specs.declared.head.Head.{Head}
 use Rattle.sg_links.specs.Lists.{Lists}
-use Rattle.sg_links.specs.steps.Rows.{lists_of, AreLinked, IsLaid, AreLaid}
+use Rattle.sg_links.specs.Heads.{lists_of}
+use Rattle.sg_links.specs.steps.Rows.{AreLinked, IsLaid, AreLaid}
 use Rattle.sg_links.proofs.Kept.{AreKept}
 use Rattle.sg_links.proofs.Uses.{fit_numbers}
 

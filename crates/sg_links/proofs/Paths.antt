@@ -2,7 +2,8 @@
 use Rattle.std.proofs.Common.{◌≡◌, ℕ, zero, suc, ◌+◌, ◌-◌, ◌<◌, List, [], ◌∷◌, ◌++◌, length, set, get_or, take, drop, refl, sym, ap, ◌∙◌, subst, arith}
 use Rattle.std.proofs.lemmas.List.{get_or-set_same, get_or-set_other, take_more, take_all}
 use Rattle.sg_links.specs.Lists.{times}
-use Rattle.sg_links.specs.steps.Rows.{IsPath, numbers_along}
+use Rattle.sg_links.specs.Heads.{numbers_along}
+use Rattle.sg_links.specs.steps.Rows.{IsPath}
 use Rattle.sg_links.proofs.Times.{none_apart}
 
 -- a change of what comes after a number that is not on the path

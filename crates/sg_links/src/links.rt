@@ -22,7 +22,8 @@ pub struct Links {
 impl Model for Links {
     ghost use Rattle.std.specs.Prelude.{length};
     ghost use Rattle.sg_links.specs.Lists.{Lists};
-    ghost use Rattle.sg_links.specs.steps.Rows.{lists_of, AreInOrder};
+    ghost use Rattle.sg_links.specs.Heads.{lists_of};
+    ghost use Rattle.sg_links.specs.steps.Rows.{AreInOrder};
 
     ghost Value = { Lists };
 

@@ -1,5 +1,6 @@
 ghost use Rattle.std.specs.Prelude.{◌≡◌, ℕ, ◌+◌, ◌<◌, ◌≤◌, length, slice_index, slice_index_or};
-ghost use Rattle.sg_links.specs.steps.Rows.{list_at, lists_of, AreLinked, AreLaid, IsLaid};
+ghost use Rattle.sg_links.specs.Heads.{lists_of};
+ghost use Rattle.sg_links.specs.steps.Rows.{list_at, AreLinked, AreLaid, IsLaid};
 
 use crate::head::Head;
 use sqlite_items::Items;

@@ -15,9 +15,9 @@ use Rattle.sg_ast.specs.Token.{is_name, is_number}
 use Rattle.sg_ast.specs.Command.{magnitude_token, bound_tokens, named_tokens, command_tokens}
 use Rattle.sg_ast.specs.Grammar.{is_bound, is_simple, is_command}
 use Rattle.sg_ast.proofs.Uses.{by_command_variant, command_tokens-Load, command_tokens-Run, command_tokens-Dump, command_tokens-Stats, command_tokens-Prune, command_tokens-Clear, is_simple-Load, is_simple-Run, is_simple-Times, is_simple-Dump, is_simple-Image, is_simple-Stats, is_simple-Prune, is_simple-Clear, is_command-Load, is_command-Run, is_command-Times, is_command-Dump, is_command-Image, is_command-Stats, is_command-Prune, is_command-Clear}
-use Rattle.sg_parser.specs.steps.Front.{after_sign, next_name, list_to_end}
+use Rattle.sg_parser.specs.Front.{after_sign, next_name, list_to_end}
 use Rattle.sg_words.specs.Options.{only_if}
-use Rattle.sg_parser.specs.steps.ReadItem.{next_plain, ending, has_right_suffix, next_magnitude, whole_on, next_whole, read_named, read_image, name_command, word_simple, read_simple, read_times}
+use Rattle.sg_parser.specs.ReadItem.{next_plain, ending, has_right_suffix, next_magnitude, whole_on, next_whole, read_named, read_image, name_command, word_simple, read_simple, read_times}
 use Rattle.sg_parser.proofs.StepLemmas.{bind_some, only_if_some, after_sign_is, next_name_is}
 use Rattle.sg_parser.proofs.ListLemmas.{IsSoundReader, repeated_sound}
 use Rattle.sg_parser.proofs.StmtSound.{made_is}

@@ -23,9 +23,9 @@ use Rattle.sg_ast.specs.Expr.{tokens_of, with_commas, op_token, un_token, callee
 use Rattle.sg_ast.specs.Limits.{max_depth}
 use Rattle.sg_ast.specs.Grammar.{is_formed, is_infix, arity, is_expr}
 use Rattle.sg_ast.proofs.Uses.{tokens_of-Number, tokens_of-Truth, tokens_of-Name, tokens_of-Read, tokens_of-Paren, tokens_of-Un, tokens_of-Bin, tokens_of-Call, depth-Number, depth-Truth, depth-Name, depth-Read, depth-Paren, depth-Un, depth-Bin, depth-Call, level-Number, level-Truth, level-Name, level-Read, level-Paren, level-Un, level-Bin, level-Call, levelled-Number, levelled-Truth, levelled-Name, levelled-Read, levelled-Paren, levelled-Un, levelled-Bin, levelled-Call, is_formed-Number, is_formed-Truth, is_formed-Name, is_formed-Read, is_formed-Paren, is_formed-Un, is_formed-Bin, is_formed-Call, op_level-un_level}
-use Rattle.sg_parser.specs.steps.Front.{Reader, after_sign, next_op, comma_list}
+use Rattle.sg_parser.specs.Front.{Reader, after_sign, next_op, comma_list}
 use Rattle.sg_words.specs.Options.{only_if, ◌>>=◌}
-use Rattle.sg_parser.specs.steps.ReadExpr.{operator_goes_on, read_indices, read_name_expr, read_name_expr_on, read_call_expr, paren_expr, unary_expr, word_expr, sign_expr, prefix, climb, climb_on, expr_at}
+use Rattle.sg_parser.specs.ReadExpr.{operator_goes_on, read_indices, read_name_expr, read_name_expr_on, read_call_expr, paren_expr, unary_expr, word_expr, sign_expr, prefix, climb, climb_on, expr_at}
 use Rattle.sg_parser.proofs.StepLemmas.{bind_some, only_if_some, after_sign_is, next_op_is}
 use Rattle.sg_parser.proofs.ListLemmas.{IsSoundReader, listed_sound}
 

@@ -41,11 +41,11 @@ use Rattle.sg_ast.specs.Program.{const_tokens, item_tokens}
 use Rattle.sg_ast.specs.Limits.{max_depth, max_nesting, max_number, most_listed_axes, most_listed_nodes}
 use Rattle.sg_ast.specs.Grammar.{is_expr, is_formed, one_to, one_or_more, is_size, is_axis, has_bounds, is_node, is_field_ty, is_field_decl, is_layout, is_range, is_stmt, is_domain, is_kernel, is_bound, is_simple, is_command, is_const, is_item}
 use Rattle.sg_ast.proofs.Uses.{tokens_of-Name, depth-Name, levelled-Name, is_formed-Name, by_command_variant, command_tokens-Load, command_tokens-Run, command_tokens-Times, command_tokens-Dump, command_tokens-Image, command_tokens-Stats, command_tokens-Prune, command_tokens-Clear, is_simple-Load, is_simple-Run, is_simple-Times, is_simple-Dump, is_simple-Image, is_simple-Stats, is_simple-Prune, is_simple-Clear, is_command-Load, is_command-Run, is_command-Times, is_command-Dump, is_command-Image, is_command-Stats, is_command-Prune, is_command-Clear}
-use Rattle.sg_parser.specs.steps.Front.{after_sign, after_word, next_name}
+use Rattle.sg_parser.specs.Front.{after_sign, after_word, next_name}
 use Rattle.sg_words.specs.Options.{◌>>=◌}
-use Rattle.sg_parser.specs.steps.ReadExpr.{read_expr}
-use Rattle.sg_parser.specs.steps.ReadStmt.{read_range, read_block}
-use Rattle.sg_parser.specs.steps.ReadItem.{read_const_value, read_const, next_size, read_axis, next_kind, has_chunk, declares_cap, next_bound, node_head, read_bounds, read_node, next_ty, read_field, before_field, layout_head, layout_body, read_layout, lone_name, read_domain, kernel_head, kernel_loop, read_kernel, has_right_suffix, next_magnitude, next_whole, read_named, read_image, name_command, read_simple, read_times, read_item}
+use Rattle.sg_parser.specs.ReadExpr.{read_expr}
+use Rattle.sg_parser.specs.ReadStmt.{read_range, read_block}
+use Rattle.sg_parser.specs.ReadItem.{read_const_value, read_const, next_size, read_axis, next_kind, has_chunk, declares_cap, next_bound, node_head, read_bounds, read_node, next_ty, read_field, before_field, layout_head, layout_body, read_layout, lone_name, read_domain, kernel_head, kernel_loop, read_kernel, has_right_suffix, next_magnitude, next_whole, read_named, read_image, name_command, read_simple, read_times, read_item}
 use Rattle.sg_parser.proofs.StepLemmas.{bind_some, only_if_true, after_sign_is, next_name_is}
 use Rattle.sg_parser.proofs.ListLemmas.{listed_complete, repeated_complete}
 use Rattle.sg_parser.proofs.ExprComplete.{Ends, ends_sign, ends_comma, ends_brace}

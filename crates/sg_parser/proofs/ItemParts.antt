@@ -25,8 +25,8 @@ use Rattle.sg_ast.specs.Command.{bound_tokens, command_tokens}
 use Rattle.sg_ast.specs.Program.{const_tokens}
 use Rattle.sg_ast.specs.Grammar.{one_to, is_size}
 use Rattle.sg_ast.proofs.Uses.{command_tokens-Times, command_tokens-Image}
-use Rattle.sg_parser.specs.steps.Front.{after_sign, next_name}
-use Rattle.sg_parser.specs.steps.ReadItem.{next_number, next_plain, ending, next_size}
+use Rattle.sg_parser.specs.Front.{after_sign, next_name}
+use Rattle.sg_parser.specs.ReadItem.{next_number, next_plain, ending, next_size}
 use Rattle.sg_parser.proofs.StepLemmas.{bind_some, only_if_some, after_sign_is, next_name_is}
 use Rattle.sg_parser.proofs.ListLemmas.{IsSoundReader}
 use Rattle.sg_parser.proofs.StmtSound.{made_is}

@@ -14,9 +14,9 @@ use Rattle.sg_ast.specs.declared.program.Item.TheVariants as item
 use Rattle.sg_ast.specs.Token.{is_name, is_number}
 use Rattle.sg_ast.specs.Program.{item_tokens}
 use Rattle.sg_ast.specs.Grammar.{is_item}
-use Rattle.sg_parser.specs.steps.Front.{after_sign, next_name}
+use Rattle.sg_parser.specs.Front.{after_sign, next_name}
 use Rattle.sg_words.specs.Options.{◌>>=◌}
-use Rattle.sg_parser.specs.steps.ReadItem.{next_number, ending, read_const_value, value_on, read_const, word_simple, read_times, command_item, word_item, read_item}
+use Rattle.sg_parser.specs.ReadItem.{next_number, ending, read_const_value, value_on, read_const, word_simple, read_times, command_item, word_item, read_item}
 use Rattle.sg_parser.proofs.StepLemmas.{bind_some, after_sign_is, next_name_is}
 use Rattle.sg_parser.proofs.ListLemmas.{IsSoundReader}
 use Rattle.sg_parser.proofs.StmtSound.{made_is}

@@ -23,10 +23,10 @@ use Rattle.sg_ast.specs.Kernel.{domain_tokens}
 use Rattle.sg_ast.specs.Program.{item_tokens}
 use Rattle.sg_ast.specs.Limits.{max_nesting, most_listed_axes}
 use Rattle.sg_ast.specs.Grammar.{one_to, is_range, is_stmt, is_domain, is_item}
-use Rattle.sg_parser.specs.steps.Front.{after_sign, after_word, next_name, comma_list}
+use Rattle.sg_parser.specs.Front.{after_sign, after_word, next_name, comma_list}
 use Rattle.sg_words.specs.Options.{only_if, ◌>>=◌}
-use Rattle.sg_parser.specs.steps.ReadStmt.{read_range, read_block}
-use Rattle.sg_parser.specs.steps.ReadItem.{lone_name, domain_on, read_domain, kernel_head, kernel_loop, read_kernel}
+use Rattle.sg_parser.specs.ReadStmt.{read_range, read_block}
+use Rattle.sg_parser.specs.ReadItem.{lone_name, domain_on, read_domain, kernel_head, kernel_loop, read_kernel}
 use Rattle.sg_parser.proofs.StepLemmas.{bind_some, only_if_some, after_sign_is, after_word_is, next_name_is}
 use Rattle.sg_parser.proofs.ListLemmas.{listed_sound}
 use Rattle.sg_parser.proofs.StmtSound.{GoodRange, GoodBlock, made_is, made_two, range_sound, block_at_sound}

@@ -27,8 +27,8 @@ use Rattle.sg_ast.specs.Stmt.{joined_lists}
 use Rattle.sg_ast.specs.Layout.{axis_tokens, kind_token, bound_by, node_tokens, ty_token, field_tokens}
 use Rattle.sg_ast.specs.Program.{item_tokens}
 use Rattle.sg_ast.specs.Grammar.{one_to, one_or_more, is_size, is_axis, has_bounds, is_node, is_field_ty, is_field_decl, is_item}
-use Rattle.sg_parser.specs.steps.Front.{after_sign, after_word, next_name, comma_list, list_to_end}
-use Rattle.sg_parser.specs.steps.ReadItem.{ending, next_size, read_axis, next_kind, has_chunk, declares_cap, next_bound, node_head, read_bounds, read_node, next_ty, read_field, before_field, layout_head, layout_body, read_layout}
+use Rattle.sg_parser.specs.Front.{after_sign, after_word, next_name, comma_list, list_to_end}
+use Rattle.sg_parser.specs.ReadItem.{ending, next_size, read_axis, next_kind, has_chunk, declares_cap, next_bound, node_head, read_bounds, read_node, next_ty, read_field, before_field, layout_head, layout_body, read_layout}
 use Rattle.sg_parser.proofs.StepLemmas.{bind_some, only_if_some, after_sign_is, after_word_is, next_name_is}
 use Rattle.sg_parser.proofs.ListLemmas.{IsSoundReader, listed_sound, repeated_sound}
 use Rattle.sg_parser.proofs.StmtSound.{made_is, made_two}

@@ -8,7 +8,7 @@ use Rattle.sg_ast.specs.declared.token.Token.{Token}
 use Rattle.sg_ast.specs.declared.token.Token.TheVariants as t
 use Rattle.sg_ast.specs.Expr.{with_commas, each_more}
 use Rattle.sg_ast.specs.Stmt.{joined_lists}
-use Rattle.sg_parser.specs.steps.Front.{Reader, after_sign, comma_list_on, comma_list_from, comma_list, list_to_end_on, list_to_end_from, list_to_end}
+use Rattle.sg_parser.specs.Front.{Reader, after_sign, comma_list_on, comma_list_from, comma_list, list_to_end_on, list_to_end_from, list_to_end}
 use Rattle.sg_words.specs.Options.{◌>>=◌}
 use Rattle.sg_parser.proofs.StepLemmas.{bind_some, after_sign_is}
 

@@ -14,7 +14,7 @@ use Rattle.sg_parser.specs.declared.program.ParseFault.{ParseFault}
 use Rattle.sg_parser.specs.declared.program.ParseFault.TheVariants as fault
 use Rattle.sg_ast.specs.Items.{kinds}
 use Rattle.sg_words.specs.Options.{◌>>=◌}
-use Rattle.sg_parser.specs.steps.ReadItem.{read_item}
+use Rattle.sg_parser.specs.ReadItem.{read_item}
 use Rattle.sg_parser.specs.Parsed.{if_whole, item_of, program_from}
 use Rattle.sg_parser.specs.steps.Counted.{counted_item}
 use Rattle.sg_parser.proofs.StepLemmas.{bind_some}

@@ -16,7 +16,7 @@ use Rattle.sg_ast.specs.declared.token.Token.TheVariants as t
 use Rattle.sg_ast.specs.Token.{is_name}
 use Rattle.sg_ast.specs.Expr.{op_token, op_level}
 use Rattle.sg_ast.specs.Grammar.{is_infix}
-use Rattle.sg_parser.specs.steps.Front.{after_sign, after_word, next_name, infix_of, next_op}
+use Rattle.sg_parser.specs.Front.{after_sign, after_word, next_name, infix_of, next_op}
 use Rattle.sg_words.specs.Options.{only_if, ◌>>=◌}
 
 -- a value that came out of two steps

@@ -21,9 +21,9 @@ use Rattle.sg_ast.specs.Stmt.{joined_lists, range_tokens, way_tokens, stmt_token
 use Rattle.sg_ast.specs.Limits.{max_depth}
 use Rattle.sg_ast.specs.Grammar.{is_expr, one_or_more, is_range, is_stmt}
 use Rattle.sg_ast.proofs.Uses.{by_stmt_variant, stmt_tokens-Let, stmt_tokens-Assign, stmt_tokens-Write, stmt_tokens-If, stmt_tokens-For, stmt_nesting-If, stmt_nesting-For, is_stmt-Let, is_stmt-Assign, is_stmt-Write, is_stmt-If, is_stmt-For}
-use Rattle.sg_parser.specs.steps.Front.{Reader, after_sign, after_word}
-use Rattle.sg_parser.specs.steps.ReadExpr.{expr_at, read_expr}
-use Rattle.sg_parser.specs.steps.ReadStmt.{read_range, value_to_end, next_way, assigned_value, read_let, read_write, assign_or_write, read_if, for_head, read_for, statement, block_at}
+use Rattle.sg_parser.specs.Front.{Reader, after_sign, after_word}
+use Rattle.sg_parser.specs.ReadExpr.{expr_at, read_expr}
+use Rattle.sg_parser.specs.ReadStmt.{read_range, value_to_end, next_way, assigned_value, read_let, read_write, assign_or_write, read_if, for_head, read_for, statement, block_at}
 use Rattle.sg_parser.proofs.ExprSound.{Fit}
 use Rattle.sg_parser.proofs.ExprComplete.{Ends, expr_at_complete, indices_complete, fit_of_expr, ends_semicolon, ends_dots, ends_brace}
 use Rattle.sg_parser.proofs.ListLemmas.{repeated_complete}

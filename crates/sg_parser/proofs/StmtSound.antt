@@ -23,10 +23,10 @@ use Rattle.sg_ast.specs.Stmt.{joined_lists, range_tokens, way_tokens, else_token
 use Rattle.sg_ast.specs.Limits.{max_depth}
 use Rattle.sg_ast.specs.Grammar.{is_expr, one_or_more, is_range, is_stmt}
 use Rattle.sg_ast.proofs.Uses.{stmt_tokens-Let, stmt_tokens-Assign, stmt_tokens-Write, stmt_tokens-If, stmt_tokens-For, stmt_nesting-Let, stmt_nesting-Assign, stmt_nesting-Write, stmt_nesting-If, stmt_nesting-For, is_stmt-Let, is_stmt-Assign, is_stmt-Write, is_stmt-If, is_stmt-For}
-use Rattle.sg_parser.specs.steps.Front.{Reader, after_sign, after_word, next_name, list_to_end}
+use Rattle.sg_parser.specs.Front.{Reader, after_sign, after_word, next_name, list_to_end}
 use Rattle.sg_words.specs.Options.{◌>>=◌}
-use Rattle.sg_parser.specs.steps.ReadExpr.{expr_at, read_expr, read_indices}
-use Rattle.sg_parser.specs.steps.ReadStmt.{read_range, value_to_end, behind_equal, next_way, assigned_value, read_let, read_write, assign_or_write_on, assign_or_write, else_on, read_if, for_head, read_for, word_stmt, statement, block_at}
+use Rattle.sg_parser.specs.ReadExpr.{expr_at, read_expr, read_indices}
+use Rattle.sg_parser.specs.ReadStmt.{read_range, value_to_end, behind_equal, next_way, assigned_value, read_let, read_write, assign_or_write_on, assign_or_write, else_on, read_if, for_head, read_for, word_stmt, statement, block_at}
 use Rattle.sg_parser.proofs.StepLemmas.{bind_some, only_if_some, after_sign_is, after_word_is, next_name_is}
 use Rattle.sg_parser.proofs.ExprSound.{Fit, expr_at_sound, indices_sound, expr_of_fit}
 use Rattle.sg_parser.proofs.ListLemmas.{IsSoundReader, repeated_sound}

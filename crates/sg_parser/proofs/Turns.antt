@@ -8,8 +8,8 @@ use Rattle.sg_ast.specs.declared.token.Token.{Token}
 use Rattle.sg_ast.specs.declared.expr.Expr.{Expr}
 use Rattle.sg_ast.specs.declared.expr.Expr.TheVariants as e
 use Rattle.sg_ast.specs.Expr.{depth, largest, right_needs}
-use Rattle.sg_parser.specs.steps.Front.{Reader, after_sign, next_op, comma_list_from, list_to_end_from}
-use Rattle.sg_parser.specs.steps.ReadExpr.{operator_goes_on, climb}
+use Rattle.sg_parser.specs.Front.{Reader, after_sign, next_op, comma_list_from, list_to_end_from}
+use Rattle.sg_parser.specs.ReadExpr.{operator_goes_on, climb}
 
 -- a list with commas: on after a comma, done if there is none, stuck if no item is read
 pub listed_turn : {A : Type 0} (one : Reader A) (m n : ℕ) (found : List A) (tokens : List Token) (x : A) (mid behind : List Token)

@@ -7,7 +7,7 @@ use Rattle.sg_ast.specs.declared.program.Program.{Program}
 use Rattle.sg_ast.specs.Items.{kinds, items_of, first_line}
 use Rattle.sg_parser.specs.declared.program.ParseFault.{ParseFault}
 use Rattle.sg_parser.specs.declared.program.ParseFault.TheVariants as fault
-use Rattle.sg_parser.specs.steps.ReadItem.{read_item}
+use Rattle.sg_parser.specs.ReadItem.{read_item}
 
 -- an item, if no token is left after it
 abbrev pub if_whole : Option (Item × List Token) → Option Item

@@ -3,9 +3,9 @@
 ghost use Rattle.std.specs.Prelude.{◌≡◌, option_map};
 ghost use Rattle.sg_ast.specs.declared.token.Sign.TheVariants as s;
 ghost use Rattle.sg_ast.specs.Items.{kinds};
-ghost use Rattle.sg_parser.specs.steps.Front.{Gives};
-ghost use Rattle.sg_parser.specs.steps.Front as steps;
-ghost use Rattle.sg_parser.specs.steps.ReadItem as read;
+ghost use Rattle.sg_parser.specs.Front.{Gives};
+ghost use Rattle.sg_parser.specs.Front as steps;
+ghost use Rattle.sg_parser.specs.ReadItem as read;
 
 use crate::lists::{Front, Listed, list_to_end};
 use crate::take::{MAX_SIGNED, Unread, after_sign, is_number, next_name, next_plain};
@@ -36,7 +36,7 @@ fn next_magnitude(tokens: &[Spanned]) -> Option<(u32, &[Spanned])>
 }
 
 /// A bound, and what follows it.
-#[tactic(auto, unfolding(crate::specs::steps::ReadItem::next_whole))]
+#[tactic(auto, unfolding(crate::specs::ReadItem::next_whole))]
 fn next_whole(tokens: &[Spanned]) -> Option<(i64, &[Spanned])>
     ensures { option_map (λ x. (x.0, kinds x.1.now)) result ≡ read.next_whole (kinds tokens.now) }
 {
@@ -56,7 +56,7 @@ fn next_whole(tokens: &[Spanned]) -> Option<(i64, &[Spanned])>
 }
 
 /// A name and `;`.
-#[tactic(auto, unfolding(crate::specs::steps::ReadItem::read_named))]
+#[tactic(auto, unfolding(crate::specs::ReadItem::read_named))]
 fn read_named(alloc: Global, tokens: &[Spanned]) -> Result<(Name, &[Spanned]), Stop<Unread>>
     ensures { Gives (λ x. (x.0, kinds x.1.now)) result (read.read_named (kinds tokens.now)) }
 {
@@ -68,7 +68,7 @@ fn read_named(alloc: Global, tokens: &[Spanned]) -> Result<(Name, &[Spanned]), S
 }
 
 /// `image NAME LO HI;`, after its word.
-#[tactic(auto, unfolding(crate::specs::steps::ReadItem::read_image))]
+#[tactic(auto, unfolding(crate::specs::ReadItem::read_image))]
 fn read_image(alloc: Global, tokens: &[Spanned]) -> Result<(Command, &[Spanned]), Stop<Unread>>
     ensures { Gives (λ x. (x.0, kinds x.1.now)) result (read.read_image (kinds tokens.now)) }
 {
@@ -124,7 +124,7 @@ pub(crate) fn word_simple(
 }
 
 /// A command that is no `times`.
-#[tactic(auto, unfolding(crate::specs::steps::ReadItem::read_simple))]
+#[tactic(auto, unfolding(crate::specs::ReadItem::read_simple))]
 fn read_simple(alloc: Global, tokens: &[Spanned]) -> Result<(Command, &[Spanned]), Stop<Unread>>
     ensures { Gives (λ x. (x.0, kinds x.1.now)) result (read.read_simple (kinds tokens.now)) }
 {
@@ -155,7 +155,7 @@ impl Listed for Command {
 }
 
 /// `times NUMBER { COMMANDS }`, after its word.
-#[tactic(auto, unfolding(crate::specs::steps::ReadItem::read_times))]
+#[tactic(auto, unfolding(crate::specs::ReadItem::read_times))]
 pub(crate) fn read_times(
     alloc: Global,
     tokens: &[Spanned],

@@ -6,8 +6,8 @@ ghost use Rattle.sg_ast.specs.Expr as spell;
 ghost use Rattle.sg_ast.specs.Grammar as grammar;
 ghost use Rattle.sg_ast.specs.Items.{kinds};
 ghost use Rattle.sg_ast.specs.Limits.{max_depth};
-ghost use Rattle.sg_parser.specs.steps.Front.{comma_list, Gives};
-ghost use Rattle.sg_parser.specs.steps.ReadExpr as read;
+ghost use Rattle.sg_parser.specs.Front.{comma_list, Gives};
+ghost use Rattle.sg_parser.specs.ReadExpr as read;
 
 use crate::names;
 use crate::take::{Unread, after_sign, is_number, next_op};
@@ -104,7 +104,7 @@ fn arity(callee: Callee) -> usize
 
 /// One expression or more, with a comma between each two.
 #[cycle(reading)]
-#[tactic(auto, unfolding(crate::specs::steps::Front::comma_list_from))]
+#[tactic(auto, unfolding(crate::specs::Front::comma_list_from))]
 pub(crate) fn items(
     alloc: Global,
     inner: usize,
@@ -134,7 +134,7 @@ pub(crate) fn items(
 
 /// The indices of an access, after its `[`.
 #[cycle(reading)]
-#[tactic(auto, unfolding(crate::specs::steps::ReadExpr::read_indices))]
+#[tactic(auto, unfolding(crate::specs::ReadExpr::read_indices))]
 pub(crate) fn read_indices(
     alloc: Global,
     inner: usize,
@@ -159,7 +159,7 @@ pub(crate) fn read_indices(
 
 /// What a name begins: a read, or the name alone.
 #[cycle(reading)]
-#[tactic(auto, unfolding(crate::specs::steps::ReadExpr::read_name_expr))]
+#[tactic(auto, unfolding(crate::specs::ReadExpr::read_name_expr))]
 fn read_name_expr<'a>(
     alloc: Global,
     inner: usize,
@@ -196,7 +196,7 @@ fn read_name_expr<'a>(
 
 /// A call, after its word.
 #[cycle(reading)]
-#[tactic(auto, unfolding(crate::specs::steps::ReadExpr::read_call_expr))]
+#[tactic(auto, unfolding(crate::specs::ReadExpr::read_call_expr))]
 fn read_call_expr(
     alloc: Global,
     inner: usize,
@@ -231,7 +231,7 @@ fn read_call_expr(
 
 /// An expression in parentheses, after the `(`.
 #[cycle(reading)]
-#[tactic(auto, unfolding(crate::specs::steps::ReadExpr::paren_expr))]
+#[tactic(auto, unfolding(crate::specs::ReadExpr::paren_expr))]
 fn paren_expr(alloc: Global, inner: usize, tokens: &[Spanned]) -> Result<Reading<'_>, Stop<Unread>>
     requires { inner < max_depth }
     ensures value { Gives (λ x. (x.tree, kinds x.rest.now)) result
@@ -252,7 +252,7 @@ fn paren_expr(alloc: Global, inner: usize, tokens: &[Spanned]) -> Result<Reading
 
 /// An operator before its operand, after its sign.
 #[cycle(reading)]
-#[tactic(auto, unfolding(crate::specs::steps::ReadExpr::unary_expr))]
+#[tactic(auto, unfolding(crate::specs::ReadExpr::unary_expr))]
 fn unary_expr(
     alloc: Global,
     inner: usize,
@@ -335,7 +335,7 @@ fn sign_expr(
 
 /// An expression up to its first operator between two operands.
 #[cycle(reading)]
-#[tactic(auto, unfolding(crate::specs::steps::ReadExpr::prefix))]
+#[tactic(auto, unfolding(crate::specs::ReadExpr::prefix))]
 fn prefix(alloc: Global, inner: usize, tokens: &[Spanned]) -> Result<Reading<'_>, Stop<Unread>>
     requires { inner < max_depth }
     ensures value { Gives (λ x. (x.tree, kinds x.rest.now)) result
@@ -368,7 +368,7 @@ fn prefix(alloc: Global, inner: usize, tokens: &[Spanned]) -> Result<Reading<'_>
 
 /// What was read so far, with all operators of at least a level after it.
 #[cycle(reading)]
-#[tactic(auto, unfolding(crate::specs::steps::ReadExpr::climb))]
+#[tactic(auto, unfolding(crate::specs::ReadExpr::climb))]
 fn climb(
     alloc: Global,
     inner: usize,
@@ -408,7 +408,7 @@ fn climb(
 
 /// An expression of at least a level and at most a depth.
 #[cycle(reading)]
-#[tactic(auto, unfolding(crate::specs::steps::ReadExpr::expr_at))]
+#[tactic(auto, unfolding(crate::specs::ReadExpr::expr_at))]
 pub(crate) fn expr(
     alloc: Global,
     limit: usize,

@@ -2,8 +2,8 @@
 
 ghost use Rattle.std.specs.Prelude.{◌≡◌, option_map};
 ghost use Rattle.sg_ast.specs.Items.{kinds};
-ghost use Rattle.sg_parser.specs.steps.Front.{Gives};
-ghost use Rattle.sg_parser.specs.steps.ReadItem as read;
+ghost use Rattle.sg_parser.specs.Front.{Gives};
+ghost use Rattle.sg_parser.specs.ReadItem as read;
 
 use crate::command::{read_times, word_simple};
 use crate::kernel::read_kernel;
@@ -33,7 +33,7 @@ fn read_const_value(name: Name, minus: bool, tokens: &[Spanned]) -> Option<(Item
 }
 
 /// `const NAME = -NUMBER;`, after its word.
-#[tactic(auto, unfolding(crate::specs::steps::ReadItem::read_const))]
+#[tactic(auto, unfolding(crate::specs::ReadItem::read_const))]
 fn read_const(alloc: Global, tokens: &[Spanned]) -> Result<(Item, &[Spanned]), Stop<Unread>>
     ensures { Gives (λ x. (x.0, kinds x.1.now)) result (read.read_const (kinds tokens.now)) }
 {
@@ -77,7 +77,7 @@ fn word_item(
 }
 
 /// An item at the front.
-#[tactic(auto, unfolding(crate::specs::steps::ReadItem::read_item))]
+#[tactic(auto, unfolding(crate::specs::ReadItem::read_item))]
 pub(crate) fn read_item(
     alloc: Global,
     tokens: &[Spanned],

@@ -2,9 +2,9 @@
 
 ghost use Rattle.std.specs.Prelude.{◌≡◌};
 ghost use Rattle.sg_ast.specs.Items.{kinds};
-ghost use Rattle.sg_parser.specs.steps.Front.{Gives};
-ghost use Rattle.sg_parser.specs.steps.ReadStmt as statements;
-ghost use Rattle.sg_parser.specs.steps.ReadItem as read;
+ghost use Rattle.sg_parser.specs.Front.{Gives};
+ghost use Rattle.sg_parser.specs.ReadStmt as statements;
+ghost use Rattle.sg_parser.specs.ReadItem as read;
 
 use crate::lists::{Front, comma_list};
 use crate::statement::{MAX_NESTING, block, read_range};
@@ -33,7 +33,7 @@ impl Front for RangeDecl {
 }
 
 /// What a kernel goes over.
-#[tactic(auto, unfolding(crate::specs::steps::ReadItem::read_domain))]
+#[tactic(auto, unfolding(crate::specs::ReadItem::read_domain))]
 fn read_domain(alloc: Global, tokens: &[Spanned]) -> Result<(DomainDecl, &[Spanned]), Stop<Unread>>
     ensures { Gives (λ x. (x.0, kinds x.1.now)) result (read.read_domain (kinds tokens.now)) }
 {
@@ -51,7 +51,7 @@ fn read_domain(alloc: Global, tokens: &[Spanned]) -> Result<(DomainDecl, &[Spann
 }
 
 /// `NAME { for VARIABLES in`, after the word `kernel`.
-#[tactic(auto, unfolding(crate::specs::steps::ReadItem::kernel_head))]
+#[tactic(auto, unfolding(crate::specs::ReadItem::kernel_head))]
 fn kernel_head(
     alloc: Global,
     tokens: &[Spanned],
@@ -73,7 +73,7 @@ fn kernel_head(
 }
 
 /// `DOMAIN BLOCK }`.
-#[tactic(auto, unfolding(crate::specs::steps::ReadItem::kernel_loop))]
+#[tactic(auto, unfolding(crate::specs::ReadItem::kernel_loop))]
 fn kernel_loop(
     alloc: Global,
     tokens: &[Spanned],
@@ -89,7 +89,7 @@ fn kernel_loop(
 }
 
 /// `kernel NAME { for VARIABLES in DOMAIN BLOCK }`, after its word.
-#[tactic(auto, unfolding(crate::specs::steps::ReadItem::read_kernel))]
+#[tactic(auto, unfolding(crate::specs::ReadItem::read_kernel))]
 pub(crate) fn read_kernel(
     alloc: Global,
     tokens: &[Spanned],

@@ -4,9 +4,9 @@ ghost use Rattle.std.specs.Prelude.{◌≡◌, ◌&&◌, nat_le, option_map};
 ghost use Rattle.sg_ast.specs.declared.token.Sign.TheVariants as s;
 ghost use Rattle.sg_ast.specs.Limits.{most_listed_axes, most_listed_nodes};
 ghost use Rattle.sg_ast.specs.Items.{kinds};
-ghost use Rattle.sg_parser.specs.steps.Front.{Gives};
-ghost use Rattle.sg_parser.specs.steps.Front as steps;
-ghost use Rattle.sg_parser.specs.steps.ReadItem as read;
+ghost use Rattle.sg_parser.specs.Front.{Gives};
+ghost use Rattle.sg_parser.specs.Front as steps;
+ghost use Rattle.sg_parser.specs.ReadItem as read;
 
 use crate::lists::{Front, Listed, comma_list, list_to_end};
 use crate::names;
@@ -39,7 +39,7 @@ fn next_size(alloc: Global, tokens: &[Spanned]) -> Result<(SizeDecl, &[Spanned])
 }
 
 /// `NAME: SIZE`.
-#[tactic(auto, unfolding(crate::specs::steps::ReadItem::read_axis))]
+#[tactic(auto, unfolding(crate::specs::ReadItem::read_axis))]
 fn read_axis(alloc: Global, tokens: &[Spanned]) -> Result<(AxisDecl, &[Spanned]), Stop<Unread>>
     ensures { Gives (λ x. (x.0, kinds x.1.now)) result (read.read_axis (kinds tokens.now)) }
 {
@@ -119,7 +119,7 @@ fn next_bound(
 }
 
 /// `KIND(AXES)`.
-#[tactic(auto, unfolding(crate::specs::steps::ReadItem::node_head))]
+#[tactic(auto, unfolding(crate::specs::ReadItem::node_head))]
 fn node_head(
     alloc: Global,
     tokens: &[Spanned],
@@ -140,7 +140,7 @@ fn node_head(
 }
 
 /// `chunk SIZE cap SIZE;`, as the kind has them.
-#[tactic(auto, unfolding(crate::specs::steps::ReadItem::read_bounds))]
+#[tactic(auto, unfolding(crate::specs::ReadItem::read_bounds))]
 fn read_bounds(
     alloc: Global,
     kind: NodeKind,
@@ -157,7 +157,7 @@ fn read_bounds(
 }
 
 /// `KIND(AXES) chunk SIZE cap SIZE;`.
-#[tactic(auto, unfolding(crate::specs::steps::ReadItem::read_node))]
+#[tactic(auto, unfolding(crate::specs::ReadItem::read_node))]
 fn read_node(alloc: Global, tokens: &[Spanned]) -> Result<(NodeDecl, &[Spanned]), Stop<Unread>>
     ensures { Gives (λ x. (x.0, kinds x.1.now)) result (read.read_node (kinds tokens.now)) }
 {
@@ -190,7 +190,7 @@ fn next_ty(tokens: &[Spanned]) -> Option<(Ty, &[Spanned])>
 }
 
 /// `field NAME: TYPE;`.
-#[tactic(auto, unfolding(crate::specs::steps::ReadItem::read_field))]
+#[tactic(auto, unfolding(crate::specs::ReadItem::read_field))]
 fn read_field(alloc: Global, tokens: &[Spanned]) -> Result<(FieldDecl, &[Spanned]), Stop<Unread>>
     ensures { Gives (λ x. (x.0, kinds x.1.now)) result (read.read_field (kinds tokens.now)) }
 {
@@ -256,7 +256,7 @@ impl Listed for FieldDecl {
 }
 
 /// `NAME(AXES) {`, after the word `layout`.
-#[tactic(auto, unfolding(crate::specs::steps::ReadItem::layout_head))]
+#[tactic(auto, unfolding(crate::specs::ReadItem::layout_head))]
 fn layout_head(
     alloc: Global,
     tokens: &[Spanned],
@@ -278,7 +278,7 @@ fn layout_head(
 }
 
 /// `NODES FIELDS }`.
-#[tactic(auto, unfolding(crate::specs::steps::ReadItem::layout_body))]
+#[tactic(auto, unfolding(crate::specs::ReadItem::layout_body))]
 fn layout_body(
     alloc: Global,
     tokens: &[Spanned],
@@ -291,7 +291,7 @@ fn layout_body(
 }
 
 /// `layout NAME(AXES) { NODES FIELDS }`, after its word.
-#[tactic(auto, unfolding(crate::specs::steps::ReadItem::read_layout))]
+#[tactic(auto, unfolding(crate::specs::ReadItem::read_layout))]
 pub(crate) fn read_layout(
     alloc: Global,
     tokens: &[Spanned],

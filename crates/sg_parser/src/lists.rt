@@ -3,7 +3,7 @@
 ghost use Rattle.std.specs.Prelude.{◌≡◌, List, Option, option_map};
 ghost use Rattle.sg_ast.specs.declared.token.Token.{Token};
 ghost use Rattle.sg_ast.specs.Items.{kinds};
-ghost use Rattle.sg_parser.specs.steps.Front.{Gives, comma_list, list_to_end};
+ghost use Rattle.sg_parser.specs.Front.{Gives, comma_list, list_to_end};
 
 use crate::take::{Unread, after_sign};
 use sg_ast::{Sign, Spanned};
@@ -29,7 +29,7 @@ pub(crate) trait Listed: Front {
 }
 
 /// One or more, with a comma between each two.
-#[tactic(auto, unfolding(crate::specs::steps::Front::comma_list_from))]
+#[tactic(auto, unfolding(crate::specs::Front::comma_list_from))]
 pub(crate) fn comma_list<T: Front + Drop>(
     alloc: Global,
     tokens: &[Spanned],
@@ -51,7 +51,7 @@ pub(crate) fn comma_list<T: Front + Drop>(
 }
 
 /// Any number, up to their end.
-#[tactic(auto, unfolding(crate::specs::steps::Front::list_to_end_from))]
+#[tactic(auto, unfolding(crate::specs::Front::list_to_end_from))]
 pub(crate) fn list_to_end<T: Listed + Drop>(
     alloc: Global,
     tokens: &[Spanned],

@@ -4,7 +4,7 @@ ghost use Rattle.std.specs.Prelude.{◌≡◌, ◌≤◌, ◌<◌, length, drop,
 ghost use Rattle.sg_words.specs.Answers.{Answers};
 ghost use Rattle.sg_ast.specs.Items.{kinds};
 ghost use Rattle.sg_ast.specs.Limits.{most_tokens};
-ghost use Rattle.sg_parser.specs.steps.Front.{Gives};
+ghost use Rattle.sg_parser.specs.Front.{Gives};
 ghost use Rattle.sg_parser.specs.Parsed.{program_of};
 ghost use Rattle.sg_parser.specs.steps.Counted.{counted_item};
 

@@ -3,10 +3,10 @@
 ghost use Rattle.std.specs.Prelude.{◌≡◌, option_map};
 ghost use Rattle.sg_ast.specs.declared.token.Sign.TheVariants as s;
 ghost use Rattle.sg_ast.specs.Items.{kinds};
-ghost use Rattle.sg_parser.specs.steps.Front.{Gives, list_to_end};
-ghost use Rattle.sg_parser.specs.steps.Front as steps;
-ghost use Rattle.sg_parser.specs.steps.ReadExpr as expressions;
-ghost use Rattle.sg_parser.specs.steps.ReadStmt as read;
+ghost use Rattle.sg_parser.specs.Front.{Gives, list_to_end};
+ghost use Rattle.sg_parser.specs.Front as steps;
+ghost use Rattle.sg_parser.specs.ReadExpr as expressions;
+ghost use Rattle.sg_parser.specs.ReadStmt as read;
 
 use crate::expression::{expr, read_indices};
 use crate::names;
@@ -30,7 +30,7 @@ fn read_expr(alloc: Global, tokens: &[Spanned]) -> Result<(Expr, &[Spanned]), St
 }
 
 /// `LO..HI`.
-#[tactic(auto, unfolding(crate::specs::steps::ReadStmt::read_range))]
+#[tactic(auto, unfolding(crate::specs::ReadStmt::read_range))]
 pub(crate) fn read_range(
     alloc: Global,
     tokens: &[Spanned],
@@ -46,7 +46,7 @@ pub(crate) fn read_range(
 }
 
 /// An expression and `;`.
-#[tactic(auto, unfolding(crate::specs::steps::ReadStmt::value_to_end))]
+#[tactic(auto, unfolding(crate::specs::ReadStmt::value_to_end))]
 fn value_to_end(alloc: Global, tokens: &[Spanned]) -> Result<(Expr, &[Spanned]), Stop<Unread>>
     ensures { Gives (λ x. (x.0, kinds x.1.now)) result (read.value_to_end (kinds tokens.now)) }
 {
@@ -58,7 +58,7 @@ fn value_to_end(alloc: Global, tokens: &[Spanned]) -> Result<(Expr, &[Spanned]),
 }
 
 /// `= VALUE ;`.
-#[tactic(auto, unfolding(crate::specs::steps::ReadStmt::assigned_value))]
+#[tactic(auto, unfolding(crate::specs::ReadStmt::assigned_value))]
 fn assigned_value(alloc: Global, tokens: &[Spanned]) -> Result<(Expr, &[Spanned]), Stop<Unread>>
     ensures { Gives (λ x. (x.0, kinds x.1.now)) result (read.assigned_value (kinds tokens.now)) }
 {
@@ -95,7 +95,7 @@ fn next_way(tokens: &[Spanned]) -> Option<(WayDecl, &[Spanned])>
 }
 
 /// `let NAME = VALUE;`, after its word.
-#[tactic(auto, unfolding(crate::specs::steps::ReadStmt::read_let))]
+#[tactic(auto, unfolding(crate::specs::ReadStmt::read_let))]
 fn read_let(alloc: Global, tokens: &[Spanned]) -> Result<(Stmt, &[Spanned]), Stop<Unread>>
     ensures { Gives (λ x. (x.0, kinds x.1.now)) result (read.read_let (kinds tokens.now)) }
 {
@@ -105,7 +105,7 @@ fn read_let(alloc: Global, tokens: &[Spanned]) -> Result<(Stmt, &[Spanned]), Sto
 }
 
 /// A write, after the `[` of its access.
-#[tactic(auto, unfolding(crate::specs::steps::ReadStmt::read_write))]
+#[tactic(auto, unfolding(crate::specs::ReadStmt::read_write))]
 fn read_write(
     alloc: Global,
     field: Name,
@@ -130,7 +130,7 @@ fn read_write(
 }
 
 /// What a name begins: a write, or an assignment.
-#[tactic(auto, unfolding(crate::specs::steps::ReadStmt::assign_or_write))]
+#[tactic(auto, unfolding(crate::specs::ReadStmt::assign_or_write))]
 fn assign_or_write<'a>(
     alloc: Global,
     name: &Name,
@@ -150,7 +150,7 @@ fn assign_or_write<'a>(
 }
 
 /// `NAME in LO..HI`, after the word `for`.
-#[tactic(auto, unfolding(crate::specs::steps::ReadStmt::for_head))]
+#[tactic(auto, unfolding(crate::specs::ReadStmt::for_head))]
 fn for_head(
     alloc: Global,
     tokens: &[Spanned],
@@ -167,7 +167,7 @@ fn for_head(
 
 /// `if CONDITION BLOCK else BLOCK`, after its word.
 #[cycle(blocks)]
-#[tactic(auto, unfolding(crate::specs::steps::ReadStmt::read_if))]
+#[tactic(auto, unfolding(crate::specs::ReadStmt::read_if))]
 fn read_if(
     alloc: Global,
     inner: usize,
@@ -200,7 +200,7 @@ fn read_if(
 
 /// `for NAME in LO..HI BLOCK`, after its word.
 #[cycle(blocks)]
-#[tactic(auto, unfolding(crate::specs::steps::ReadStmt::read_for))]
+#[tactic(auto, unfolding(crate::specs::ReadStmt::read_for))]
 fn read_for(
     alloc: Global,
     inner: usize,
@@ -215,7 +215,7 @@ fn read_for(
 
 /// A statement.
 #[cycle(blocks)]
-#[tactic(auto, unfolding(crate::specs::steps::ReadStmt::statement))]
+#[tactic(auto, unfolding(crate::specs::ReadStmt::statement))]
 fn statement(
     alloc: Global,
     inner: usize,
@@ -237,7 +237,7 @@ fn statement(
 
 /// The statements of a block, after its `{`, up to its `}`.
 #[cycle(blocks)]
-#[tactic(auto, unfolding(crate::specs::steps::Front::list_to_end_from))]
+#[tactic(auto, unfolding(crate::specs::Front::list_to_end_from))]
 fn statements(
     alloc: Global,
     inner: usize,
@@ -261,7 +261,7 @@ fn statements(
 
 /// A block, where blocks nest at most so deep.
 #[cycle(blocks)]
-#[tactic(auto, unfolding(crate::specs::steps::ReadStmt::block_at))]
+#[tactic(auto, unfolding(crate::specs::ReadStmt::block_at))]
 pub(crate) fn block(
     alloc: Global,
     limit: usize,

@@ -2,10 +2,10 @@
 
 ghost use Rattle.std.specs.Prelude.{◌≡◌, option_map};
 ghost use Rattle.sg_ast.specs.Token as spec;
-ghost use Rattle.sg_parser.specs.steps.Front as read;
+ghost use Rattle.sg_parser.specs.Front as read;
 ghost use Rattle.sg_ast.specs.Items.{kinds};
-ghost use Rattle.sg_parser.specs.steps.Front.{Gives};
-ghost use Rattle.sg_parser.specs.steps.ReadItem as numbers;
+ghost use Rattle.sg_parser.specs.Front.{Gives};
+ghost use Rattle.sg_parser.specs.ReadItem as numbers;
 
 use crate::lists::Front;
 use crate::names;

@@ -4,3 +4,4 @@ pub mod PointerRace
 pub mod RangeLaws
 pub mod RangeSettled
 pub mod Seats
+pub mod Examples

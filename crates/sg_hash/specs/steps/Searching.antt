@@ -1,19 +1,8 @@
 -- What a seat knows of keys.
-use Rattle.std.specs.Prelude.{◌≢◌, Option, Some, None, ◌⊎◌, [], ◌∷◌, ◌++◌, ◌≡◌, ℕ, ◌+◌, ◌-◌, ◌<◌, ◌==◌, if◌then◌else◌}
+use Rattle.std.specs.Prelude.{◌≢◌, Option, Some, None, ◌⊎◌, [], ◌∷◌, ◌++◌, ◌≡◌, ℕ, ◌+◌, ◌<◌}
 use Rattle.sg_words.specs.declared.race.Worker.{Worker}
 use Rattle.sg_words.specs.Counts.{pairs}
-use Rattle.sg_words.specs.RaceMachine.{after_key, place_in_order, HasOthersBefore}
-
--- a load of the key word at place p: the key that stands there was found, if any
-abbrev pub after_look_key : ℕ → ℕ → Worker → Worker
-after_look_key p word v = if word == 0 then v else after_key p (word - 1) v
-
--- among so many places, at place p of which a word stands: the keys that a worker found stand in places, one key in each, and where the
--- word is of a key that it found, it found it there
-pub record TellKeys (n p word : ℕ) (w : Worker) : Type 0 where
-  pub inside : (q k : ℕ) → 0 < pairs q k w.keys → q < n
-  pub agree : (q a b : ℕ) → 0 < pairs q a w.keys → 0 < pairs q b w.keys → a ≡ b
-  pub once : (q k : ℕ) → word ≡ k + 1 → 0 < pairs q k w.keys → q ≡ p
+use Rattle.sg_words.specs.RaceMachine.{place_in_order, HasOthersBefore}
 
 -- a step that leaves what a seat knows of keys
 abbrev pub SameKeys : Worker → Worker → Type 0
@@ -37,10 +26,10 @@ pub record Searched (v w : Worker) : Type 0 where
 abbrev pub PutAt : ℕ → ℕ → Worker → Worker → Type 0
 PutAt key word v w = (w.put ≡ v.put) ⊎ ((word ≡ key + 1) × (w.put ≡ v.put ++ key ∷ []))
 
--- a search among n places: the place where the key stands, the one at which it was found before, if it was; or another key in every place
+-- a search among n places: the place where the key stands, the one at which it was found before, if it was; or another key in every place, and then no key was put
 abbrev pub SearchFound : ℕ → ℕ → Worker → Worker → Option ℕ → Type 0
 SearchFound n key v w (Some p) = (p < n) × (0 < pairs p key w.keys) × ((q : ℕ) → 0 < pairs q key v.keys → q ≡ p)
-SearchFound n key v w None = HasOthersBefore n key n w × ((q : ℕ) → 0 < pairs q key v.keys → ⊥)
+SearchFound n key v w None = HasOthersBefore n key n w × ((q : ℕ) → 0 < pairs q key v.keys → ⊥) × (w.put ≡ v.put)
 
 -- so many places of a key's order among n were looked at, and another key was found in each; the key itself was found in none of them before
 pub record HasLookedPast (n key turn : ℕ) (v w : Worker) : Type 0 where

@@ -1,16 +1,8 @@
--- How lists are kept: a row of next numbers, and for each list where it begins and ends.
-use Rattle.std.specs.Prelude.{◌≡◌, ℕ, zero, suc, ◌+◌, ◌-◌, ◌<◌, ◌≤◌, ◌^◌, true, Bool, List, [], ◌∷◌, length, map, slice_index, slice_index_or}
+-- When a row and heads keep lists, and what is laid of them.
+use Rattle.std.specs.Prelude.{◌≡◌, ℕ, ◌+◌, ◌-◌, ◌<◌, ◌≤◌, ◌^◌, true, Bool, List, [], ◌∷◌, length, slice_index, slice_index_or}
 use Rattle.sg_links.specs.declared.head.Head.{Head}
 use Rattle.sg_links.specs.Lists.{AreDisjoint}
-
--- so many numbers along the row
-abbrev pub numbers_along : List ℕ → ℕ → ℕ → List ℕ
-numbers_along next x zero = []
-numbers_along next x (suc k) = x ∷ numbers_along next (slice_index next x) k
-
--- the lists that heads lead along, one for each head: from its first number on, as many along the row as it counts
-abbrev pub lists_of : List ℕ → List Head → List (List ℕ)
-lists_of next heads = map (λ head. numbers_along next head.first head.len) heads
+use Rattle.sg_links.specs.Heads.{lists_of}
 
 -- along the row the numbers of the list come one after the other, and then the end
 abbrev pub IsPath : List ℕ → ℕ → List ℕ → ℕ → Type 0

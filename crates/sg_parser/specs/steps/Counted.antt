@@ -3,7 +3,7 @@ use Rattle.std.specs.Prelude.{ℕ, ◌-◌, length, List, Option, Some}
 use Rattle.sg_words.specs.Options.{◌>>=◌}
 use Rattle.sg_ast.specs.declared.token.Token.{Token}
 use Rattle.sg_ast.specs.declared.program.Item.{Item}
-use Rattle.sg_parser.specs.steps.ReadItem.{read_item}
+use Rattle.sg_parser.specs.ReadItem.{read_item}
 
 -- the item at the front, and how many tokens it has
 abbrev pub counted_item : List Token → Option (Item × ℕ)

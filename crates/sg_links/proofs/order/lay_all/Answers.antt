@@ -1,6 +1,6 @@
 use Rattle.std.proofs.Common.{arith, ◌+◌, refl, ap, ◌∙◌, ℕ, length}
 use Rattle.std.proofs.lemmas.List.{length-set}
-use Rattle.sg_links.specs.steps.Rows.{lists_of}
+use Rattle.sg_links.specs.Heads.{lists_of}
 use Rattle.sg_links.proofs.Changes.{long_is}
 use Rattle.sg_links.proofs.Orders.{seen_of, kept_so, laid_list, room_for, sum_more, all_laid}
 use Rattle.sg_links.proofs.order.lay_all.Goals as goal

@@ -1,6 +1,7 @@
 use Rattle.std.proofs.Common.{◌≡◌, length, take}
 use Rattle.std.specs.Prelude.{sum_by}
-use Rattle.sg_links.specs.steps.Rows.{AreLaid, lists_of}
+use Rattle.sg_links.specs.Heads.{lists_of}
+use Rattle.sg_links.specs.steps.Rows.{AreLaid}
 use Rattle.sg_links.proofs.order.lay_all.Given as goal
 
 abbrev pub invariant-loop-head : goal.invariant-loop-head

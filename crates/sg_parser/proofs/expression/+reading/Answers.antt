@@ -1,7 +1,7 @@
 use Rattle.std.proofs.Common.{◌≡◌, ◌+◌, ◌-◌, length, sym, ◌∙◌, arith, true}
 use Rattle.sg_ast.proofs.Uses.{depth-Bin}
 use Rattle.sg_ast.specs.Items.{kinds}
-use Rattle.sg_parser.specs.steps.ReadExpr as read
+use Rattle.sg_parser.specs.ReadExpr as read
 use Rattle.sg_parser.proofs.Turns.{climb_turn, listed_turn, deepest-push}
 use Rattle.sg_parser.proofs.expression.+reading.Goals as goal
 

@@ -1,8 +1,8 @@
 use Rattle.std.proofs.Common.{◌≡◌, ◌+◌, ◌≤◌, map, ◌-◌, ◌*◌, length, []}
 use Rattle.sg_ast.specs.Expr as spell
 use Rattle.sg_ast.specs.Items.{kinds}
-use Rattle.sg_parser.specs.steps.Front.{comma_list_from}
-use Rattle.sg_parser.specs.steps.ReadExpr as read
+use Rattle.sg_parser.specs.Front.{comma_list_from}
+use Rattle.sg_parser.specs.ReadExpr as read
 use Rattle.sg_parser.proofs.expression.+reading.Given as goal
 
 abbrev pub decreases-expr : goal.decreases-expr

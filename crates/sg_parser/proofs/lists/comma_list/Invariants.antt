@@ -1,6 +1,6 @@
 use Rattle.std.proofs.Common.{◌≡◌, ◌-◌, length, []}
 use Rattle.sg_ast.specs.Items.{kinds}
-use Rattle.sg_parser.specs.steps.Front.{comma_list_from}
+use Rattle.sg_parser.specs.Front.{comma_list_from}
 use Rattle.sg_parser.proofs.lists.comma_list.Given as goal
 
 -- what is left to read, from what was found, is what the whole reads

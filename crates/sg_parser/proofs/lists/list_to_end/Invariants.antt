@@ -1,6 +1,6 @@
 use Rattle.std.proofs.Common.{◌≡◌, ◌-◌, length, []}
 use Rattle.sg_ast.specs.Items.{kinds}
-use Rattle.sg_parser.specs.steps.Front.{list_to_end_from}
+use Rattle.sg_parser.specs.Front.{list_to_end_from}
 use Rattle.sg_parser.proofs.lists.list_to_end.Given as goal
 
 -- what is left to read, from what was found, is what the whole reads

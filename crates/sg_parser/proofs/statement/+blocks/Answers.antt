@@ -1,8 +1,8 @@
 use Rattle.std.proofs.Common.{◌+◌, ◌-◌, length, sym, ◌∙◌, arith}
 use Rattle.sg_ast.specs.declared.token.Sign.TheVariants as s
 use Rattle.sg_ast.specs.Items.{kinds}
-use Rattle.sg_parser.specs.steps.Front.{after_sign}
-use Rattle.sg_parser.specs.steps.ReadStmt as read
+use Rattle.sg_parser.specs.Front.{after_sign}
+use Rattle.sg_parser.specs.ReadStmt as read
 use Rattle.sg_parser.proofs.Turns.{repeated_turn}
 use Rattle.sg_parser.proofs.statement.+blocks.Goals as goal
 

@@ -1,8 +1,8 @@
-use Rattle.std.proofs.Common.{[], ◌∷◌, length, take, min, refl, ap, sym, subst, ◌∙◌}
+use Rattle.std.proofs.Common.{◌||◌, [], ◌∷◌, length, take, min, refl, ap, sym, subst, ◌∙◌}
 use Rattle.sg_words.specs.Stocks.{is_dry, AreSpares, taken_of, outside, stands_in}
-use Rattle.sg_words.proofs.Uses.{settled, are_spares}
+use Rattle.sg_words.proofs.Uses.{neither_holds, settled, are_spares}
 use Rattle.sg_hash.specs.declared.rule.Start.{Start}
-use Rattle.sg_hash.proofs.Endings.{keys_settled, links_have_keys}
+use Rattle.sg_hash.proofs.Endings.{keys_settled, keys_have_links, links_have_keys}
 use Rattle.sg_hash.proofs.seat.HashPass.finish.Goals as goal
 
 pub returns-clause-settled : goal.returns-clause-settled
@@ -22,6 +22,15 @@ returns-clause-beside c =
     let g = c.gather-start in
     let start = c.args.self.start in
     links_have_keys start.links start.keys start.stock c.args.seat.seat.me.0 g.result.links g.result.keys c.args.seat.full (returns-clause-settled c) (returns-clause-keys c) c.requires.own.beside
+
+pub returns-clause-linked : goal.returns-clause-linked
+returns-clause-linked c wet =
+    let g = c.gather-start in
+    let start = c.args.self.start in
+    let v = c.args.seat.seat.me.0 in
+    keys_have_links start.links start.keys start.stock v g.result.links g.result.keys c.args.seat.full (returns-clause-settled c) (returns-clause-keys c) c.requires.own.linked
+    (neither_holds (is_dry v) c.args.seat.full
+    (sym (c.either.ensures ∙ ap (λ b. b || g.result.full) g.ensures.dry ∙ ap (λ b. is_dry v || b) g.ensures.full) ∙ wet)).0
 
 pub returns-clause-spares : goal.returns-clause-spares
 returns-clause-spares c =

@@ -1,7 +1,7 @@
 use Rattle.std.proofs.Common.{rules, ◌<◌, sym, ap, ◌∙◌, subst, arith}
 use Rattle.sg_words.specs.Counts.{pairs}
 use Rattle.sg_words.specs.RaceMachine.{after_join}
-use Rattle.sg_hash.proofs.Searches.{full-joins, others-same, beside-joined}
+use Rattle.sg_hash.proofs.Searches.{full-joins, others-same, beside-joined, linked-joined}
 use Rattle.sg_hash.proofs.Passes.{join-allowed}
 use Rattle.sg_words.proofs.Uses.{dry-join}
 use Rattle.sg_hash.proofs.seat.HashPass.join.Goals as goal
@@ -26,4 +26,5 @@ returns-clause-own c =
       others = λ is. let o = full-joins _ c.args.seat.now.seat.me.0 c.args.other.seat.me.0 c.args.seat.now.full c.args.other.full _ c.either-seat-2.ensures c.requires.own.others c.requires.other.others is in
           (o.0, others-same _ o.0 _ (after_join c.args.seat.now.seat.me.0 c.args.other.seat.me.0) c.join_seat.new.seat.me.0 (ap (λ m. m.0.keys) h.2) o.1);
       beside = beside-joined c.args.seat.now.seat.me.0 c.args.other.seat.me.0 c.join_seat.new.seat.me.0 (ap (λ m. m.0.made) h.2) (ap (λ m. m.0.keys) h.2) c.requires.own.beside c.requires.other.beside;
+      linked = linked-joined c.args.seat.now.seat.me.0 c.args.other.seat.me.0 c.join_seat.new.seat.me.0 (ap (λ m. m.0) h.2) c.requires.own.linked c.requires.other.linked;
     }

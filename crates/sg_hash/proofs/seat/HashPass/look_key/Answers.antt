@@ -2,7 +2,7 @@ use Rattle.std.proofs.Common.{rules, ◌<◌, sym, ap, ◌∙◌, subst, arith}
 use Rattle.std.specs.Prelude.{slice_index}
 use Rattle.sg_hash.proofs.Passes.{look_key-allowed}
 use Rattle.sg_hash.proofs.Keys.{looked-key, at-word}
-use Rattle.sg_hash.specs.steps.Searching.{TellKeys}
+use Rattle.sg_hash.specs.KeySteps.{TellKeys}
 use Rattle.sg_hash.proofs.seat.HashPass.look_key.Goals as goal
 
 pub load-requires : goal.load-requires

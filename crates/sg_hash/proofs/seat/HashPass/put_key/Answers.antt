@@ -4,7 +4,7 @@ use Rattle.sg_words.specs.RaceMachine.{key_word}
 use Rattle.sg_words.specs.Counts.{pairs, firsts}
 use Rattle.sg_hash.proofs.Passes.{try_key-allowed}
 use Rattle.sg_hash.proofs.Keys.{tried-key, at-word, key-now}
-use Rattle.sg_hash.specs.steps.Searching.{TellKeys}
+use Rattle.sg_hash.specs.KeySteps.{TellKeys}
 use Rattle.sg_hash.proofs.seat.HashPass.put_key.Goals as goal
 
 pub compare_exchange-found-requires : goal.compare_exchange-found-requires

@@ -1,7 +1,7 @@
-use Rattle.std.proofs.Common.{rules, ◌<◌, refl, sym, ap, ◌∙◌, subst, arith}
-use Rattle.sg_words.specs.Counts.{pairs}
+use Rattle.std.proofs.Common.{rules, ◌<◌, nat_lt, refl, sym, ap, ◌∙◌, subst, arith}
+use Rattle.sg_words.specs.Counts.{pairs, firsts}
 use Rattle.sg_hash.proofs.Passes.{split-allowed}
-use Rattle.sg_hash.proofs.Searches.{full-grows, beside-kept}
+use Rattle.sg_hash.proofs.Searches.{full-grows, beside-kept, linked-kept}
 use Rattle.sg_hash.proofs.seat.HashPass.split.Goals as goal
 
 pub split_seat-other-requires : goal.split_seat-other-requires
@@ -22,4 +22,6 @@ returns-clause-own c =
           (λ p k has. subst (λ l. 0 < pairs p k l) (sym (ap (λ m. m.0.keys) h.2)) has) c.requires.own.others;
       beside = beside-kept c.args.seat.now.seat.me.0 c.split_seat-other.new.seat.me.0 (ap (λ m. m.0.made) h.2)
           (λ p k has. subst (λ l. 0 < pairs p k l) (sym (ap (λ m. m.0.keys) h.2)) has) c.requires.own.beside;
+      linked = linked-kept c.args.seat.now.seat.me.0 c.split_seat-other.new.seat.me.0 (ap (λ m. m.0.put) h.2) (λ p k has. subst (λ l. 0 < pairs p k l) (sym (ap (λ m. m.0.keys) h.2)) has)
+          (λ p n has. subst (λ l. 0 < pairs p n l) (sym (ap (λ m. m.0.seen) h.2)) has) (λ d. ap (λ m. nat_lt 0 (firsts 0 m.0.past)) h.2 ∙ d) c.requires.own.linked;
     }

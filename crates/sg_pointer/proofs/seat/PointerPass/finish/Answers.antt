@@ -1,14 +1,14 @@
 use Rattle.std.proofs.Common.{[], ◌∷◌, length, take, min, ap, sym, subst, ◌∙◌}
 use Rattle.sg_words.specs.Stocks.{AreSpares, taken_of, outside, stands_in}
-use Rattle.sg_words.proofs.Uses.{settled, are_spares}
+use Rattle.sg_words.proofs.Uses.{are_spares}
 use Rattle.sg_pointer.specs.declared.rule.Start.{Start}
+use Rattle.sg_pointer.proofs.Endings.{settled}
 use Rattle.sg_pointer.proofs.seat.PointerPass.finish.Goals as goal
 
 pub returns-clause-settled : goal.returns-clause-settled
 returns-clause-settled c =
     let g = c.gather-start in
-    let start = c.args.self.start in
-    settled start.links [] start.stock (length start.stock ∷ []) c.args.seat.seat.me.0 g.result.links [] g.result.count g.result.dry c.args.self.fresh c.requires.all g.ensures.long g.ensures.ended g.ensures.dry
+    settled c.args.self.start c.args.seat.seat.me.0 g.result.links g.result.count g.result.dry c.args.self.fresh c.requires.all g.ensures.long g.ensures.ended g.ensures.dry
 
 pub returns-clause-spares : goal.returns-clause-spares
 returns-clause-spares c =

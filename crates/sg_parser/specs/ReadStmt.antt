@@ -15,9 +15,9 @@ use Rattle.sg_ast.specs.declared.stmt.Stmt.{Stmt}
 use Rattle.sg_ast.specs.declared.stmt.Stmt.TheVariants as stmt
 use Rattle.sg_ast.specs.Token.{is_name}
 use Rattle.sg_ast.specs.Limits.{max_depth, max_nesting}
-use Rattle.sg_parser.specs.steps.Front.{Reader, after_sign, after_word, next_name, list_to_end}
+use Rattle.sg_parser.specs.Front.{Reader, after_sign, after_word, next_name, list_to_end}
 use Rattle.sg_words.specs.Options.{only_if, ◌>>=◌}
-use Rattle.sg_parser.specs.steps.ReadExpr.{expr_at, read_expr, read_indices}
+use Rattle.sg_parser.specs.ReadExpr.{expr_at, read_expr, read_indices}
 
 -- `LO..HI`
 unfoldable pub read_range : Reader RangeDecl

@@ -18,7 +18,7 @@ use Rattle.sg_ast.specs.Token.{is_name, is_number}
 use Rattle.sg_ast.specs.Expr.{depth, level, op_level, left_needs, right_needs, un_level}
 use Rattle.sg_ast.specs.Limits.{max_depth}
 use Rattle.sg_ast.specs.Grammar.{arity}
-use Rattle.sg_parser.specs.steps.Front.{Reader, after_sign, next_op, comma_list}
+use Rattle.sg_parser.specs.Front.{Reader, after_sign, next_op, comma_list}
 use Rattle.sg_words.specs.Options.{only_if, ◌>>=◌}
 
 -- whether an operator joins what was read so far to what follows, where its level is at least the given one

@@ -23,9 +23,9 @@ use Rattle.sg_ast.specs.declared.command.Command.TheVariants as command
 use Rattle.sg_ast.specs.declared.program.Item.{Item}
 use Rattle.sg_ast.specs.declared.program.Item.TheVariants as item
 use Rattle.sg_ast.specs.Token.{is_name, is_number}
-use Rattle.sg_parser.specs.steps.Front.{Reader, after_sign, after_word, next_name, comma_list, list_to_end}
+use Rattle.sg_parser.specs.Front.{Reader, after_sign, after_word, next_name, comma_list, list_to_end}
 use Rattle.sg_words.specs.Options.{only_if, ◌>>=◌}
-use Rattle.sg_parser.specs.steps.ReadStmt.{read_range, read_block}
+use Rattle.sg_parser.specs.ReadStmt.{read_range, read_block}
 use Rattle.sg_ast.specs.Limits.{max_number, most_listed_axes, most_listed_nodes}
 
 -- a number, and whether a `u` stands after it
