@@ -17,9 +17,11 @@ use Rattle.sg_accum.specs.declared.part.PartSeat.{PartSeat}
 use Rattle.sg_accum.specs.declared.halves.Begun.{Begun}
 use Rattle.sg_accum.specs.AccRace.{first_worker}
 use Rattle.sg_accum.specs.Parts.{part_values, part_tables, seat_tables, seat_workers, worker_at, AreCut, AreBy, many_at}
-use Rattle.sg_accum.specs.Folding.{given_to, given_in_parts, AreFolded}
+use Rattle.sg_accum.specs.declared.seat.AccPass.{AccPass}
+use Rattle.sg_accum.specs.declared.seat.AccSeat.{AccSeat}
+use Rattle.sg_accum.specs.Folding.{given_to, given_in_parts, AreFolded, IsStart, IsEnd}
 use Rattle.sg_accum.specs.steps.Teams.{AreBegun, CanEnd, AreEnded}
-use Rattle.sg_accum.proofs.Pieces.{found, same_lengths, same_cut, concat-append, cut-append, cut-one}
+use Rattle.sg_accum.proofs.Pieces.{some_list, found, same_lengths, same_cut, concat-append, cut-append, cut-one}
 
 pub many-parts : (parts : List Part) → length (part_values parts) ≡ length parts
 many-parts parts = length-map parts (λ (p : Part). p.start.values)
@@ -163,3 +165,21 @@ whole-ended op t old new ws cut ended =
           after.value ∙ (ended.each (c / 65536) before.within).folds (c % 65536) before.inside
           ∙ ap (λ a. fold (folded op t) a (given_in_parts ws c)) (sym before.value));
     }
+
+pub if_ok_whole : {E : Type 0} (p : AccPass) (s : AccSeat) (r : Result (Vec (List ℕ) Global) E) → IfOk r (λ (done : Vec (List ℕ) Global). AreEnded p.op p.ty (part_values p.parts.items) (seat_workers s.seats.items) done.items)
+    → IfOk r (λ (done : Vec (List ℕ) Global). IsEnd p s (concat done.items))
+if_ok_whole p s (Ok done) ended = whole-ended p.op p.ty (part_values p.parts.items) done.items (seat_workers s.seats.items) p.cut ended
+if_ok_whole p s (Err e) ended = tt
+
+-- what was begun, of its own values
+pub begun-itself : (op : AccOp) (t : Ty) (values : List ℕ) (parts : List Part) (seats : List PartSeat) → AreBegun op t values parts seats → AreBegun op t (concat (part_values parts)) parts seats
+begun-itself op t values parts seats made = subst (λ l. AreBegun op t l parts seats) (sym made.whole) made
+
+pub begun-some : (op : AccOp) (t : Ty) (values : List ℕ) (parts : List Part) (seats : List PartSeat) → 0 < length values → AreBegun op t values parts seats → 0 < length parts
+begun-some op t values parts seats some made =
+    let lists : 0 < length (part_values parts) = some_list (part_values parts) (subst (λ l. 0 < length l) (sym made.whole) some) in
+    omega (arith, many-parts parts, lists)
+
+pub if_ok_start : {E : Type 0} (op : AccOp) (t : Ty) (values : List ℕ) (parts : List Part) (seats : List PartSeat) (r : Result (AccPass × AccSeat) E) → AreBegun op t values parts seats
+    → IfOk r (IsStart op t (concat (part_values parts))) → IfOk r (IsStart op t values)
+if_ok_start op t values parts seats r made start = subst (λ l. IfOk r (IsStart op t l)) made.whole start

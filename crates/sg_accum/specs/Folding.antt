@@ -79,6 +79,18 @@ pub record AreFolded (op : AccOp) (t : Ty) (old : List ℕ) (given : ℕ → Lis
   pub long : length new ≡ length old
   pub folds : (c : ℕ) → c < length old → slice_index new c ≡ fold (folded op t) (slice_index old c) (given c)
 
+-- a pass into cells with these values, by an operator in a type, and its first seat, which has the whole share of 16
+pub record IsStart (op : AccOp) (t : Ty) (cells : List ℕ) (made : AccPass × AccSeat) : Type 0 where
+  pub seat : IsSeatOf made.0 made.1
+  pub values : old_values made.0 ≡ cells
+  pub operator : operator_of made.0 ≡ op
+  pub order : type_of made.0 ≡ t
+  pub new : IsNew 16 made.1
+
+-- what a pass leaves that is ended by a seat: each cell's old value and all contributions to it, folded
+abbrev pub IsEnd : AccPass → AccSeat → List ℕ → Type 0
+IsEnd p s cells = AreFolded (operator_of p) (type_of p) (old_values p) (given_of s) cells
+
 -- worked equations
 two_to_one : given_to 1 ((1, 5) ∷ (0, 9) ∷ (1, 7) ∷ []) ≡ 5 ∷ 7 ∷ []
 two_to_one = refl

@@ -87,8 +87,8 @@ fn begun_apart<R: Threads + Sync>(
     made
 }
 
-// The same by one worker.
-fn begun_here(alloc: Global, values: &[u32], op: AccOp, ty: Ty) -> Result<Begun, Memory>
+/// The same by one worker, which waits for nobody.
+pub(crate) fn begun_here(alloc: Global, values: &[u32], op: AccOp, ty: Ty) -> Result<Begun, Memory>
     requires some { 0 < length values.now }
     ensures { IfOk result (λ made. AreBegun op ty values.now made.parts.items made.seats.items) }
 {
@@ -208,8 +208,8 @@ fn ended_apart<R: Threads + Sync>(
     done
 }
 
-// The same by one worker.
-fn ended_here(
+/// The same by one worker, which waits for nobody.
+pub(crate) fn ended_here(
     alloc: Global,
     op: AccOp,
     ty: Ty,

@@ -2,9 +2,11 @@
 ghost use Rattle.std.specs.Prelude.{◌≡◌, ◌<◌, ◌≤◌, length, IfOk};
 ghost use Rattle.std.specs.List.{concat};
 ghost use Rattle.sg_words.specs.declared.operators.AccOp.TheVariants as acc;
-ghost use Rattle.sg_accum.specs.Folding.{old_values, operator_of, type_of, given_of, share_of, handed_of, IsSeatOf, IsNew, HasGivenWord, IsCut, IsMerged, AreFolded};
+ghost use Rattle.sg_accum.specs.Folding.{old_values, operator_of, share_of, handed_of, IsSeatOf, IsStart, IsEnd, HasGivenWord, IsCut, IsMerged};
+ghost use Rattle.sg_accum.specs.Parts.{part_values};
+ghost use Rattle.sg_accum.specs.steps.Teams.{AreBegun};
 
-use crate::halves::{Begun, begin_all, end_all};
+use crate::halves::{Begun, begin_all, begun_here, end_all, ended_here};
 use crate::rooms::{Cut, Room, Rooms};
 use crate::seat::{AccPass, AccSeat};
 use crate::teams::{join_each, split_each};
@@ -17,8 +19,22 @@ pub(crate) const PART: usize = 65_536;
 
 impl AccPass {
     /// A pass into these cells, by an operator in a type (`Bool` has the order of `U32`), and its first seat, which has the whole
-    /// share of 16. So many workers, from 1 to 16, make it side by side; it waits for them.
-    pub fn start<R: Threads + Sync>(
+    /// share of 16. It waits for nobody.
+    pub fn start(
+        alloc: Global,
+        values: &[u32],
+        op: AccOp,
+        ty: Ty,
+    ) -> Result<(AccPass, AccSeat), Memory>
+        requires cells { 0 < length values.now }
+        ensures { IfOk result (IsStart op ty values.now) }
+    {
+        let begun = begun_here(alloc, values, op, ty)?;
+        pass_of(alloc, begun, op, ty)
+    }
+
+    /// The same, made by so many workers side by side, from 1 to 16, for which it waits.
+    pub fn start_by_workers<R: Threads + Sync>(
         rt: &R,
         alloc: Global,
         values: &[u32],
@@ -27,15 +43,10 @@ impl AccPass {
         workers: u32,
     ) -> Result<(AccPass, AccSeat), Memory>
         requires cells { 0 < length values.now }
-        ensures seat { IfOk result (λ r. IsSeatOf r.0 r.1) }
-        ensures values { IfOk result (λ r. old_values r.0 ≡ values.now) }
-        ensures operator { IfOk result (λ r. operator_of r.0 ≡ op) }
-        ensures order { IfOk result (λ r. type_of r.0 ≡ ty) }
-        ensures new { IfOk result (λ r. IsNew 16 r.1) }
+        ensures { IfOk result (IsStart op ty values.now) }
     {
-        let Begun { parts, seats } = begin_all(rt, alloc, values, op, ty, workers, false)?;
-        let rooms = Rooms::make(alloc, parts.len())?;
-        Ok((AccPass { parts, op, ty }, AccSeat { seats, rooms }))
+        let begun = begin_all(rt, alloc, values, op, ty, workers, false)?;
+        pass_of(alloc, begun, op, ty)
     }
 
     /// Adds a word to a cell, modulo 2^32. No refusal, no memory, and no waiting.
@@ -111,8 +122,19 @@ impl AccPass {
     }
 
     /// Ends the pass by a seat into which all others were joined: each cell's old value and all contributions to it, folded; the
-    /// cells of one part after those of another. So many workers, from 1 to 16, end it side by side; it waits for them.
-    pub fn finish<R: Threads + Sync>(
+    /// cells of one part after those of another. It waits for nobody.
+    pub fn finish(self, alloc: Global, seat: AccSeat) -> Result<Vec<Items<u32>>, Memory>
+        requires own { IsSeatOf self seat }
+        requires all { handed_of seat ≡ 16 }
+        ensures { IfOk result (λ parts. IsEnd self seat (concat parts.items)) }
+    {
+        let AccPass { parts, op, ty } = self;
+        let AccSeat { seats, rooms: _ } = seat;
+        ended_here(alloc, op, ty, parts, seats)
+    }
+
+    /// The same, ended by so many workers side by side, from 1 to 16, for which it waits.
+    pub fn finish_by_workers<R: Threads + Sync>(
         self,
         rt: &R,
         alloc: Global,
@@ -121,10 +143,21 @@ impl AccPass {
     ) -> Result<Vec<Items<u32>>, Memory>
         requires own { IsSeatOf self seat }
         requires all { handed_of seat ≡ 16 }
-        ensures { IfOk result (λ parts. AreFolded (operator_of self) (type_of self) (old_values self) (given_of seat) (concat parts.items)) }
+        ensures { IfOk result (λ parts. IsEnd self seat (concat parts.items)) }
     {
         let AccPass { parts, op, ty } = self;
         let AccSeat { seats, rooms: _ } = seat;
         end_all(rt, alloc, op, ty, parts, seats, workers, false)
     }
+}
+
+// The pass of parts that have begun, and its first seat.
+fn pass_of(alloc: Global, begun: Begun, op: AccOp, ty: Ty) -> Result<(AccPass, AccSeat), Memory>
+    requires some { 0 < length begun.parts.items }
+    requires begun { AreBegun op ty (concat (part_values begun.parts.items)) begun.parts.items begun.seats.items }
+    ensures { IfOk result (IsStart op ty (concat (part_values begun.parts.items))) }
+{
+    let Begun { parts, seats } = begun;
+    let rooms = Rooms::make(alloc, parts.len())?;
+    Ok((AccPass { parts, op, ty }, AccSeat { seats, rooms }))
 }

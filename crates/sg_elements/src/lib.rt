@@ -7,4 +7,4 @@ pub mod listing;
 mod reached;
 mod ways;
 
-pub use listing::{active_count, elements, elements_by_workers};
+pub use listing::{active_count, active_count_by_workers, elements, elements_by_workers};

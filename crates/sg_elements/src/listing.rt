@@ -1,14 +1,15 @@
-ghost use Rattle.std.specs.Prelude.{◌≡◌, ◌<◌, ◌≤◌, All, IfOk, IsTrue, length, map};
+ghost use Rattle.std.specs.Prelude.{◌≡◌, ◌^◌, ◌<◌, ◌≤◌, All, IfOk, IsTrue, length, map};
 ghost use Rattle.std.specs.List.Sorted.{IsPermutation};
 ghost use Rattle.sg_coord.specs.Bounds.{bounds_of, volume};
 ghost use Rattle.sg_coord.specs.Coord.{point_at};
 ghost use Rattle.sg_layout.specs.Rules.{all_dense};
 ghost use Rattle.sg_flat.specs.declared.state.FlatLayout.{FlatLayout};
 ghost use Rattle.sg_store.specs.StandsFor.{StandsFor};
+ghost use Rattle.sg_elements.specs.Active.{CountsActive};
 ghost use Rattle.sg_elements.specs.steps.Levels.{walk_rows};
 
 use crate::dense::every_point;
-use crate::reached::{reached_count, reached_rows, rows_reached_by};
+use crate::reached::{reached_count, reached_count_by, reached_rows, rows_reached_by};
 use sg_coord::{Coord, Extents, coord_at, numbering};
 use sg_layout::{closure_members, dense_is_full, paths_tell};
 use sg_store::Store;
@@ -17,7 +18,7 @@ use sg_words::{Items, Memory};
 use std::alloc::Global;
 use std::thread::Threads;
 
-/// Each active coordinate once, in row order.
+/// Each active coordinate once, in row order. It waits for nobody.
 pub fn elements(alloc: Global, store: &Store) -> Result<Items<Coord>, Memory>
     ensures { IfOk result (λ coords. (flat : FlatLayout) → StandsFor store.now flat → coords ≡ flat.active) }
 {
@@ -28,7 +29,7 @@ pub fn elements(alloc: Global, store: &Store) -> Result<Items<Coord>, Memory>
     points_in_order(alloc, store, rows)
 }
 
-/// The same by so many workers, each of which lists a part.
+/// The same by so many workers, each of which lists a part. It waits for them.
 pub fn elements_by_workers<R: Threads + Sync>(
     rt: &R,
     alloc: Global,
@@ -45,27 +46,56 @@ pub fn elements_by_workers<R: Threads + Sync>(
     points_in_order(alloc, store, rows)
 }
 
-/// How many coordinates are active, counted by so many workers, each of which counts a part.
-pub fn active_count<R: Threads + Sync>(
+/// How many coordinates are active. It waits for nobody.
+pub fn active_count(alloc: Global, store: &Store) -> Result<usize, Memory>
+    ensures { IfOk result (CountsActive store.now) }
+{
+    if store.layout().shape().is_dense() {
+        return Ok(dense_count(store));
+    }
+    walk_counts(store);
+    reached_count(alloc, store)
+}
+
+/// The same, counted by so many workers, each of which counts a part. It waits for them.
+pub fn active_count_by_workers<R: Threads + Sync>(
     rt: &R,
     alloc: Global,
     store: &Store,
     workers: u32,
 ) -> Result<usize, Memory>
     requires some { 1 ≤ workers }
-    ensures { IfOk result (λ count. (flat : FlatLayout) → StandsFor store.now flat → count ≡ length flat.active) }
+    ensures { IfOk result (CountsActive store.now) }
+{
+    if store.layout().shape().is_dense() {
+        return Ok(dense_count(store));
+    }
+    walk_counts(store);
+    reached_count_by(rt, alloc, store, workers)
+}
+
+/// How many points there are in a store all of whose nodes are dense.
+fn dense_count(store: &Store) -> usize
+    requires { IsTrue (all_dense store.now.shape.nodes) }
+    ensures { CountsActive store.now result }
+{
+    // for the law that it ensures
+    dense_is_full();
+    let extents = store.layout().extents();
+    extents.volume() as usize
+}
+
+/// The walk leads to as many coordinates as are active. It changes nothing.
+fn walk_counts(store: &Store)
+    ensures few { length (walk_rows store.now) < 2 ^ 32 }
+    ensures counts { CountsActive store.now (length (walk_rows store.now)) }
 {
     // for the laws that they ensure
     cells_are_active();
     paths_tell();
     closure_members();
-    dense_is_full();
     let extents = store.layout().extents();
     numbering(&extents);
-    if store.layout().shape().is_dense() {
-        return Ok(extents.volume() as usize);
-    }
-    reached_count(rt, alloc, store, workers)
 }
 
 /// All points of a store all of whose nodes are dense, in row order.

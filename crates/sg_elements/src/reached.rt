@@ -168,8 +168,20 @@ fn sorted_rows(
     Ok(rows)
 }
 
-/// How many coordinates the walk leads to, counted by so many workers.
-pub fn reached_count<R: Threads + Sync>(
+/// How many coordinates the walk leads to.
+pub fn reached_count(alloc: Global, store: &Store) -> Result<usize, Memory>
+    requires few { length (walk_rows store.now) < 2 ^ 32 }
+    ensures { IfOk result (λ count. count ≡ length (walk_rows store.now)) }
+{
+    let last = store.layout().nodes() - 1;
+    let level = level_through(alloc, store, last)?;
+    let ways = ways_of(alloc, store, last, &level)?;
+    let count = count_between(store, last, &level, ways.as_slice(), 0, level.len());
+    Ok(count)
+}
+
+/// The same, counted by so many workers.
+pub fn reached_count_by<R: Threads + Sync>(
     rt: &R,
     alloc: Global,
     store: &Store,

@@ -1,11 +1,10 @@
 -- The counts of nodes, one after the other.
-use Rattle.std.proofs.Common.{◌≡◌, ℕ, suc, ◌+◌, ◌<◌, Bool, true, false, cond, List, [], ◌∷◌, ◌++◌, drop, drop-cons, length, get_or, Some, pos, refl, sym, ap, ◌∙◌, add-one, append_assoc}
+use Rattle.std.proofs.Common.{◌≡◌, ℕ, suc, ◌+◌, ◌<◌, Bool, true, false, List, [], ◌∷◌, ◌++◌, drop, drop-cons, length, get_or, Some, pos, sym, ap, ◌∙◌, add-one, append_assoc}
 use Rattle.std.specs.Prelude.{slice_get}
 use Rattle.std.proofs.lemmas.Bool.{cond-true, cond-false}
 use Rattle.std.proofs.lemmas.List.{append-nil}
-use Rattle.std.proofs.lemmas.Option.{slice_get_within, slice_get-get_or, get_or_from_slice_get}
+use Rattle.std.proofs.lemmas.Option.{slice_get-get_or, get_or_from_slice_get}
 use Rattle.sg_coord.specs.declared.coord.Coord.{Coord}
-use Rattle.sg_layout.specs.declared.shape.Kind.{Kind}
 use Rattle.sg_layout.specs.declared.shape.Kind.TheVariants.{Dense}
 use Rattle.sg_layout.specs.declared.shape.NodeShape.{NodeShape}
 use Rattle.sg_layout.specs.declared.shape.Shape.{Shape}

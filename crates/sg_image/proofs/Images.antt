@@ -1,14 +1,13 @@
 -- What a store keeps at a coordinate is what it stands for, also where the coordinate isn't active; images of equal greys are equal.
-use Rattle.std.proofs.Common.{◌≡◌, inl, inr, ℕ, zero, suc, ◌+◌, ◌<◌, Bool, true, false, cond, List, [], ◌∷◌, ◌++◌, length, decimal, ℤ, pos, Option, Some, None, is_some, refl, sym, ap, ◌∙◌, subst, arith, add-one, append_assoc}
+use Rattle.std.proofs.Common.{◌≡◌, inl, inr, ℕ, zero, suc, ◌+◌, ◌<◌, true, cond, List, [], ◌∷◌, ◌++◌, length, decimal, ℤ, pos, Option, Some, None, is_some, refl, sym, ap, ◌∙◌, subst, add-one, append_assoc}
 use Rattle.std.specs.Prelude.{slice_get}
 use Rattle.std.specs.List.{All, Contains}
-use Rattle.std.proofs.lemmas.Bool.{cases_Bool, cases_eq, cond-false, false≢true}
+use Rattle.std.proofs.lemmas.Bool.{cases_Bool, cases_eq, cond-false}
 use Rattle.std.proofs.lemmas.List.Elements.{All-head, All-tail}
 use Rattle.sg_words.specs.declared.operators.Ty.{Ty}
 use Rattle.sg_words.specs.Words.{number}
 use Rattle.sg_coord.specs.declared.coord.Coord.{Coord}
-use Rattle.sg_coord.specs.Bounds.{Bounds}
-use Rattle.sg_coord.specs.Coord.{is_inside, row_of, point_at, plane_point}
+use Rattle.sg_coord.specs.Coord.{is_inside, row_of, plane_point}
 use Rattle.sg_coord.specs.Laws.{InsideTest, PointOfRow}
 use Rattle.sg_layout.specs.declared.shape.Shape.{Shape}
 use Rattle.sg_layout.specs.Axes.{bounds_of_shape}

@@ -1,12 +1,14 @@
 -- The line that counts what is active and live in a flat layout.
-use Rattle.std.specs.Prelude.{ℕ, suc, List, [], ◌∷◌, ◌++◌, length, codes, if◌then◌else◌}
+use Rattle.std.specs.Prelude.{◌≡◌, ℕ, suc, List, [], ◌∷◌, ◌++◌, length, codes, if◌then◌else◌}
 use Rattle.std.specs.Fmt.{decimal}
 use Rattle.sg_coord.specs.declared.coord.Coord.{Coord}
 use Rattle.sg_layout.specs.declared.shape.NodeShape.{NodeShape}
 use Rattle.sg_layout.specs.declared.shape.Shape.{Shape}
 use Rattle.sg_layout.specs.Need.{need_of}
 use Rattle.sg_flat.specs.declared.state.FlatLayout.{FlatLayout}
+use Rattle.sg_store.specs.StoreWords.{StoreWords}
 use Rattle.sg_store.specs.WellFormed.{kind_has_cap}
+use Rattle.sg_store.specs.StandsFor.{StandsFor}
 
 -- how much of a node with this number is live
 abbrev pub live_text : (number live : ℕ) → List ℕ
@@ -26,3 +28,7 @@ nodes_text shape active number (node ∷ later) = node_text shape active number 
 abbrev pub stats_text : Shape → FlatLayout → List ℕ → List ℕ
 stats_text shape flat name =
     codes "stats " ++ name ++ codes " active " ++ decimal (length flat.active) ++ nodes_text shape flat.active 1 shape.nodes ++ 10 ∷ []
+
+-- the line of a store of this name, of each flat layout that it stands for
+abbrev pub IsCountsLine : StoreWords → List ℕ → List ℕ → Type 0
+IsCountsLine store name line = (flat : FlatLayout) → StandsFor store flat → line ≡ stats_text store.shape flat name

@@ -1,5 +1,5 @@
 -- Worked images and counts.
-use Rattle.std.specs.Prelude.{◌≡◌, refl, ℕ, ◌+◌, ◌*◌, [], ◌∷◌, pos, codes}
+use Rattle.std.specs.Prelude.{◌≡◌, refl, ◌+◌, ◌*◌, [], ◌∷◌, pos, codes}
 use Rattle.std.specs.Fmt.{digits}
 use Rattle.sg_words.specs.declared.operators.Ty.TheVariants as ty
 use Rattle.sg_coord.specs.Coord.{plane_point}

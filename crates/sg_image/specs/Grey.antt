@@ -1,5 +1,5 @@
 -- The grey of a number between two bounds.
-use Rattle.std.specs.Prelude.{◌≡◌, refl, ℕ, ◌*◌, ◌/◌, ℤ, pos, negsuc, ◌-ℤ◌, int_le, if◌then◌else◌, List, [], ◌∷◌, map}
+use Rattle.std.specs.Prelude.{◌≡◌, refl, ℕ, ◌*◌, ◌/◌, ℤ, pos, negsuc, ◌-ℤ◌, int_le, if◌then◌else◌, [], ◌∷◌, map}
 use Rattle.sg_coord.specs.Coord.{count_of}
 
 -- 0 up to the lower bound, 255 from the upper one on; between them the part that the number has of the way, of 255, rounded down

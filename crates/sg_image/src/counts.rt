@@ -6,9 +6,10 @@ ghost use Rattle.sg_layout.specs.Limits.{most_nodes};
 ghost use Rattle.sg_flat.specs.declared.state.FlatLayout.{FlatLayout};
 ghost use Rattle.sg_store.specs.WellFormed.{kind_has_cap};
 ghost use Rattle.sg_store.specs.StandsFor.{StandsFor};
-ghost use Rattle.sg_image.specs.Counts.{live_text, node_text, nodes_text, stats_text};
+ghost use Rattle.sg_elements.specs.Active.{CountsActive};
+ghost use Rattle.sg_image.specs.Counts.{live_text, node_text, nodes_text, IsCountsLine};
 
-use sg_elements::active_count;
+use sg_elements::{active_count, active_count_by_workers};
 use sg_layout::Kind;
 use sg_store::Store;
 use sg_words::{Items, Memory, Text};
@@ -16,8 +17,16 @@ use std::alloc::{AllocError, Global};
 use std::thread::Threads;
 
 /// The line of a layout of this name: how many coordinates are active, and for each pointer, hash and dynamic node how many
-/// containers or chunks are live. So many workers count the coordinates.
-pub fn stats<R: Threads + Sync>(
+/// containers or chunks are live. It waits for nobody.
+pub fn stats(alloc: Global, store: &Store, name: &[u8]) -> Result<Text, Memory>
+    ensures { IfOk result (λ text. IsCountsLine store.now name.now text.bytes) }
+{
+    let count = active_count(alloc, store)?;
+    line_of(alloc, store, name, count)
+}
+
+/// The same, where so many workers count the coordinates. It waits for them.
+pub fn stats_by_workers<R: Threads + Sync>(
     rt: &R,
     alloc: Global,
     store: &Store,
@@ -25,10 +34,17 @@ pub fn stats<R: Threads + Sync>(
     workers: u32,
 ) -> Result<Text, Memory>
     requires some { 1 ≤ workers }
-    ensures { IfOk result (λ text. (flat : FlatLayout) → StandsFor store.now flat →
-        text.bytes ≡ stats_text store.now.shape flat name.now) }
+    ensures { IfOk result (λ text. IsCountsLine store.now name.now text.bytes) }
 {
-    let count = active_count(rt, alloc, store, workers)?;
+    let count = active_count_by_workers(rt, alloc, store, workers)?;
+    line_of(alloc, store, name, count)
+}
+
+/// The line, where so many coordinates are active.
+fn line_of(alloc: Global, store: &Store, name: &[u8], count: usize) -> Result<Text, Memory>
+    requires count { CountsActive store.now count }
+    ensures { IfOk result (λ text. IsCountsLine store.now name.now text.bytes) }
+{
     let mut counts = format!(in alloc; " active {count}")?;
     push_nodes(&mut counts, store)?;
     let mut bytes = Vec::new(alloc);

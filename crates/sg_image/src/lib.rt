@@ -5,5 +5,5 @@ pub mod counts;
 pub mod grey;
 pub mod pgm;
 
-pub use counts::stats;
+pub use counts::{stats, stats_by_workers};
 pub use pgm::image;

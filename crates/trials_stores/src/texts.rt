@@ -4,7 +4,7 @@ use crate::fixtures::{Node, at, coords_of, put, reach, store_of};
 use sg_coord::Extents;
 use sg_grid::writing::push_row;
 use sg_grid::{GridRow, dump, grid_text, push_coordinate, read_grid};
-use sg_image::{image, stats};
+use sg_image::{image, stats, stats_by_workers};
 use sg_layout::Kind::{Dense, Pointer};
 use sg_store::Store;
 use sg_words::{Memory, Stop, Text, Ty};
@@ -19,7 +19,7 @@ static LINES: [Node; 2] = [(Pointer, [2, 1, 0], 2), (Dense, [1, 16, 0], 0)];
 static TEXTS: &str =
     "grid 2 16\n1 0 1\n1 1 0\n1 2 0\n1 3 0\n1 4 0\n1 5 0\n1 6 0\n1 7 0\n1 8 0\n1 9 0\n1 10 -3\n1 11 2\n1 12 0\n1 13 0\n1 14 0\n1 15 -1\n\
     P2\n16 2\n255\n127 127 127 127 127 127 127 127 127 127 127\n127 127 127 127 127\n191 127 127 127 127 127 127 127 127 127 0\n255 127 127 127 63\n\
-    stats A active 16 node 1 live 1\n";
+    stats A active 16 node 1 live 1\nstats A active 16 node 1 live 1\n";
 
 /// Activates the second row, and gives the field values there.
 fn fill(alloc: Global, store: &mut Store) -> Result<(), Fail> {
@@ -56,7 +56,12 @@ fn texts<R: Threads + Sync>(rt: &R, alloc: Global, store: &mut Store) -> Result<
     let mut bytes = Vec::new(alloc);
     bytes.extend_from_slice(dumped(alloc, store)?.bytes.as_slice())?;
     bytes.extend_from_slice(drawn(alloc, store)?.bytes.as_slice())?;
-    bytes.extend_from_slice(stats(rt, alloc, store, b"A", 2)?.bytes.as_slice())?;
+    bytes.extend_from_slice(stats(alloc, store, b"A")?.bytes.as_slice())?;
+    bytes.extend_from_slice(
+        stats_by_workers(rt, alloc, store, b"A", 2)?
+            .bytes
+            .as_slice(),
+    )?;
     Ok(bytes)
 }
 

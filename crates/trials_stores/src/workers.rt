@@ -1,7 +1,7 @@
 //! Stores made, copied and listed by workers, as without them.
 
 use crate::fixtures::{Node, coords_of, on_line, put, reach, store_of};
-use sg_elements::{active_count, elements, elements_by_workers};
+use sg_elements::{active_count, active_count_by_workers, elements, elements_by_workers};
 use sg_layout::Kind::{Dense, Pointer};
 use sg_store::Store;
 use std::alloc::Global;
@@ -71,8 +71,9 @@ fn lists_are_alike<R: Threads + Sync>(
     }
     let list = elements(alloc, store)?;
     let by_workers = elements_by_workers(rt, alloc, store, workers)?;
-    let count = active_count(rt, alloc, store, workers)?;
-    Ok(list.as_slice() == by_workers.as_slice() && list.len() == count)
+    let count = active_count(alloc, store)?;
+    let counted = active_count_by_workers(rt, alloc, store, workers)?;
+    Ok(list.as_slice() == by_workers.as_slice() && list.len() == count && counted == count)
 }
 
 /// Whether one, two and sixteen workers make an opening store like this one.

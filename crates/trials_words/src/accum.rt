@@ -18,24 +18,24 @@ fn joined(alloc: Global, parts: Vec<Items<u32>>) -> Result<Vec<u32>, Memory> {
 }
 
 // A cell of 5, lowered to a word.
-fn lowered<R: Threads + Sync>(rt: &R, alloc: Global, word: u32) -> Result<Vec<u32>, Memory> {
-    let (pass, mut seat) = AccPass::start(rt, alloc, &[5], AccOp::Min, Ty::I32, 1)?;
+fn lowered(alloc: Global, word: u32) -> Result<Vec<u32>, Memory> {
+    let (pass, mut seat) = AccPass::start(alloc, &[5], AccOp::Min, Ty::I32)?;
     pass.least(&mut seat, 0, word);
-    joined(alloc, pass.finish(rt, alloc, seat, 1)?)
+    joined(alloc, pass.finish(alloc, seat)?)
 }
 
 // A cell of 5, raised to a word.
-fn raised<R: Threads + Sync>(rt: &R, alloc: Global, word: u32) -> Result<Vec<u32>, Memory> {
-    let (pass, mut seat) = AccPass::start(rt, alloc, &[5], AccOp::Max, Ty::U32, 1)?;
+fn raised(alloc: Global, word: u32) -> Result<Vec<u32>, Memory> {
+    let (pass, mut seat) = AccPass::start(alloc, &[5], AccOp::Max, Ty::U32)?;
     pass.most(&mut seat, 0, word);
-    joined(alloc, pass.finish(rt, alloc, seat, 1)?)
+    joined(alloc, pass.finish(alloc, seat)?)
 }
 
 #[test]
 fn the_least_and_the_greatest_are_kept(rt: HostRuntime) -> Result<(), Fail> {
-    let least = lowered(&rt, rt.alloc(), 4294967293)?;
+    let least = lowered(rt.alloc(), 4294967293)?;
     assert!(rt; least.as_slice() == [4294967293].as_slice());
-    let most = raised(&rt, rt.alloc(), 4294967293)?;
+    let most = raised(rt.alloc(), 4294967293)?;
     assert!(rt; most.as_slice() == [4294967293].as_slice());
     Ok(())
 }
@@ -58,7 +58,7 @@ fn give(pass: &AccPass, seat: &mut AccSeat, word: u32)
 // Cells of two parts, all 7 at the start, to which two seats give, made and ended by so many workers.
 fn two_parts<R: Threads + Sync>(rt: &R, alloc: Global, workers: u32) -> Result<Vec<u32>, Memory> {
     let values = Vec::from_elem(alloc, 7, 65_540)?;
-    let (pass, mut seat) = AccPass::start(
+    let (pass, mut seat) = AccPass::start_by_workers(
         rt,
         alloc,
         values.as_slice(),
@@ -71,7 +71,15 @@ fn two_parts<R: Threads + Sync>(rt: &R, alloc: Global, workers: u32) -> Result<V
     give(&pass, &mut other, 100);
     pass.add(&mut other, 65_536, 1000);
     pass.join(&mut seat, other);
-    joined(alloc, pass.finish(rt, alloc, seat, workers)?)
+    joined(alloc, pass.finish_by_workers(rt, alloc, seat, workers)?)
+}
+
+// The same cells, to which one seat gives, without workers.
+fn two_parts_alone(alloc: Global) -> Result<Vec<u32>, Memory> {
+    let values = Vec::from_elem(alloc, 7, 65_540)?;
+    let (pass, mut seat) = AccPass::start(alloc, values.as_slice(), AccOp::Add, Ty::U32)?;
+    give(&pass, &mut seat, 10);
+    joined(alloc, pass.finish(alloc, seat)?)
 }
 
 fn at(cells: &[u32], place: usize) -> u32 {
@@ -92,5 +100,15 @@ fn parts_are_made_and_ended_by_workers(rt: HostRuntime) -> Result<(), Fail> {
         assert_eq!(rt; [at(cells, 65_536), at(cells, 65_537)], [1117, 7]);
         assert_eq!(rt; [at(cells, 65_538), at(cells, 65_539)], [7, 117]);
     }
+    Ok(())
+}
+
+#[test]
+fn parts_are_made_and_ended_alone(rt: HostRuntime) -> Result<(), Fail> {
+    let all = two_parts_alone(rt.alloc())?;
+    let cells = all.as_slice();
+    assert_eq!(rt; cells.len(), 65_540);
+    assert_eq!(rt; [at(cells, 0), at(cells, 1)], [17, 7]);
+    assert_eq!(rt; [at(cells, 65_535), at(cells, 65_536)], [17, 17]);
     Ok(())
 }

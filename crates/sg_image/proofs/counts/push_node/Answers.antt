@@ -1,5 +1,4 @@
-use Rattle.std.proofs.Common.{◌≡◌, ◌+◌, ◌-◌, suc, get_or, List, refl, sym, ap, ◌∙◌, arith, add-one}
-use Rattle.std.specs.Prelude.{slice_get, Some}
+use Rattle.std.proofs.Common.{◌≡◌, ◌+◌, ◌-◌, suc, get_or, sym, ap, ◌∙◌, arith, add-one}
 use Rattle.sg_layout.specs.declared.shape.Shape.{Shape}
 use Rattle.sg_image.proofs.Counting.{same_node, counted, uncounted}
 use Rattle.sg_image.proofs.counts.push_node.Goals as goal

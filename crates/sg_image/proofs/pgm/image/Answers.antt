@@ -1,4 +1,4 @@
-use Rattle.std.proofs.Common.{◌≡◌, w64, to_z, of_z, ℤ, arith, List, ℕ, Vec, Global, ap, ◌∙◌, sym, ◌++◌}
+use Rattle.std.proofs.Common.{◌≡◌, w64, to_z, of_z, ℤ, arith, List, ℕ, Vec, Global, ap, ◌∙◌, ◌++◌}
 use Rattle.std.proofs.lemmas.Int.{to_z-of_z}
 use Rattle.sg_coord.specs.Bounds.{Bounds}
 use Rattle.sg_layout.specs.declared.shape.Shape.{Shape}

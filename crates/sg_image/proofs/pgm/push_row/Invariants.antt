@@ -1,6 +1,6 @@
 use Rattle.std.proofs.Common.{◌≡◌, [], ◌∷◌, ◌++◌, decimal}
 use Rattle.std.specs.Prelude.{string_bytes}
-use Rattle.sg_image.specs.Pgm.{image_row_text, texts_below, behind}
+use Rattle.sg_image.specs.Pgm.{texts_below, behind}
 use Rattle.sg_image.specs.steps.Keeping.{kept_grey}
 use Rattle.sg_image.proofs.pgm.push_row.Given as goal
 

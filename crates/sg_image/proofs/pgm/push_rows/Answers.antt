@@ -1,4 +1,3 @@
-use Rattle.std.proofs.Common.{List, ℕ}
 use Rattle.sg_image.specs.Pgm.{image_row_text}
 use Rattle.sg_image.specs.steps.Keeping.{kept_grey}
 use Rattle.sg_image.proofs.Images.{texts_more}
