@@ -33,6 +33,22 @@ puts_nothing = refl
 puts_untold : Puts put.All None None (2 ∷ 3 ∷ [])
 puts_untold = refl
 
+-- the pieces that were put whole so far, in order, with one more; if nothing is told, nothing is
+abbrev pub piece_too : Option (List (List ℕ)) → List ℕ → Option (List (List ℕ))
+piece_too pieces piece = option_map (λ told. told ++ piece ∷ []) pieces
+
+piece_too_told : piece_too (Some ((1 ∷ []) ∷ [])) (2 ∷ 3 ∷ []) ≡ Some ((1 ∷ []) ∷ (2 ∷ 3 ∷ []) ∷ [])
+piece_too_told = refl
+
+-- which pieces were put whole after a put: one more where all of it was written, and else the same
+abbrev pub pieces_after : Put → Option (List (List ℕ)) → List ℕ → Option (List (List ℕ))
+pieces_after put.All pieces piece = piece_too pieces piece
+pieces_after (put.Failed taken) pieces piece = pieces
+pieces_after put.Memory pieces piece = pieces
+
+a_part_is_no_piece : pieces_after (put.Failed 1) (Some ((1 ∷ []) ∷ [])) (2 ∷ 3 ∷ []) ≡ Some ((1 ∷ []) ∷ [])
+a_part_is_no_piece = refl
+
 -- the count of faults rose where the put failed, and stays at every other answer
 abbrev pub PutCause : Put → ℕ → ℕ → Type 0
 PutCause put.All before now = now ≡ before

@@ -5,7 +5,7 @@ use super::sink::{Put, Sink};
 use std::io;
 use std::io::{ErrorKind, Write};
 
-/// The standard output. No bytes are told.
+/// The standard output. Neither bytes nor pieces are told.
 #[derive(Drop)]
 pub struct RealOut<'a, R: Print> {
     rt: &'a R,
@@ -30,6 +30,8 @@ impl<'a, R: Print> RealOut<'a, R> {
 
 impl<'a, R: Print> Sink for RealOut<'a, R> {
     ghost has = { λ _. None };
+
+    ghost pieces = { λ _. None };
 
     ghost faults = { λ out. out.faults };
 

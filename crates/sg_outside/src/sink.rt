@@ -1,5 +1,5 @@
 ghost use Rattle.std.specs.Prelude.{◌≡◌, ℕ, ◌<◌, ◌≤◌, List, Option, length};
-ghost use Rattle.sg_outside.specs.Sink.{Puts, PutCause, faults_after};
+ghost use Rattle.sg_outside.specs.Sink.{Puts, PutCause, faults_after, pieces_after};
 
 /// How a put of a piece ended.
 #[derive(Clone, Copy, Debug, PartialEq, Eq)]
@@ -27,10 +27,12 @@ impl Put {
 
 /// Where output is written, a piece at a time.
 ///
-/// `has` is what was written so far, if that is told, and `faults` counts the puts that failed,
-/// staying at its last value, 2^64 - 1.
+/// `has` is what was written so far, and `pieces` are the pieces that were put whole, in order, where
+/// these are told; `faults` counts the puts that failed, staying at its last value, 2^64 - 1.
 pub trait Sink {
     ghost has: { Self → Option (List ℕ) };
+
+    ghost pieces: { Self → Option (List (List ℕ)) };
 
     ghost faults: { Self → ℕ };
 
@@ -38,6 +40,7 @@ pub trait Sink {
     fn put(&mut self, piece: &[u8]) -> Put
         requires { 0 < length piece.now }
         ensures bytes { Puts result (has self.old) (has self.new) piece.now }
+        ensures pieces { pieces self.new ≡ pieces_after result (pieces self.old) piece.now }
         ensures cause { PutCause result (faults self.old) (faults self.new) }
         ensures never_falls { faults self.old ≤ faults self.new };
 }
