@@ -63,12 +63,18 @@ rows_in_order size =
     let last : k + 1 < size = omega (arith, length-range_with_len 0 size) in
     omega (arith, get_or-range_with_len 0 size k 0 (omega arith), get_or-range_with_len 0 size (k + 1) 0 last))
 
--- a set of numbers that has exactly those below another that pass a test
-pub keys_are : (size : ℕ) (test : ℕ → Bool) (rows : BTreeSet ℕ) → IsStrictlySortedBy nat_cmp rows.keys → ((r : ℕ) → contains nat_cmp rows r ≡ (ltb r size && test r)) → rows.keys ≡ filter test (range_with_len 0 size)
-keys_are size test rows sorted has =
-    let passing : BTreeSet ℕ = record { keys = filter test (range_with_len 0 size) } in
-    btree_set_from_contains nat_cmp_total rows passing sorted (IsStrictlySortedBy-filter nat_cmp test (range_with_len 0 size) (rows_in_order size))
-    (λ r. has r ∙ sym (kept r)) exact_unsigned
+-- the numbers below another that pass a test, as a set
+abbrev pub passing : ℕ → (ℕ → Bool) → BTreeSet ℕ
+passing size test = record { keys = filter test (range_with_len 0 size) }
+
+pub passing_sorted : (size : ℕ) (test : ℕ → Bool) → IsStrictlySortedBy nat_cmp (filter test (range_with_len 0 size))
+passing_sorted size test = IsStrictlySortedBy-filter nat_cmp test (range_with_len 0 size) (rows_in_order size)
+
+pub passing_has : (size : ℕ) (test : ℕ → Bool) (r : ℕ) → contains nat_cmp (passing size test) r ≡ (ltb r size && test r)
+passing_has size test r =
+    any-filter_same (is_at (nat_cmp r)) test (test r) (λ k same. ap test (sym (eqb-true r k (sym (is_eq-nat_cmp r k) ∙ same)))) (range_with_len 0 size)
+    ∙ ap (λ (b : Bool). test r && b) (in_range size r)
+    ∙ and_comm (test r) (ltb r size)
   where
     and_comm : (a b : Bool) → (a && b) ≡ (b && a)
     and_comm true true = refl
@@ -76,11 +82,10 @@ keys_are size test rows sorted has =
     and_comm false true = refl
     and_comm false false = refl
 
-    kept : (r : ℕ) → list_any (is_at (nat_cmp r)) (filter test (range_with_len 0 size)) ≡ (ltb r size && test r)
-    kept r =
-        any-filter_same (is_at (nat_cmp r)) test (test r) (λ k same. ap test (sym (eqb-true r k (sym (is_eq-nat_cmp r k) ∙ same)))) (range_with_len 0 size)
-        ∙ ap (λ (b : Bool). test r && b) (in_range size r)
-        ∙ and_comm (test r) (ltb r size)
+-- a set of numbers that has exactly those below another that pass a test
+pub keys_are : (size : ℕ) (test : ℕ → Bool) (rows : BTreeSet ℕ) → IsStrictlySortedBy nat_cmp rows.keys → ((r : ℕ) → contains nat_cmp rows r ≡ (ltb r size && test r)) → rows.keys ≡ filter test (range_with_len 0 size)
+keys_are size test rows sorted has =
+    btree_set_from_contains nat_cmp_total rows (passing size test) sorted (passing_sorted size test) (λ r. has r ∙ sym (passing_has size test r)) exact_unsigned
 
 filter-map : {X Y : Type 0} (f : X → Y) (test : Y → Bool) (xs : List X) → filter test (map f xs) ≡ map f (filter (λ x. test (f x)) xs)
 filter-map f test [] = refl

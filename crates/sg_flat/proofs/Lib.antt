@@ -5,6 +5,7 @@ pub mod Slotted
 pub mod Reaches
 pub mod Needs
 pub mod Actives
+pub mod Neighbours
 pub mod FieldWords
 pub mod MapWords
 pub mod Landings
@@ -15,4 +16,5 @@ pub mod Insides
 pub mod WriteLaws
 pub mod Boxes
 pub mod Wanting
+pub mod Unwritten
 pub mod Uses

@@ -1,5 +1,6 @@
 pub mod Words
 pub mod State
+pub mod Closed
 pub mod Domain
 pub mod Effects
 pub mod Kernel

@@ -1,5 +1,5 @@
 -- What a run's refusals and its active coordinates depend on: where its writes are, and not what they write.
-use Rattle.std.specs.Prelude.{◌≡◌, ◌↔◌, ℕ, Bool, true, false, List, ◌++◌, map, filter, Contains, Some, Result, slice_get}
+use Rattle.std.specs.Prelude.{◌≡◌, ◌↔◌, ℕ, Bool, true, false, List, ◌++◌, map, filter, All, Contains, Some, Result, slice_get}
 use Rattle.std.specs.Result.{result_map_both}
 use Rattle.std.specs.List.{AllByRecursion}
 use Rattle.sg_coord.specs.declared.coord.Coord.{Coord}
@@ -9,8 +9,9 @@ use Rattle.sg_flat.specs.declared.effects.Turn.{Turn}
 use Rattle.sg_flat.specs.declared.effects.RunFault.{RunFault}
 use Rattle.sg_flat.specs.declared.state.FlatLayout.{FlatLayout}
 use Rattle.sg_flat.specs.declared.state.FlatState.{FlatState}
-use Rattle.sg_flat.specs.Effects.{written_in}
-use Rattle.sg_flat.specs.Kernel.{is_inside_of, first_outside, kernel_meaning}
+use Rattle.sg_flat.specs.Effects.{writes_of, written_in}
+use Rattle.sg_flat.specs.State.{IsFlatLayout}
+use Rattle.sg_flat.specs.Kernel.{is_inside_of, first_outside, layout_after, kernel_meaning}
 
 -- the active coordinates of each layout
 abbrev pub actives_of : FlatState → List (List Coord)
@@ -45,3 +46,8 @@ abbrev pub OutsideIsWanted : Type 0
 OutsideIsWanted = (shapes : List Shape) (keep : Write → Bool) (turns : List Turn)
     → AllByRecursion (λ turn. AllByRecursion (IsKeptOrInside shapes keep) turn.writes) turns
     → first_outside shapes (map (turn_with keep) turns) ≡ first_outside shapes turns
+
+-- a layout into which no write goes is after the run as it was
+abbrev pub UnwrittenStays : Type 0
+UnwrittenStays = (layout : ℕ) (shape : Shape) (flat : FlatLayout) (turns : List Turn) → IsFlatLayout shape flat
+    → All (λ write. ¬ (write.layout ≡ layout)) (writes_of turns) → layout_after layout shape flat turns ≡ flat

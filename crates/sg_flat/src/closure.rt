@@ -37,7 +37,7 @@ pub(crate) fn closure(
 }
 
 /// The number of the last node that isn't dense, from 1; 0 if all are.
-fn last_sparse(nodes: &[NodeShape]) -> usize
+pub(crate) fn last_sparse(nodes: &[NodeShape]) -> usize
     ensures value { result ≡ last_sparse nodes.now }
     ensures most { result ≤ length nodes.now }
 {

@@ -60,6 +60,15 @@ impl Blocks {
         )
     }
 
+    /// The place of a coordinate in its block, in row order.
+    pub(crate) fn place(&self, at: Coord) -> u32
+        requires { Inside (all_of self.now) at }
+        ensures value { result ≡ row_in_blocks self.now at }
+        ensures below { result < volume (each_of self.now) }
+    {
+        row(&self.block, self.within(at))
+    }
+
     /// The number of the block that a coordinate is in.
     pub(crate) fn number(&self, at: Coord) -> u32
         requires { Inside (all_of self.now) at }
@@ -77,7 +86,7 @@ impl Blocks {
         if self.whole {
             self.block.volume()
         } else {
-            row(&self.block, self.within(at)) + 1
+            self.place(at) + 1
         }
     }
 

@@ -5,7 +5,7 @@ ghost use Rattle.sg_words.specs.declared.operators.Ty.{Ty};
 ghost use Rattle.sg_words.specs.declared.operators.AccOp.{AccOp};
 ghost use Rattle.sg_flat.specs.declared.effects.Write.{Write};
 ghost use Rattle.sg_flat.specs.Laws.{LastValueStays, ContributionsFold, BoxIsRanges, BoxIsInOrder};
-ghost use Rattle.sg_flat.specs.Wants.{OutsideIsWanted, MeaningIsOfWants};
+ghost use Rattle.sg_flat.specs.Wants.{OutsideIsWanted, MeaningIsOfWants, UnwrittenStays};
 
 use sg_layout::laws::{closure_members, need_grows};
 
@@ -38,3 +38,9 @@ pub fn meaning_is_of_wants()
     need_grows();
     closure_members();
 }
+
+/// A layout into which no write goes is after the run as it was.
+#[tactic(auto, using(crate::proofs::Unwritten::unwritten_stays))]
+pub fn unwritten_stays()
+    ensures { UnwrittenStays }
+{}

@@ -2,6 +2,7 @@
 #![tactic(auto)]
 
 mod blocks;
+mod closed;
 mod closure;
 mod cutting;
 pub mod effects;
@@ -13,6 +14,7 @@ mod lengths;
 mod need;
 pub mod state;
 
+pub use closed::is_closed;
 pub use effects::{Domain, Effects, RunFault, Turn, Way, Write};
 pub use field::FlatField;
 pub use state::{FlatLayout, FlatState};

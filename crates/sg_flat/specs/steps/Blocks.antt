@@ -1,5 +1,5 @@
 -- Blocks of points: the points that share a slot of a node differ only below it, so each axis is cut into runs of one length.
-use Rattle.std.specs.Prelude.{ℕ, suc, max, ◌*◌, ◌/◌, ◌%◌, pos, Bool, true, false, ◌&&◌, List, map, filter, ◌==◌, nat_lt, nat_le, Option, Some, None, unwrap_or}
+use Rattle.std.specs.Prelude.{◌≡◌, ◌<◌, ℕ, suc, max, ◌*◌, ◌/◌, ◌%◌, pos, Bool, true, false, ◌&&◌, List, map, filter, ◌==◌, nat_lt, nat_le, Option, Some, None, unwrap_or, Contains}
 use Rattle.std.specs.List.{fold}
 use Rattle.sg_coord.specs.declared.coord.Coord.{Coord}
 use Rattle.sg_coord.specs.Bounds.{Bounds, bounds_of, volume}
@@ -108,3 +108,22 @@ abbrev pub is_between : Blocks → Coord → ℕ → ℕ → ℕ → Bool
 is_between blocks at from to row =
     nat_lt row (volume (all_of blocks)) && ((number_in blocks at == number_in blocks (point_in blocks row))
     && (nat_le from (row_in_blocks blocks (point_in blocks row)) && nat_lt (row_in_blocks blocks (point_in blocks row)) to))
+
+-- ---- rows of which each has its neighbours
+-- the point at a place of the block of a coordinate has its row in a list
+abbrev pub HasPlace : Blocks → List ℕ → Coord → ℕ → Type 0
+HasPlace blocks rows at place =
+    (row : ℕ) × Contains rows row × (number_in blocks (point_in blocks row) ≡ number_in blocks at) × (row_in_blocks blocks (point_in blocks row) ≡ place)
+
+-- so has the point before a place, if there is one
+abbrev pub HasBefore : Blocks → List ℕ → Coord → ℕ → Type 0
+HasBefore blocks rows at place = (earlier : ℕ) → suc earlier ≡ place → HasPlace blocks rows at earlier
+
+-- so has the point behind a place, if that is below a reach
+abbrev pub HasBehind : Blocks → List ℕ → Coord → ℕ → ℕ → Type 0
+HasBehind blocks rows at place reach = suc place < reach → HasPlace blocks rows at (suc place)
+
+-- the points before and behind the point of a row in its block have their rows in the list, the later one where it is made live
+pub record HasNeighbours (blocks : Blocks) (rows : List ℕ) (row : ℕ) : Type 0 where
+  pub before : HasBefore blocks rows (point_in blocks row) (row_in_blocks blocks (point_in blocks row))
+  pub behind : HasBehind blocks rows (point_in blocks row) (row_in_blocks blocks (point_in blocks row)) (reach_in blocks (point_in blocks row))
