@@ -1,7 +1,8 @@
 -- From node to node: what is open, and what the store stands for in the end.
 use Rattle.std.proofs.Common.{◌≡◌, ℕ, ◌<◌, ◌⊎◌, inl, inr, Bool, true, false, cond, List, [], ◌++◌, length, get_or, refl, sym, ap, ◌∙◌, subst, arith}
-use Rattle.std.specs.Prelude.{Result, Ok, Err, nat_le, All, ◌↔◌}
+use Rattle.std.specs.Prelude.{Option, None, IsSome, Result, Ok, Err, nat_le, All, ◌↔◌}
 use Rattle.std.specs.List.{Contains}
+use Rattle.std.proofs.lemmas.Bool.{false≢true}
 use Rattle.std.proofs.lemmas.List.Elements.{Contains-append_cases, Contains-append_left, Contains-append_right, Contains-get_or, All-contains}
 use Rattle.sg_words.specs.declared.memory.Stop.{Stop}
 use Rattle.sg_words.specs.declared.memory.Stop.TheVariants as stop
@@ -86,6 +87,10 @@ known_active store law well flat stands found at (inr has) = inr has
 pub only_active : (A : Type 0) (found : List Coord) (at : Coord) → found ≡ [] → A ⊎ Contains found at → A
 only_active A found at none (inl here) = here
 only_active A found at none (inr has) = absurd (let h : Contains [] at = subst (λ l. Contains l at) none has in omega (arith, h.1))
+
+-- a coordinate without a cell isn't active
+pub found_inactive : (cell : Option ℕ) → cell ≡ None → IsSome cell → ⊥
+found_inactive cell none some = false≢true (subst IsSome none some)
 
 -- ---- the end
 pub wanted_inside : (shape : Shape) (bounds : Bounds) (list : ℕ → List Coord) (count : ℕ) → bounds ≡ bounds_of_shape shape

@@ -1,5 +1,7 @@
 pub mod Active
 pub mod Asked
+pub mod CoordsFound
+pub mod FewOpened
 pub mod Descended
 pub mod DescentAdds
 pub mod DescentAnswered
@@ -42,6 +44,7 @@ pub mod DescentSteps
 pub mod DescentTaken
 pub mod DescentViews
 pub mod DescentWalks
+pub mod FoundLists
 pub mod KeyLevel
 pub mod KeySteps
 pub mod Keyed

@@ -1,18 +1,19 @@
 -- What a look notes, one coordinate after another.
-use Rattle.std.proofs.Common.{◌≡◌, ℕ, zero, suc, ◌+◌, ◌<◌, ◌≤◌, ◌⊎◌, inl, inr, List, [], ◌∷◌, ◌++◌, refl, sym, ap, ◌∙◌, subst, arith}
-use Rattle.std.specs.Prelude.{Option, Result, Ok, Err, OnOk, IfOk, All, ◌↔◌}
+use Rattle.std.proofs.Common.{◌≡◌, ℕ, zero, suc, ◌+◌, ◌<◌, ◌≤◌, ◌⊎◌, inl, inr, false, List, [], ◌∷◌, ◌++◌, refl, sym, ap, ◌∙◌, subst, arith}
+use Rattle.std.specs.Prelude.{Option, Some, None, is_some, Result, Ok, Err, OnOk, IfOk, All, ◌↔◌}
 use Rattle.std.specs.List.{Contains}
-use Rattle.std.proofs.lemmas.Bool.{cases_lt}
+use Rattle.std.proofs.lemmas.Bool.{cases_lt, false≢true}
 use Rattle.std.proofs.lemmas.List.Elements.{Contains-append_left, Contains-append_right, Contains-append_cases, Contains-push_cases, All-append, All-push}
 use Rattle.sg_coord.specs.declared.coord.Coord.{Coord}
 use Rattle.sg_coord.specs.Slices.{slice_start}
 use Rattle.sg_store.specs.StoreWords.{StoreWords}
+use Rattle.sg_store.specs.Walks.{cell_in}
 use Rattle.sg_activate.specs.declared.found.Found.{Found}
 use Rattle.sg_activate.specs.declared.found.Finds.{Finds}
 use Rattle.sg_activate.specs.declared.notes.Notes.{Notes}
 use Rattle.sg_activate.specs.Activating.{wanted_below}
 use Rattle.sg_activate.specs.steps.Finding.{coord_found, coords_found, found_in, AreFound}
-use Rattle.sg_activate.specs.steps.Looked.{IsKnown, AreKnown, noted, NotesGrew}
+use Rattle.sg_activate.specs.steps.Looked.{IsKnown, AreKnown, noted, NotesNew, NotesGrew}
 use Rattle.sg_activate.proofs.Asked.{coords-append, found-append}
 
 -- ---- answers
@@ -23,6 +24,10 @@ ok_of (Err e) a = tt
 pub ok_so : {E A B : Type 0} (r : Result Unit E) → OnOk r A → (A → B) → OnOk r B
 ok_so (Ok u) a then = then a
 ok_so (Err e) a then = tt
+
+pub ok_two : {E A B C : Type 0} (r : Result Unit E) → OnOk r A → OnOk r B → (A → B → C) → OnOk r C
+ok_two (Ok u) a b then = then a b
+ok_two (Err e) a b then = tt
 
 pub all_of_none : (Is : Coord → Type 0) (coords : List Coord) → coords ≡ [] → All Is coords
 all_of_none Is coords none = subst (All Is) (sym none) (λ k d below. absurd (omega (arith, below)))
@@ -145,6 +150,21 @@ pub looked_known : {E : Type 0} (store : StoreWords) (axes : ℕ) (w : Notes) (a
     → OnOk r (Contains (noted w) (coord_found axes found)) → OnOk r (IsKnown store (noted w) at)
 looked_known store axes w at found (Err e) same is has = tt
 looked_known store axes w at found (Ok u) same is has = inr (subst (Contains (noted w)) (subst (λ (n : ℕ). coord_found n found ≡ at) same is) has)
+
+-- and that what was noted since isn't active, if it isn't
+pub no_cell : (cell : Option ℕ) → is_some cell ≡ false → cell ≡ None
+no_cell None e = refl
+no_cell (Some n) e = absurd (false≢true (sym e))
+
+pub looked_new : {E : Type 0} (store : StoreWords) (v w : Notes) (at : Coord) (r : Result Unit E) → cell_in store at ≡ None → OnOk r (NotesGrew (at ∷ []) v w) → OnOk r (NotesNew store v w)
+looked_new store v w at (Err e) none grew = tt
+looked_new store v w at (Ok u) none grew = λ x has. elim (grew.only x has) [
+  | inl old ↦ inl old
+  | inr new ↦ elim (Contains-push_cases [] at x new) [
+    | inl nothing ↦ absurd (omega (arith, nothing.1))
+    | inr same ↦ inr (subst (λ y. cell_in store y ≡ None) same none)
+  ]
+]
 
 pub one_of : (x : Coord) (coords : List Coord) → Contains coords x → (at : Coord) → Contains (x ∷ []) at → Contains coords at
 one_of x coords is at has = elim (Contains-push_cases [] x at has) [

@@ -13,8 +13,8 @@ use sg_words::Memory;
 use std::alloc::Global;
 use std::thread::Threads;
 
-/// What workers share in a pass: what was found, with how many axes, how many pieces want it, how many workers they are, and the gate,
-/// which they pass if it is said so.
+/// What workers share in a pass: what was found, with how many axes, how many pieces want it, how many workers they
+/// are, and the gate, which they pass if it is said so.
 pub(crate) struct Work<'a, G> {
     pub(crate) found: &'a [Finds],
     pub(crate) axes: u32,
@@ -59,13 +59,15 @@ where
 
     ghost count = { λ asking. asking.work.now.workers };
 
-    ghost IsSeatOf = { λ asking seat. P.IsSeatOf asking.pass.now seat × P.IsMadeFor asking.pass.now (found_in asking.work.now.axes asking.work.now.found.now) seat };
+    ghost IsSeatOf = { λ asking seat. P.IsSeatOf asking.pass.now seat ×
+        P.IsMadeFor asking.pass.now (found_in asking.work.now.axes asking.work.now.found.now) seat };
 
     ghost share = { P.share };
 
     ghost weight = { P.weight };
 
-    ghost HasDone = { λ asking worker seat. HasMetOf (P.IsMet asking.pass.now) asking.work.now.axes asking.work.now.found.now worker seat };
+    ghost HasDone = { λ asking worker seat. HasMetOf
+        (P.IsMet asking.pass.now) asking.work.now.axes asking.work.now.found.now worker seat };
 
     fn workers(&self) -> u32 {
         self.work.workers
@@ -103,7 +105,8 @@ where
     }
 }
 
-/// How far a worker has come at the gate: its number, the first piece of its slice, how many it has, and before how many it has passed.
+/// How far a worker has come at the gate: its number, the first piece of its slice, how many it has, and before how
+/// many it has passed.
 #[derive(Drop)]
 struct Turns {
     worker: u32,
@@ -134,13 +137,16 @@ fn ask_own<G: Gate, P: Pass>(
     turns: &mut Turns,
 )
     requires own { P.IsSeatOf pass.now seat.old }
-    requires inside { (at : Coord) → Contains (coords_found work.now.axes finds.now.list) at → Inside (P.bounds pass.now) at }
+    requires inside { (at : Coord) → Contains (coords_found work.now.axes finds.now.list) at →
+        Inside (P.bounds pass.now) at }
     ensures own { P.IsSeatOf pass.now seat.new }
     ensures weight { P.weight seat.new ≡ P.weight seat.old }
     ensures stays { (at : Coord) → P.IsMet pass.now at seat.old → P.IsMet pass.now at seat.new }
-    ensures made { (wanted : List Coord) → ((at : Coord) → Contains (coords_found work.now.axes finds.now.list) at → Contains wanted at) →
+    ensures made { (wanted : List Coord) → ((at : Coord) → Contains (coords_found work.now.axes finds.now.list) at →
+        Contains wanted at) →
         P.IsMadeFor pass.now wanted seat.old → P.IsMadeFor pass.now wanted seat.new }
-    ensures met { finds.now.worker ≡ worker → (at : Coord) → Contains (coords_found work.now.axes finds.now.list) at → P.IsMet pass.now at seat.new }
+    ensures met { finds.now.worker ≡ worker → (at : Coord) →
+        Contains (coords_found work.now.axes finds.now.list) at → P.IsMet pass.now at seat.new }
 {
     if finds.worker == worker {
         ask_each(work, pass, seat, finds.list.as_slice(), turns);
@@ -160,7 +166,8 @@ fn ask_each<G: Gate, P: Pass>(
     ensures own { P.IsSeatOf pass.now seat.new }
     ensures weight { P.weight seat.new ≡ P.weight seat.old }
     ensures stays { (at : Coord) → P.IsMet pass.now at seat.old → P.IsMet pass.now at seat.new }
-    ensures made { (wanted : List Coord) → ((at : Coord) → Contains (coords_found work.now.axes list.now) at → Contains wanted at) →
+    ensures made { (wanted : List Coord) → ((at : Coord) → Contains (coords_found work.now.axes list.now) at →
+        Contains wanted at) →
         P.IsMadeFor pass.now wanted seat.old → P.IsMadeFor pass.now wanted seat.new }
     ensures met { (at : Coord) → Contains (coords_found work.now.axes list.now) at → P.IsMet pass.now at seat.new }
 {
@@ -189,7 +196,8 @@ where
     ensures own { P.IsSeatOf pass.now result.seat }
     ensures weight { P.weight result.seat ≡ P.weight seat }
     ensures made { P.IsMadeFor pass.now (found_in work.now.axes work.now.found.now) result.seat }
-    ensures met { OnOk result.done ((at : Coord) → Contains (found_in work.now.axes work.now.found.now) at → P.IsMet pass.now at result.seat) }
+    ensures met { OnOk result.done ((at : Coord) → Contains (found_in work.now.axes work.now.found.now) at →
+        P.IsMet pass.now at result.seat) }
 {
     let asking = Asking { work, pass };
     race_all(rt, alloc, &asking, seat)

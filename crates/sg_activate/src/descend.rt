@@ -69,9 +69,11 @@ pub(crate) fn descend<R: Threads + Sync, G: Gate + Sync>(
 ) -> Result<(), Stop<ActFault>>
     requires fused { 1 ≤ last_fused store.old.shape }
     requires inside { All (Inside (bounds_of_shape store.old.shape)) (found_in work.now.axes work.now.found.now) }
-    ensures opened { OnOk result (OpensTo store.old store.new (open_before store.old.shape) (last_fused store.old.shape) (found_in work.now.axes work.now.found.now)) }
+    ensures opened { OnOk result (OpensTo store.old store.new (open_before store.old.shape)
+        (last_fused store.old.shape) (found_in work.now.axes work.now.found.now)) }
     ensures keeps { OnOk result (KeepsCells store.old store.new) }
-    ensures full { IfActRefused result (IsFirstFull store.old (open_before store.old.shape) (found_in work.now.axes work.now.found.now)) }
+    ensures full { IfActRefused result (IsFirstFull store.old (open_before store.old.shape)
+        (found_in work.now.axes work.now.found.now)) }
 {
     // for the laws that they ensure
     paths_tell();

@@ -1,6 +1,7 @@
 //! The list that a look writes down: what is wanted and isn't active yet.
-ghost use Rattle.std.specs.Prelude.{◌≡◌};
-ghost use Rattle.sg_activate.specs.steps.Finding.{coord_found};
+ghost use Rattle.std.specs.Prelude.{◌≡◌, ℕ, true, false, [], Contains};
+ghost use Rattle.sg_coord.specs.declared.coord.Coord.{Coord};
+ghost use Rattle.sg_activate.specs.steps.Finding.{coord_found, found_in};
 
 use sg_coord::Coord;
 use sg_words::Items;
@@ -19,6 +20,19 @@ pub(crate) struct Found {
 pub(crate) struct Finds {
     pub(crate) worker: u32,
     pub(crate) list: Items<Found>,
+}
+
+/// Whether nothing was found.
+pub(crate) fn is_nothing(found: &[Finds]) -> bool
+    ensures none { result ≡ true → (axes : ℕ) → found_in axes found.now ≡ [] }
+    ensures some { result ≡ false → (axes : ℕ) → (at : Coord) × Contains (found_in axes found.now) at }
+{
+    for finds in found {
+        if finds.list.len() > 0 {
+            return false;
+        }
+    }
+    true
 }
 
 /// The coordinate that was found, with so many axes.

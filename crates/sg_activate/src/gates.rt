@@ -33,8 +33,8 @@ pub fn workers_at<G: Gate>(gate: &G, effort: usize, workers: u32) -> u32
     workers_for(effort, workers)
 }
 
-/// So many workers pass the gate before each of so many pieces, each before those of its slice in order, as in an activation in which
-/// nothing is new. Where it can't hold anyone they needn't. It waits for its workers.
+/// So many workers pass the gate before each of so many pieces, each before those of its slice in order, as in an
+/// activation in which nothing is new. Where it can't hold anyone they needn't. It waits for its workers.
 pub fn pass_gate<R: Threads + Sync, G: Gate + Sync>(rt: &R, pieces: u32, workers: u32, gate: &G)
     requires some { 1 ≤ workers }
     requires few { workers ≤ 16 }
@@ -44,7 +44,8 @@ pub fn pass_gate<R: Threads + Sync, G: Gate + Sync>(rt: &R, pieces: u32, workers
     }
 }
 
-/// Workers from one number on pass the gate before each piece of their slices; halves of them in threads, if both have pieces.
+/// Workers from one number on pass the gate before each piece of their slices; halves of them in threads, if both have
+/// pieces.
 fn pass_slices<R: Threads + Sync, G: Gate + Sync>(
     rt: &R,
     pieces: u32,
@@ -69,10 +70,12 @@ fn pass_slices<R: Threads + Sync, G: Gate + Sync>(
     join(
         rt,
         move || -> ()
-            requires { IsSync R.row × IsSync G.row × (workers ≤ 16) × (1 ≤ count - half) × (half ≤ count) × (from + count ≤ workers) }
+            requires { IsSync R.row × IsSync G.row × (workers ≤ 16) × (1 ≤ count - half) × (half ≤ count) ×
+                (from + count ≤ workers) }
         { pass_slices(rt, pieces, workers, gate, from, count - half) },
         move || -> ()
-            requires { IsSync R.row × IsSync G.row × (workers ≤ 16) × (1 ≤ half) × (half ≤ count) × (from + count ≤ workers) }
+            requires { IsSync R.row × IsSync G.row × (workers ≤ 16) × (1 ≤ half) × (half ≤ count) ×
+                (from + count ≤ workers) }
         { pass_slices(rt, pieces, workers, gate, from + (count - half), half) },
     );
 }

@@ -10,7 +10,7 @@ ghost use Rattle.sg_activate.specs.steps.Finding.{found_in};
 ghost use Rattle.sg_activate.specs.steps.Levels.{IfActRefused, IsFirstFull};
 
 use crate::asking::{Work, ask_all};
-use crate::caps::{SPARES, cap_of};
+use crate::caps::{SPARES, cap_at};
 use crate::fault::ActFault;
 use crate::pass::Pass;
 use crate::race::Raced;
@@ -80,7 +80,7 @@ pub(crate) fn open_keys<R: Threads + Sync, G: Gate + Sync>(
     // for the laws that they ensure
     levels::opening_by_nodes();
     store.layout();
-    let cap = cap_of(store, 1);
+    let cap = cap_at(store, 1);
     let keys = store.key_words(alloc)?;
     let links = store.slot_words(alloc, 1)?;
     let stock = store.stock(alloc, 1)?;

@@ -11,7 +11,7 @@ ghost use Rattle.sg_activate.specs.steps.Finding.{found_in};
 ghost use Rattle.sg_activate.specs.steps.Levels.{IfActRefused, IsFirstFull};
 
 use crate::asking::{Work, ask_all};
-use crate::caps::cap_of;
+use crate::caps::cap_at;
 use crate::fault::ActFault;
 use crate::pass::Pass;
 use crate::race::Raced;
@@ -44,7 +44,8 @@ impl<'a> Pass for LengthRace<'a> {
 
     ghost bounds = { λ race. bounds_of_shape race.store.now.shape };
 
-    ghost IsSeatOf = { λ race seat. IsSeatOf race.pass seat × AreShortInLive race.store.now race.node (worker_of seat) };
+    ghost IsSeatOf = { λ race seat. IsSeatOf race.pass seat ×
+        AreShortInLive race.store.now race.node (worker_of seat) };
 
     ghost share = { λ seat. (worker_of seat).share };
 
@@ -89,7 +90,7 @@ pub(crate) fn open_lengths<R: Threads + Sync, G: Gate + Sync>(
     // for the laws that they ensure
     levels::opening_by_nodes();
     store.layout();
-    let cap = cap_of(store, node);
+    let cap = cap_at(store, node);
     let lengths = store.length_words(alloc)?;
     let (pass, seat) = LengthPass::start(alloc, lengths)?;
     let raced = LengthRace {

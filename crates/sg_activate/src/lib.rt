@@ -7,6 +7,7 @@ mod caps;
 mod descend;
 pub mod descent;
 pub mod fault;
+mod few;
 mod found;
 pub mod gates;
 mod keys;

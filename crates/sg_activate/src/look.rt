@@ -5,7 +5,7 @@ ghost use Rattle.sg_layout.specs.Axes.{bounds_of_shape};
 ghost use Rattle.sg_layout.specs.declared.shape.Shape.{Shape};
 ghost use Rattle.sg_activate.specs.Activating.{wanted_below};
 ghost use Rattle.sg_activate.specs.steps.Finding.{found_in, AreFound};
-ghost use Rattle.sg_activate.specs.steps.Looked.{noted, IsWanted, IsKnown, AreKnown, LastIsKnown, NotesGrew};
+ghost use Rattle.sg_activate.specs.steps.Looked.{noted, IsNew, IsKnown, AreKnown, LastIsKnown, NotesNew, NotesGrew};
 
 use crate::found::{Finds, found_at};
 use crate::notes::Notes;
@@ -47,17 +47,19 @@ where
     ghost use Rattle.std.specs.Prelude.{◌+◌};
     ghost use Rattle.sg_coord.specs.Slices.{slice_start};
     ghost use Rattle.sg_activate.specs.steps.Finding.{found_in, AreFound};
-    ghost use Rattle.sg_activate.specs.steps.Looked.{IsWanted, AreKnown};
+    ghost use Rattle.sg_activate.specs.steps.Looked.{IsNew, AreKnown};
 
     ghost count = { λ look. look.workers };
 
-    ghost IsSeatOf = { λ look seat. AreFound (IsWanted look.store.now.shape (W.Means look.want.now) (W.count look.want.now)) look.axes look.workers seat.found };
+    ghost IsSeatOf = { λ look seat. AreFound (IsNew look.store.now (W.Means look.want.now)
+        (W.count look.want.now)) look.axes look.workers seat.found };
 
     ghost share = { λ seat. seat.share };
 
     ghost weight = { λ seat. 0 };
 
-    ghost HasDone = { λ look worker seat. AreKnown look.store.now (W.Means look.want.now) (slice_start (W.count look.want.now) look.workers worker)
+    ghost HasDone = { λ look worker seat. AreKnown look.store.now (W.Means look.want.now) (slice_start
+        (W.count look.want.now) look.workers worker)
         (slice_start (W.count look.want.now) look.workers (worker + 1)) (found_in look.axes seat.found) };
 
     fn workers(&self) -> u32 {
@@ -127,9 +129,11 @@ fn look_slice<W: Wanted>(
     found: Items<Finds>,
     worker: u32,
 ) -> Result<Items<Finds>, Memory>
-    requires own { AreFound (IsWanted look.now.store.now.shape (W.Means look.now.want.now) (W.count look.now.want.now)) look.now.axes look.now.workers found }
+    requires own { AreFound (IsNew look.now.store.now (W.Means look.now.want.now)
+        (W.count look.now.want.now)) look.now.axes look.now.workers found }
     requires within { worker < look.now.workers }
-    ensures own { IfOk result (AreFound (IsWanted look.now.store.now.shape (W.Means look.now.want.now) (W.count look.now.want.now)) look.now.axes look.now.workers) }
+    ensures own { IfOk result (AreFound (IsNew look.now.store.now (W.Means look.now.want.now)
+        (W.count look.now.want.now)) look.now.axes look.now.workers) }
     ensures known { IfOk result (λ list. AreKnown look.now.store.now (W.Means look.now.want.now)
         (slice_start (W.count look.now.want.now) look.now.workers worker) (slice_start (W.count look.now.want.now) look.now.workers (worker + 1)) (found_in look.now.axes list)) }
 {
@@ -174,9 +178,14 @@ fn look_piece<W: Wanted>(
     ensures axes { OnOk result (notes.new.axes ≡ look.now.axes) }
     ensures worker { OnOk result (notes.new.worker ≡ notes.old.worker) }
     ensures stays { OnOk result ((at : Coord) → Contains (noted notes.old) at → Contains (noted notes.new) at) }
-    ensures only { OnOk result ((at : Coord) → Contains (noted notes.new) at → Contains (noted notes.old) at ⊎ IsWanted look.now.store.now.shape (W.Means look.now.want.now) (W.count look.now.want.now) at) }
-    ensures of_workers { OnOk result (notes.old.worker < look.now.workers → All (λ finds. finds.worker < look.now.workers) notes.old.found → All (λ finds. finds.worker < look.now.workers) notes.new.found) }
-    ensures known { OnOk result ((list : ℕ → List Coord) → W.Means look.now.want.now list → (at : Coord) → Contains (list piece) at → IsKnown look.now.store.now (noted notes.new) at) }
+    ensures only { OnOk result ((at : Coord) → Contains (noted notes.new) at →
+        Contains (noted notes.old) at ⊎ IsNew look.now.store.now (W.Means look.now.want.now)
+        (W.count look.now.want.now) at) }
+    ensures of_workers { OnOk result (notes.old.worker < look.now.workers →
+        All (λ finds. finds.worker < look.now.workers) notes.old.found →
+        All (λ finds. finds.worker < look.now.workers) notes.new.found) }
+    ensures known { OnOk result ((list : ℕ → List Coord) → W.Means look.now.want.now list → (at : Coord) →
+        Contains (list piece) at → IsKnown look.now.store.now (noted notes.new) at) }
 {
     coords.clear();
     look.want.wanted(hand, piece, coords)?;
@@ -195,6 +204,7 @@ fn look_each(
     requires last { LastIsKnown store.now notes.old }
     ensures last { OnOk result (LastIsKnown store.now notes.new) }
     ensures grew { OnOk result (NotesGrew coords.now notes.old notes.new) }
+    ensures new { OnOk result (NotesNew store.now notes.old notes.new) }
     ensures known { OnOk result ((at : Coord) → Contains coords.now at → IsKnown store.now (noted notes.new) at) }
 {
     for at in coords {
@@ -215,6 +225,7 @@ fn look_at(
     requires last { LastIsKnown store.now notes.old }
     ensures last { OnOk result (LastIsKnown store.now notes.new) }
     ensures grew { OnOk result (NotesGrew (at ∷ []) notes.old notes.new) }
+    ensures new { OnOk result (NotesNew store.now notes.old notes.new) }
     ensures known { OnOk result (IsKnown store.now (noted notes.new) at) }
 {
     if is_last(&notes.last, at) {
@@ -250,7 +261,8 @@ where
     requires some { 1 ≤ workers }
     requires few { workers ≤ 16 }
     requires inside { W.bounds want.now ≡ bounds_of_shape store.now.shape }
-    ensures found { IfOk result (AreFound (IsWanted store.now.shape (W.Means want.now) (W.count want.now)) (bounds_of_shape store.now.shape).n workers) }
+    ensures found { IfOk result (AreFound (IsNew store.now (W.Means want.now) (W.count want.now))
+        (bounds_of_shape store.now.shape).n workers) }
     ensures known { IfOk result (λ list. (lists : ℕ → List Coord) → W.Means want.now lists → (at : Coord) →
         Contains (wanted_below lists (W.count want.now)) at → IsKnown store.now (found_in (bounds_of_shape store.now.shape).n list) at) }
 {

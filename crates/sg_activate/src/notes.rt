@@ -9,8 +9,8 @@ use sg_coord::Coord;
 use sg_words::{Items, Memory};
 use std::alloc::Global;
 
-/// What a worker has found, which is kept in lists of some length: those that are full, with what others found, and the last. And the coordinate
-/// that it looked at last.
+/// What a worker has found, which is kept in lists of some length: those that are full, with what others found, and the
+/// last. And the coordinate that it looked at last.
 #[derive(Drop)]
 pub(crate) struct Notes {
     pub(crate) worker: u32,
@@ -53,8 +53,10 @@ impl Notes {
 
     /// All lists.
     pub(crate) fn close(self) -> Result<Items<Finds>, Memory>
-        ensures same { IfOk result (λ list. (at : Coord) → Contains (found_in self.axes list) at ↔ Contains (noted self) at) }
-        ensures of_workers { IfOk result (λ list. (count : ℕ) → self.worker < count → All (λ finds. finds.worker < count) self.found → All (λ finds. finds.worker < count) list) }
+        ensures same { IfOk result (λ list. (at : Coord) → Contains (found_in self.axes list) at ↔ Contains
+            (noted self) at) }
+        ensures of_workers { IfOk result (λ list. (count : ℕ) → self.worker < count →
+            All (λ finds. finds.worker < count) self.found → All (λ finds. finds.worker < count) list) }
     {
         let Notes {
             worker,

@@ -6,8 +6,8 @@ ghost use Rattle.sg_coord.specs.Bounds.{Bounds};
 use sg_coord::Coord;
 
 /// What workers do side by side with coordinates, each through a seat of its own: they ask for them, one after the
-/// other. `IsMet` tells that a seat has met what a coordinate wants, and `IsMadeFor` that whatever it made is for some of
-/// these coordinates.
+/// other. `IsMet` tells that a seat has met what a coordinate wants, and `IsMadeFor` that whatever it made is for some
+/// of these coordinates.
 pub(crate) trait Pass {
     type Seat: Drop;
 

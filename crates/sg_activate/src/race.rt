@@ -6,8 +6,8 @@ use sg_words::Memory;
 use std::alloc::Global;
 use std::thread::{Threads, join};
 
-/// What workers do side by side, each its own part and through a seat of its own. `HasDone` tells that a seat has done the part of a
-/// worker, by its number from 0.
+/// What workers do side by side, each its own part and through a seat of its own. `HasDone` tells that a seat has done
+/// the part of a worker, by its number from 0.
 pub(crate) trait Race {
     type Seat: Drop + Send;
 
@@ -52,8 +52,10 @@ pub(crate) trait Race {
         requires other { IsSeatOf self.now other }
         ensures own { IsSeatOf self.now seat.new }
         ensures weight { weight seat.new ≡ weight seat.old + weight other }
-        ensures stays { OnOk result ((worker : ℕ) → HasDone self.now worker seat.old → HasDone self.now worker seat.new) }
-        ensures others { OnOk result ((worker : ℕ) → HasDone self.now worker other → HasDone self.now worker seat.new) };
+        ensures stays { OnOk result ((worker : ℕ) → HasDone self.now worker seat.old →
+            HasDone self.now worker seat.new) }
+        ensures others { OnOk result ((worker : ℕ) → HasDone self.now worker other →
+            HasDone self.now worker seat.new) };
 }
 
 /// A seat that comes back from a race, and whether memory ran out.
@@ -66,7 +68,8 @@ pub(crate) struct Raced<S> {
 /// The share of a race's first seat.
 pub(crate) const SHARE: u32 = 16;
 
-/// With fewer pieces than these for each worker one more thread takes longer than a wait for the thread that has forked.
+/// With fewer pieces than these for each worker one more thread takes longer than a wait for the thread that has
+/// forked.
 const MANY_PIECES: u32 = 32;
 
 /// All workers do their parts.
@@ -84,77 +87,86 @@ pub(crate) fn race_all<R: Threads + Sync, P: Race + Sync>(
     ensures weight { P.weight result.seat ≡ P.weight seat }
     ensures done { OnOk result.done (HaveDone (P.HasDone on.now) 0 (P.count on.now) result.seat) }
 {
-    race_from(rt, alloc, on, seat, 0, on.workers(), SHARE, false)
+    let team = Team {
+        from: 0,
+        count: on.workers(),
+        share: SHARE,
+        waits: false,
+    };
+    race_from(rt, alloc, on, seat, team)
 }
 
-/// Workers from one number on do their parts: some in a thread of their own and then the rest. With many pieces a thread that has forked
-/// `waits`: it does nothing itself.
+/// Some workers, from one number on, and the share that they are given of a seat. With many pieces a thread that has
+/// forked `waits`: it does nothing itself.
+#[derive(Clone, Copy)]
+struct Team {
+    from: u32,
+    count: u32,
+    share: u32,
+    waits: bool,
+}
+
+/// The workers of a team do their parts: some in a thread of their own and then the rest.
 fn race_from<R: Threads + Sync, P: Race + Sync>(
     rt: &R,
     alloc: Global,
     on: &P,
     mut seat: P::Seat,
-    from: u32,
-    count: u32,
-    share: u32,
-    waits: bool,
+    team: Team,
 ) -> Raced<P::Seat>
     requires own { P.IsSeatOf on.now seat }
-    requires some { 1 ≤ count }
-    requires within { from + count ≤ P.count on.now }
+    requires some { 1 ≤ team.count }
+    requires within { team.from + team.count ≤ P.count on.now }
     requires all { P.count on.now ≤ 16 }
-    requires few { count ≤ share }
-    requires share { share ≤ P.share seat }
+    requires few { team.count ≤ team.share }
+    requires share { team.share ≤ P.share seat }
     ensures own { P.IsSeatOf on.now result.seat }
     ensures weight { P.weight result.seat ≡ P.weight seat }
-    ensures done { OnOk result.done (HaveDone (P.HasDone on.now) from (from + count) result.seat) }
+    ensures done { OnOk result.done (HaveDone (P.HasDone on.now) team.from (team.from + team.count) result.seat) }
 {
-    if count < 2 {
-        if waits {
-            return part_apart(rt, alloc, on, seat, from);
+    if team.count < 2 {
+        if team.waits {
+            return part_apart(rt, alloc, on, seat, team.from);
         }
-        return on.part(alloc, seat, from);
+        return on.part(alloc, seat, team.from);
     }
-    let rest = rest_of(count, share);
+    let rest = rest_of(team.count, team.share);
+    let first = Team {
+        from: team.from,
+        count: team.count - rest,
+        share: team.share - team.share / 2,
+        waits: false,
+    };
+    let second = Team {
+        from: team.from + (team.count - rest),
+        count: rest,
+        share: team.share / 2,
+        waits: on.pieces() >= MANY_PIECES.saturating_mul(on.workers()),
+    };
     let other = on.split(&mut seat);
     let (mine, theirs) = join(
         rt,
         move || -> Raced<P::Seat>
-            requires { IsSync R.row × IsSync P.row × IsSend P.Seat.row × P.IsSeatOf on.now seat × (rest ≤ count) × (1 ≤ count - rest) × (from + count ≤ P.count on.now) × (P.count on.now ≤ 16) × (count - rest ≤ share - share / 2) × (share - share / 2 ≤ P.share seat) }
-            ensures { P.IsSeatOf on.entry.now result.seat × (P.weight result.seat ≡ P.weight seat) × OnOk result.done (HaveDone (P.HasDone on.entry.now) from (from + (count - rest)) result.seat) }
-        {
-            race_from(
-                rt,
-                alloc,
-                on,
-                seat,
-                from,
-                count - rest,
-                share - share / 2,
-                false,
-            )
-        },
+            requires { IsSync R.row × IsSync P.row × IsSend P.Seat.row × P.IsSeatOf on.now seat × (1 ≤ first.count) ×
+                (first.from + first.count ≤ P.count on.now) × (P.count on.now ≤ 16) × (first.count ≤ first.share) ×
+                (first.share ≤ P.share seat) }
+            ensures { P.IsSeatOf on.entry.now result.seat × (P.weight result.seat ≡ P.weight seat) ×
+                OnOk result.done (HaveDone (P.HasDone on.entry.now) first.from (first.from + first.count) result.seat) }
+        { race_from(rt, alloc, on, seat, first) },
         move || -> Raced<P::Seat>
-            requires { IsSync R.row × IsSync P.row × IsSend P.Seat.row × P.IsSeatOf on.now other × (1 ≤ rest) × (rest ≤ count) × (from + count ≤ P.count on.now) × (P.count on.now ≤ 16) × (rest ≤ share / 2) × (share / 2 ≤ P.share other) }
-            ensures { P.IsSeatOf on.entry.now result.seat × (P.weight result.seat ≡ P.weight other) × OnOk result.done (HaveDone (P.HasDone on.entry.now) (from + (count - rest)) (from + (count - rest) + rest) result.seat) }
-        {
-            race_from(
-                rt,
-                alloc,
-                on,
-                other,
-                from + (count - rest),
-                rest,
-                share / 2,
-                on.pieces() >= MANY_PIECES.saturating_mul(on.workers()),
-            )
-        },
+            requires { IsSync R.row × IsSync P.row × IsSend P.Seat.row × P.IsSeatOf on.now other ×
+                (1 ≤ second.count) × (second.from + second.count ≤ P.count on.now) × (P.count on.now ≤ 16) ×
+                (second.count ≤ second.share) × (second.share ≤ P.share other) }
+            ensures { P.IsSeatOf on.entry.now result.seat × (P.weight result.seat ≡ P.weight other) ×
+                OnOk result.done (HaveDone (P.HasDone on.entry.now) second.from
+                (second.from + second.count) result.seat) }
+        { race_from(rt, alloc, on, other, second) },
     );
     joined(on, mine, theirs)
 }
 
-/// How many of so many workers a thread that forks keeps for itself and for threads that it starts later: all but one, where half of the
-/// share is enough for them, and else half of the share.
+/// How many of so many workers a thread that forks keeps for itself and for threads that it starts later: all but one,
+/// where half of the share is enough for them, and else half of the share.
 fn rest_of(count: u32, share: u32) -> u32
     requires two { 2 ≤ count }
     requires few { count ≤ share }
@@ -172,8 +184,10 @@ fn joined<P: Race>(on: &P, mine: Raced<P::Seat>, theirs: Raced<P::Seat>) -> Race
     requires other { P.IsSeatOf on.now theirs.seat }
     ensures own { P.IsSeatOf on.now result.seat }
     ensures weight { P.weight result.seat ≡ P.weight mine.seat + P.weight theirs.seat }
-    ensures stays { OnOk result.done ((worker : ℕ) → P.HasDone on.now worker mine.seat → P.HasDone on.now worker result.seat) }
-    ensures others { OnOk result.done ((worker : ℕ) → P.HasDone on.now worker theirs.seat → P.HasDone on.now worker result.seat) }
+    ensures stays { OnOk result.done ((worker : ℕ) → P.HasDone on.now worker mine.seat →
+        P.HasDone on.now worker result.seat) }
+    ensures others { OnOk result.done ((worker : ℕ) → P.HasDone on.now worker theirs.seat →
+        P.HasDone on.now worker result.seat) }
     ensures mine { OnOk result.done (mine.done ≡ result.done) }
     ensures theirs { OnOk result.done (theirs.done ≡ result.done) }
 {
@@ -207,7 +221,8 @@ fn part_apart<R: Threads + Sync, P: Race + Sync>(
         rt,
         move || -> Raced<P::Seat>
             requires { IsSync P.row × IsSend P.Seat.row × P.IsSeatOf on.now seat × (worker < P.count on.now) }
-            ensures { P.IsSeatOf on.entry.now result.seat × (P.weight result.seat ≡ P.weight seat) × OnOk result.done (P.HasDone on.entry.now worker result.seat) }
+            ensures { P.IsSeatOf on.entry.now result.seat × (P.weight result.seat ≡ P.weight seat) ×
+                OnOk result.done (P.HasDone on.entry.now worker result.seat) }
         { on.part(alloc, seat, worker) },
         || (),
     );

@@ -1,5 +1,6 @@
 pub mod Uses
 pub mod LiveNeed
+pub mod HasRoom
 pub mod SpotPlaces
 pub mod SpotWidths
 pub mod Widths
@@ -96,3 +97,4 @@ pub mod SizedNodes
 pub mod TablesTrimmed
 pub mod NodesTrimmed
 pub mod LinkListing
+mod WorkedStore

@@ -8,3 +8,9 @@ pub use Rattle.sg_store.proofs.NodeFacts.{as_many_nodes, IsNodeStock, is_node_st
 pub use Rattle.sg_store.proofs.NodeNeed.{NeedLaws}
 -- a hash node's links beside its keys, and those by slot
 pub use Rattle.sg_store.proofs.KeyPlaces.{links_contain, slots_contain}
+-- what is active at the opening adds nothing to a closure, nor to which node is too full
+pub use Rattle.sg_store.proofs.HasRoom.{opening_closes, opening_fills}
+-- the slots of one copy, and what a node of a well-formed store keeps
+pub use Rattle.sg_store.proofs.SpotPlaces.{IsNarrow, IsWidth, narrow_start, width_fits, width_on}
+pub use Rattle.sg_store.proofs.Stepping.{read_as}
+pub use Rattle.sg_store.proofs.Walking.{node_is}

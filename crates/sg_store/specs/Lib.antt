@@ -3,6 +3,7 @@ pub mod Slots
 pub mod Walks
 pub mod WellFormed
 pub mod StandsFor
+pub mod Standing
 pub mod Spots
 pub mod Rows
 pub mod Reaching

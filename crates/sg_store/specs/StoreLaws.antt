@@ -1,9 +1,9 @@
 -- The laws of stores and the flat layouts that they stand for.
-use Rattle.std.specs.Prelude.{◌≡◌, ◌↔◌, ℕ, ◌-◌, ◌<◌, true, length, Some, IsSome, Contains, slice_get}
+use Rattle.std.specs.Prelude.{◌≡◌, ◌↔◌, ℕ, ◌-◌, ◌<◌, true, length, Some, None, IsSome, Contains, slice_get}
 use Rattle.sg_coord.specs.declared.coord.Coord.{Coord}
 use Rattle.sg_layout.specs.declared.shape.NodeShape.{NodeShape}
 use Rattle.sg_layout.specs.NeedLaws.{IsNumberedNode}
-use Rattle.sg_layout.specs.Need.{need_of}
+use Rattle.sg_layout.specs.Need.{need_of, first_full}
 use Rattle.sg_flat.specs.declared.state.FlatLayout.{FlatLayout}
 use Rattle.sg_pool.specs.Numbers.{live_count}
 use Rattle.sg_store.specs.declared.node.NodeWords.{NodeWords}
@@ -34,6 +34,11 @@ LiveIsNeed store =
     IsWellFormed store → (flat : FlatLayout) → StandsFor store flat → (number : ℕ) (node : NodeShape) →
     IsNumberedNode store.shape number node → kind_has_cap node.kind ≡ true → (kept : NodeWords) →
     slice_get store.nodes (number - 1) ≡ Some kept → live_count kept.pool ≡ need_of store.shape flat.active number node
+
+-- so no node is too full for them
+abbrev pub StandsHasRoom : StoreWords → Type 0
+StandsHasRoom store =
+    IsWellFormed store → (flat : FlatLayout) → StandsFor store flat → first_full store.shape flat.active ≡ None
 
 -- two stores that stand for the same flat layout have the same values in the cells of a coordinate
 abbrev pub SameValues : StoreWords → StoreWords → Type 0

@@ -1,7 +1,7 @@
 //! Laws of stores. Each function does nothing: what it ensures is the law, for whoever reasons about stores.
 ghost use Rattle.sg_store.specs.StoreWords.{StoreWords};
 ghost use Rattle.sg_store.specs.LinkLaws.{CellsKeepLinks, GrownAreKept, ShrunkAreKept, LinksAreSound};
-ghost use Rattle.sg_store.specs.StoreLaws.{StandsForOne, CellsAreActive, CellsDiffer, LiveIsNeed, SameValues};
+ghost use Rattle.sg_store.specs.StoreLaws.{StandsForOne, CellsAreActive, CellsDiffer, LiveIsNeed, StandsHasRoom, SameValues};
 
 use sg_coord::{Extents, numbering};
 use sg_layout::laws as layouts;
@@ -40,6 +40,15 @@ pub fn cells_are_active()
 /// A node with a cap, of a store that stands for a flat layout, has as many live containers or chunks as the layout needs there.
 pub fn live_is_need()
     ensures { (store : StoreWords) → LiveIsNeed store }
+{
+    // for the laws that they ensure
+    layouts::paths_tell();
+    layouts::need_counts_live();
+}
+
+/// No node of a store that stands for a flat layout is too full for its active coordinates.
+pub fn stands_has_room()
+    ensures { (store : StoreWords) → StandsHasRoom store }
 {
     // for the laws that they ensure
     layouts::paths_tell();

@@ -7,9 +7,10 @@ ghost use Rattle.sg_store.specs.steps.Settling.{CanSettleLinks, CanRelink, IsRel
 ghost use Rattle.sg_store.specs.steps.Filling.{IsUnlinkedStock, FilledTo, IsPlan};
 ghost use Rattle.sg_store.specs.steps.Levels.{IsPointerOf, OpensNext, IsPastCap, IfRefused};
 
-use crate::node::{NodeWords, word};
+use crate::node::NodeWords;
 use crate::reach::Full;
 use crate::store::Store;
+use crate::word_row::WordRow;
 use sg_coord::Coord;
 use sg_layout::{need_counts_live, paths_tell};
 use sg_words::{Items, Memory, Stop};
@@ -19,7 +20,7 @@ use std::alloc::Global;
 /// stock. There is room for `room` more numbers; `taken` is one past it where they are not enough.
 #[derive(Debug, Drop)]
 pub(crate) struct Plan {
-    pub(crate) links: Items<u64>,
+    pub(crate) links: WordRow,
     pub(crate) stock: Items<u32>,
     pub(crate) room: usize,
     pub(crate) taken: usize,
@@ -27,7 +28,7 @@ pub(crate) struct Plan {
 
 /// Fills the slots that are empty with numbers of the stock, in order, until there are no more slots or one number more
 /// than the room is taken. How many are taken.
-fn fill(links: &mut Items<u64>, stock: &[u32], room: usize, slots: &[usize]) -> usize
+fn fill(links: &mut WordRow, stock: &[u32], room: usize, slots: &[usize]) -> usize
     requires roomy { room < length stock.now }
     requires fresh { IsUnlinkedStock links.old stock.now }
     requires within { All (λ slot. slot < length links.old) slots.now }
@@ -35,7 +36,8 @@ fn fill(links: &mut Items<u64>, stock: &[u32], room: usize, slots: &[usize]) -> 
 {
     let mut taken = 0;
     for slot in slots {
-        if word(links, *slot) == 0 {
+        let word = links.get(*slot);
+        if word == 0 {
             links.set(*slot, u64::from(stock[taken]) + 1);
             taken += 1;
             if taken > room {
@@ -56,7 +58,7 @@ fn plan_links(alloc: Global, kept: &NodeWords, cap: u32, slots: &[usize]) -> Res
     ensures { IfOk result (IsPlan kept.now cap slots.now) }
 {
     let stock = kept.pool.stock(alloc)?;
-    let mut links = Items::from_vec(kept.links.whole(alloc)?);
+    let mut links = kept.links.copy(alloc)?;
     let room = (cap - kept.pool.live()) as usize;
     let taken = fill(&mut links, stock.as_slice(), room, slots);
     Ok(Plan {
@@ -78,6 +80,17 @@ impl NodeWords {
         // for the law that it ensures
         self.pool.places();
     }
+
+    /// The same with a row of links, in time by the numbers taken.
+    fn relink_row(&mut self, links: WordRow, taken: &[u32])
+        requires { CanRelink links taken.now self.old }
+        ensures { IsRelinked links taken.now self.old self.new }
+    {
+        self.links = links;
+        self.pool.settle(taken);
+        // for the law that it ensures
+        self.pool.places();
+    }
 }
 
 /// Gives one of these nodes, by its index from 0, these links.
@@ -91,6 +104,17 @@ fn relink_at(nodes: &mut Vec<NodeWords>, index: usize, links: &[u64], taken: &[u
     kept.relink(links, taken);
 }
 
+/// The same with a row of links.
+fn relink_row_at(nodes: &mut Vec<NodeWords>, index: usize, links: WordRow, taken: &[u32])
+    requires there { index < length nodes.old.items }
+    requires can { (kept : NodeWords) → slice_get nodes.old.items index ≡ Some kept →
+        CanRelink links taken.now kept }
+    ensures { ChangesAt (IsRelinked links taken.now) nodes.old.items nodes.new.items index }
+{
+    let kept = &mut nodes[index];
+    kept.relink_row(links, taken);
+}
+
 impl Store {
     /// Gives the pointer node with this index, from 0, these links, and makes the numbers live that they take from the
     /// stock.
@@ -102,14 +126,29 @@ impl Store {
         relink_at(&mut self.nodes, index, links, taken);
     }
 
-    fn settle_plan(&mut self, index: usize, plan: &Plan)
+    /// The same with a row of links.
+    fn settle_row(&mut self, index: usize, links: WordRow, taken: &[u32])
         requires there { index < length self.old.nodes }
-        requires within { plan.now.taken ≤ length plan.now.stock }
-        requires can { AtNodeOf (CanSettleLinks plan.now.links (take plan.now.taken plan.now.stock)) self.old index }
-        ensures { ChangesNode (IsRelinked plan.now.links (take plan.now.taken plan.now.stock)) self.old self.new index }
+        requires can { AtNodeOf (CanSettleLinks links taken.now) self.old index }
+        ensures { ChangesNode (IsRelinked links taken.now) self.old self.new index }
     {
-        let stock = plan.stock.as_slice();
-        self.settle_links(index, plan.links.as_slice(), &stock[..plan.taken]);
+        relink_row_at(&mut self.nodes, index, links, taken);
+    }
+
+    fn settle_plan(&mut self, index: usize, plan: Plan)
+        requires there { index < length self.old.nodes }
+        requires within { plan.taken ≤ length plan.stock }
+        requires can { AtNodeOf (CanSettleLinks plan.links (take plan.taken plan.stock)) self.old index }
+        ensures { ChangesNode (IsRelinked plan.links (take plan.taken plan.stock)) self.old self.new index }
+    {
+        let Plan {
+            links,
+            stock,
+            room: _,
+            taken,
+        } = plan;
+        let stock = stock.as_slice();
+        self.settle_row(index, links, &stock[..taken]);
     }
 
     /// Opens the pointer node with this index, from 0, for wanted coordinates, whose slots have these numbers.
@@ -140,7 +179,7 @@ impl Store {
                 cap,
             }));
         }
-        self.settle_plan(index, &plan);
+        self.settle_plan(index, plan);
         Ok(())
     }
 }

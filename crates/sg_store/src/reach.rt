@@ -21,11 +21,12 @@ pub struct Full {
 impl Store {
     ghost use Rattle.std.specs.Prelude.{◌++◌, ◌≡◌, ◌<◌, length, All, IfOk, IfErr, OnOk, OnErr};
     ghost use Rattle.sg_coord.specs.Coord.{Inside};
-    ghost use Rattle.sg_words.specs.Answers.{Answers};
+    ghost use Rattle.sg_words.specs.Answers.{Answers, AnswersAs};
     ghost use Rattle.sg_layout.specs.Axes.{bounds_of_shape};
     ghost use Rattle.sg_layout.specs.Closure.{closure};
     ghost use Rattle.sg_layout.specs.Need.{first_full};
     ghost use Rattle.sg_flat.specs.declared.state.FlatLayout.{FlatLayout};
+    ghost use Rattle.sg_store.specs.WellFormed.{IsWellFormed};
     ghost use Rattle.sg_store.specs.StandsFor.{StandsFor};
     ghost use Rattle.sg_store.specs.Reaching.{unless_full, KeepsCells};
     ghost use Rattle.sg_store.specs.steps.AtNode.{AreNumbers};
@@ -42,6 +43,27 @@ impl Store {
         ensures keeps { OnOk result (KeepsCells self.old self.new) }
         ensures stays { OnErr result (self.new ≡ self.old) }
     {
+        match self.copy(alloc)?.opened(alloc, wanted) {
+            Ok(next) => {
+                *self = next;
+                Ok(())
+            }
+            Err(stop) => Err(stop),
+        }
+    }
+
+    /// The store with the closure of the active coordinates and the wanted ones in the place of the active ones, and all values kept.
+    /// Refused where the need for these passes a cap: then, and where memory runs out, the store is let go. In time by the wanted
+    /// coordinates, the links that stand, and all words of other nodes.
+    pub fn opened(self, alloc: Global, wanted: &[Coord]) -> Result<Store, Stop<Full>>
+        requires { All (Inside (bounds_of_shape self.shape)) wanted.now }
+        ensures answer { (flat : FlatLayout) → StandsFor self flat →
+            AnswersAs (λ next. tt) result (unless_full (first_full self.shape (flat.active ++ wanted.now))) }
+        ensures reached { IfOk result (λ next. (flat : FlatLayout) → StandsFor self flat → StandsFor next
+            (record flat { active = closure self.shape (flat.active ++ wanted.now) })) }
+        ensures keeps { IfOk result (λ next. KeepsCells self next) }
+        ensures well_formed { IfOk result IsWellFormed }
+    {
         // for the laws that they ensure
         paths_tell();
         need_counts_live();
@@ -51,14 +73,13 @@ impl Store {
         last_sparse_decides();
         numbering(&self.layout.extents());
         let nodes = self.layout.nodes();
-        let mut next = self.copy(alloc)?;
+        let mut next = self;
         for index in 0..nodes {
             next.open_node(alloc, index, wanted)?;
             // for the invariant that it ensures
             next.layout();
         }
-        *self = next;
-        Ok(())
+        Ok(next)
     }
 
     /// Opens the node with this index, from 0, for wanted coordinates.

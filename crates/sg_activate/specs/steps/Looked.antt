@@ -1,8 +1,7 @@
 -- What a look knows of wanted coordinates, and what it notes.
-use Rattle.std.specs.Prelude.{◌≡◌, ℕ, ◌<◌, ◌≤◌, ◌⊎◌, List, ◌++◌, All, Contains, IsSome, Some}
+use Rattle.std.specs.Prelude.{◌≡◌, ℕ, ◌<◌, ◌≤◌, ◌⊎◌, List, ◌++◌, All, Contains, IsSome, Some, None}
 use Rattle.sg_coord.specs.declared.coord.Coord.{Coord}
 use Rattle.sg_coord.specs.Coord.{Inside}
-use Rattle.sg_layout.specs.declared.shape.Shape.{Shape}
 use Rattle.sg_layout.specs.Axes.{bounds_of_shape}
 use Rattle.sg_store.specs.StoreWords.{StoreWords}
 use Rattle.sg_store.specs.Walks.{cell_in}
@@ -10,10 +9,10 @@ use Rattle.sg_activate.specs.declared.notes.Notes.{Notes}
 use Rattle.sg_activate.specs.Activating.{wanted_below}
 use Rattle.sg_activate.specs.steps.Finding.{coords_found, found_in}
 
--- a coordinate is inside, and wanted by one of so many pieces, whichever lists are meant
-abbrev pub IsWanted : Shape → ((ℕ → List Coord) → Type 0) → ℕ → Coord → Type 0
-IsWanted shape Means count at =
-    Inside (bounds_of_shape shape) at × ((list : ℕ → List Coord) → Means list → Contains (wanted_below list count) at)
+-- a coordinate is inside, wanted by one of so many pieces, whichever lists are meant, and isn't active in the store
+abbrev pub IsNew : StoreWords → ((ℕ → List Coord) → Type 0) → ℕ → Coord → Type 0
+IsNew store Means count at =
+    Inside (bounds_of_shape store.shape) at × ((list : ℕ → List Coord) → Means list → Contains (wanted_below list count) at) × (cell_in store at ≡ None)
 
 -- a coordinate is active in the store, or stands in a list
 abbrev pub IsKnown : StoreWords → List Coord → Coord → Type 0
@@ -32,6 +31,10 @@ noted notes = coords_found notes.axes notes.fresh ++ found_in notes.axes notes.f
 -- what it looked at last is known
 abbrev pub LastIsKnown : StoreWords → Notes → Type 0
 LastIsKnown store notes = (at : Coord) → notes.last ≡ Some at → IsKnown store (noted notes) at
+
+-- what is noted since isn't active in the store
+abbrev pub NotesNew : StoreWords → Notes → Notes → Type 0
+NotesNew store old now = (at : Coord) → Contains (noted now) at → Contains (noted old) at ⊎ (cell_in store at ≡ None)
 
 -- later notes, which have some of these coordinates too
 pub record NotesGrew (coords : List Coord) (old now : Notes) : Type 0 where

@@ -16,7 +16,7 @@ ghost use Rattle.sg_activate.specs.steps.DescentWalk.{level_at};
 ghost use Rattle.sg_activate.specs.steps.DescentEnds.{AreLevels, IsGathered, CanGoOn, GoesOn, IsTaken, AreTaken, IsOverFull, IsFirstOverFull, slots_of_node, masks_of_node};
 ghost use Rattle.sg_activate.specs.steps.Levels.{IfActRefused};
 
-use crate::caps::{SPARES, cap_of};
+use crate::caps::{SPARES, cap_at};
 use crate::descent::level::Level;
 use crate::descent::rule::Start;
 use crate::fault::ActFault;
@@ -47,11 +47,18 @@ impl Ended {
     pub(crate) fn give(&self, alloc: Global, store: &mut Store) -> Result<(), Stop<ActFault>>
         requires gathered { (v : Worker) × IsGathered self.now.start self.now.links self.now.masks v }
         requires same { IsStartOf self.now.start store.old }
-        ensures answer { (v : Worker) → IsGathered self.now.start self.now.links self.now.masks v → (old wanted : List Coord) → FitsSeat self.now.start v wanted → IsOpenThrough store.old old (old ++ wanted) (open_before store.old.shape) →
+        ensures answer { (v : Worker) → IsGathered self.now.start self.now.links self.now.masks v →
+            (old wanted : List Coord) → FitsSeat self.now.start v wanted →
+            IsOpenThrough store.old old (old ++ wanted) (open_before store.old.shape) →
             Answers result (unless_full (first_link_full store.old.shape (old ++ wanted))) }
-        ensures full { IfActRefused result (λ fault. (v : Worker) → IsGathered self.now.start self.now.links self.now.masks v → (old wanted : List Coord) → FitsSeat self.now.start v wanted → IsOpenThrough store.old old (old ++ wanted) (open_before store.old.shape) →
+        ensures full { IfActRefused result (λ fault. (v : Worker) →
+            IsGathered self.now.start self.now.links self.now.masks v → (old wanted : List Coord) →
+            FitsSeat self.now.start v wanted → IsOpenThrough store.old old (old ++ wanted)
+            (open_before store.old.shape) →
             unless_full (first_full store.old.shape (old ++ wanted)) ≡ Err fault) }
-        ensures opened { OnOk result ((v : Worker) → IsGathered self.now.start self.now.links self.now.masks v → (old wanted : List Coord) → FitsSeat self.now.start v wanted → IsOpenThrough store.old old (old ++ wanted) (open_before store.old.shape) →
+        ensures opened { OnOk result ((v : Worker) → IsGathered self.now.start self.now.links self.now.masks v →
+            (old wanted : List Coord) → FitsSeat self.now.start v wanted →
+            IsOpenThrough store.old old (old ++ wanted) (open_before store.old.shape) →
             IsOpenThrough store.new old (old ++ wanted) (last_fused store.old.shape)) }
         ensures keeps { OnOk result (KeepsCells store.old store.new) }
         ensures stays_at { OnOk result (StaysAt store.old store.new) }
@@ -71,15 +78,18 @@ impl Ended {
         }
     }
 
-    /// The numbers of the new links, level after level; refused where those of a pointer node are more than its cap leaves.
+    /// The numbers of the new links, level after level; refused where those of a pointer node are more than its cap
+    /// leaves.
     pub(crate) fn taken(
         &self,
         alloc: Global,
         store: &Store,
     ) -> Result<Items<Items<u32>>, Stop<ActFault>>
         requires same { self.now.start.layout ≡ store.now.shape }
-        ensures taken { IfOk result (λ taken. (length taken ≡ length self.now.levels) × AreTaken self.now.start self.now.base self.now.levels self.now.links taken) }
-        ensures full { IfActRefused result (IsFirstOverFull self.now.start self.now.base self.now.levels self.now.links) }
+        ensures taken { IfOk result (λ taken. (length taken ≡ length self.now.levels) ×
+            AreTaken self.now.start self.now.base self.now.levels self.now.links taken) }
+        ensures full { IfActRefused result
+            (IsFirstOverFull self.now.start self.now.base self.now.levels self.now.links) }
     {
         let mut taken = Items::new(alloc);
         for index in 0..self.levels.len() {
@@ -101,7 +111,8 @@ impl Ended {
         requires same { self.now.start.layout ≡ store.now.shape }
         requires there { index < length self.now.levels }
         ensures taken { IfOk result (IsTaken self.now.start self.now.base self.now.levels self.now.links index) }
-        ensures full { IfActRefused result (IsOverFull self.now.start self.now.base self.now.levels self.now.links index) }
+        ensures full { IfActRefused result
+            (IsOverFull self.now.start self.now.base self.now.levels self.now.links index) }
     {
         let level = self.level(index);
         match level.kind {
@@ -124,7 +135,8 @@ impl Ended {
         requires there { index < length self.now.levels }
         requires pointer { (level_at self.now.levels index).kind ≡ Pointer }
         ensures taken { IfOk result (IsTaken self.now.start self.now.base self.now.levels self.now.links index) }
-        ensures full { IfActRefused result (IsOverFull self.now.start self.now.base self.now.levels self.now.links index) }
+        ensures full { IfActRefused result
+            (IsOverFull self.now.start self.now.base self.now.levels self.now.links index) }
     {
         let old = self.slots(self.start.links.as_slice(), index);
         let new = self.slots(self.links.as_slice(), index);
@@ -133,7 +145,7 @@ impl Ended {
             return Ok(taken);
         }
         let node = self.number(index);
-        let cap = cap_of(store, node);
+        let cap = cap_at(store, node);
         Err(Stop::Refused(ActFault::PoolFull { node, cap }))
     }
 
@@ -141,7 +153,8 @@ impl Ended {
     fn fits(&self, index: usize, count: usize) -> bool
         requires there { index < length self.now.levels }
         requires pointer { (level_at self.now.levels index).kind ≡ Pointer }
-        ensures { result ≡ nat_le (count + 17) (slice_index (limits_of self.now.start) (pointer_number self.now.start (suc (self.now.base + index)))) }
+        ensures { result ≡ nat_le (count + 17) (slice_index (limits_of self.now.start) (pointer_number self.now.start
+            (suc (self.now.base + index)))) }
     {
         let level = self.level(index);
         let limit = self.start.slot_parts.as_slice()[level.part as usize].limit;

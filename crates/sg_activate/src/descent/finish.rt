@@ -20,8 +20,9 @@ use sg_words::{Items, Memory, Stop};
 use std::alloc::Global;
 
 impl DescentPass {
-    /// Ends the descent by a seat into which all others were joined, and gives the store all links and bits that were made. Refused where
-    /// the need of a pointer node passes its cap: then, and where memory runs out, the store is as before.
+    /// Ends the descent by a seat into which all others were joined, and gives the store all links and bits that were
+    /// made. Refused where the need of a pointer node passes its cap: then, and where memory runs out, the store is as
+    /// before.
     pub fn finish(
         self,
         alloc: Global,
@@ -31,11 +32,15 @@ impl DescentPass {
         requires own { IsSeatOf self seat }
         requires all { handed_share (worker_of seat) ≡ 16 }
         requires same { IsStartOf (start_of self) store.old }
-        ensures answer { (old wanted : List Coord) → FitsSeat (start_of self) (worker_of seat) wanted → IsOpenThrough store.old old (old ++ wanted) (open_before store.old.shape) →
+        ensures answer { (old wanted : List Coord) → FitsSeat (start_of self) (worker_of seat) wanted →
+            IsOpenThrough store.old old (old ++ wanted) (open_before store.old.shape) →
             Answers result (unless_full (first_link_full store.old.shape (old ++ wanted))) }
-        ensures full { IfActRefused result (λ fault. (old wanted : List Coord) → FitsSeat (start_of self) (worker_of seat) wanted → IsOpenThrough store.old old (old ++ wanted) (open_before store.old.shape) →
+        ensures full { IfActRefused result (λ fault. (old wanted : List Coord) →
+            FitsSeat (start_of self) (worker_of seat) wanted →
+            IsOpenThrough store.old old (old ++ wanted) (open_before store.old.shape) →
             unless_full (first_full store.old.shape (old ++ wanted)) ≡ Err fault) }
-        ensures opened { OnOk result ((old wanted : List Coord) → FitsSeat (start_of self) (worker_of seat) wanted → IsOpenThrough store.old old (old ++ wanted) (open_before store.old.shape) →
+        ensures opened { OnOk result ((old wanted : List Coord) → FitsSeat (start_of self) (worker_of seat) wanted →
+            IsOpenThrough store.old old (old ++ wanted) (open_before store.old.shape) →
             IsOpenThrough store.new old (old ++ wanted) (last_fused store.old.shape)) }
         ensures keeps { OnOk result (KeepsCells store.old store.new) }
         ensures stays_at { OnOk result (StaysAt store.old store.new) }

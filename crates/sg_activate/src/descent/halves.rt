@@ -45,7 +45,8 @@ impl DescentPass {
 // Of two rows of flags those that either has.
 fn either_each(one: [bool; 6], other: [bool; 6]) -> [bool; 6]
     ensures rows { length result ≡ 6 }
-    ensures each { (l : ℕ) → slice_index_or result l false ≡ (slice_index_or one l false || slice_index_or other l false) }
+    ensures each { (l : ℕ) → slice_index_or result l false ≡
+        (slice_index_or one l false || slice_index_or other l false) }
 {
     [
         either(one[0], other[0]),

@@ -7,10 +7,16 @@ ghost use Rattle.sg_activate.specs.DescentLaws.{StartIsEvent, LookIsEvent, DrawI
 /// Each step of a seat, as the rule of the table sees it, is one event of the race machine.
 pub fn steps_are_events()
     ensures start { (start : Start) → StartIsEvent start }
-    ensures look { (start : Start) (words : List ℕ) (views : List Worker) (id i : ℕ) → LookIsEvent start words views id i }
-    ensures draw { (start : Start) (words : List ℕ) (views : List Worker) (id l : ℕ) → DrawIsEvent start words views id l }
-    ensures exchange { (start : Start) (words : List ℕ) (views : List Worker) (id i t : ℕ) → TryIsEvent start words views id i t }
-    ensures mark { (start : Start) (words : List ℕ) (views : List Worker) (id b : ℕ) → MarkIsEvent start words views id b }
-    ensures split { (start : Start) (words : List ℕ) (views : List Worker) (id : ℕ) → SplitIsEvent start words views id }
-    ensures join { (start : Start) (words : List ℕ) (views : List Worker) (id other : ℕ) → JoinIsEvent start words views id other }
+    ensures look { (start : Start) (words : List ℕ) (views : List Worker) (id i : ℕ) →
+        LookIsEvent start words views id i }
+    ensures draw { (start : Start) (words : List ℕ) (views : List Worker) (id l : ℕ) →
+        DrawIsEvent start words views id l }
+    ensures exchange { (start : Start) (words : List ℕ) (views : List Worker) (id i t : ℕ) →
+        TryIsEvent start words views id i t }
+    ensures mark { (start : Start) (words : List ℕ) (views : List Worker) (id b : ℕ) →
+        MarkIsEvent start words views id b }
+    ensures split { (start : Start) (words : List ℕ) (views : List Worker) (id : ℕ) →
+        SplitIsEvent start words views id }
+    ensures join { (start : Start) (words : List ℕ) (views : List Worker) (id other : ℕ) →
+        JoinIsEvent start words views id other }
 {}

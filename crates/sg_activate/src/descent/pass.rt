@@ -27,7 +27,8 @@ impl DescentPass {
     pub(crate) fn mark(&self, seat: &mut DescentSeat, bit: usize)
         requires own { IsSeatAt self.now seat.old }
         requires inside { bit / 64 < length self.now.start.masks }
-        requires known { KnowsContainer (setting_of self.now.start) (worker_of seat.old) (over_bit_at self.now.start bit) }
+        requires known { KnowsContainer (setting_of self.now.start) (worker_of seat.old)
+            (over_bit_at self.now.start bit) }
         ensures own { IsSeatAt self.now seat.new }
         ensures event { worker_of seat.new ≡ after_mark bit (worker_of seat.old) }
     {
@@ -60,7 +61,8 @@ impl DescentPass {
     fn first_of(&self, node: usize) -> u64
         requires node { node < length self.now.start.slot_parts }
         ensures first { result ≡ first_of (limits_of self.now.start) node }
-        ensures within { (t : ℕ) → t < length (stock_at self.now.start node) → result + t < length self.now.start.stock }
+        ensures within { (t : ℕ) → t < length (stock_at self.now.start node) →
+            result + t < length self.now.start.stock }
     {
         let part = &self.start.slot_parts.as_slice()[node];
         part.stock
@@ -71,8 +73,10 @@ impl DescentPass {
         requires own { IsSeatAt self.now seat.old }
         requires node { node < length self.now.start.slot_parts }
         ensures own { IsSeatAt self.now seat.new }
-        ensures event { (worker_of seat.new ≡ worker_of seat.old) ⊎ ((n : ℕ) × (worker_of seat.new ≡ after_draw node (length (stock_at self.now.start node)) n (worker_of seat.old))) }
-        ensures spare { MatchOption result (slice_index_or seat.new.dry node false ≡ true) (λ t. (slice_index seat.new.spares node ≡ t + 1) × (t < length (stock_at self.now.start node))) }
+        ensures event { (worker_of seat.new ≡ worker_of seat.old) ⊎ ((n : ℕ) ×
+            (worker_of seat.new ≡ after_draw node (length (stock_at self.now.start node)) n (worker_of seat.old))) }
+        ensures spare { MatchOption result (slice_index_or seat.new.dry node false ≡ true) (λ t.
+            (slice_index seat.new.spares node ≡ t + 1) × (t < length (stock_at self.now.start node))) }
     {
         let spare = seat.spares[node];
         if spare != 0 {
@@ -91,8 +95,10 @@ impl DescentPass {
         requires none { slice_index seat.old.spares node ≡ 0 }
         requires not_dry { slice_index_or seat.old.dry node false ≡ false }
         ensures own { IsSeatAt self.now seat.new }
-        ensures event { (n : ℕ) × (worker_of seat.new ≡ after_draw node (length (stock_at self.now.start node)) n (worker_of seat.old)) }
-        ensures spare { MatchOption result (slice_index_or seat.new.dry node false ≡ true) (λ t. (slice_index seat.new.spares node ≡ t + 1) × (t < length (stock_at self.now.start node))) }
+        ensures event { (n : ℕ) × (worker_of seat.new ≡ after_draw node (length (stock_at self.now.start node)) n
+            (worker_of seat.old)) }
+        ensures spare { MatchOption result (slice_index_or seat.new.dry node false ≡ true) (λ t.
+            (slice_index seat.new.spares node ≡ t + 1) × (t < length (stock_at self.now.start node))) }
     {
         let count = self.start.links.len() + self.start.masks.len() + node;
         let limit = self.limit_of(node);
@@ -109,7 +115,8 @@ impl DescentPass {
         }
     }
 
-    // The number that the slot of a pointer node holds after an exchange of 0 for the number of the seat's spare of that node.
+    // The number that the slot of a pointer node holds after an exchange of 0 for the number of the seat's spare of
+    // that node.
     pub(crate) fn place(&self, seat: &mut DescentSeat, node: usize, slot: usize, ticket: u64) -> u32
         requires own { IsSeatAt self.now seat.old }
         requires node { node < length self.now.start.slot_parts }
@@ -117,9 +124,12 @@ impl DescentPass {
         requires here { part_of (slots_each self.now.start) slot ≡ node }
         requires spare { slice_index seat.old.spares node ≡ ticket + 1 }
         requires ticket { ticket < length (stock_at self.now.start node) }
-        requires known { KnowsContainer (setting_of self.now.start) (worker_of seat.old) (over_slot_at self.now.start slot) }
+        requires known { KnowsContainer (setting_of self.now.start) (worker_of seat.old)
+            (over_slot_at self.now.start slot) }
         ensures own { IsSeatAt self.now seat.new }
-        ensures event { (word : ℕ) × (worker_of seat.new ≡ after_try node slot ticket (slice_index (stock_at self.now.start node) ticket) word (worker_of seat.old)) × (word ≡ 0 → result ≡ slice_index (stock_at self.now.start node) ticket) × (word ≢ 0 → word ≡ result + 1) }
+        ensures event { (word : ℕ) × (worker_of seat.new ≡ after_try node slot ticket (slice_index
+            (stock_at self.now.start node) ticket) word (worker_of seat.old)) × (word ≡ 0 →
+            result ≡ slice_index (stock_at self.now.start node) ticket) × (word ≢ 0 → word ≡ result + 1) }
         ensures bound { result < slice_index (places_each self.now.start) node }
     {
         let number = self.number_of(node, ticket);

@@ -1,26 +1,20 @@
 //! The start of a descent as it is made, node after node.
-ghost use Rattle.std.specs.Prelude.{◌≡◌, ◌≢◌, ℕ, suc, ◌+◌, ◌*◌, ◌^◌, ◌<◌, ◌≤◌, length, OnOk, slice_index, slice_get, Some};
-ghost use Rattle.sg_layout.specs.declared.shape.NodeShape.{NodeShape};
+ghost use Rattle.std.specs.Prelude.{◌≡◌, suc, ◌+◌, ◌*◌, ◌^◌, ◌<◌, ◌≤◌, length, OnOk};
 ghost use Rattle.sg_layout.specs.declared.shape.Kind.TheVariants.{Bitmasked, Pointer};
-ghost use Rattle.sg_layout.specs.Axes.{count_of, sizes_of};
 ghost use Rattle.sg_layout.specs.Live.{kind_at};
-ghost use Rattle.sg_layout.specs.NeedLaws.{IsNumberedNode};
 ghost use Rattle.sg_activate.specs.Descending.{open_before, last_fused};
 ghost use Rattle.sg_activate.specs.steps.DescentPlans.{IsPlanOf, AddsSlots, AddsMasks, AddsDense};
 
+use crate::caps::places_of;
 use crate::descent::level::Level;
 use crate::descent::rule::{MaskPart, SlotPart, Start};
-use sg_coord::count;
-use sg_layout::{Kind, NodeShape};
+use sg_layout::Kind;
 use sg_store::{Store, levels};
 use sg_words::{Items, Memory};
 use std::alloc::Global;
 
-/// The stock of a pool has so many numbers more than its cap leaves.
-const SPARES: u64 = 17;
-
-/// The words, parts and levels so far; by which number the race knows the node whose containers hold the next node's slots, and how many
-/// places above that node one container has.
+/// The words, parts and levels so far; by which number the race knows the node whose containers hold the next node's
+/// slots, and how many places above that node one container has.
 #[derive(Drop)]
 pub(crate) struct Plan {
     pub(crate) start: Start,
@@ -138,13 +132,4 @@ impl Plan {
         self.width = 1;
         Ok(())
     }
-}
-
-/// How many places for child containers a node with a cap has.
-pub(crate) fn places_of(node: &NodeShape) -> u64
-    ensures value { result ≡ count_of node.now.cap + 17 }
-    ensures few { result ≤ 2 ^ 32 }
-{
-    let cap = if node.cap < 0 { 0 } else { count(node.cap) };
-    cap as u64 + SPARES
 }

@@ -3,8 +3,9 @@ use atomic_table::{Join, Play, Split, TableRule};
 use sg_layout::Layout;
 use sg_words::{Items, Worker};
 
-/// The slots of one pointer node in the table: how many they are, how many child containers the node has places for, how many numbers its
-/// stock has and where these begin, by which number the race knows the node whose containers hold the slots, and how many of them one container has.
+/// The slots of one pointer node in the table: how many they are, how many child containers the node has places for,
+/// how many numbers its stock has and where these begin, by which number the race knows the node whose containers hold
+/// the slots, and how many of them one container has.
 #[derive(Clone, Copy)]
 pub struct SlotPart {
     pub slots: u64,
@@ -23,8 +24,9 @@ pub struct MaskPart {
     pub width: u64,
 }
 
-/// What a descent starts with: the slot words and the mask words, node after node, and the stocks; the keys of a hash node; the links that
-/// stand above all these nodes, each 0 or one more than a place, and how many places there are; and the parts of the table.
+/// What a descent starts with: the slot words and the mask words, node after node, and the stocks; the keys of a hash
+/// node; the links that stand above all these nodes, each 0 or one more than a place, and how many places there are;
+/// and the parts of the table.
 #[derive(Drop)]
 pub struct Start {
     pub layout: Layout,

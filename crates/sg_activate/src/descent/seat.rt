@@ -12,8 +12,8 @@ use atomic_table::{Seat, Table};
 use sg_words::{Items, Worker};
 use std::alloc::Global;
 
-/// A race for the links and bits of all pointer and bitmasked nodes. Threads share it by reference, each with a seat of its own.
-/// Its levels are the nodes below the root, or below the hash node, down to the last of these.
+/// A race for the links and bits of all pointer and bitmasked nodes. Threads share it by reference, each with a seat of
+/// its own. Its levels are the nodes below the root, or below the hash node, down to the last of these.
 #[derive(Drop)]
 pub struct DescentPass {
     pub(crate) table: Table<(), Worker, Start, DescentRule, Global>,
@@ -29,18 +29,22 @@ pub struct DescentPass {
     ghost within: { base + length levels ≤ length start.layout.nodes },
     ghost levels_are: { (k : ℕ) → k < length levels → IsLevelAt start base levels k },
     ghost short: { base + length levels ≤ 6 },
-    ghost kinds: { (k : ℕ) → k < length levels → ((level_at levels k).kind ≢ Hash) × ((level_at levels k).kind ≢ Dynamic) },
-    ghost slot_levels: { (k : ℕ) → k < length levels → (level_at levels k).kind ≡ Pointer → IsSlotLevel start levels k },
-    ghost mask_levels: { (k : ℕ) → k < length levels → (level_at levels k).kind ≡ Bitmasked → IsMaskLevel start levels k },
-    ghost small: { (k : ℕ) → k < length levels → places_at start start.head_places levels k * (level_at levels k).size ≤ 2 ^ 47 },
+    ghost kinds: { (k : ℕ) → k < length levels → ((level_at levels k).kind ≢ Hash) ×
+        ((level_at levels k).kind ≢ Dynamic) },
+    ghost slot_levels: { (k : ℕ) → k < length levels → (level_at levels k).kind ≡ Pointer →
+        IsSlotLevel start levels k },
+    ghost mask_levels: { (k : ℕ) → k < length levels → (level_at levels k).kind ≡ Bitmasked →
+        IsMaskLevel start levels k },
+    ghost small: { (k : ℕ) → k < length levels → places_at start start.head_places levels k *
+        (level_at levels k).size ≤ 2 ^ 47 },
     ghost some: { 0 < length start.links + length start.masks },
     ghost few: { length start.slot_parts ≤ 6 },
     ghost room: { length start.links + length start.masks + length start.slot_parts < 2 ^ 56 },
     ghost no_values: { table.shared.table_id.slots ≡ 0 },
 }
 
-/// One worker's seat in a descent. At each pointer node it holds at most one spare: one more than a ticket of the stock that it drew and
-/// hasn't linked.
+/// One worker's seat in a descent. At each pointer node it holds at most one spare: one more than a ticket of the stock
+/// that it drew and hasn't linked.
 #[derive(Drop)]
 pub struct DescentSeat {
     pub(crate) seat: Seat<(), Worker>,

@@ -9,7 +9,8 @@ ghost use Rattle.sg_activate.specs.Descending.{is_fused, is_pointer, last_from, 
 ghost use Rattle.sg_activate.specs.Descents.{start_of, worker_of, IsSeatOf};
 ghost use Rattle.sg_activate.specs.steps.DescentPlans.{pointers_of, IsPlanOf, IsHeads};
 
-use crate::descent::plan::{Plan, places_of};
+use crate::caps::places_of;
+use crate::descent::plan::Plan;
 use crate::descent::rule::Start;
 use crate::descent::seat::{DescentPass, DescentSeat};
 use atomic_table::Table;
@@ -19,8 +20,8 @@ use sg_words::{Items, Memory};
 use std::alloc::Global;
 
 impl DescentPass {
-    /// A race for the links and bits of all pointer and bitmasked nodes of a store, of which there is at least one, and its
-    /// first seat, which has the whole share of 16.
+    /// A race for the links and bits of all pointer and bitmasked nodes of a store, of which there is at least one, and
+    /// its first seat, which has the whole share of 16.
     pub fn start(alloc: Global, store: &Store) -> Result<(DescentPass, DescentSeat), Memory>
         requires fused { 1 ≤ last_fused store.now.shape }
         ensures seat { IfOk result (λ r. IsSeatOf r.0 r.1) }
@@ -38,7 +39,8 @@ impl DescentPass {
     }
 }
 
-/// What stands above the nodes of a descent: the keys of a hash node, the links that lead to the places, and how many places there are.
+/// What stands above the nodes of a descent: the keys of a hash node, the links that lead to the places, and how many
+/// places there are.
 #[derive(Drop)]
 struct Heads {
     keys: Items<u64>,

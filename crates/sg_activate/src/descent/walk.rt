@@ -17,8 +17,8 @@ use sg_coord::Coord;
 use sg_hash::find;
 use sg_layout::Kind;
 
-/// What a reach for a coordinate answers: it is open at all pointer and bitmasked nodes, or the stock of a pointer node is used up.
-/// Nodes are numbered from 1.
+/// What a reach for a coordinate answers: it is open at all pointer and bitmasked nodes, or the stock of a pointer node
+/// is used up. Nodes are numbered from 1.
 #[derive(Clone, Copy, Debug, PartialEq, Eq)]
 pub enum Reach {
     Open,
@@ -47,7 +47,8 @@ impl DescentPass {
         requires own { IsSeatOf self.now seat.old }
         requires inside { Inside (bounds_of_shape self.now.start.layout) at }
         ensures own { IsSeatOf self.now seat.new }
-        ensures answer { MatchOption result (KnowsKey self.now.start at → ⊥) (λ answer. IsAnswered self.now.start (worker_of seat.new) at answer) }
+        ensures answer { MatchOption result (KnowsKey self.now.start at →
+            ⊥) (λ answer. IsAnswered self.now.start (worker_of seat.new) at answer) }
         ensures grew { GrewFor self.now.start at (worker_of seat.old) (worker_of seat.new) }
         ensures knows_more { KnowsMore (worker_of seat.old) (worker_of seat.new) }
     {
@@ -88,7 +89,9 @@ impl DescentPass {
     // Where a coordinate's walk begins: at the root, or in the container of its key; none if its key has no link.
     fn begin(&self, at: Coord) -> Option<u64>
         requires inside { Inside (bounds_of_shape self.now.start.layout) at }
-        ensures { MatchOption result (KnowsKey self.now.start at → ⊥) (λ place. (place ≡ place_from self.now.start self.now.base at) × BeginsAt self.now.start self.now.base at) }
+        ensures { MatchOption result (KnowsKey self.now.start at →
+            ⊥) (λ place. (place ≡ place_from self.now.start self.now.base at) ×
+            BeginsAt self.now.start self.now.base at) }
     {
         if self.base == 0 {
             return Some(0);
@@ -100,7 +103,8 @@ impl DescentPass {
         }
     }
 
-    // A walk down all levels from a place; the index of the level at which the stock was used up, none if it came to its end.
+    // A walk down all levels from a place; the index of the level at which the stock was used up, none if it came to
+    // its end.
     fn walk(&self, seat: &mut DescentSeat, at: Coord, from: u64) -> Option<usize>
         requires own { IsSeatAt self.now seat.old }
         requires inside { Inside (bounds_of_shape self.now.start.layout) at }
@@ -108,8 +112,10 @@ impl DescentPass {
         requires begins { BeginsAt self.now.start self.now.base at }
         ensures own { IsSeatAt self.now seat.new }
         ensures more { KnowsMore (worker_of seat.old) (worker_of seat.new) }
-        ensures walked { IsWalked (worker_of seat.new) self.now.levels (place_from self.now.start self.now.base at) (offsets_below self.now.start self.now.base at) result }
-        ensures grew { GrewBy self.now.levels (place_from self.now.start self.now.base at) (offsets_below self.now.start self.now.base at) (worker_of seat.old) (worker_of seat.new) }
+        ensures walked { IsWalked (worker_of seat.new) self.now.levels (place_from self.now.start self.now.base at)
+            (offsets_below self.now.start self.now.base at) result }
+        ensures grew { GrewBy self.now.levels (place_from self.now.start self.now.base at)
+            (offsets_below self.now.start self.now.base at) (worker_of seat.old) (worker_of seat.new) }
         ensures there { MatchOption result (Unit {0}) (λ k. k < length self.now.levels) }
     {
         let mut place = from;
@@ -127,13 +133,16 @@ impl DescentPass {
         requires own { IsSeatAt self.now seat.old }
         requires inside { Inside (bounds_of_shape self.now.start.layout) at }
         requires there { index < length self.now.levels }
-        requires stands { StandsAt self.now.start (worker_of seat.old) self.now.levels (place_from self.now.start self.now.base at) (offsets_below self.now.start self.now.base at) index place }
+        requires stands { StandsAt self.now.start (worker_of seat.old) self.now.levels
+            (place_from self.now.start self.now.base at) (offsets_below self.now.start self.now.base at) index place }
         ensures own { IsSeatAt self.now seat.new }
         ensures more { KnowsMore (worker_of seat.old) (worker_of seat.new) }
-        ensures answer { MatchOption result (IsMissedAt (worker_of seat.new) self.now.levels (place_from self.now.start self.now.base at) (offsets_below self.now.start self.now.base at) index)
+        ensures answer { MatchOption result (IsMissedAt (worker_of seat.new) self.now.levels
+            (place_from self.now.start self.now.base at) (offsets_below self.now.start self.now.base at) index)
             (λ next. StandsAt self.now.start (worker_of seat.new) self.now.levels (place_from self.now.start self.now.base at) (offsets_below self.now.start self.now.base at) (suc index) next
             × IsOpenAt (worker_of seat.new) self.now.levels (place_from self.now.start self.now.base at) (offsets_below self.now.start self.now.base at) index) }
-        ensures grew { GrewBy self.now.levels (place_from self.now.start self.now.base at) (offsets_below self.now.start self.now.base at) (worker_of seat.old) (worker_of seat.new) }
+        ensures grew { GrewBy self.now.levels (place_from self.now.start self.now.base at)
+            (offsets_below self.now.start self.now.base at) (worker_of seat.old) (worker_of seat.new) }
     {
         let level = self.level(index);
         let slot = self.slot_at(index, place, at);
@@ -167,8 +176,10 @@ impl DescentPass {
         requires there { index < length self.now.levels }
         requires place { place < places_at self.now.start self.now.start.head_places self.now.levels index }
         requires inside { Inside (bounds_of_shape self.now.start.layout) at }
-        ensures value { result ≡ place * (level_at self.now.levels index).size + slice_index (offsets_below self.now.start self.now.base at) index }
-        ensures below { slice_index (offsets_below self.now.start self.now.base at) index < (level_at self.now.levels index).size }
+        ensures value { result ≡ place * (level_at self.now.levels index).size + slice_index
+            (offsets_below self.now.start self.now.base at) index }
+        ensures below { slice_index (offsets_below self.now.start self.now.base at) index <
+            (level_at self.now.levels index).size }
         ensures small { result < 2 ^ 47 }
     {
         let size = self.level(index).size;
@@ -182,12 +193,15 @@ impl DescentPass {
         requires node { node < length self.now.start.slot_parts }
         requires inside { slot < length self.now.start.links }
         requires here { part_of (slots_each self.now.start) slot ≡ node }
-        requires known { KnowsContainer (setting_of self.now.start) (worker_of seat.old) (over_slot_at self.now.start slot) }
+        requires known { KnowsContainer (setting_of self.now.start) (worker_of seat.old)
+            (over_slot_at self.now.start slot) }
         ensures own { IsSeatAt self.now seat.new }
         ensures more { KnowsMore (worker_of seat.old) (worker_of seat.new) }
-        ensures answer { MatchOption result ((0 < times_in slot (worker_of seat.new).missed) × (0 < firsts node (worker_of seat.new).past)) (λ n. 0 < pairs slot n (worker_of seat.new).seen) }
+        ensures answer { MatchOption result ((0 < times_in slot (worker_of seat.new).missed) ×
+            (0 < firsts node (worker_of seat.new).past)) (λ n. 0 < pairs slot n (worker_of seat.new).seen) }
         ensures bound { MatchOption result (Unit {0}) (λ n. n < slice_index (places_each self.now.start) node) }
-        ensures made { (i t : ℕ) → 0 < pairs i t (worker_of seat.new).made → (0 < pairs i t (worker_of seat.old).made) ⊎ (i ≡ slot) }
+        ensures made { (i t : ℕ) → 0 < pairs i t (worker_of seat.new).made →
+            (0 < pairs i t (worker_of seat.old).made) ⊎ (i ≡ slot) }
         ensures marked { (worker_of seat.new).marked ≡ (worker_of seat.old).marked }
     {
         let word = self.look(seat, slot);

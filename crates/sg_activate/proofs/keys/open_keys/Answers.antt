@@ -62,8 +62,8 @@ returns-then-linked-clause-full g c =
           let numbers : c.len-numbers.result ≡ length c.in_ok-stock.stock = c.len-numbers.ensures in
           inr (omega arith)
     ] in
-    keys_are_full c.args.store.now c.in_ok-stock.stock v linked.keys linked.links linked.taken full linked.dry outcome c.cap_of-cap.result (c.opening_by_nodes.ensures.keys c.args.store.now) c.layout.ensures.well_formed node.0 there node.2
-    (c.cap_of-cap.ensures node.0 there) rest more past wanted c.ask_all-seat.ensures.made
+    keys_are_full c.args.store.now c.in_ok-stock.stock v linked.keys linked.links linked.taken full linked.dry outcome c.cap_at-cap.result (c.opening_by_nodes.ensures.keys c.args.store.now) c.layout.ensures.well_formed node.0 there node.2
+    (c.cap_at-cap.ensures node.0 there) rest more past wanted c.ask_all-seat.ensures.made
 
 pub returns-clause-opened : goal.returns-clause-opened
 returns-clause-opened g c =

@@ -53,7 +53,7 @@ returns-clause-full g c =
     let past : fit (count_of node.0.chunk) c.in_ok-raised.raised (count_of node.0.cap) ≡ Err c.in-Err._full =
     ap (λ (l : List ℕ). fit (count_of node.0.chunk) l (count_of node.0.cap)) (sym c.as_slice.ensures)
     ∙ sym (c.settle_lengths.ensures.answer node.0 (subst (λ (n : ℕ). IsNumberedNode c.args.store.now.shape n node.0) (sym c.requires.last) there)) ∙ c.in-Err.is in
-    lengths_are_full c.args.store.now c.args.node v c.in_ok-raised.raised are (c.opening_by_nodes.ensures.lengths c.args.store.now) c.layout.ensures.well_formed node.0 there node.2 c.cap_of-cap.result (c.cap_of-cap.ensures node.0 there)
+    lengths_are_full c.args.store.now c.args.node v c.in_ok-raised.raised are (c.opening_by_nodes.ensures.lengths c.args.store.now) c.layout.ensures.well_formed node.0 there node.2 c.cap_at-cap.result (c.cap_at-cap.ensures node.0 there)
     c.ask_all-seat.ensures.own.1 wanted met c.ask_all-seat.ensures.made c.in-Err._full past
 
 pub ask_all-seat-requires-clause-made : goal.ask_all-seat-requires-clause-made

@@ -3,7 +3,7 @@ use Rattle.std.specs.List.{Contains}
 use Rattle.std.proofs.lemmas.List.Elements.{All-contains}
 use Rattle.sg_coord.specs.Bounds.{Bounds}
 use Rattle.sg_coord.specs.Coord.{Inside}
-use Rattle.sg_activate.proofs.Looking.{in_below, of_empty, all_of_none, ok_of, ok_so}
+use Rattle.sg_activate.proofs.Looking.{in_below, of_empty, all_of_none, ok_of, ok_so, ok_two}
 use Rattle.sg_activate.proofs.look.look_piece.Goals as goal
 
 pub look_each-requires-clause-axes : goal.look_each-requires-clause-axes
@@ -25,17 +25,21 @@ pub returns-clause-stays : goal.returns-clause-stays
 returns-clause-stays g c = ok_so c.look_each.result c.look_each.ensures.grew (λ grew. grew.stays)
 
 pub returns-clause-only : goal.returns-clause-only
-returns-clause-only g c = ok_so c.look_each.result c.look_each.ensures.grew (λ grew at has. elim (grew.only at has) [
+returns-clause-only g c = ok_two c.look_each.result c.look_each.ensures.grew c.look_each.ensures.new (λ grew new at has. elim (new at has) [
   | inl old ↦ inl old
-  | inr is ↦
-      let all = c.in_ok-wanted.ensures.inside (all_of_none (Inside (g.W.Wanted.bounds c.args.look.now.want.now)) _ c.clear.ensures.items) in
-      let inside = All-contains (Inside (g.W.Wanted.bounds c.args.look.now.want.now)) _ at all (subst (λ l. Contains l at) c.as_slice.ensures.value is) in
-      inr (
-        subst (λ (b : Bounds). Inside b at) c.args.look.now.inside inside,
-        λ list means.
-            in_below list (g.W.Wanted.count c.args.look.now.want.now) c.args.piece c.requires.piece at
-            (subst (λ l. Contains l at) (c.as_slice.ensures.value ∙ of_empty _ _ (list c.args.piece) c.clear.ensures.items (c.in_ok-wanted.ensures.list list means)) is),
-      )
+  | inr none ↦ elim (grew.only at has) [
+    | inl old ↦ inl old
+    | inr is ↦
+        let all = c.in_ok-wanted.ensures.inside (all_of_none (Inside (g.W.Wanted.bounds c.args.look.now.want.now)) _ c.clear.ensures.items) in
+        let inside = All-contains (Inside (g.W.Wanted.bounds c.args.look.now.want.now)) _ at all (subst (λ l. Contains l at) c.as_slice.ensures.value is) in
+        inr (
+          subst (λ (b : Bounds). Inside b at) c.args.look.now.inside inside,
+          λ list means.
+              in_below list (g.W.Wanted.count c.args.look.now.want.now) c.args.piece c.requires.piece at
+              (subst (λ l. Contains l at) (c.as_slice.ensures.value ∙ of_empty _ _ (list c.args.piece) c.clear.ensures.items (c.in_ok-wanted.ensures.list list means)) is),
+          none,
+        )
+  ]
 ])
 
 pub returns-clause-of_workers : goal.returns-clause-of_workers

@@ -3,7 +3,7 @@ use Rattle.std.specs.Prelude.{Some, None}
 use Rattle.std.specs.List.{Contains}
 use Rattle.sg_activate.specs.steps.Finding.{coords_found, found_in}
 use Rattle.sg_coord.specs.Slices.{slice_start}
-use Rattle.sg_activate.specs.steps.Looked.{noted, IsWanted}
+use Rattle.sg_activate.specs.steps.Looked.{noted, IsNew}
 use Rattle.sg_activate.proofs.Looking.{one_piece_more, closed_own, closed_known}
 use Rattle.sg_activate.proofs.look.look_slice.Goals as goal
 
@@ -24,7 +24,7 @@ loop-piece-preserved g c =
 pub returns-clause-own : goal.returns-clause-own
 returns-clause-own g c =
     let end = c.loop-piece.invariant in
-    closed_own c.close.result c.loop-piece.notes (IsWanted c.args.look.now.store.now.shape (g.W.Wanted.Means c.args.look.now.want.now) (g.W.Wanted.count c.args.look.now.want.now)) c.args.look.now.axes c.args.look.now.workers
+    closed_own c.close.result c.loop-piece.notes (IsNew c.args.look.now.store.now (g.W.Wanted.Means c.args.look.now.want.now) (g.W.Wanted.count c.args.look.now.want.now)) c.args.look.now.axes c.args.look.now.workers
     end.axes (subst (λ (n : ℕ). n < c.args.look.now.workers) (sym end.worker) c.requires.within) end.wanted end.of_workers c.close.ensures.same c.close.ensures.of_workers
 
 pub returns-clause-known : goal.returns-clause-known

@@ -1,5 +1,4 @@
 use Rattle.std.proofs.Common.{arith, length, ◌≤◌}
-use Rattle.sg_store.specs.steps.Cuts.{IsCutThrough}
 use Rattle.sg_store.proofs.LinksCut.{cut_ends}
 use Rattle.sg_store.proofs.StandingWords.{cut_all}
 use Rattle.sg_store.proofs.cutting.give_back_cut.Goals as goal

@@ -1,9 +1,9 @@
-use Rattle.std.proofs.Common.{◌≡◌, ℕ, suc, ◌-◌, List, length, inl, inr, sym, ap, ◌∙◌, subst, arith}
+use Rattle.std.proofs.Common.{◌≡◌, ℕ, ◌-◌, List, length, inl, inr, sym, ap, subst, arith}
 use Rattle.std.specs.Prelude.{slice_index}
 use Rattle.std.proofs.lemmas.Option.{none-some}
 use Rattle.sg_layout.specs.declared.shape.Kind.TheVariants.{Dense, Bitmasked, Pointer, Hash, Dynamic}
 use Rattle.sg_pool.specs.Numbers.{place_count}
-use Rattle.sg_store.specs.steps.Noting.{HeldSoFar, ChainsNoted, HasSlots, IsLinkedOnce}
+use Rattle.sg_store.specs.steps.Noting.{HeldSoFar, ChainsNoted, HasSlots}
 use Rattle.sg_store.proofs.NotedNodes.{as_kind, pointer_below, pointer_slots, hash_below, hash_once, hash_slots, chains_short, dynamic_slots, no_slots}
 use Rattle.sg_store.proofs.held.held_slots.Goals.{in-Dense, in-Pointer, in-Hash, in-Dynamic}
 use Rattle.sg_store.proofs.held.held_slots.Goals as goal

@@ -8,7 +8,7 @@ use Rattle.sg_store.proofs.pointer.fill.Goals.{then-word-eq0+else-taken-room, el
 pub returns-then-taken-room : goal.returns-then-taken-room
 returns-then-taken-room c =
     let more = filled_more c.args.links.now c.loop-slot.links c.set.new.self c.args.stock.now c.args.slots.now c.args.room c.loop-slot.taken c.loop-slot.slot-index _ _
-    c.requires.fresh c.requires.roomy c.requires.within c.loop-slot-test.true c.loop-slot.invariant.few (sym c.word.ensures ∙ c.if-word-eq0.true) (c.set.ensures ∙ ap (λ n. slice_set c.loop-slot.links (slice_index c.args.slots.now c.loop-slot.slot-index) (n + 1)) c.from.ensures) c.loop-slot.invariant.fill in
+    c.requires.fresh c.requires.roomy c.requires.within c.loop-slot-test.true c.loop-slot.invariant.few (sym c.get-word.ensures ∙ c.if-word-eq0.true) (c.set.ensures ∙ ap (λ n. slice_set c.loop-slot.links (slice_index c.args.slots.now c.loop-slot.slot-index) (n + 1)) c.from.ensures) c.loop-slot.invariant.fill in
     record {
       through = c.loop-slot.slot-index + 1;
       within = omega (arith, c.loop-slot-test.true);
@@ -21,7 +21,7 @@ pub loop-slot-preserved : goal.loop-slot-preserved
 loop-slot-preserved c = elim c.if-word-eq0.branch [
   | then-word-eq0+else-taken-room w ↦
       let more = filled_more c.args.links.now c.loop-slot.links c.if-word-eq0.links c.args.stock.now c.args.slots.now c.args.room c.loop-slot.taken c.loop-slot.slot-index _ _
-      c.requires.fresh c.requires.roomy c.requires.within c.loop-slot-test.true c.loop-slot.invariant.few (sym c.word.ensures ∙ w.if-word-eq0.true) (w.links-is ∙ w.set.ensures ∙ ap (λ n. slice_set c.loop-slot.links (slice_index c.args.slots.now c.loop-slot.slot-index) (n + 1)) w.from.ensures) c.loop-slot.invariant.fill in
+      c.requires.fresh c.requires.roomy c.requires.within c.loop-slot-test.true c.loop-slot.invariant.few (sym c.get-word.ensures ∙ w.if-word-eq0.true) (w.links-is ∙ w.set.ensures ∙ ap (λ n. slice_set c.loop-slot.links (slice_index c.args.slots.now c.loop-slot.slot-index) (n + 1)) w.from.ensures) c.loop-slot.invariant.fill in
       record {
         fill = subst (λ n. IsFill c.args.links.now c.if-word-eq0.links (take n c.args.stock.now) (take (c.loop-slot.slot-index + 1) c.args.slots.now)) (sym w.taken-is) more;
         few = omega (arith, w.taken-is, w.if-taken-room.false);
@@ -30,7 +30,7 @@ loop-slot-preserved c = elim c.if-word-eq0.branch [
       record {
         fill = subst (λ n. IsFill c.args.links.now c.if-word-eq0.links (take n c.args.stock.now) (take (c.loop-slot.slot-index + 1) c.args.slots.now)) (sym w.taken-is)
             (filled_same c.args.links.now c.loop-slot.links c.if-word-eq0.links (take c.loop-slot.taken c.args.stock.now) c.args.slots.now c.loop-slot.slot-index _
-            c.loop-slot-test.true (λ none. w.if-word-eq0.false (c.word.ensures ∙ none)) w.links-is c.loop-slot.invariant.fill);
+            c.loop-slot-test.true (λ none. w.if-word-eq0.false (c.get-word.ensures ∙ none)) w.links-is c.loop-slot.invariant.fill);
         few = omega (arith, w.taken-is, c.loop-slot.invariant.few);
       }
 ]

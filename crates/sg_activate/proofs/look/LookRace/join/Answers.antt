@@ -1,13 +1,13 @@
 use Rattle.std.proofs.Common.{◌+◌}
 use Rattle.sg_coord.specs.Slices.{slice_start}
 use Rattle.sg_activate.specs.steps.Finding.{found_in}
-use Rattle.sg_activate.specs.steps.Looked.{IsWanted}
+use Rattle.sg_activate.specs.steps.Looked.{IsNew}
 use Rattle.sg_activate.proofs.Looking.{joined_own, joined_left, joined_right, are_known_more}
 use Rattle.sg_activate.proofs.look.LookRace.join.Goals as goal
 
 pub returns-in-Ok-clause-own : goal.returns-in-Ok-clause-own
 returns-in-Ok-clause-own g c =
-    joined_own (IsWanted c.args.self.now.store.now.shape (g.W.Wanted.Means c.args.self.now.want.now) (g.W.Wanted.count c.args.self.now.want.now)) c.args.self.now.axes c.args.self.now.workers
+    joined_own (IsNew c.args.self.now.store.now (g.W.Wanted.Means c.args.self.now.want.now) (g.W.Wanted.count c.args.self.now.want.now)) c.args.self.now.axes c.args.self.now.workers
     c.args.seat.now.found c.args.other.found c.append.new.self c.in-Ok.ensures c.requires.own c.requires.other
 
 pub returns-in-Ok-clause-stays : goal.returns-in-Ok-clause-stays

@@ -1,11 +1,10 @@
-use Rattle.std.proofs.Common.{◌≡◌, ◌≢◌, ℕ, ◌≤◌, ◌^◌, List, sym, ap, ◌∙◌, subst}
-use Rattle.std.specs.Prelude.{slice_index}
+use Rattle.std.proofs.Common.{◌≡◌, ℕ, ◌≤◌, ◌^◌, List, sym, ap, ◌∙◌, subst}
 use Rattle.std.specs.List.{All}
 use Rattle.sg_store.specs.declared.node.NodeWords.{NodeWords}
 use Rattle.sg_store.specs.declared.node_plan.StayingWords.{StayingWords}
 use Rattle.sg_store.specs.steps.Trimming.{IsTrimmed}
 use Rattle.sg_store.specs.steps.KeptWords.{in_row}
-use Rattle.sg_store.specs.steps.Planning.{AreStaying, HasCutLinks, HasCutTable, HasCutLengths}
+use Rattle.sg_store.specs.steps.Planning.{AreStaying, HasCutLengths}
 use Rattle.sg_store.proofs.NodesTrimmed.{link_is, table_has_links, table_links_once, new_lengths_short, whole_trims, masks_trim, links_trim, table_trims, lengths_trim}
 use Rattle.sg_store.proofs.node.NodeWords.trim.Goals as goal
 use Rattle.sg_store.proofs.node.NodeWords.trim.Goals.{in-Whole, in-Masks, in-Linked, in-Table, in-Lengths}

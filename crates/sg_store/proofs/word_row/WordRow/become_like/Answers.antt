@@ -1,4 +1,4 @@
-use Rattle.std.proofs.Common.{◌<◌, ◌≤◌, length, refl, arith}
+use Rattle.std.proofs.Common.{◌<◌, length, refl, arith}
 use Rattle.sg_store.proofs.LikeRows.{like_none, like_more, like_ends}
 use Rattle.sg_store.proofs.word_row.WordRow.become_like.Goals as goal
 

@@ -28,7 +28,7 @@ pub returns-clause-full : goal.returns-clause-full
 returns-clause-full c =
     let e = c.args.self.now in
     let number = suc (e.base + c.args.index) in
-    over_full e.start e.base e.levels e.levels_are e.links c.args.index c.requires.there c.args.store.now c.slots-old.result.now c.slots-new.result.now c.in_ok-taken.taken c.len.result c.number-node.result c.cap_of-cap.result
+    over_full e.start e.base e.levels e.levels_are e.links c.args.index c.requires.there c.args.store.now c.slots-old.result.now c.slots-new.result.now c.in_ok-taken.taken c.len.result c.number-node.result c.cap_at-cap.result
     c.requires.same c.requires.pointer c.in_ok-taken.ensures
     (c.slots-old.ensures ∙ ap (slots_of_node e.start number) c.as_slice.ensures) (c.slots-new.ensures ∙ ap (slots_of_node e.start number) c.as_slice-2.ensures) c.len.ensures (sym c.fits.ensures ∙ c.if-fits.false)
-    c.number-node.ensures c.cap_of-cap.ensures
+    c.number-node.ensures c.cap_at-cap.ensures
