@@ -18,8 +18,8 @@ use Rattle.sg_activate.specs.declared.fault.ActFault.{ActFault}
 use Rattle.sg_activate.specs.Activating.{unless_full}
 use Rattle.sg_ir.specs.declared.code.Inst.{Inst}
 use Rattle.sg_ir.specs.Runs.{CodeWant, iteration, iteration_start}
-use Rattle.sg_exec.specs.declared.turns.Turns.{Turns}
-use Rattle.sg_exec.specs.declared.turns.Turns.TheVariants.{Slice, Rows}
+use Rattle.sg_exec.specs.declared.activation.turns.Turns.{Turns}
+use Rattle.sg_exec.specs.declared.activation.turns.Turns.TheVariants.{Slice, Rows}
 use Rattle.sg_exec.specs.Running.{turn_of}
 use Rattle.sg_exec.specs.steps.Machines.{seen_in, want_write}
 use Rattle.sg_exec.specs.steps.Moments.{slice_turn}

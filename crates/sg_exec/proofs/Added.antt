@@ -9,12 +9,12 @@ use Rattle.sg_flat.specs.declared.state.FlatState.{FlatState}
 use Rattle.sg_flat.specs.State.{value_of}
 use Rattle.sg_store.specs.StoreWords.{StoreWords}
 use Rattle.sg_store.specs.StandsFor.{StandsFor}
-use Rattle.sg_exec.specs.declared.moment.Moment.{Moment}
-use Rattle.sg_exec.specs.steps.Rows.{IsAmong}
+use Rattle.sg_exec.specs.declared.lanes.moment.Moment.{Moment}
+use Rattle.sg_exec.specs.steps.Rows.{On}
 use Rattle.sg_exec.specs.Standing.{shapes_of}
 use Rattle.sg_exec.specs.steps.Written.{own_write, last_or}
-use Rattle.sg_exec.specs.steps.Accessing.{AreCellsOver, AreMade, IsOwnValue, KeepStores}
-use Rattle.sg_exec.proofs.Rows.{set_same, set_other}
+use Rattle.sg_exec.specs.steps.Accessing.{AreCellsOver, AreMade, BecomesIf, IsOwnValue, KeepStores}
+use Rattle.sg_exec.proofs.Rows.{set_same, set_other, below_or_past, isnt_on, on_below}
 use Rattle.sg_exec.proofs.SideBySide.{there}
 
 -- the item that was lent came back as it was
@@ -46,26 +46,51 @@ over_still stores old now so over k moment is =
     let before = there now old k moment is (sym so.long) in
     so.same k before.0 moment before.1 is ∙ over k before.0 before.1
 
-pub made_none : (Becomes : ℕ → Moment → Moment → Type 0) (first : ℕ) (moments : List Moment) → AreMade Becomes first first moments moments
-made_none Becomes first moments = record {
-  among = λ k before after was is inside. absurd (omega (arith, inside.0, inside.1));
+-- the moments before a number have become others where their lanes aren't 0, and are as they were where they are
+abbrev pub AreMadeBefore : (ℕ → Moment → Moment → Type 0) → List ℕ → ℕ → List Moment → List Moment → Type 0
+AreMadeBefore Becomes lanes at old now = AreMade (λ k. BecomesIf (Becomes k) (get_or lanes k 0)) (λ k. k < at) old now
+
+pub made_none : (Becomes : ℕ → Moment → Moment → Type 0) (lanes : List ℕ) (moments : List Moment) → AreMadeBefore Becomes lanes 0 moments moments
+made_none Becomes lanes moments = record {
+  among = λ k before after was is inside. absurd (omega (arith, inside));
   others = λ k out. refl;
 }
 
-pub made_more : (Becomes : ℕ → Moment → Moment → Type 0) (first at : ℕ) (old now : List Moment) (before after : Moment) → first ≤ at → at < length now → slice_get now at ≡ Some before → AreMade Becomes first at old now → Becomes at before after
-    → AreMade Becomes first (at + 1) old (slice_set now at after)
-made_more Becomes first at old now before after from below here so step = record {
+pub made_more : (Becomes : ℕ → Moment → Moment → Type 0) (lanes : List ℕ) (at : ℕ) (old now : List Moment) (before after : Moment) → at < length now → slice_get now at ≡ Some before → AreMadeBefore Becomes lanes at old now
+    → BecomesIf (Becomes at) (get_or lanes at 0) before after → AreMadeBefore Becomes lanes (at + 1) old (slice_set now at after)
+made_more Becomes lanes at old now before after below here so step = record {
   among = λ k early late was is inside. elim (cases_eq k at) [
     | inl at_it ↦ (
         let late_is : after ≡ late = same_Some after late (sym (set_same now at after below) ∙ sym (ap (slice_get (slice_set now at after)) at_it) ∙ is) in
-        let early_is : before ≡ early = same_Some before early (sym here ∙ so.others at (λ (it : IsAmong first at at). absurd (omega (arith, it.1))) ∙ sym (ap (slice_get old) at_it) ∙ was) in
-        subst (λ (n : ℕ). Becomes n early late) (sym at_it) (subst (λ (m : Moment). Becomes at m late) early_is (subst (λ (m : Moment). Becomes at before m) late_is step))
+        let early_is : before ≡ early = same_Some before early (sym here ∙ so.others at (λ (it : at < at). absurd (omega (arith, it))) ∙ sym (ap (slice_get old) at_it) ∙ was) in
+        subst (λ (n : ℕ). BecomesIf (Becomes n) (get_or lanes n 0) early late) (sym at_it)
+        (subst (λ (m : Moment). BecomesIf (Becomes at) (get_or lanes at 0) m late) early_is (subst (λ (m : Moment). BecomesIf (Becomes at) (get_or lanes at 0) before m) late_is step))
         )
-    | inr other ↦ so.among k early late was (sym (set_other now at k after other) ∙ is) (inside.0, omega (arith, inside.1, other))
+    | inr other ↦ so.among k early late was (sym (set_other now at k after other) ∙ is) (omega (arith, inside, other))
   ];
   others = λ k out.
-      set_other now at k after (λ (same : k ≡ at). out (omega (arith, same, from), omega (arith, same)))
-      ∙ so.others k (λ (it : IsAmong first at k). out (it.0, omega (arith, it.1)));
+      set_other now at k after (λ (same : k ≡ at). out (omega (arith, same)))
+      ∙ so.others k (λ (it : k < at). out (omega (arith, it)));
+}
+
+moment_at : (moments : List Moment) (k : ℕ) → k < length moments → (m : Moment) × (slice_get moments k ≡ Some m)
+moment_at [] k below = absurd (omega (arith, below))
+moment_at (m ∷ moments) zero below = (m, refl)
+moment_at (m ∷ moments) (suc k) below = moment_at moments k (omega (arith, below))
+
+-- all moments
+pub made_end : (Becomes : ℕ → Moment → Moment → Type 0) (lanes : List ℕ) (at : ℕ) (old now : List Moment) → length lanes ≡ 32 → 32 ≤ at → at ≤ length old → length now ≡ length old → AreMadeBefore Becomes lanes at old now
+    → AreMade Becomes (On lanes) old now
+made_end Becomes lanes at old now long whole room same so = record {
+  among = λ k before after was is on. (so.among k before after was is (omega (arith, on_below lanes k long on, whole))).set on;
+  others = λ k off. elim (below_or_past k at) [
+    | inl low ↦ (
+        let before = moment_at old k (omega (arith, low, room)) in
+        let after = moment_at now k (omega (arith, low, room, same)) in
+        after.1 ∙ ap (λ (m : Moment). Some m) ((so.among k before.0 after.0 before.1 after.1 low).zero (isnt_on lanes k off)) ∙ sym before.1
+        )
+    | inr high ↦ so.others k (λ (it : k < at). absurd (omega (arith, it, high)))
+  ];
 }
 
 -- the value in the own cell of the moment of a column
@@ -81,6 +106,6 @@ own_value_at stores moments layout field k word moment here over value other the
 pub keep_as : (xs old ys new : List Moment) → xs ≡ old → new ≡ ys → KeepStores xs ys → KeepStores old new
 keep_as xs old ys new was is so = subst (λ (them : List Moment). KeepStores them new) was (subst (λ (them : List Moment). KeepStores xs them) (sym is) so)
 
-pub made_as : (Becomes : ℕ → Moment → Moment → Type 0) (first end : ℕ) (xs old ys new : List Moment) → xs ≡ old → new ≡ ys → AreMade Becomes first end xs ys → AreMade Becomes first end old new
-made_as Becomes first end xs old ys new was is so =
-    subst (λ (them : List Moment). AreMade Becomes first end them new) was (subst (λ (them : List Moment). AreMade Becomes first end xs them) (sym is) so)
+pub made_as : (Becomes : ℕ → Moment → Moment → Type 0) (on : ℕ → Type 0) (xs old ys new : List Moment) → xs ≡ old → new ≡ ys → AreMade Becomes on xs ys → AreMade Becomes on old new
+made_as Becomes on xs old ys new was is so =
+    subst (λ (them : List Moment). AreMade Becomes on them new) was (subst (λ (them : List Moment). AreMade Becomes on xs them) (sym is) so)

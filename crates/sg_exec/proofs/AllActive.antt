@@ -18,7 +18,7 @@ use Rattle.sg_store.specs.StoreLaws.{CellsAreActive, LiveIsNeed}
 use Rattle.sg_store.specs.StandsFor.{StandsFor}
 use Rattle.sg_store.specs.Walks.{cell_in}
 use Rattle.sg_store.specs.WellFormed.{IsWellFormed}
-use Rattle.sg_exec.specs.declared.turns.Turns.{Turns}
+use Rattle.sg_exec.specs.declared.activation.turns.Turns.{Turns}
 use Rattle.sg_exec.specs.steps.Turning.{IsActive, IsActiveStore, IsMeant, turns_in, wanted_of}
 use Rattle.sg_exec.specs.steps.Wants.{reached_layout}
 use Rattle.sg_exec.proofs.Uncapped.{nothing_wanted}

@@ -1,10 +1,10 @@
 -- The points of a box by their numbers.
-use Rattle.std.proofs.Common.{◌≡◌, ℕ, zero, suc, ◌+◌, ◌-◌, ◌*◌, ◌/◌, ◌%◌, ◌<◌, ◌≤◌, ℤ, pos, negsuc, ◌+ℤ◌, ◌-ℤ◌, ◌≤ℤ◌, ◌<ℤ◌, Bool, true, false, List, [], ◌∷◌, ◌++◌, map, length, take, drop, refl, sym, ap, ◌∙◌, subst, arith, append_assoc, append-nil}
-use Rattle.std.specs.Prelude.{nat_le, Result, Ok, Err, OnOk}
+use Rattle.std.proofs.Common.{◌≡◌, ℕ, zero, suc, ◌+◌, ◌-◌, ◌*◌, ◌/◌, ◌%◌, ◌<◌, ◌≤◌, ℤ, pos, negsuc, ◌+ℤ◌, ◌-ℤ◌, ◌≤ℤ◌, ◌<ℤ◌, Bool, true, false, List, [], ◌∷◌, ◌++◌, map, length, take, drop, get_or, refl, sym, ap, ◌∙◌, subst, arith, append_assoc, append-nil}
+use Rattle.std.specs.Prelude.{nat_le, Contains, Option, None, Some, IfSome, Result, Ok, Err, OnOk}
 use Rattle.std.specs.List.{flat_map, range_with_len}
 use Rattle.std.proofs.lemmas.Int.{ints}
 use Rattle.std.proofs.lemmas.Nat.{div-add-mod', div-mul-add, mod-mul-add, div_below, mod_below}
-use Rattle.std.proofs.lemmas.List.FromFn.{length-map-range_with_len, take-map-range_with_len}
+use Rattle.std.proofs.lemmas.List.FromFn.{length-map-range_with_len, get_or-map-range_with_len, take-map-range_with_len}
 use Rattle.std.proofs.lemmas.Grind.{flat_map-append}
 use native.Mathlib.Nat as nat
 use Rattle.sg_coord.specs.declared.coord.Coord.{Coord}
@@ -13,12 +13,12 @@ use Rattle.sg_coord.specs.Coord.{point_at}
 use Rattle.sg_layout.specs.Axes.{count_of}
 use Rattle.sg_layout.specs.Closure.{points}
 use Rattle.sg_flat.specs.Domain.{parts_of, box_points}
-use Rattle.sg_exec.specs.declared.region.Region.{Region}
-use Rattle.sg_exec.specs.declared.region.Along.{Along}
-use Rattle.sg_exec.specs.declared.region.Side.{Side}
-use Rattle.sg_exec.specs.declared.points.Form.{Form}
-use Rattle.sg_exec.specs.declared.points.Form.TheVariants.{Within}
-use Rattle.sg_exec.specs.steps.Boxes.{points_of, part_count, first_part, region_point, region_points, IsRegion, AreAlong, IsInside, point_along}
+use Rattle.sg_exec.specs.declared.workers.region.Region.{Region}
+use Rattle.sg_exec.specs.declared.workers.region.Along.{Along}
+use Rattle.sg_exec.specs.declared.workers.region.Side.{Side}
+use Rattle.sg_exec.specs.declared.workers.points.Form.{Form}
+use Rattle.sg_exec.specs.declared.workers.points.Form.TheVariants.{Within}
+use Rattle.sg_exec.specs.steps.Boxes.{points_of, part_count, first_part, region_point, region_points, IsRegion, IsUpToMost, AreAlong, IsInside, point_along}
 
 -- ---- rows of rows, counted through
 
@@ -201,6 +201,29 @@ pub point_is : (region : Region) (k : ℕ) (along : Along) → AreAlong region k
 point_is region k along far =
     same_point region.corner.n _ _ _ _ _ _ (ap (λ (x : ℕ). region.corner.a +ℤ pos x) far.plane_is) (ap (λ (x : ℕ). region.corner.b +ℤ pos x) far.line_is) (ap (λ (x : ℕ). region.corner.c +ℤ pos x) far.cell_is)
 
+-- no part of a point is past the last ones
+pub region_most : (region : Region) (a b c : ℕ) → IsRegion region → pos 0 ≤ℤ region.corner.a → pos 0 ≤ℤ region.corner.b → pos 0 ≤ℤ region.corner.c
+    → ((far : ℕ) → far < region.planes → (region.corner.a +ℤ pos far) ≤ℤ pos a) → ((far : ℕ) → far < region.lines → (region.corner.b +ℤ pos far) ≤ℤ pos b) → ((far : ℕ) → far < region.cells → (region.corner.c +ℤ pos far) ≤ℤ pos c)
+    → (k : ℕ) → k < region.count → IsUpToMost (record { a = a; b = b; c = c }) (region_point region k)
+region_most region a b c is a_low b_low c_low a_high b_high c_high k below =
+    let along : Along = record { plane = k / region.cells / region.lines; line = k / region.cells % region.lines; cell = k % region.cells } in
+    let inside = number_inside region k along is below (record { plane_is = refl; line_is = refl; cell_is = refl }) in
+    record {
+      a_low = omega (arith, ints, a_low);
+      a_high = a_high (k / region.cells / region.lines) inside.plane_low;
+      b_low = omega (arith, ints, b_low);
+      b_high = b_high (k / region.cells % region.lines) inside.line_low;
+      c_low = omega (arith, ints, c_low);
+      c_high = c_high (k % region.cells) inside.cell_low;
+    }
+
+-- what each point of a region keeps, each of the points keeps
+pub within_each : (P : Coord → Type 0) (form : Form) (region : Region) (all : List Coord) → form ≡ Within region → points_of form ≡ all
+    → ((k : ℕ) → k < region.count → P (region_point region k)) → (at : Coord) → Contains all at → P at
+within_each P form region all is view each at has =
+    let below : has.0 < region.count = omega (arith, within_long form region all is view, has.1) in
+    subst P (sym (get_or-map-range_with_len (region_point region) 0 region.count has.0 has.0 at below (omega arith)) ∙ ap (λ (l : List Coord). get_or l has.0 at) (within_list form region all is view) ∙ has.2) (each has.0 below)
+
 -- the next number, within a row or at the start of the next one
 on_div : (k n : ℕ) → k % n + 1 < n → (k + 1) / n ≡ k / n
 on_div k n low = ap (λ (x : ℕ). x / n) (let same : k + 1 ≡ k / n * n + (k % n + 1) = omega (arith, div-add-mod' k n) in same) ∙ div-mul-add (k / n) n (k % n + 1) low
@@ -282,8 +305,12 @@ side_fits it top low high some = of_used it.used it.lo it.hi low high
 pub fits_as : (z z' : ℤ) (n n' top : ℕ) → z' ≡ z → n' ≡ n → (z +ℤ pos n) ≤ℤ pos top → (z' +ℤ pos n') ≤ℤ pos top
 fits_as z z' n n' top same_z same_n fits = subst (λ (x : ℤ). (x +ℤ pos n') ≤ℤ pos top) (sym same_z) (subst (λ (m : ℕ). (z +ℤ pos m) ≤ℤ pos top) (sym same_n) fits)
 
--- ---- answers where memory isn't wanting
+-- ---- answers
 
 pub on_ok_more : {A E : Type 0} (P Q : Type 0) (answer : Result A E) → (P → Q) → OnOk answer P → OnOk answer Q
 on_ok_more P Q (Ok a) f h = f h
 on_ok_more P Q (Err e) f h = tt
+
+pub if_some_more : {A : Type 0} (P Q : A → Type 0) (found : Option A) → ((a : A) → P a → Q a) → IfSome found P → IfSome found Q
+if_some_more P Q None more held = tt
+if_some_more P Q (Some a) more held = more a held

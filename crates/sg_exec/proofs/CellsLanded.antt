@@ -10,7 +10,7 @@ use Rattle.sg_flat.specs.Kernel.{is_inside_of}
 use Rattle.sg_store.specs.StoreWords.{StoreWords}
 use Rattle.sg_store.specs.WellFormed.{IsReached}
 use Rattle.sg_ir.specs.Runs.{CodeWrite, is_own}
-use Rattle.sg_exec.specs.declared.cell_write.CellWrite.{CellWrite}
+use Rattle.sg_exec.specs.declared.lanes.cell_write.CellWrite.{CellWrite}
 use Rattle.sg_exec.specs.Standing.{shapes_of}
 use Rattle.sg_exec.specs.steps.Machines.{cell_there, cell_write}
 use Rattle.sg_exec.specs.steps.Landing.{HasTree, IsLanding, code_write, landing}

@@ -1,18 +1,19 @@
 -- Rows of 32 words, lane by lane, and operators on them.
-use Rattle.std.proofs.Common.{◌≡◌, ℕ, zero, suc, ◌+◌, ◌*◌, ◌/◌, ◌%◌, ◌^◌, ◌<◌, ◌≤◌, Bool, true, false, cond, eqb, ltb, List, [], ◌∷◌, length, get_or, map, inl, inr, refl, sym, ap, ap₂, ◌∙◌, subst, arith, Fits, w32}
-use Rattle.std.specs.Prelude.{not, ◌==◌, replicate, slice_set, int_lt, int_le}
+use Rattle.std.proofs.Common.{◌≡◌, ℕ, zero, suc, ◌+◌, ◌-◌, ◌*◌, ◌%◌, ◌^◌, ◌<◌, ◌≤◌, Bool, true, false, cond, ltb, List, [], ◌∷◌, length, get_or, map, inl, inr, refl, sym, ap, ap₂, ◌∙◌, subst, arith, Fits, w32}
+use Rattle.std.specs.Prelude.{not, ◌==◌, nat_lt, replicate, slice_set, int_lt, int_le}
 use Rattle.std.proofs.lemmas.Bool.{cases_eq}
 use Rattle.std.proofs.lemmas.List.{get_or-set_same, get_or-set_other, length-set}
-use Rattle.std.proofs.lemmas.Simd.{length-zip2, length-replicate, get_or-zip2, get_or-replicate, bit_mask_l}
+use Rattle.std.proofs.lemmas.Simd.{length-zip2, get_or-zip2}
 use Rattle.std.proofs.lemmas.Bool.Decides.{nat_tests}
 use Rattle.std.proofs.lemmas.Int.{ints}
-use lib.Lanes.{zip2, sel_l, mask_l, Each1, Each2}
+use lib.Lanes.{zip2, sel_l, Each1, Each2}
 use Rattle.std.specs.Prelude.{bit_and, bit_or, ◌&&◌, ◌||◌}
 use Rattle.std.proofs.lemmas.Nat.{and_mask}
 use Rattle.sg_words.specs.declared.operators.Ty.{Ty}
 use Rattle.sg_words.specs.declared.operators.Ty.TheVariants as ty
 use Rattle.sg_words.specs.declared.operators.BinOp.TheVariants as bin
-use Rattle.sg_words.specs.Words.{applied, rank_of, flag, number}
+use Rattle.sg_words.specs.declared.operators.UnOp.TheVariants as un
+use Rattle.sg_words.specs.Words.{applied, applied_un, rank_of, flag, number}
 
 -- a function of words may be said otherwise
 pub zip_so : (f g : ℕ → ℕ → ℕ) → ((a b : ℕ) → a < 2 ^ 32 → b < 2 ^ 32 → f a b ≡ g a b) → (xs ys : List ℕ) → Each1 (Fits w32) xs → Each1 (Fits w32) ys → zip2 f xs ys ≡ zip2 g xs ys
@@ -32,6 +33,11 @@ chosen t x y zero (a ∷ xs) (b ∷ ys) long same = absurd (omega (arith, long))
 chosen t x y (suc n) (a ∷ xs) (b ∷ ys) long same = ap (λ (zs : List ℕ). cond (t a b) x y ∷ zs) (chosen t x y n xs ys (omega (arith, long)) (omega (arith, same)))
 
 -- one of the two lanes
+pub picked : (t : ℕ → ℕ → Bool) (xs ys : List ℕ) → length xs ≡ length ys → sel_l (zip2 t xs ys) xs ys ≡ zip2 (λ a b. cond (t a b) a b) xs ys
+picked t [] ys long = refl
+picked t (a ∷ xs) [] long = refl
+picked t (a ∷ xs) (b ∷ ys) long = ap (λ (zs : List ℕ). cond (t a b) a b ∷ zs) (picked t xs ys (omega (arith, long)))
+
 pub picked_back : (t : ℕ → ℕ → Bool) (xs ys : List ℕ) → length xs ≡ length ys → sel_l (zip2 t ys xs) ys xs ≡ zip2 (λ a b. cond (t b a) b a) xs ys
 picked_back t [] [] long = refl
 picked_back t [] (b ∷ ys) long = absurd (omega (arith, long))
@@ -106,6 +112,12 @@ le_is t a b p q = ne_from (ltb (rank_of t b) (rank_of t a)) ∙ ap flag (at_most
 pub ge_is : (t : Ty) (a b : ℕ) → a < 2 ^ 32 → b < 2 ^ 32 → cond (ltb (rank_of t a) (rank_of t b)) 0 1 ≡ applied bin.Ge t a b
 ge_is t a b p q = ne_from (ltb (rank_of t a) (rank_of t b)) ∙ ap flag (at_most_is t b a q p)
 
+pub neg_is : (a : ℕ) → a < 2 ^ 32 → (0 + (2 ^ 32 - a)) % 2 ^ 32 ≡ applied_un un.Neg a
+neg_is a p = omega (arith, p)
+
+pub not_is : (a : ℕ) → a < 2 ^ 32 → (4294967295 + (2 ^ 32 - a)) % 2 ^ 32 ≡ applied_un un.Not a
+not_is a p = omega (arith, p)
+
 land_from : (p q : Bool) → bit_and (cond p 0 1) (cond q 0 1) ≡ flag (not p && not q)
 land_from true true = refl
 land_from true false = refl
@@ -165,29 +177,3 @@ each_of_two f xs ys lanes at long same whole so =
     let zipped : length (zip2 f xs ys) ≡ length xs = length-zip2 f xs ys (omega (arith, long, same)) in
     same_lanes lanes (zip2 f xs ys) (omega (arith, so.long, zipped, long))
     (λ k below. so.each k (omega (arith, below, so.long, whole)) ∙ sym (get_or-zip2 f xs ys k 0 0 0 (omega (arith, below, so.long, long)) (omega (arith, below, so.long, same))))
-
--- ---- all lanes alike
-
-zero_half : (m : ℕ) → 0 / m % 2 ≡ 0
-zero_half m = omega arith
-
-one_isnt_zero : ◌≡◌ {A = ℕ} 1 0 → ⊥
-one_isnt_zero h = absurd (omega (arith, h))
-
-equal_lane : (x word : ℕ) → ◌≡◌ {A = ℕ} (cond (not (eqb x word)) 1 0) 0 → x ≡ word
-equal_lane x word none = grind (arith, nat_tests, by_test (eqb x word) none)
-  where
-    by_test : (b : Bool) → ◌≡◌ {A = ℕ} (cond (not b) 1 0) 0 → b ≡ true
-    by_test true is = refl
-    by_test false is = absurd (one_isnt_zero is)
-
--- where no bit of a mask of differences is set, all lanes are one word
-pub all_same : (lanes : List ℕ) (word : ℕ) → length lanes ≡ 32 → mask_l (zip2 (λ a b. not (eqb a b)) lanes (replicate 32 word)) ≡ 0 → (k : ℕ) → k < 32 → get_or lanes k 0 ≡ word
-all_same lanes word long none k small =
-    let differ : ℕ → ℕ → Bool = λ a b. not (eqb a b) in
-    let bit : ◌≡◌ {A = ℕ} (0 / 2 ^ k % 2) (cond (get_or (zip2 {C = Bool} differ lanes (replicate 32 word)) k false) 1 0) =
-    ap (λ (m : ℕ). m / 2 ^ k % 2) (sym none) ∙ bit_mask_l (zip2 {C = Bool} differ lanes (replicate 32 word)) k in
-    let lane : get_or (zip2 {C = Bool} differ lanes (replicate 32 word)) k false ≡ not (eqb (get_or lanes k 0) word) =
-    get_or-zip2 differ lanes (replicate 32 word) k 0 0 false (omega (arith, small, long)) (omega (arith, small, length-replicate {A = ℕ} 32 word))
-    ∙ ap (λ (z : ℕ). not (eqb (get_or lanes k 0) z)) (get_or-replicate 32 k word 0 small) in
-    equal_lane (get_or lanes k 0) word (sym (ap {B = ℕ} (λ (b : Bool). cond b 1 0) lane) ∙ sym bit ∙ zero_half (2 ^ k))

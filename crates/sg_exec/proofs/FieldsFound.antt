@@ -26,9 +26,9 @@ use Rattle.sg_ir.specs.Runs.{is_own}
 use Rattle.sg_ir.specs.Apt.{Use, Writes, Reads, ReadsOwn, uses_step, uses_in}
 use Rattle.sg_ir.proofs.Uses.{uses-append, fold-Const, fold-Var, fold-Set, fold-Bin, fold-Un, fold-Mulq, fold-Root, fold-Check, fold-Extract, fold-Offset, fold-Child, fold-HashChild, fold-MaskBit, fold-DynCell, fold-ReadCell, fold-OwnRead, fold-OwnWrite, fold-Acc, fold-Want, fold-If, fold-For, by_inst}
 use Rattle.sg_exec.proofs.UsedWrites.{flat_of_map}
-use Rattle.sg_exec.specs.declared.shared.Accumulated.{Accumulated}
-use Rattle.sg_exec.specs.declared.shared.Owned.{Owned}
-use Rattle.sg_exec.specs.declared.written_fields.WrittenFields.{WrittenFields}
+use Rattle.sg_exec.specs.declared.results.shared.Accumulated.{Accumulated}
+use Rattle.sg_exec.specs.declared.results.shared.Owned.{Owned}
+use Rattle.sg_exec.specs.declared.results.written_fields.WrittenFields.{WrittenFields}
 use Rattle.sg_exec.specs.steps.Racing.{IsPassOf}
 use Rattle.sg_exec.specs.steps.Passes.{uses_of, HasPass, HasActive, IsAmong, HaveFields, HaveWritten, AddsUses}
 

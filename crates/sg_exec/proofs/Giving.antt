@@ -11,8 +11,8 @@ use Rattle.sg_accum.specs.Folding.{old_values, given_to, given_of, IsSeatOf, Has
 use Rattle.sg_store.specs.StoreWords.{StoreWords}
 use Rattle.sg_store.specs.WellFormed.{IsReached}
 use Rattle.sg_ir.specs.Runs.{is_own}
-use Rattle.sg_exec.specs.declared.cell_write.CellWrite.{CellWrite}
-use Rattle.sg_exec.specs.declared.shared.Accumulated.{Accumulated}
+use Rattle.sg_exec.specs.declared.lanes.cell_write.CellWrite.{CellWrite}
+use Rattle.sg_exec.specs.declared.results.shared.Accumulated.{Accumulated}
 use Rattle.sg_exec.specs.steps.Machines.{IsCellOf}
 use Rattle.sg_exec.specs.steps.Racing.{is_into, given_at, given_by, contributions, IsPassOf, AreSeats, HasGiven, HaveGiven}
 

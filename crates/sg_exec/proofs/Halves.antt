@@ -14,10 +14,10 @@ use Rattle.sg_exec.specs.steps.Machines.{AreCells, IsCellOf}
 use Rattle.sg_coord.specs.declared.coord.Coord.{Coord}
 use Rattle.sg_accum.specs.declared.seat.AccSeat.{AccSeat}
 use Rattle.sg_accum.specs.Folding.{given_to, given_of, share_of, handed_of}
-use Rattle.sg_exec.specs.declared.cell_write.CellWrite.{CellWrite}
-use Rattle.sg_exec.specs.declared.shared.Accumulated.{Accumulated}
-use Rattle.sg_exec.specs.declared.shared.Owned.{Owned}
-use Rattle.sg_exec.specs.declared.hand.Hand.{Hand}
+use Rattle.sg_exec.specs.declared.lanes.cell_write.CellWrite.{CellWrite}
+use Rattle.sg_exec.specs.declared.results.shared.Accumulated.{Accumulated}
+use Rattle.sg_exec.specs.declared.results.shared.Owned.{Owned}
+use Rattle.sg_exec.specs.declared.workers.state.Hand.{Hand}
 use Rattle.sg_exec.specs.steps.Racing.{contributions, last_own, between, AreSeats, HaveGiven, HaveShares, HasWorked, HasRun, AreSplit, AreJoined, IsDivided, IsOfBoth}
 use Rattle.sg_exec.specs.steps.Puts.{kept_writes}
 use Rattle.sg_exec.proofs.Giving.{at_below, given_both}

@@ -8,10 +8,10 @@ use Rattle.sg_coord.specs.declared.coord.Coord.{Coord}
 use Rattle.sg_coord.specs.Slices.{slice_start}
 use Rattle.sg_flat.specs.declared.state.FlatState.{FlatState}
 use Rattle.sg_store.specs.StoreWords.{StoreWords}
-use Rattle.sg_exec.specs.declared.cell_write.CellWrite.{CellWrite}
-use Rattle.sg_exec.specs.declared.shared.Accumulated.{Accumulated}
-use Rattle.sg_exec.specs.declared.shared.Owned.{Owned}
-use Rattle.sg_exec.specs.declared.hand.Hand.{Hand}
+use Rattle.sg_exec.specs.declared.lanes.cell_write.CellWrite.{CellWrite}
+use Rattle.sg_exec.specs.declared.results.shared.Accumulated.{Accumulated}
+use Rattle.sg_exec.specs.declared.results.shared.Owned.{Owned}
+use Rattle.sg_exec.specs.declared.workers.state.Hand.{Hand}
 use Rattle.sg_exec.specs.steps.Machines.{AreCells, IsCellOf}
 use Rattle.sg_exec.specs.steps.Racing.{last_own, between, HaveGiven, HasRun}
 use Rattle.sg_exec.specs.steps.Puts.{kept_writes}

@@ -1,7 +1,7 @@
 -- The writes that workers keep, as one list.
 use Rattle.std.proofs.Common.{◌≡◌, List, [], ◌∷◌, ◌++◌, Vec, refl, sym, ap, ◌∙◌, append_assoc}
 use Rattle.std.specs.declared.alloc.Global.{Global}
-use Rattle.sg_exec.specs.declared.cell_write.CellWrite.{CellWrite}
+use Rattle.sg_exec.specs.declared.lanes.cell_write.CellWrite.{CellWrite}
 use Rattle.sg_exec.specs.steps.Puts.{in_lists}
 
 -- lists one after the other

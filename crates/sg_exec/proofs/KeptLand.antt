@@ -7,7 +7,7 @@ use Rattle.std.proofs.lemmas.List.{take-append-drop}
 use Rattle.std.proofs.lemmas.List.Elements.{All-nil, All-cons, All-head, All-tail}
 use Rattle.sg_flat.specs.declared.effects.Write.{Write}
 use Rattle.sg_store.specs.StoreWords.{StoreWords}
-use Rattle.sg_exec.specs.declared.cell_write.CellWrite.{CellWrite}
+use Rattle.sg_exec.specs.declared.lanes.cell_write.CellWrite.{CellWrite}
 use Rattle.sg_exec.specs.steps.Machines.{AreCells, IsCellOf}
 use Rattle.sg_exec.specs.steps.Landing.{landing, Lands}
 use Rattle.sg_exec.specs.steps.Made.{HaveTrees}

@@ -12,7 +12,7 @@ use Rattle.sg_flat.specs.declared.effects.Way.TheVariants.{Own}
 use Rattle.sg_flat.specs.declared.effects.Write.{Write}
 use Rattle.sg_flat.specs.Effects.{land, landed, is_to, writes_to}
 use Rattle.sg_ir.specs.Runs.{is_own}
-use Rattle.sg_exec.specs.declared.shared.Owned.{Owned}
+use Rattle.sg_exec.specs.declared.results.shared.Owned.{Owned}
 use Rattle.sg_exec.specs.steps.Passes.{IsAmong}
 use Rattle.sg_exec.proofs.LastOwn.{is_flat_own, last_of, kept, kept_own, last_found, kept_among, value_or, IsOwnField, own_landed, own_elsewhere}
 

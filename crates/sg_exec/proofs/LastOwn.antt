@@ -17,8 +17,8 @@ use Rattle.sg_flat.specs.declared.effects.Write.{Write}
 use Rattle.sg_flat.specs.Effects.{land, landed, is_to, writes_to}
 use Rattle.sg_store.specs.StoreWords.{StoreWords}
 use Rattle.sg_ir.specs.Runs.{is_own}
-use Rattle.sg_exec.specs.declared.cell_write.CellWrite.{CellWrite}
-use Rattle.sg_exec.specs.declared.shared.Owned.{Owned}
+use Rattle.sg_exec.specs.declared.lanes.cell_write.CellWrite.{CellWrite}
+use Rattle.sg_exec.specs.declared.results.shared.Owned.{Owned}
 use Rattle.sg_exec.specs.steps.Landing.{landing}
 use Rattle.sg_exec.specs.steps.Written.{is_own_to, own_write}
 use Rattle.sg_exec.specs.steps.Racing.{listed, last_own}

@@ -7,7 +7,7 @@ use Rattle.std.proofs.lemmas.List.Elements.{All-append, All-cons, All-nil}
 use Rattle.sg_words.specs.declared.memory.Memory.{Memory}
 use Rattle.sg_store.specs.StoreWords.{StoreWords}
 use Rattle.sg_ir.specs.Runs.{is_own}
-use Rattle.sg_exec.specs.declared.cell_write.CellWrite.{CellWrite}
+use Rattle.sg_exec.specs.declared.lanes.cell_write.CellWrite.{CellWrite}
 use Rattle.sg_exec.specs.steps.Written.{is_own_to, own_write, is_same_field, replaced, IsLatest}
 use Rattle.sg_exec.specs.steps.Machines.{AreCells, IsCellOf}
 use Rattle.sg_exec.proofs.Going.{drop_item}

@@ -2,8 +2,9 @@ pub mod Going
 pub mod Keeping
 pub mod KeptLand
 pub mod Rows
-pub mod EachLane
 pub mod LowBits
+pub mod Masks
+pub mod EachLane
 pub mod Seeing
 pub mod CellsLanded
 pub mod RowsMoved
@@ -13,6 +14,7 @@ pub mod Added
 pub mod ValuesRead
 pub mod EarlierAccesses
 pub mod PlacesHeld
+pub mod HeldWords
 pub mod Reading
 pub mod LatestWrites
 pub mod BoxPoints
@@ -29,6 +31,10 @@ pub mod Turning
 pub mod Batches
 pub mod Unwanted
 pub mod Unsought
+pub mod Limited
+pub mod Idle
+pub mod Pointless
+pub mod AtAllPoints
 pub mod Activating
 pub mod Located
 pub mod Sliced

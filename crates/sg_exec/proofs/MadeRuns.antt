@@ -7,7 +7,7 @@ use Rattle.sg_layout.specs.declared.shape.Shape.{Shape}
 use Rattle.sg_flat.specs.declared.effects.RunFault.{RunFault}
 use Rattle.sg_flat.specs.declared.state.FlatState.{FlatState}
 use Rattle.sg_store.specs.StoreWords.{StoreWords}
-use Rattle.sg_exec.specs.declared.made.Made.{Made}
+use Rattle.sg_exec.specs.declared.results.made.Made.{Made}
 use Rattle.sg_exec.specs.Standing.{shapes_of}
 use Rattle.sg_exec.specs.Running.{Ran}
 use Rattle.sg_exec.specs.steps.Made.{MadeRan}

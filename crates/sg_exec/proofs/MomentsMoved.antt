@@ -13,9 +13,9 @@ use Rattle.sg_ir.specs.declared.code.Inst.TheVariants as v
 use Rattle.sg_ir.specs.Runs.{Seen, Moved, CodeWrite, CodeWant, Access, does, at_of, coord_of, named_by, add_code_write, add_want, add_access}
 use Rattle.sg_ir.specs.Named.{AreNamed}
 use Rattle.sg_ir.proofs.Uses.{does-OwnWrite, does-Acc, does-Want}
-use Rattle.sg_exec.specs.declared.batch.Batch.{Batch}
-use Rattle.sg_exec.specs.declared.cell_write.CellWrite.{CellWrite}
-use Rattle.sg_exec.specs.declared.moment.Moment.{Moment}
+use Rattle.sg_exec.specs.declared.lanes.batch.Batch.{Batch}
+use Rattle.sg_exec.specs.declared.lanes.cell_write.CellWrite.{CellWrite}
+use Rattle.sg_exec.specs.declared.lanes.moment.Moment.{Moment}
 use Rattle.sg_exec.specs.Standing.{shapes_of}
 use Rattle.sg_exec.specs.steps.Machines.{seen_in, Sees, HoldsPlace, IsAtLoop, cell_there, cell_write, want_write}
 use Rattle.sg_exec.specs.steps.Rows.{item_in}
@@ -61,13 +61,13 @@ cells_moved stores at old new k before after now writes wants accesses only same
 }
 
 -- moments have become others, where memory wasn't wanting
-pub moments_done : (old mid new : Batch) (first end : ℕ) (Becomes : ℕ → Moment → Moment → Type 0) (act : Seen → Moved → Moved) → KeepsRows old mid → OnlyMoments mid new → KeepStores mid.moments.items new.moments.items
-    → (new.lacks ≡ false → AreMade Becomes first end mid.moments.items new.moments.items)
+pub moments_done : (old mid new : Batch) (on : ℕ → Type 0) (Becomes : ℕ → Moment → Moment → Type 0) (act : Seen → Moved → Moved) → KeepsRows old mid → OnlyMoments mid new → KeepStores mid.moments.items new.moments.items
+    → (new.lacks ≡ false → AreMade Becomes on mid.moments.items new.moments.items)
     → ((k : ℕ) (before after : Moment) (stores : List StoreWords) (state : FlatState) (at : Coord) (now : Moved) → k < 32 → Becomes k before after → Sees stores state
     → (AreNamed (shapes_of stores) now.accesses → IsMoved stores at (column mid k before) now) → AreNamed (shapes_of stores) (act (seen_in stores state at) now).accesses → IsMoved stores at (column new k after) (act (seen_in stores state at) now))
-    → AllMove act first end old new
-moments_done old mid new first end Becomes act keeps only keep made same =
-    kept_then act first end old mid new keeps (record {
+    → AllMove act on old new
+moments_done old mid new on Becomes act keeps only keep made same =
+    kept_then act on old mid new keeps (record {
       over = moments_over mid new only keep;
       long = keep.long;
       among = λ k before after at small inside. record {
@@ -104,13 +104,13 @@ write_done stores at old new k before after write made now accesses only written
     (own_more at now.writes made loop moved.own_at) (ap (λ it. it.items) written.wants ∙ moved.wants_are) moved
 
 -- own writes
-pub own_writes_done : (old mid new : Batch) (regs : List ℕ) (first end layout field from stmt : ℕ) → regs ≡ mid.regs.items → KeepsRows old mid → OnlyMoments mid new → KeepStores mid.moments.items new.moments.items
-    → (new.lacks ≡ false → AreMade (λ k before. IsWritten (own_write_at layout field (item_in regs 0 k from) before) before) first end mid.moments.items new.moments.items)
-    → AllMove (λ seen. does seen (v.OwnWrite layout field from stmt)) first end old new
-own_writes_done old mid new regs first end layout field from stmt same_regs keeps only keep made =
+pub own_writes_done : (old mid new : Batch) (regs : List ℕ) (on : ℕ → Type 0) (layout field from stmt : ℕ) → regs ≡ mid.regs.items → KeepsRows old mid → OnlyMoments mid new → KeepStores mid.moments.items new.moments.items
+    → (new.lacks ≡ false → AreMade (λ k before. IsWritten (own_write_at layout field (item_in regs 0 k from) before) before) on mid.moments.items new.moments.items)
+    → AllMove (λ seen. does seen (v.OwnWrite layout field from stmt)) on old new
+own_writes_done old mid new regs on layout field from stmt same_regs keeps only keep made =
     let code : Seen → Moved → CodeWrite = λ seen now. record { layout = layout; field = field; stmt = stmt; at = Some seen.at; way = Own; value = now.regs from } in
-    all_by (λ seen now. add_code_write (code seen now) now) (λ seen. does seen (v.OwnWrite layout field from stmt)) (λ seen now. sym (does-OwnWrite seen layout field from stmt now)) first end old new
-    (moments_done old mid new first end (λ k before. IsWritten (own_write_at layout field (item_in regs 0 k from) before) before) (λ seen now. add_code_write (code seen now) now) keeps only keep made
+    all_by (λ seen now. add_code_write (code seen now) now) (λ seen. does seen (v.OwnWrite layout field from stmt)) (λ seen now. sym (does-OwnWrite seen layout field from stmt now)) on old new
+    (moments_done old mid new on (λ k before. IsWritten (own_write_at layout field (item_in regs 0 k from) before) before) (λ seen now. add_code_write (code seen now) now) keeps only keep made
     (λ k before after stores state at now small written sees earlier named.
     let moved = earlier named in
     let write : Option ℕ → ℕ → CellWrite = λ cell value. record { layout = layout; place = field; cell = cell; way = Own; value = value } in
@@ -121,16 +121,16 @@ own_writes_done old mid new regs first end layout field from stmt same_regs keep
     (λ own. refl) moved))
 
 -- contributions
-pub contributions_done : (old mid new : Batch) (regs : List ℕ) (first end : ℕ) (op : AccOp) (layout field place from : ℕ) (index : List ℕ) (stmt : ℕ) → regs ≡ mid.regs.items → KeepsRows old mid → OnlyMoments mid new → KeepStores mid.moments.items new.moments.items
-    → (new.lacks ≡ false → AreMade (λ k. IsContributed mid.places.stores (item_in mid.places.list None k place) op layout field (item_in regs 0 k from)) first end mid.moments.items new.moments.items)
-    → AllMove (λ seen. does seen (v.Acc op layout field place from index stmt)) first end old new
-contributions_done old mid new regs first end op layout field place from index stmt same_regs keeps only keep made =
+pub contributions_done : (old mid new : Batch) (regs : List ℕ) (on : ℕ → Type 0) (op : AccOp) (layout field place from : ℕ) (index : List ℕ) (stmt : ℕ) → regs ≡ mid.regs.items → KeepsRows old mid → OnlyMoments mid new → KeepStores mid.moments.items new.moments.items
+    → (new.lacks ≡ false → AreMade (λ k. IsContributed mid.places.stores (item_in mid.places.list None k place) op layout field (item_in regs 0 k from)) on mid.moments.items new.moments.items)
+    → AllMove (λ seen. does seen (v.Acc op layout field place from index stmt)) on old new
+contributions_done old mid new regs on op layout field place from index stmt same_regs keeps only keep made =
     let code : Seen → Moved → CodeWrite = λ seen now. record { layout = layout; field = field; stmt = stmt; at = at_of seen.shapes (now.places place); way = Acc op; value = now.regs from } in
     let access : Moved → Access = λ now. record { layout = layout; place = now.places place; at = named_by index now } in
     let act : Seen → Moved → Moved = λ seen now. add_code_write (code seen now) (add_access (access now) now) in
     let Becomes : ℕ → Moment → Moment → Type 0 = λ k. IsContributed mid.places.stores (item_in mid.places.list None k place) op layout field (item_in regs 0 k from) in
-    all_by act (λ seen. does seen (v.Acc op layout field place from index stmt)) (λ seen now. sym (does-Acc seen op layout field place from index stmt now)) first end old new
-    (moments_done old mid new first end Becomes act keeps only keep made
+    all_by act (λ seen. does seen (v.Acc op layout field place from index stmt)) (λ seen now. sym (does-Acc seen op layout field place from index stmt now)) on old new
+    (moments_done old mid new on Becomes act keeps only keep made
     (λ k before after stores state at now small added sees earlier named.
     let both = named_before stores now.accesses (access now) named in
     let moved = earlier both.0 in
@@ -152,14 +152,14 @@ named_same f g [] are = refl
 named_same f g (r ∷ index) are = ap (λ (w : ℕ). w ∷ map f index) (are r) ∙ ap (λ (ws : List ℕ). g r ∷ ws) (named_same f g index are)
 
 -- wanted coordinates
-pub wants_done : (old new : Batch) (regs : List ℕ) (first end layout : ℕ) (index : List ℕ) (stmt : ℕ) → regs ≡ old.regs.items → OnlyMoments old new → KeepStores old.moments.items new.moments.items
-    → (new.lacks ≡ false → AreMade (λ k. IsWanted (record { layout = layout; stmt = stmt; at = coord_in regs k index })) first end old.moments.items new.moments.items)
-    → AllMove (λ seen. does seen (v.Want layout index stmt)) first end old new
-wants_done old new regs first end layout index stmt same_regs only keep made =
+pub wants_done : (old new : Batch) (regs : List ℕ) (on : ℕ → Type 0) (layout : ℕ) (index : List ℕ) (stmt : ℕ) → regs ≡ old.regs.items → OnlyMoments old new → KeepStores old.moments.items new.moments.items
+    → (new.lacks ≡ false → AreMade (λ k. IsWanted (record { layout = layout; stmt = stmt; at = coord_in regs k index })) on old.moments.items new.moments.items)
+    → AllMove (λ seen. does seen (v.Want layout index stmt)) on old new
+wants_done old new regs on layout index stmt same_regs only keep made =
     let want : Coord → CodeWant = λ at. record { layout = layout; stmt = stmt; at = at } in
     let act : Seen → Moved → Moved = λ seen now. add_want (want (named_by index now)) now in
-    all_by act (λ seen. does seen (v.Want layout index stmt)) (λ seen now. sym (does-Want seen layout index stmt now)) first end old new
-    (moments_done old old new first end (λ k. IsWanted (want (coord_in regs k index))) act keeps_itself only keep made
+    all_by act (λ seen. does seen (v.Want layout index stmt)) (λ seen now. sym (does-Want seen layout index stmt now)) on old new
+    (moments_done old old new on (λ k. IsWanted (want (coord_in regs k index))) act keeps_itself only keep made
     (λ k before after stores state at now small wanted sees earlier named.
     let moved = earlier named in
     let is : coord_in regs k index ≡ named_by index now =

@@ -23,8 +23,8 @@ use Rattle.sg_store.specs.StandsFor.{StandsFor}
 use Rattle.sg_ir.specs.Runs.{is_own}
 use Rattle.sg_ir.specs.Apt.{Use, Writes}
 use Rattle.sg_accum.specs.declared.seat.AccSeat.{AccSeat}
-use Rattle.sg_exec.specs.declared.shared.Accumulated.{Accumulated}
-use Rattle.sg_exec.specs.declared.shared.Owned.{Owned}
+use Rattle.sg_exec.specs.declared.results.shared.Accumulated.{Accumulated}
+use Rattle.sg_exec.specs.declared.results.shared.Owned.{Owned}
 use Rattle.sg_exec.specs.Standing.{shapes_of}
 use Rattle.sg_exec.specs.steps.Landing.{AreActive, Lands}
 use Rattle.sg_exec.specs.steps.Passes.{HasPass, IsAmong, HaveFields, to_field, into_field, passed}

@@ -24,27 +24,27 @@ use Rattle.sg_store.specs.StandsFor.{StandsFor}
 use Rattle.sg_store.specs.StoreLaws.{CellsAreActive}
 use Rattle.sg_store.specs.WellFormed.{IsWellFormed}
 use Rattle.sg_ir.specs.Runs.{Place, down, add_offset, node_in, node_of}
-use Rattle.sg_exec.specs.declared.held.Held.{Held}
+use Rattle.sg_exec.specs.declared.lanes.held.Held.{Held}
 use Rattle.sg_exec.specs.Standing.{shapes_of}
 use Rattle.sg_exec.specs.steps.Stepping.{is_below, can_step, IsIdle, StepLeads, StepIsDead}
 use Rattle.sg_exec.specs.steps.Machines.{IsDead, HoldsPlace, IsHeld, AreHeld, ArePlaces, StepsDown}
-use Rattle.sg_exec.specs.steps.Rows.{IsPut}
+use Rattle.sg_exec.specs.steps.Rows.{On, IsPut}
 use Rattle.sg_exec.proofs.Rows.{put_all, put_so}
 use Rattle.sg_exec.proofs.StoreLists.{shape_at, some_is_none}
 
 -- ---- rows of places
 
 -- where each spot that was put is one of a store
-pub held_put : (stores : List StoreWords) (Holds : ℕ → Option Held → Type 0) (first end to : ℕ) (list list' : List (Option Held)) → IsPut Holds first end to None list list'
+pub held_put : (stores : List StoreWords) (Holds : ℕ → Option Held → Type 0) (lanes : List ℕ) (to : ℕ) (list list' : List (Option Held)) → IsPut Holds (On lanes) to None list list'
     → ((k : ℕ) (held : Option Held) → Holds k held → IfSome held (IsHeld stores)) → AreHeld stores list → AreHeld stores list'
-held_put stores Holds first end to list list' put so old = put_all (λ (held : Option Held). IfSome held (IsHeld stores)) Holds first end to None list list' put (λ k held among. so k held) old
+held_put stores Holds lanes to list list' put so old = put_all (λ (held : Option Held). IfSome held (IsHeld stores)) Holds lanes to None list list' put so old
 
 -- items that were put into a list as it was lent
-pub put_lent : (Holds Other : ℕ → Option Held → Type 0) (first end to : ℕ) (lent news old after : List (Option Held)) → lent ≡ old → after ≡ news → ((k : ℕ) (held : Option Held) → Holds k held → Other k held)
-    → IsPut Holds first end to None lent news → IsPut Other first end to None old after
-put_lent Holds Other first end to lent news old after was is so put =
-    subst (λ (items : List (Option Held)). IsPut Other first end to None items after) was
-    (subst (λ (items : List (Option Held)). IsPut Other first end to None lent items) (sym is) (put_so Holds Other first end to None lent news (λ k held among. so k held) put))
+pub put_lent : (Holds Other : ℕ → Option Held → Type 0) (on : ℕ → Type 0) (to : ℕ) (lent news old after : List (Option Held)) → lent ≡ old → after ≡ news → ((k : ℕ) (held : Option Held) → Holds k held → Other k held)
+    → IsPut Holds on to None lent news → IsPut Other on to None old after
+put_lent Holds Other on to lent news old after was is so put =
+    subst (λ (items : List (Option Held)). IsPut Other on to None items after) was
+    (subst (λ (items : List (Option Held)). IsPut Other on to None lent items) (sym is) (put_so Holds Other on to None lent news (λ k held small on. so k held) put))
 
 -- no place register holds anything
 pub no_places : (stores : List StoreWords) (held : ℕ → Option Held) → ((p : ℕ) → held p ≡ None) → ArePlaces stores held (λ place. None)

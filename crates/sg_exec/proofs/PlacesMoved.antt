@@ -8,12 +8,12 @@ use Rattle.sg_coord.specs.Coord.{is_on_axis}
 use Rattle.sg_flat.specs.declared.state.FlatState.{FlatState}
 use Rattle.sg_store.specs.StoreWords.{StoreWords}
 use Rattle.sg_ir.specs.Runs.{Seen, Moved, Place, put, set_place, check, down}
-use Rattle.sg_exec.specs.declared.batch.Batch.{Batch}
-use Rattle.sg_exec.specs.declared.held.Held.{Held}
-use Rattle.sg_exec.specs.declared.moment.Moment.{Moment}
+use Rattle.sg_exec.specs.declared.lanes.batch.Batch.{Batch}
+use Rattle.sg_exec.specs.declared.lanes.held.Held.{Held}
+use Rattle.sg_exec.specs.declared.lanes.moment.Moment.{Moment}
 use Rattle.sg_exec.specs.Standing.{shapes_of}
 use Rattle.sg_exec.specs.steps.Machines.{seen_in, Sees, HoldsPlace}
-use Rattle.sg_exec.specs.steps.Rows.{item_in, IsAmong, IsPut}
+use Rattle.sg_exec.specs.steps.Rows.{item_in, IsPut}
 use Rattle.sg_exec.specs.steps.Moments.{column, IsMoved, IsOver, Moves, Stays, AllMove, KeepsRows}
 use Rattle.sg_exec.specs.steps.Accessing.{AreCellsOver}
 use Rattle.sg_exec.proofs.Going.{as_moved}
@@ -23,7 +23,7 @@ use Rattle.sg_exec.proofs.SideBySide.{kept_then}
 
 -- nothing of a batch but what its place registers hold is another
 pub record OnlyPlaces (old new : Batch) : Type 0 where
-  pub lacks : new.lacks ≡ old.lacks
+  pub kept : new.lacks ≡ false → old.lacks ≡ false
   pub regs : new.regs ≡ old.regs
   pub vars : new.vars ≡ old.vars
   pub moments : new.moments ≡ old.moments
@@ -45,36 +45,36 @@ places_moved stores at old new k moment now places only are moved = record {
 }
 
 -- place registers become what is held for the values of how far the run has come
-pub places_done : (old mid new : Batch) (first end to : ℕ) (Holds : ℕ → Option Held → Type 0) (value : Seen → Moved → Option Place) (act : Seen → Moved → Moved) → ((seen : Seen) (now : Moved) → act seen now ≡ set_place to (value seen now) now)
-    → end ≤ 32 → KeepsRows old mid → OnlyPlaces mid new → IsPut Holds first end to None mid.places.list new.places.list
+pub places_done : (old mid new : Batch) (on : ℕ → Type 0) (to : ℕ) (Holds : ℕ → Option Held → Type 0) (value : Seen → Moved → Option Place) (act : Seen → Moved → Moved) → ((seen : Seen) (now : Moved) → act seen now ≡ set_place to (value seen now) now)
+    → KeepsRows old mid → OnlyPlaces mid new → (new.lacks ≡ false → IsPut Holds on to None mid.places.list new.places.list)
     → ((k : ℕ) (held : Option Held) (stores : List StoreWords) (state : FlatState) (at : Coord) (moment : Moment) (now : Moved) → k < 32 → Holds k held → Sees stores state → IsMoved stores at (column mid k moment) now
     → HoldsPlace stores held (value (seen_in stores state at) now))
-    → AllMove act first end old new
-places_done old mid new first end to Holds value act is few keeps only has same =
+    → AllMove act on old new
+places_done old mid new on to Holds value act is keeps only has same =
     let same_moments : new.moments.items ≡ mid.moments.items = ap (λ ms. ms.items) only.moments in
-    kept_then act first end old mid new keeps (record {
+    kept_then act on old mid new keeps (record {
       over = over_same mid new same_moments only.stores;
       long = ap length same_moments;
       among = λ k before after at small inside.
           subst (λ (m : Moment). Moves act (column mid k before) (column new k m)) (same_at mid new same_moments k before after at)
           (record {
-            kept = λ lacks. sym only.lacks ∙ lacks;
+            kept = λ lacks. only.kept lacks;
             follows = λ stores state here sees now follows.
                 as_moved (sym (is (seen_in stores state here) now))
                 (λ lacks named.
-                let moved = follows (sym only.lacks ∙ lacks) named in
+                let moved = follows (only.kept lacks) named in
                 places_moved stores here mid new k before now (put to (value (seen_in stores state here) now) now.places) only
-                (put_there (HoldsPlace stores) Holds first end to None mid.places.list new.places.list k (value (seen_in stores state here) now) now.places small few has
-                (same k (item_in new.places.list None k to) stores state here before now small (has.there k inside) sees moved) moved.places_are) moved);
+                (put_there (HoldsPlace stores) Holds on to None mid.places.list new.places.list k (value (seen_in stores state here) now) now.places small (has lacks)
+                (same k (item_in new.places.list None k to) stores state here before now small ((has lacks).there k small inside) sees moved) moved.places_are) moved);
           });
       others = λ k before after at small out.
           subst (λ (m : Moment). Stays (column mid k before) (column new k m)) (same_at mid new same_moments k before after at)
           (record {
-            kept = λ lacks. sym only.lacks ∙ lacks;
+            kept = λ lacks. only.kept lacks;
             follows = λ stores state here sees now follows lacks named.
-                let moved = follows (sym only.lacks ∙ lacks) named in
+                let moved = follows (only.kept lacks) named in
                 places_moved stores here mid new k before now now.places only
-                (λ p. subst (λ (held : Option Held). HoldsPlace stores held (now.places p)) (sym (other_item Holds first end to None mid.places.list new.places.list k p has few small (λ (it : (p ≡ to) × IsAmong first end k). out it.1))) (moved.places_are p)) moved;
+                (λ p. subst (λ (held : Option Held). HoldsPlace stores held (now.places p)) (sym (other_item Holds on to None mid.places.list new.places.list k p (has lacks) small (λ (it : (p ≡ to) × on k). out it.1))) (moved.places_are p)) moved;
           });
     })
 

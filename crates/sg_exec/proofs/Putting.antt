@@ -6,8 +6,8 @@ use Rattle.std.proofs.lemmas.List.{append-nil, take_more, reverse-append}
 use Rattle.std.proofs.lemmas.List.Elements.{All-append, All-cons, All-nil, All-head, All-tail}
 use Rattle.std.proofs.lemmas.Option.{same_Some}
 use Rattle.sg_store.specs.StoreWords.{StoreWords}
-use Rattle.sg_exec.specs.declared.cell_write.CellWrite.{CellWrite}
-use Rattle.sg_exec.specs.declared.shared.Owned.{Owned}
+use Rattle.sg_exec.specs.declared.lanes.cell_write.CellWrite.{CellWrite}
+use Rattle.sg_exec.specs.declared.results.shared.Owned.{Owned}
 use Rattle.sg_exec.specs.steps.Machines.{AreCells, IsCellOf}
 use Rattle.sg_exec.specs.steps.Written.{is_own_to, own_write}
 use Rattle.sg_exec.specs.steps.Racing.{listed, last_own}

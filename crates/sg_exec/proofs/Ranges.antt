@@ -1,5 +1,5 @@
 -- Parts of a list from one number up to below another.
-use Rattle.std.proofs.Common.{◌≡◌, ℕ, ◌+◌, ◌-◌, ◌≤◌, List, length, take, drop, sym, ap, ◌∙◌, subst, arith}
+use Rattle.std.proofs.Common.{◌≡◌, ℕ, ◌+◌, ◌-◌, ◌≤◌, List, [], ◌∷◌, length, take, drop, sym, ap, ◌∙◌, subst, arith}
 use Rattle.std.specs.Prelude.{Contains}
 use Rattle.std.proofs.lemmas.List.{take_all, take-take, drop-drop, drop-take, length-take, length-drop, take-append-drop}
 use Rattle.std.proofs.lemmas.List.Elements.{Contains-append_right}
@@ -41,3 +41,9 @@ between_right from mid to points above below =
 pub rest_among : (from : ℕ) (points : List Coord) (at : Coord) → Contains (drop from points) at → Contains points at
 rest_among from points at has =
     subst (λ (l : List Coord). Contains l at) (take-append-drop from points) (Contains-append_right (take from points) (drop from points) at has)
+
+-- the first one, if there is one
+pub between_one : (n all : ℕ) (points : List Coord) → all ≡ length points → n ≤ 1 → n ≤ all → (1 ≤ all → 1 ≤ n) → between 0 n points ≡ take 1 points
+between_one n all [] long one within some = ap (λ (k : ℕ). take k (drop 0 [])) (let none : n - 0 ≡ 0 = omega (arith, long, within) in none)
+between_one n all (at ∷ points) long one within some =
+    ap (λ (k : ℕ). take k (at ∷ points)) (let single : n - 0 ≡ 1 = omega (arith, one, some (let least : 1 ≤ all = omega (arith, long) in least)) in single)

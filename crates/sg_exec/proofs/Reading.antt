@@ -26,8 +26,8 @@ use Rattle.sg_ir.specs.Runs as ir
 use Rattle.sg_ir.specs.Runs.{Place, CodeWrite, is_own, at_of, cell_value, coord_of}
 use Rattle.sg_ir.specs.Places.{place_of_coord, place_at}
 use Rattle.sg_ir.specs.Laws.{PlaceHasCoordinate}
-use Rattle.sg_exec.specs.declared.held.Held.{Held}
-use Rattle.sg_exec.specs.declared.cell_write.CellWrite.{CellWrite}
+use Rattle.sg_exec.specs.declared.lanes.held.Held.{Held}
+use Rattle.sg_exec.specs.declared.lanes.cell_write.CellWrite.{CellWrite}
 use Rattle.sg_exec.specs.Standing.{shapes_of}
 use Rattle.sg_exec.specs.steps.Written.{own_write, last_or}
 use Rattle.sg_exec.specs.steps.Machines.{seen_in, Sees, coord_from, IsDead, LeadsTo, cell_there, IsCellOf, cell_write}

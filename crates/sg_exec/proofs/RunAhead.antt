@@ -6,10 +6,10 @@ use Rattle.sg_coord.specs.declared.coord.Coord.{Coord}
 use Rattle.sg_flat.specs.declared.state.FlatState.{FlatState}
 use Rattle.sg_store.specs.StoreWords.{StoreWords}
 use Rattle.sg_ir.specs.declared.code.Inst.{Inst}
-use Rattle.sg_exec.specs.declared.ahead.Ahead.{Ahead}
-use Rattle.sg_exec.specs.declared.batch.Batch.{Batch}
-use Rattle.sg_exec.specs.declared.turns.Turns.{Turns}
-use Rattle.sg_exec.specs.declared.turns.Turns.TheVariants.{Slice, Rows}
+use Rattle.sg_exec.specs.declared.activation.ahead.Ahead.{Ahead}
+use Rattle.sg_exec.specs.declared.lanes.batch.Batch.{Batch}
+use Rattle.sg_exec.specs.declared.activation.turns.Turns.{Turns}
+use Rattle.sg_exec.specs.declared.activation.turns.Turns.TheVariants.{Slice, Rows}
 use Rattle.sg_exec.specs.steps.Machines.{Sees}
 use Rattle.sg_exec.specs.steps.Moments.{IsOver, Iterated}
 use Rattle.sg_exec.specs.steps.Turning.{IsColumnOf, MayRun}

@@ -1,6 +1,6 @@
 -- Iterations side by side: what holds of each of them, instruction by instruction.
 use Rattle.std.proofs.Common.{◌≡◌, ℕ, ◌+◌, ◌*◌, ◌<◌, ◌≤◌, inl, inr, List, length, Some, true, false, refl, sym, ap, ◌∙◌, subst, arith}
-use Rattle.std.specs.Prelude.{slice_get, ◌==◌}
+use Rattle.std.specs.Prelude.{slice_get, ◌==◌, ◌&&◌, ◌⊎◌, Bool, not}
 use Rattle.std.proofs.lemmas.Bool.{cases_eq}
 use Rattle.std.proofs.lemmas.Bool.Decides.{nat_tests}
 use Rattle.std.proofs.lemmas.Option.{same_Some, slice_get_within, slice_get-get_or}
@@ -10,11 +10,12 @@ use Rattle.sg_store.specs.StoreWords.{StoreWords}
 use Rattle.sg_ir.specs.declared.code.Inst.{Inst}
 use Rattle.sg_ir.specs.declared.code.Inst.TheVariants as v
 use Rattle.sg_ir.specs.Runs.{Seen, Moved, does, runs}
-use Rattle.sg_exec.specs.declared.batch.Batch.{Batch}
-use Rattle.sg_exec.specs.declared.moment.Moment.{Moment}
+use Rattle.sg_exec.specs.declared.lanes.batch.Batch.{Batch}
+use Rattle.sg_exec.specs.declared.lanes.moment.Moment.{Moment}
 use Rattle.sg_exec.specs.steps.Machines.{seen_in, Sees, HoldsPlace}
-use Rattle.sg_exec.specs.steps.Rows.{item_in, IsAmong}
+use Rattle.sg_exec.specs.steps.Rows.{item_in}
 use Rattle.sg_exec.specs.steps.Moments.{Column, column, Follows, Moves, Stays, AreAt, AllBecome, AllMove, KeepsRows, IsOver}
+use Rattle.sg_exec.proofs.Rows.{lane_cases}
 use Rattle.sg_exec.proofs.Going.{Going, going_start, going_next, going_end, goes_otherwise, goes_in, moves_by, moves_inst, moves_there}
 
 -- ---- columns of a batch
@@ -24,8 +25,8 @@ there xs ys k x is same =
     let below : k < length xs = slice_get_within xs k x is in
     (_, slice_get-get_or ys k x (omega arith))
 
-pub become_same : (R S : Column → Column → Type 0) → ((c : Column) → R c c) → ((c : Column) → S c c) → (first end : ℕ) (batch : Batch) → AllBecome R S first end batch batch
-become_same R S is_same is_left first end batch = record {
+pub become_same : (R S : Column → Column → Type 0) → ((c : Column) → R c c) → ((c : Column) → S c c) → (on : ℕ → Type 0) (batch : Batch) → AllBecome R S on batch batch
+become_same R S is_same is_left on batch = record {
   over = λ stores over. over;
   long = refl;
   among = λ k before after at small inside.
@@ -35,8 +36,8 @@ become_same R S is_same is_left first end batch = record {
 }
 
 pub become_then : (R R' T S S' U : Column → Column → Type 0) → ((a b c : Column) → R a b → R' b c → T a c) → ((a b c : Column) → S a b → S' b c → U a c)
-    → (first end : ℕ) (a b c : Batch) → AllBecome R S first end a b → AllBecome R' S' first end b c → AllBecome T U first end a c
-become_then R R' T S S' U both left first end a b c one two = record {
+    → (on : ℕ → Type 0) (a b c : Batch) → AllBecome R S on a b → AllBecome R' S' on b c → AllBecome T U on a c
+become_then R R' T S S' U both left on a b c one two = record {
   over = λ stores over. two.over stores (one.over stores over);
   long = two.long ∙ one.long;
   among = λ k before after at small inside.
@@ -51,8 +52,8 @@ become_then R R' T S S' U both left first end a b c one two = record {
       (two.others k mid.0 after (record { before_is = mid.1; after_is = at.after_is }) small out);
 }
 
-pub become_so : (R S T U : Column → Column → Type 0) → ((a b : Column) → R a b → T a b) → ((a b : Column) → S a b → U a b) → (first end : ℕ) (old new : Batch) → AllBecome R S first end old new → AllBecome T U first end old new
-become_so R S T U so so' first end old new all = record {
+pub become_so : (R S T U : Column → Column → Type 0) → ((a b : Column) → R a b → T a b) → ((a b : Column) → S a b → U a b) → (on : ℕ → Type 0) (old new : Batch) → AllBecome R S on old new → AllBecome T U on old new
+become_so R S T U so so' on old new all = record {
   over = all.over;
   long = all.long;
   among = λ k before after at small inside. so (column old k before) (column new k after) (all.among k before after at small inside);
@@ -60,8 +61,8 @@ become_so R S T U so so' first end old new all = record {
 }
 
 -- all goes over the same stores as before
-pub over_still : (R S : Column → Column → Type 0) (first end : ℕ) (old now : Batch) → AllBecome R S first end old now → IsOver old.places.stores old → IsOver now.places.stores now
-over_still R S first end old now all over =
+pub over_still : (R S : Column → Column → Type 0) (on : ℕ → Type 0) (old now : Batch) → AllBecome R S on old now → IsOver old.places.stores old → IsOver now.places.stores now
+over_still R S on old now all over =
     let it : IsOver old.places.stores now = all.over old.places.stores over in
     subst (λ (stores : List StoreWords). IsOver stores now) (sym it.places) it
 
@@ -109,26 +110,26 @@ pub stays_then : (a b c : Column) → Stays a b → Stays b c → Stays a c
 stays_then a b c one two = moves_then (λ seen now. now) (λ seen now. now) a b c one two
 
 -- the same for all columns
-pub all_start : (whole : Seen → Moved → Moved) (first end : ℕ) (batch : Batch) → AllBecome (Comes whole whole) Stays first end batch batch
-all_start whole first end batch = become_same (Comes whole whole) Stays (comes_start whole) stays_itself first end batch
+pub all_start : (whole : Seen → Moved → Moved) (on : ℕ → Type 0) (batch : Batch) → AllBecome (Comes whole whole) Stays on batch batch
+all_start whole on batch = become_same (Comes whole whole) Stays (comes_start whole) stays_itself on batch
 
 pub all_next : (act rest next whole : Seen → Moved → Moved) → ((seen : Seen) (mid : Moved) → rest seen mid ≡ next seen (act seen mid))
-    → (first end : ℕ) (old mid now : Batch) → AllBecome (Comes rest whole) Stays first end old mid → AllMove act first end mid now → AllBecome (Comes next whole) Stays first end old now
-all_next act rest next whole split first end old mid now come step =
-    become_then (Comes rest whole) (Moves act) (Comes next whole) Stays Stays Stays (comes_next act rest next whole split) stays_then first end old mid now come step
+    → (on : ℕ → Type 0) (old mid now : Batch) → AllBecome (Comes rest whole) Stays on old mid → AllMove act on mid now → AllBecome (Comes next whole) Stays on old now
+all_next act rest next whole split on old mid now come step =
+    become_then (Comes rest whole) (Moves act) (Comes next whole) Stays Stays Stays (comes_next act rest next whole split) stays_then on old mid now come step
 
-pub all_end : (rest whole : Seen → Moved → Moved) → ((seen : Seen) (mid : Moved) → rest seen mid ≡ mid) → (first end : ℕ) (old now : Batch) → AllBecome (Comes rest whole) Stays first end old now → AllMove whole first end old now
-all_end rest whole none first end old now come = become_so (Comes rest whole) Stays (Moves whole) Stays (comes_end rest whole none) (λ a b stays. stays) first end old now come
+pub all_end : (rest whole : Seen → Moved → Moved) → ((seen : Seen) (mid : Moved) → rest seen mid ≡ mid) → (on : ℕ → Type 0) (old now : Batch) → AllBecome (Comes rest whole) Stays on old now → AllMove whole on old now
+all_end rest whole none on old now come = become_so (Comes rest whole) Stays (Moves whole) Stays (comes_end rest whole none) (λ a b stays. stays) on old now come
 
-pub all_by : (act other : Seen → Moved → Moved) → ((seen : Seen) (now : Moved) → act seen now ≡ other seen now) → (first end : ℕ) (old now : Batch) → AllMove act first end old now → AllMove other first end old now
-all_by act other same first end old now all = become_so (Moves act) Stays (Moves other) Stays (λ a b step. moves_by act other same step) (λ a b stays. stays) first end old now all
+pub all_by : (act other : Seen → Moved → Moved) → ((seen : Seen) (now : Moved) → act seen now ≡ other seen now) → (on : ℕ → Type 0) (old now : Batch) → AllMove act on old now → AllMove other on old now
+all_by act other same on old now all = become_so (Moves act) Stays (Moves other) Stays (λ a b step. moves_by act other same step) (λ a b stays. stays) on old now all
 
-pub all_inst : (inst given : Inst) → inst ≡ given → (first end : ℕ) (old now : Batch) → AllMove (λ seen. does seen given) first end old now → AllMove (λ seen. does seen inst) first end old now
-all_inst inst given is first end old now all =
-    become_so (Moves (λ seen. does seen given)) Stays (Moves (λ seen. does seen inst)) Stays (λ a b step. moves_inst inst given is step) (λ a b stays. stays) first end old now all
+pub all_inst : (inst given : Inst) → inst ≡ given → (on : ℕ → Type 0) (old now : Batch) → AllMove (λ seen. does seen given) on old now → AllMove (λ seen. does seen inst) on old now
+all_inst inst given is on old now all =
+    become_so (Moves (λ seen. does seen given)) Stays (Moves (λ seen. does seen inst)) Stays (λ a b step. moves_inst inst given is step) (λ a b stays. stays) on old now all
 
-pub all_then : (one two : Seen → Moved → Moved) (first end : ℕ) (a b c : Batch) → AllMove one first end a b → AllMove two first end b c → AllMove (λ seen now. two seen (one seen now)) first end a c
-all_then one two first end a b c before after = become_then (Moves one) (Moves two) (Moves (λ seen now. two seen (one seen now))) Stays Stays Stays (moves_then one two) stays_then first end a b c before after
+pub all_then : (one two : Seen → Moved → Moved) (on : ℕ → Type 0) (a b c : Batch) → AllMove one on a b → AllMove two on b c → AllMove (λ seen now. two seen (one seen now)) on a c
+all_then one two on a b c before after = become_then (Moves one) (Moves two) (Moves (λ seen now. two seen (one seen now))) Stays Stays Stays (moves_then one two) stays_then on a b c before after
 
 -- ---- rows that have at most become longer
 
@@ -163,8 +164,8 @@ keeps_over old new stores keeps over = record {
   moments = λ k moment is. over.moments k moment (sym (ap (λ ms. slice_get ms.items k) keeps.moments) ∙ is);
 }
 
-pub keeps_all : (first end : ℕ) (old new : Batch) → KeepsRows old new → AllBecome Stays Stays first end old new
-keeps_all first end old new keeps = record {
+pub keeps_all : (on : ℕ → Type 0) (old new : Batch) → KeepsRows old new → AllBecome Stays Stays on old new
+keeps_all on old new keeps = record {
   over = λ stores over. keeps_over old new stores keeps over;
   long = ap (λ ms. length ms.items) keeps.moments;
   among = λ k before after at small inside. subst (λ (m : Moment). Stays (column old k before) (column new k m)) (same_moment old new k before after keeps at) (keeps_stay old new k before keeps);
@@ -183,9 +184,9 @@ keeps_both old mid new one two = record {
 }
 
 -- rows that became longer first
-pub kept_then : (act : Seen → Moved → Moved) (first end : ℕ) (old mid new : Batch) → KeepsRows old mid → AllMove act first end mid new → AllMove act first end old new
-kept_then act first end old mid new keeps all =
-    become_then Stays (Moves act) (Moves act) Stays Stays Stays (moves_then (λ seen now. now) act) stays_then first end old mid new (keeps_all first end old mid keeps) all
+pub kept_then : (act : Seen → Moved → Moved) (on : ℕ → Type 0) (old mid new : Batch) → KeepsRows old mid → AllMove act on mid new → AllMove act on old new
+kept_then act on old mid new keeps all =
+    become_then Stays (Moves act) (Moves act) Stays Stays Stays (moves_then (λ seen now. now) act) stays_then on old mid new (keeps_all on old mid keeps) all
 
 -- ---- branches
 
@@ -205,76 +206,71 @@ if_other cond block otherwise old now other step =
     moves_there old now (v.If cond block otherwise) (λ seen. runs seen block)
     (λ stores state at moved is. goes_in (seen_in stores state at) moved (v.If cond block otherwise) cond block otherwise refl (λ nil. other (is.regs_are cond ∙ nil))) step
 
-pub all_zero : (cond : ℕ) (block otherwise : List Inst) (first end : ℕ) (old now : Batch) → ((k : ℕ) → IsAmong first end k → (item_in old.regs.items 0 k cond == 0) ≡ true)
-    → AllMove (λ seen. runs seen otherwise) first end old now → AllMove (λ seen. does seen (v.If cond block otherwise)) first end old now
-all_zero cond block otherwise first end old now nil all = record {
-  over = all.over;
-  long = all.long;
-  among = λ k before after at small inside. if_zero cond block otherwise (column old k before) (column now k after) (is_zero _ (nil k inside)) (all.among k before after at small inside);
-  others = all.others;
-}
+true_isnt_false : (b : Bool) → b ≡ true → b ≡ false → ⊥
+true_isnt_false true p q = absurd (cc)
+true_isnt_false false p q = absurd (cc)
 
-pub none_zero : (cond : ℕ) (block otherwise : List Inst) (first end : ℕ) (old now : Batch) → ((k : ℕ) → IsAmong first end k → (item_in old.regs.items 0 k cond == 0) ≡ false)
-    → AllMove (λ seen. runs seen block) first end old now → AllMove (λ seen. does seen (v.If cond block otherwise)) first end old now
-none_zero cond block otherwise first end old now not all = record {
-  over = all.over;
-  long = all.long;
-  among = λ k before after at small inside. if_other cond block otherwise (column old k before) (column now k after) (isnt_zero _ (not k inside)) (all.among k before after at small inside);
-  others = all.others;
-}
+left_of : (a b : Bool) → (a && b) ≡ true → a ≡ true
+left_of true b h = refl
+left_of false b h = absurd (true_isnt_false false h refl)
 
--- one column after the other
-pub one_more : (act : Seen → Moved → Moved) (first at : ℕ) (old now new : Batch) → first ≤ at → AllMove act first at old now → AllMove act at (at + 1) now new → AllMove act first (at + 1) old new
-one_more act first at old now new from so step = record {
-  over = λ stores over. step.over stores (so.over stores over);
-  long = step.long ∙ so.long;
-  among = λ k before after at_k small inside.
-      let mid = there old.moments.items now.moments.items k before at_k.before_is so.long in
-      let early : AreAt k old now before mid.0 = record { before_is = at_k.before_is; after_is = mid.1 } in
-      let late : AreAt k now new mid.0 after = record { before_is = mid.1; after_is = at_k.after_is } in
-      elim (cases_eq k at) [
-        | inl here ↦ moves_then (λ seen now. now) act (column old k before) (column now k mid.0) (column new k after)
-            (so.others k before mid.0 early small (λ (it : IsAmong first at k). absurd (omega (arith, here, it.1))))
-            (step.among k mid.0 after late small (omega (arith, here), omega (arith, here)))
-        | inr elsewhere ↦ moves_then act (λ seen now. now) (column old k before) (column now k mid.0) (column new k after)
-            (so.among k before mid.0 early small (inside.0, omega (arith, inside.1, elsewhere)))
-            (step.others k mid.0 after late small (λ (it : IsAmong at (at + 1) k). elsewhere (omega (arith, it.0, it.1))))
+right_of : (a b : Bool) → (a && b) ≡ true → b ≡ true
+right_of true b h = h
+right_of false b h = absurd (true_isnt_false false h refl)
+
+of_not : (b : Bool) → not b ≡ true → b ≡ false
+of_not true h = absurd (true_isnt_false false h refl)
+of_not false h = refl
+
+test_no : (b : Bool) → not b ≡ false → b ≡ true
+test_no true h = refl
+test_no false h = absurd (true_isnt_false true refl h)
+
+both_true : (a b : Bool) → a ≡ true → b ≡ true → (a && b) ≡ true
+both_true true b p q = q
+both_true false b p q = absurd (true_isnt_false false p refl)
+
+and_not : (a b : Bool) → a ≡ true → b ≡ false → (a && not b) ≡ true
+and_not true true p q = absurd (true_isnt_false true refl q)
+and_not true false p q = refl
+and_not false b p q = absurd (true_isnt_false false p refl)
+
+-- an `if` by masks: first the columns that go in, then those that don't
+pub branch_both : (cond : ℕ) (block otherwise : List Inst) (on goes rests word : ℕ → Bool) (old mid new : Batch)
+    → ((k : ℕ) → goes k ≡ (on k && word k)) → ((k : ℕ) → rests k ≡ (on k && not (word k))) → ((k : ℕ) → k < 32 → word k ≡ not (item_in old.regs.items 0 k cond == 0))
+    → AllMove (λ seen. runs seen block) (λ k. goes k ≡ true) old mid → AllMove (λ seen. runs seen otherwise) (λ k. rests k ≡ true) mid new
+    → AllMove (λ seen. does seen (v.If cond block otherwise)) (λ k. on k ≡ true) old new
+branch_both cond block otherwise on goes rests word old mid new goes_is rests_is word_is one two = record {
+  over = λ stores over. two.over stores (one.over stores over);
+  long = two.long ∙ one.long;
+  among = λ k before after at small inside.
+      let m = there old.moments.items mid.moments.items k before at.before_is one.long in
+      let early : AreAt k old mid before m.0 = record { before_is = at.before_is; after_is = m.1 } in
+      let late : AreAt k mid new m.0 after = record { before_is = m.1; after_is = at.after_is } in
+      elim (lane_cases (word k)) [
+        | inl w ↦
+            if_other cond block otherwise (column old k before) (column new k after) (isnt_zero _ (of_not _ (sym (word_is k small) ∙ w)))
+            (moves_then (λ seen. runs seen block) (λ seen now. now) (column old k before) (column mid k m.0) (column new k after)
+            (one.among k before m.0 early small (goes_is k ∙ both_true (on k) (word k) inside w))
+            (two.others k m.0 after late small (λ (n : rests k ≡ true). true_isnt_false (word k) w (of_not (word k) (right_of (on k) (not (word k)) (sym (rests_is k) ∙ n))))))
+        | inr w ↦
+            if_zero cond block otherwise (column old k before) (column new k after) (is_zero _ (test_no _ (sym (word_is k small) ∙ w)))
+            (moves_then (λ seen now. now) (λ seen. runs seen otherwise) (column old k before) (column mid k m.0) (column new k after)
+            (one.others k before m.0 early small (λ (y : goes k ≡ true). true_isnt_false (word k) (right_of (on k) (word k) (sym (goes_is k) ∙ y)) w))
+            (two.among k m.0 after late small (rests_is k ∙ and_not (on k) (word k) inside w)))
       ];
-  others = λ k before after at_k small out.
-      let mid = there old.moments.items now.moments.items k before at_k.before_is so.long in
-      stays_then (column old k before) (column now k mid.0) (column new k after)
-      (so.others k before mid.0 (record { before_is = at_k.before_is; after_is = mid.1 }) small (λ (it : IsAmong first at k). out (it.0, omega (arith, it.1))))
-      (step.others k mid.0 after (record { before_is = mid.1; after_is = at_k.after_is }) small (λ (it : IsAmong at (at + 1) k). out (omega (arith, from, it.0), it.1)));
+  others = λ k before after at small out.
+      let m = there old.moments.items mid.moments.items k before at.before_is one.long in
+      stays_then (column old k before) (column mid k m.0) (column new k after)
+      (one.others k before m.0 (record { before_is = at.before_is; after_is = m.1 }) small (λ (y : goes k ≡ true). out (left_of (on k) (word k) (sym (goes_is k) ∙ y))))
+      (two.others k m.0 after (record { before_is = m.1; after_is = at.after_is }) small (λ (n : rests k ≡ true). out (left_of (on k) (not (word k)) (sym (rests_is k) ∙ n))));
 }
 
-pub none_yet : (act : Seen → Moved → Moved) (first : ℕ) (batch : Batch) → AllMove act first first batch batch
-none_yet act first batch = record {
+-- where no column is on, nothing has to be done
+pub none_on : (act : Seen → Moved → Moved) (on : ℕ → Type 0) (batch : Batch) → ((k : ℕ) → k < 32 → on k → ⊥) → AllMove act on batch batch
+none_on act on batch none = record {
   over = λ stores over. over;
   long = refl;
-  among = λ k before after at small inside. absurd (omega (arith, inside.0, inside.1));
-  others = λ k before after at small out. (become_same Stays Stays stays_itself stays_itself first first batch).others k before after at small out;
+  among = λ k before after at small inside. absurd (none k small inside);
+  others = λ k before after at small out. (become_same Stays Stays stays_itself stays_itself (λ k. ⊥) batch).others k before after at small (λ it. it);
 }
-
--- and the branches by the instruction's parts
-pub of_zero : (inst : Inst) (cond : ℕ) (block otherwise given : List Inst) → inst ≡ v.If cond block otherwise → given ≡ otherwise → (first end : ℕ) (old now : Batch) → ((k : ℕ) → IsAmong first end k → (item_in old.regs.items 0 k cond == 0) ≡ true)
-    → AllMove (λ seen. runs seen given) first end old now → AllMove (λ seen. does seen inst) first end old now
-of_zero inst cond block otherwise given is same first end old now nil all =
-    all_inst inst (v.If cond block otherwise) is first end old now (all_zero cond block otherwise first end old now nil (subst (λ (insts : List Inst). AllMove (λ seen. runs seen insts) first end old now) same all))
-
-pub of_other : (inst : Inst) (cond : ℕ) (block otherwise given : List Inst) → inst ≡ v.If cond block otherwise → given ≡ block → (first end : ℕ) (old now : Batch) → ((k : ℕ) → IsAmong first end k → (item_in old.regs.items 0 k cond == 0) ≡ false)
-    → AllMove (λ seen. runs seen given) first end old now → AllMove (λ seen. does seen inst) first end old now
-of_other inst cond block otherwise given is same first end old now not all =
-    all_inst inst (v.If cond block otherwise) is first end old now (none_zero cond block otherwise first end old now not (subst (λ (insts : List Inst). AllMove (λ seen. runs seen insts) first end old now) same all))
-
--- what one column's word tells of the columns from its number up to below the next
-pub column_zero : (batch : Batch) (cond at word : ℕ) → word ≡ item_in batch.regs.items 0 at cond → word ≡ 0 → (k : ℕ) → IsAmong at (at + 1) k → (item_in batch.regs.items 0 k cond == 0) ≡ true
-column_zero batch cond at word is nil k inside =
-    let here : at ≡ k = omega (arith, inside.0, inside.1) in
-    let word_is : item_in batch.regs.items 0 k cond ≡ 0 = sym (ap (λ (c : ℕ). item_in batch.regs.items 0 c cond) here) ∙ sym is ∙ nil in
-    grind (arith, nat_tests, word_is)
-
-pub column_other : (batch : Batch) (cond at word : ℕ) → word ≡ item_in batch.regs.items 0 at cond → (word ≡ 0 → ⊥) → (k : ℕ) → IsAmong at (at + 1) k → (item_in batch.regs.items 0 k cond == 0) ≡ false
-column_other batch cond at word is other k inside =
-    let here : at ≡ k = omega (arith, inside.0, inside.1) in
-    let isnt : item_in batch.regs.items 0 k cond ≡ 0 → ⊥ = λ nil. other (is ∙ ap (λ (c : ℕ). item_in batch.regs.items 0 c cond) here ∙ nil) in
-    grind (arith, nat_tests, isnt)

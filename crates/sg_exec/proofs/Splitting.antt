@@ -6,7 +6,7 @@ use Rattle.std.proofs.lemmas.Option.{same_Some, slice_get_within, slice_get_read
 use Rattle.std.proofs.lemmas.List.{length-append, length-take-le, take_all, take-take, get_or-take}
 use Rattle.sg_accum.specs.declared.seat.AccSeat.{AccSeat}
 use Rattle.sg_accum.specs.Folding.{IsSeatOf, IsCut, IsMerged}
-use Rattle.sg_exec.specs.declared.shared.Accumulated.{Accumulated}
+use Rattle.sg_exec.specs.declared.results.shared.Accumulated.{Accumulated}
 use Rattle.sg_exec.specs.steps.Racing.{AreSeats, AreSplit, AreJoined}
 use Rattle.sg_exec.proofs.Giving.{set_same, set_other, seats_set}
 

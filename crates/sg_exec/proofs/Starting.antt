@@ -12,8 +12,8 @@ use Rattle.sg_flat.specs.declared.state.FlatState.{FlatState}
 use Rattle.sg_store.specs.StoreWords.{StoreWords}
 use Rattle.sg_ir.specs.declared.code.Inst.{Inst}
 use Rattle.sg_ir.specs.Runs.{runs, iteration_start, part_words}
-use Rattle.sg_exec.specs.declared.batch.Batch.{Batch}
-use Rattle.sg_exec.specs.declared.moment.Moment.{Moment}
+use Rattle.sg_exec.specs.declared.lanes.batch.Batch.{Batch}
+use Rattle.sg_exec.specs.declared.lanes.moment.Moment.{Moment}
 use Rattle.sg_exec.specs.steps.Machines.{seen_in, Sees, HoldsPlace, IsAtLoop}
 use Rattle.sg_exec.specs.steps.Rows.{item_in}
 use Rattle.sg_exec.specs.steps.Moments.{AllMove, IsOver, IsFresh, AreFresh, AreStarted, Iterated}
@@ -198,10 +198,10 @@ started_all points old new stores fresh regs places vars = record {
     point_there (p ∷ ps) zero below = (p, refl)
     point_there (p ∷ ps) (suc k) below = point_there ps k (omega (arith, below))
 
-pub ran_all : (stores : List StoreWords) (block : List Inst) (points : List Coord) (old mid new : Batch) → length points ≤ 32 → IsOver stores old → AreStarted points old mid → AllMove (λ seen. runs seen block) 0 (length points) mid new
+pub ran_all : (stores : List StoreWords) (block : List Inst) (points : List Coord) (on : ℕ → Type 0) (old mid new : Batch) → length points ≤ 32 → ((k : ℕ) → k < length points → on k) → IsOver stores old → AreStarted points old mid → AllMove (λ seen. runs seen block) on mid new
     → new.lacks ≡ false → (state : FlatState) → Sees stores state → (k : ℕ) (at : Coord) → slice_get points k ≡ Some at → Iterated stores state at block new k
-ran_all stores block points old mid new few over started moves lacks state sees k at point moment is =
+ran_all stores block points on old mid new few all over started moves lacks state sees k at point moment is =
     let before = there new.moments.items mid.moments.items k moment is (sym moves.long) in
     let low : k < length points = slice_get_within points k at point in
-    (moves.among k before.0 moment (record { before_is = before.1; after_is = is }) (omega (arith, low, few)) (omega arith, low)).follows stores state at sees (iteration_start (seen_in stores state at))
+    (moves.among k before.0 moment (record { before_is = before.1; after_is = is }) (omega (arith, low, few)) (all k low)).follows stores state at sees (iteration_start (seen_in stores state at))
     (started.start stores state over k at before.0 point before.1) lacks

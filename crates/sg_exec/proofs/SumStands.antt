@@ -27,7 +27,7 @@ use Rattle.sg_store.specs.WellFormed.{IsReached, IsWellFormed}
 use Rattle.sg_store.specs.StandsFor.{StandsFor}
 use Rattle.sg_store.specs.StoreLaws.{CellsAreActive, CellsDiffer}
 use Rattle.sg_store.specs.Rows.{SetsRow}
-use Rattle.sg_exec.specs.declared.shared.Accumulated.{Accumulated}
+use Rattle.sg_exec.specs.declared.results.shared.Accumulated.{Accumulated}
 use Rattle.sg_exec.specs.Standing.{shapes_of}
 use Rattle.sg_exec.specs.steps.Landing.{landing, landed_layout, HasTree}
 use Rattle.sg_exec.specs.steps.Racing.{contributions, IsPassOf}

@@ -10,8 +10,8 @@ use Rattle.sg_accum.specs.declared.seat.AccSeat.{AccSeat}
 use Rattle.sg_accum.specs.Folding.{old_values, operator_of, type_of, given_of, handed_of, IsSeatOf, AreFolded}
 use Rattle.sg_store.specs.StoreWords.{StoreWords}
 use Rattle.sg_store.specs.Rows.{IsFieldFront}
-use Rattle.sg_exec.specs.declared.shared.Accumulated.{Accumulated}
-use Rattle.sg_exec.specs.declared.sums.Sum.{Sum}
+use Rattle.sg_exec.specs.declared.results.shared.Accumulated.{Accumulated}
+use Rattle.sg_exec.specs.declared.results.sums.Sum.{Sum}
 use Rattle.sg_exec.specs.steps.Racing.{ArePasses, AreSeats}
 use Rattle.sg_exec.specs.steps.Passes.{HasPass, AreWhole, GaveReached, AreGiven, IsSumOf, into_field, passed}
 use Rattle.sg_exec.specs.steps.Made.{AddsSums, HasRow, summed, words_of}

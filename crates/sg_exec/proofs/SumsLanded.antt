@@ -9,7 +9,7 @@ use Rattle.std.proofs.lemmas.Option.{same_Some, slice_get_within}
 use Rattle.sg_flat.specs.declared.effects.Write.{Write}
 use Rattle.sg_store.specs.Rows.{put_over}
 use Rattle.sg_store.specs.StoreWords.{StoreWords, word_in}
-use Rattle.sg_exec.specs.declared.sums.Sum.{Sum}
+use Rattle.sg_exec.specs.declared.results.sums.Sum.{Sum}
 use Rattle.sg_exec.specs.steps.Passes.{into_field, with_row}
 use Rattle.sg_exec.specs.steps.Made.{KeepsField, summed}
 use Rattle.sg_exec.proofs.Giving.{set_same, set_other}

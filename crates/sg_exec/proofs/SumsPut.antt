@@ -19,7 +19,7 @@ use Rattle.sg_store.specs.WellFormed.{IsReached, IsWellFormed}
 use Rattle.sg_store.specs.StandsFor.{StandsFor}
 use Rattle.sg_store.specs.StoreLaws.{CellsAreActive, CellsDiffer}
 use Rattle.sg_store.specs.Rows.{IsFieldFront, put_over, SetsRow}
-use Rattle.sg_exec.specs.declared.shared.Accumulated.{Accumulated}
+use Rattle.sg_exec.specs.declared.results.shared.Accumulated.{Accumulated}
 use Rattle.sg_exec.specs.steps.Machines.{IsCellOf}
 use Rattle.sg_exec.specs.steps.Landing.{landed_layout, HasTree}
 use Rattle.sg_exec.specs.steps.Racing.{IsPassOf}

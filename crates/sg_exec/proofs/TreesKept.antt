@@ -4,8 +4,8 @@ use Rattle.std.specs.Prelude.{slice_get, slice_set, unwrap_or, IfSome}
 use Rattle.std.proofs.lemmas.Option.{same_Some}
 use Rattle.sg_layout.specs.declared.shape.Shape.{Shape}
 use Rattle.sg_store.specs.StoreWords.{StoreWords, word_in}
-use Rattle.sg_exec.specs.declared.cell_write.CellWrite.{CellWrite}
-use Rattle.sg_exec.specs.declared.sums.Sum.{Sum}
+use Rattle.sg_exec.specs.declared.lanes.cell_write.CellWrite.{CellWrite}
+use Rattle.sg_exec.specs.declared.results.sums.Sum.{Sum}
 use Rattle.sg_exec.specs.steps.Machines.{IsCellOf, AreCells}
 use Rattle.sg_exec.specs.steps.Landing.{current, HasTree}
 use Rattle.sg_exec.specs.steps.Made.{HaveTrees, KeepsField, HasRow, words_of}

@@ -1,6 +1,6 @@
 -- What turns want in each layout, and the first write outside of turns.
 use Rattle.std.proofs.Common.{◌≡◌, ◌⊎◌, ℕ, zero, suc, ◌+◌, ◌<◌, ◌≤◌, Bool, true, false, ◌&&◌, ◌==◌, List, [], ◌∷◌, ◌++◌, map, length, take, drop, get_or, cond, Option, Some, None, Result, Ok, Err, refl, inl, inr, sym, ap, ◌∙◌, subst, arith, append_assoc, append-nil, Bor}
-use Rattle.std.specs.Prelude.{filter, slice_get, All, Contains, IsTrue, OnOk}
+use Rattle.std.specs.Prelude.{filter, slice_get, All, Contains, IsTrue, OnErr, OnOk}
 use Rattle.std.specs.Option.{option_or}
 use Rattle.std.specs.List.{AllZip}
 use Rattle.std.specs.Result.{IsErrAnd}
@@ -27,8 +27,8 @@ use Rattle.sg_store.specs.StoreWords.{StoreWords}
 use Rattle.sg_store.specs.StandsFor.{StandsFor}
 use Rattle.sg_activate.specs.Activating.{wanted_below}
 use Rattle.sg_ir.specs.declared.code.Inst.{Inst}
-use Rattle.sg_exec.specs.declared.turns.Turns.{Turns}
-use Rattle.sg_exec.specs.declared.turns.Turns.TheVariants.{Slice, Rows}
+use Rattle.sg_exec.specs.declared.activation.turns.Turns.{Turns}
+use Rattle.sg_exec.specs.declared.activation.turns.Turns.TheVariants.{Slice, Rows}
 use Rattle.sg_exec.specs.Running.{turn_of}
 use Rattle.sg_exec.specs.Standing.{shapes_of}
 use Rattle.sg_exec.specs.steps.Machines.{Sees}
@@ -126,6 +126,10 @@ pub wanted_more : (bounds : Bounds) (layout : ℕ) (xs ys : List Write) → want
 wanted_more bounds layout xs ys =
     ap (map (λ (write : Write). write.at)) (filter-append (λ (write : Write). (write.layout == layout) && is_inside bounds write.at) xs ys)
     ∙ map-append (λ (write : Write). write.at) (filter (λ (write : Write). (write.layout == layout) && is_inside bounds write.at) xs) (filter (λ (write : Write). (write.layout == layout) && is_inside bounds write.at) ys)
+
+-- the wants of the first writes, and of the others
+pub wanted_parts : (bounds : Bounds) (layout k : ℕ) (writes : List Write) → wanted_of bounds layout writes ≡ wanted_of bounds layout (take k writes) ++ wanted_of bounds layout (drop k writes)
+wanted_parts bounds layout k writes = ap (λ (ws : List Write). wanted_of bounds layout ws) (sym (take-append-drop k writes)) ∙ wanted_more bounds layout (take k writes) (drop k writes)
 
 pub wanted_one : (bounds : Bounds) (layout : ℕ) (write : Write) → ((write.layout == layout) && is_inside bounds write.at) ≡ true → wanted_of bounds layout (write ∷ []) ≡ write.at ∷ []
 wanted_one bounds layout write test = ap (map (λ (w : Write). w.at)) (cond-true ((write.layout == layout) && is_inside bounds write.at) (write ∷ []) [] test)
@@ -344,6 +348,14 @@ ok_anyhow (Err e) holds = tt
 pub if_ok : {A E P Q : Type 0} (r : Result A E) → (P → Q) → OnOk r P → OnOk r Q
 if_ok (Ok a) f holds = f holds
 if_ok (Err e) f holds = tt
+
+pub on_err : {A E P : Type 0} (r : Result A E) → P → OnErr r P
+on_err (Ok a) holds = tt
+on_err (Err e) holds = holds
+
+pub err_so : {A E P Q : Type 0} (r : Result A E) → OnErr r P → (P → Q) → OnErr r Q
+err_so (Ok a) holds then = tt
+err_so (Err e) holds then = then holds
 
 -- ---- from what was found to what is told
 

@@ -8,9 +8,9 @@ use Rattle.sg_ir.specs.declared.code.Inst.TheVariants as v
 use Rattle.sg_ir.specs.Runs.{Place, does, at_of, cell_value, named_by, own_value}
 use Rattle.sg_ir.specs.Places.{place_at}
 use Rattle.sg_ir.proofs.Uses.{does-OwnRead, does-ReadCell}
-use Rattle.sg_exec.specs.declared.batch.Batch.{Batch}
-use Rattle.sg_exec.specs.declared.held.Held.{Held}
-use Rattle.sg_exec.specs.declared.moment.Moment.{Moment}
+use Rattle.sg_exec.specs.declared.lanes.batch.Batch.{Batch}
+use Rattle.sg_exec.specs.declared.lanes.held.Held.{Held}
+use Rattle.sg_exec.specs.declared.lanes.moment.Moment.{Moment}
 use Rattle.sg_exec.specs.Standing.{shapes_of}
 use Rattle.sg_exec.specs.steps.Machines.{seen_in, Sees, HoldsPlace}
 use Rattle.sg_exec.specs.steps.Rows.{item_in, IsPut}
@@ -26,20 +26,20 @@ value_read mine stores held field word state loop sees place layout at same valu
     ∙ cell_value_seen stores state loop sees layout field (at_of (shapes_of stores) place)
 
 -- reads at places
-pub values_done : (old mid new : Batch) (before after : List ℕ) (first end to place layout field : ℕ) (index : List ℕ) → end ≤ 32 → KeepsRows old mid → OnlyRegs mid new → before ≡ mid.regs.items → new.regs.items ≡ after
-    → IsPut (λ k. IsValueAt mid.places.stores (item_in mid.places.list None k place) field) first end to 0 before after → AllMove (λ seen. does seen (v.ReadCell to place layout field index)) first end old new
-values_done old mid new before after first end to place layout field index few keeps only was made has =
-    reads_done old mid new before after first end to (λ k. IsValueAt mid.places.stores (item_in mid.places.list None k place) field) (λ seen now. cell_value seen layout field (at_of seen.shapes (now.places place)))
-    (λ now. record { layout = layout; place = now.places place; at = named_by index now }) (λ seen. does seen (v.ReadCell to place layout field index)) (λ seen now. does-ReadCell seen to place layout field index now) few keeps only was made has
+pub values_done : (old mid new : Batch) (before after : List ℕ) (on : ℕ → Type 0) (to place layout field : ℕ) (index : List ℕ) → KeepsRows old mid → OnlyRegs mid new → before ≡ mid.regs.items → new.regs.items ≡ after
+    → IsPut (λ k. IsValueAt mid.places.stores (item_in mid.places.list None k place) field) on to 0 before after → AllMove (λ seen. does seen (v.ReadCell to place layout field index)) on old new
+values_done old mid new before after on to place layout field index keeps only was made has =
+    reads_done old mid new before after on to (λ k. IsValueAt mid.places.stores (item_in mid.places.list None k place) field) (λ seen now. cell_value seen layout field (at_of seen.shapes (now.places place)))
+    (λ now. record { layout = layout; place = now.places place; at = named_by index now }) (λ seen. does seen (v.ReadCell to place layout field index)) (λ seen now. does-ReadCell seen to place layout field index now) keeps only was made has
     (λ k word stores state at moment now small holds sees moved named.
     value_read mid.places.stores stores (item_in mid.places.list None k place) field word state at sees (now.places place) layout (named_by index now) moved.stores_are holds (moved.places_are place) named)
 
 -- reads in own cells
-pub own_values_done : (old mid new : Batch) (before after : List ℕ) (moments : List Moment) (first end to layout field : ℕ) → end ≤ 32 → KeepsRows old mid → OnlyRegs mid new → before ≡ mid.regs.items → new.regs.items ≡ after → moments ≡ mid.moments.items
-    → IsPut (IsOwnValue mid.places.stores moments layout field) first end to 0 before after → AllMove (λ seen. does seen (v.OwnRead to layout field)) first end old new
-own_values_done old mid new before after moments first end to layout field few keeps only was made same_moments has =
-    told_done old mid new before after first end to (IsOwnValue mid.places.stores moments layout field) (λ seen now. own_value seen layout field now) (λ now. now.accesses) (λ seen. does seen (v.OwnRead to layout field)) (λ stores now. Unit {0})
-    (λ seen now. does-OwnRead seen to layout field now) (λ stores now named. (named, tt)) few keeps only was made has
+pub own_values_done : (old mid new : Batch) (before after : List ℕ) (moments : List Moment) (on : ℕ → Type 0) (to layout field : ℕ) → KeepsRows old mid → OnlyRegs mid new → before ≡ mid.regs.items → new.regs.items ≡ after → moments ≡ mid.moments.items
+    → IsPut (IsOwnValue mid.places.stores moments layout field) on to 0 before after → AllMove (λ seen. does seen (v.OwnRead to layout field)) on old new
+own_values_done old mid new before after moments on to layout field keeps only was made same_moments has =
+    told_done old mid new before after on to (IsOwnValue mid.places.stores moments layout field) (λ seen now. own_value seen layout field now) (λ now. now.accesses) (λ seen. does seen (v.OwnRead to layout field)) (λ stores now. Unit {0})
+    (λ seen now. does-OwnRead seen to layout field now) (λ stores now named. (named, tt)) keeps only was made has
     (λ k word stores state at moment now small is holds sees moved told.
     own_value_is stores state at moment.cells.at sees layout field word moment.cells.writes now.writes moved.at_is moved.writes_are
     ((subst (λ (ss : List StoreWords). IsOwnValue ss moments layout field k word) moved.stores_are holds) moment (ap (λ (ms : List Moment). slice_get ms k) same_moments ∙ is) sees.standing sees.stand))

@@ -1,6 +1,7 @@
 -- What serves proofs alone: the executor's rows, boxes, the wanted coordinates, the copies of stores and what lands in them.
 pub mod Stepping
 pub mod Machines
+pub mod Holding
 pub mod Rows
 pub mod Moments
 pub mod Accessing
@@ -9,6 +10,8 @@ pub mod Puts
 pub mod Written
 pub mod Wants
 pub mod Turning
+pub mod Limiting
+pub mod Alike
 pub mod Landing
 pub mod Racing
 pub mod Passes

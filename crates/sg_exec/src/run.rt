@@ -8,13 +8,13 @@ ghost use Rattle.sg_exec.specs.Running.{IsRunnable, Ran, run_meaning, load_meani
 ghost use Rattle.sg_exec.specs.steps.Landing.{current, with_copied_store, CopiesRan};
 ghost use Rattle.sg_exec.specs.steps.Made.{CanLand, MadeRan};
 
-use crate::activated::{activated_for_rows, activated_for_slice};
-use crate::in_place::land;
-use crate::landing::land_all;
-use crate::made::Made;
-use crate::points::domain_points;
-use crate::sums::raced_points;
-use crate::values::ONE_POINT;
+use crate::activation::activate::{activated_for_rows, activated_for_slice};
+use crate::lanes::values::ONE_POINT;
+use crate::results::commit::land;
+use crate::results::landing::land_all;
+use crate::results::made::Made;
+use crate::results::sums::raced_points;
+use crate::workers::points::domain_points;
 use sg_coord::numbering;
 use sg_flat::{RunFault, Write};
 use sg_ir::KernelCode;

@@ -1,5 +1,5 @@
 -- What instructions that read, write and want make of iterations side by side.
-use Rattle.std.specs.Prelude.{◌≡◌, ℕ, List, [], ◌∷◌, ◌++◌, map, length, slice_get, Option, Some}
+use Rattle.std.specs.Prelude.{◌≡◌, ◌==◌, ℕ, Bool, true, false, not, List, [], ◌∷◌, ◌++◌, map, length, slice_get, Option, Some}
 use Rattle.std.specs.List.{AllZip}
 use Rattle.sg_words.specs.declared.operators.AccOp.{AccOp}
 use Rattle.sg_coord.specs.declared.coord.Coord.{Coord}
@@ -10,12 +10,12 @@ use Rattle.sg_store.specs.StoreWords.{StoreWords}
 use Rattle.sg_store.specs.StandsFor.{StandsFor}
 use Rattle.sg_ir.specs.Runs.{CodeWant, Place, at_of, cell_value, coord_of}
 use Rattle.sg_ir.specs.Places.{place_at}
-use Rattle.sg_exec.specs.declared.cell_write.CellWrite.{CellWrite}
-use Rattle.sg_exec.specs.declared.held.Held.{Held}
-use Rattle.sg_exec.specs.declared.moment.Moment.{Moment}
+use Rattle.sg_exec.specs.declared.lanes.cell_write.CellWrite.{CellWrite}
+use Rattle.sg_exec.specs.declared.lanes.held.Held.{Held}
+use Rattle.sg_exec.specs.declared.lanes.moment.Moment.{Moment}
 use Rattle.sg_exec.specs.Standing.{shapes_of}
 use Rattle.sg_exec.specs.steps.Machines.{seen_in, HoldsPlace, cell_there, want_write}
-use Rattle.sg_exec.specs.steps.Rows.{item_in, IsAmong}
+use Rattle.sg_exec.specs.steps.Rows.{item_in}
 use Rattle.sg_exec.specs.steps.Written.{own_write, last_or}
 
 -- ---- values
@@ -85,7 +85,12 @@ pub record KeepStores (old new : List Moment) : Type 0 where
   pub long : length new ≡ length old
   pub same : (k : ℕ) (before after : Moment) → slice_get old k ≡ Some before → slice_get new k ≡ Some after → after.cells.stores ≡ before.cells.stores
 
--- The moments from one number up to below another have become others, each as a relation says of its number. All others are as they were.
-pub record AreMade (Becomes : ℕ → Moment → Moment → Type 0) (first end : ℕ) (old new : List Moment) : Type 0 where
-  pub among : (k : ℕ) (before after : Moment) → slice_get old k ≡ Some before → slice_get new k ≡ Some after → IsAmong first end k → Becomes k before after
-  pub others : (k : ℕ) → (IsAmong first end k → ⊥) → slice_get new k ≡ slice_get old k
+-- The moments of some columns have become others, each as a relation says of its number. All others are as they were.
+pub record AreMade (Becomes : ℕ → Moment → Moment → Type 0) (on : ℕ → Type 0) (old new : List Moment) : Type 0 where
+  pub among : (k : ℕ) (before after : Moment) → slice_get old k ≡ Some before → slice_get new k ≡ Some after → on k → Becomes k before after
+  pub others : (k : ℕ) → (on k → ⊥) → slice_get new k ≡ slice_get old k
+
+-- a moment has become another if its lane isn't 0, and is as it was if it is
+pub record BecomesIf (Becomes : Moment → Moment → Type 0) (lane : ℕ) (before after : Moment) : Type 0 where
+  pub set : not (lane == 0) ≡ true → Becomes before after
+  pub zero : not (lane == 0) ≡ false → after ≡ before

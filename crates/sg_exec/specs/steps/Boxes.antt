@@ -3,11 +3,12 @@ use Rattle.std.specs.Prelude.{◌≡◌, ℕ, ◌+◌, ◌*◌, ◌/◌, ◌%◌
 use Rattle.std.specs.List.{range_with_len}
 use Rattle.sg_coord.specs.declared.coord.Coord.{Coord}
 use Rattle.sg_layout.specs.Axes.{count_of}
-use Rattle.sg_exec.specs.declared.region.Region.{Region}
-use Rattle.sg_exec.specs.declared.region.Along.{Along}
-use Rattle.sg_exec.specs.declared.region.Side.{Side}
-use Rattle.sg_exec.specs.declared.points.Form.{Form}
-use Rattle.sg_exec.specs.declared.points.Form.TheVariants.{Within, Listed}
+use Rattle.sg_exec.specs.declared.workers.region.Region.{Region}
+use Rattle.sg_exec.specs.declared.workers.region.Along.{Along}
+use Rattle.sg_exec.specs.declared.workers.region.Side.{Side}
+use Rattle.sg_exec.specs.declared.workers.points.Form.{Form}
+use Rattle.sg_exec.specs.declared.workers.points.Most.{Most}
+use Rattle.sg_exec.specs.declared.workers.points.Form.TheVariants.{Within, Listed}
 
 -- how many parts a box has on an axis
 abbrev pub part_count : Side → ℕ
@@ -68,3 +69,12 @@ points_of (Listed list) = list
 abbrev pub IsForm : Form → Type 0
 IsForm (Within region) = IsRegion region
 IsForm (Listed list) = Unit {0}
+
+-- no part of a point is below 0, or past these
+pub record IsUpToMost (most : Most) (at : Coord) : Type 0 where
+  pub a_low : pos 0 ≤ℤ at.a
+  pub a_high : at.a ≤ℤ pos most.a
+  pub b_low : pos 0 ≤ℤ at.b
+  pub b_high : at.b ≤ℤ pos most.b
+  pub c_low : pos 0 ≤ℤ at.c
+  pub c_high : at.c ≤ℤ pos most.c

@@ -21,7 +21,7 @@ use Rattle.sg_store.specs.StandsFor.{StandsFor}
 use Rattle.sg_store.specs.Walks.{cell_in}
 use Rattle.sg_ir.specs.declared.code.Inst.{Inst}
 use Rattle.sg_ir.specs.Runs.{CodeWrite, is_own, iteration}
-use Rattle.sg_exec.specs.declared.cell_write.CellWrite.{CellWrite}
+use Rattle.sg_exec.specs.declared.lanes.cell_write.CellWrite.{CellWrite}
 use Rattle.sg_exec.specs.Standing.{shapes_of, StandForState}
 use Rattle.sg_exec.specs.steps.Machines.{seen_in, cell_write, IsAtLoop}
 

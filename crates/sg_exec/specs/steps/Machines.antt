@@ -15,9 +15,9 @@ use Rattle.sg_store.specs.Spots.{LeadsAlong}
 use Rattle.sg_store.specs.Walks.{cell_in}
 use Rattle.sg_store.specs.WellFormed.{IsReached}
 use Rattle.sg_ir.specs.Runs.{Seen, Place, CodeWrite, CodeWant, is_own, down}
-use Rattle.sg_exec.specs.declared.held.Held.{Held}
-use Rattle.sg_exec.specs.declared.own_cell.OwnCell.{OwnCell}
-use Rattle.sg_exec.specs.declared.cell_write.CellWrite.{CellWrite}
+use Rattle.sg_exec.specs.declared.lanes.held.Held.{Held}
+use Rattle.sg_exec.specs.declared.lanes.own_cell.OwnCell.{OwnCell}
+use Rattle.sg_exec.specs.declared.lanes.cell_write.CellWrite.{CellWrite}
 use Rattle.sg_exec.specs.Standing.{shapes_of}
 use Rattle.sg_exec.specs.Running.{seen_at}
 use Rattle.sg_exec.specs.steps.Stepping.{IsIdle}

@@ -11,10 +11,10 @@ use Rattle.sg_flat.specs.declared.state.FlatState.{FlatState}
 use Rattle.sg_store.specs.StoreWords.{StoreWords, word_in}
 use Rattle.sg_store.specs.Links.{GrowsLinks}
 use Rattle.sg_store.specs.Rows.{IsFieldFront}
-use Rattle.sg_exec.specs.declared.made.Ended.{Ended}
-use Rattle.sg_exec.specs.declared.made.Made.{Made}
-use Rattle.sg_exec.specs.declared.shared.Accumulated.{Accumulated}
-use Rattle.sg_exec.specs.declared.sums.Sum.{Sum}
+use Rattle.sg_exec.specs.declared.results.made.Ended.{Ended}
+use Rattle.sg_exec.specs.declared.results.made.Made.{Made}
+use Rattle.sg_exec.specs.declared.results.shared.Accumulated.{Accumulated}
+use Rattle.sg_exec.specs.declared.results.sums.Sum.{Sum}
 use Rattle.sg_exec.specs.Standing.{shapes_of, StandForState}
 use Rattle.sg_exec.specs.steps.Landing.{current, landing, HasTree, Lands}
 use Rattle.sg_exec.specs.steps.Machines.{AreCells}

@@ -9,12 +9,12 @@ use Rattle.sg_store.specs.StoreWords.{StoreWords}
 use Rattle.sg_ir.specs.declared.code.Inst.{Inst}
 use Rattle.sg_ir.specs.Runs.{Seen, Moved, set_var_word, runs, iteration, iteration_start}
 use Rattle.sg_ir.specs.Named.{AreNamed}
-use Rattle.sg_exec.specs.declared.batch.Batch.{Batch}
-use Rattle.sg_exec.specs.declared.held.Held.{Held}
-use Rattle.sg_exec.specs.declared.moment.Moment.{Moment}
+use Rattle.sg_exec.specs.declared.lanes.batch.Batch.{Batch}
+use Rattle.sg_exec.specs.declared.lanes.held.Held.{Held}
+use Rattle.sg_exec.specs.declared.lanes.moment.Moment.{Moment}
 use Rattle.sg_exec.specs.Standing.{shapes_of}
 use Rattle.sg_exec.specs.steps.Machines.{seen_in, Sees, CellsMade, ArePlaces, cell_write, IsAtLoop, want_write}
-use Rattle.sg_exec.specs.steps.Rows.{item_in, IsAmong}
+use Rattle.sg_exec.specs.steps.Rows.{item_in}
 
 -- ---- one iteration
 
@@ -75,13 +75,13 @@ pub record AreAt (k : ℕ) (old new : Batch) (before after : Moment) : Type 0 wh
   pub before_is : slice_get old.moments.items k ≡ Some before
   pub after_is : slice_get new.moments.items k ≡ Some after
 
--- The columns from one number up to below another have become others as one relation says, and the rest as another.
-pub record AllBecome (Among Others : Column → Column → Type 0) (first end : ℕ) (old new : Batch) : Type 0 where
+-- Some columns have become others as one relation says, and the rest as another.
+pub record AllBecome (Among Others : Column → Column → Type 0) (on : ℕ → Type 0) (old new : Batch) : Type 0 where
   pub over : (stores : List StoreWords) → IsOver stores old → IsOver stores new
   pub long : length new.moments.items ≡ length old.moments.items
-  pub among : (k : ℕ) (before after : Moment) → AreAt k old new before after → k < 32 → IsAmong first end k →
+  pub among : (k : ℕ) (before after : Moment) → AreAt k old new before after → k < 32 → on k →
       Among (column old k before) (column new k after)
-  pub others : (k : ℕ) (before after : Moment) → AreAt k old new before after → k < 32 → (IsAmong first end k → ⊥) →
+  pub others : (k : ℕ) (before after : Moment) → AreAt k old new before after → k < 32 → (on k → ⊥) →
       Others (column old k before) (column new k after)
 
 -- a column is as it was
@@ -89,7 +89,7 @@ abbrev pub Stays : Column → Column → Type 0
 Stays = Moves (λ seen now. now)
 
 -- In these columns a batch has moved as an action says, and the rest is as it was.
-abbrev pub AllMove : (Seen → Moved → Moved) → ℕ → ℕ → Batch → Batch → Type 0
+abbrev pub AllMove : (Seen → Moved → Moved) → (ℕ → Type 0) → Batch → Batch → Type 0
 AllMove act = AllBecome (Moves act) Stays
 
 -- rows have at most become longer, and memory may be wanting

@@ -13,9 +13,9 @@ use Rattle.sg_store.specs.Rows.{put_over}
 use Rattle.sg_store.specs.StandsFor.{StandsFor}
 use Rattle.sg_ir.specs.declared.code.Inst.{Inst, fold-Inst}
 use Rattle.sg_ir.specs.Apt.{Use, Writes, uses_step}
-use Rattle.sg_exec.specs.declared.shared.Accumulated.{Accumulated}
-use Rattle.sg_exec.specs.declared.shared.Owned.{Owned}
-use Rattle.sg_exec.specs.declared.written_fields.WrittenFields.{WrittenFields}
+use Rattle.sg_exec.specs.declared.results.shared.Accumulated.{Accumulated}
+use Rattle.sg_exec.specs.declared.results.shared.Owned.{Owned}
+use Rattle.sg_exec.specs.declared.results.written_fields.WrittenFields.{WrittenFields}
 use Rattle.sg_exec.specs.steps.Machines.{IsCellOf}
 use Rattle.sg_exec.specs.steps.Landing.{landing}
 use Rattle.sg_exec.specs.steps.Racing.{contributions, IsPassOf, ArePasses, AreSeats}

@@ -2,8 +2,8 @@
 use Rattle.std.specs.Prelude.{List, ◌++◌, Vec}
 use Rattle.std.specs.List.{flat_map}
 use Rattle.std.specs.declared.alloc.Global.{Global}
-use Rattle.sg_exec.specs.declared.cell_write.CellWrite.{CellWrite}
-use Rattle.sg_exec.specs.declared.puts.Puts.{Puts}
+use Rattle.sg_exec.specs.declared.lanes.cell_write.CellWrite.{CellWrite}
+use Rattle.sg_exec.specs.declared.results.own_writes.Puts.{Puts}
 
 -- the writes of lists, one list after the other
 abbrev pub in_lists : List (Vec CellWrite Global) → List CellWrite

@@ -10,10 +10,10 @@ use Rattle.sg_store.specs.StoreWords.{StoreWords, word_in}
 use Rattle.sg_store.specs.Rows.{IsFieldFront}
 use Rattle.sg_ir.specs.declared.code.Inst.{Inst}
 use Rattle.sg_ir.specs.Runs.{is_own, iteration}
-use Rattle.sg_exec.specs.declared.cell_write.CellWrite.{CellWrite}
-use Rattle.sg_exec.specs.declared.shared.Accumulated.{Accumulated}
-use Rattle.sg_exec.specs.declared.shared.Owned.{Owned}
-use Rattle.sg_exec.specs.declared.hand.Hand.{Hand}
+use Rattle.sg_exec.specs.declared.lanes.cell_write.CellWrite.{CellWrite}
+use Rattle.sg_exec.specs.declared.results.shared.Accumulated.{Accumulated}
+use Rattle.sg_exec.specs.declared.results.shared.Owned.{Owned}
+use Rattle.sg_exec.specs.declared.workers.state.Hand.{Hand}
 use Rattle.sg_exec.specs.steps.Machines.{seen_in, cell_write, AreCells}
 use Rattle.sg_exec.specs.steps.Written.{own_write}
 use Rattle.sg_exec.specs.steps.Puts.{kept_writes}

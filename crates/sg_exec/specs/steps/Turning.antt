@@ -21,10 +21,10 @@ use Rattle.sg_activate.specs.declared.fault.ActFault.{ActFault}
 use Rattle.sg_activate.specs.declared.fault.ActFault.TheVariants as full
 use Rattle.sg_ir.specs.declared.code.Inst.{Inst}
 use Rattle.sg_ir.specs.Runs.{Seen, Moved, CodeWant, does, runs}
-use Rattle.sg_exec.specs.declared.ahead.Ahead.{Ahead}
-use Rattle.sg_exec.specs.declared.batch.Batch.{Batch}
-use Rattle.sg_exec.specs.declared.turns.Turns.{Turns}
-use Rattle.sg_exec.specs.declared.turns.Turns.TheVariants.{Slice, Rows}
+use Rattle.sg_exec.specs.declared.activation.ahead.Ahead.{Ahead}
+use Rattle.sg_exec.specs.declared.lanes.batch.Batch.{Batch}
+use Rattle.sg_exec.specs.declared.activation.turns.Turns.{Turns}
+use Rattle.sg_exec.specs.declared.activation.turns.Turns.TheVariants.{Slice, Rows}
 use Rattle.sg_exec.specs.Running.{turn_of}
 use Rattle.sg_exec.specs.Standing.{shapes_of}
 use Rattle.sg_exec.specs.steps.Machines.{Sees, cell_there}

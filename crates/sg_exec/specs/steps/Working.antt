@@ -8,9 +8,9 @@ use Rattle.sg_flat.specs.Effects.{writes_of}
 use Rattle.sg_store.specs.StoreWords.{StoreWords}
 use Rattle.sg_ir.specs.declared.code.Inst.{Inst}
 use Rattle.sg_ir.specs.Apt.{uses_in}
-use Rattle.sg_exec.specs.declared.shared.Accumulated.{Accumulated}
-use Rattle.sg_exec.specs.declared.shared.Owned.{Owned}
-use Rattle.sg_exec.specs.declared.hand.Hand.{Hand}
+use Rattle.sg_exec.specs.declared.results.shared.Accumulated.{Accumulated}
+use Rattle.sg_exec.specs.declared.results.shared.Owned.{Owned}
+use Rattle.sg_exec.specs.declared.workers.state.Hand.{Hand}
 use Rattle.sg_exec.specs.steps.Machines.{Sees, AreCells}
 use Rattle.sg_exec.specs.steps.Moments.{AreNamedAt}
 use Rattle.sg_exec.specs.steps.Landing.{landing, AreTurnsOf, Lands}

@@ -1,7 +1,7 @@
 -- The writes of an iteration, with the last own write to each field at hand.
 use Rattle.std.specs.Prelude.{◌≡◌, ℕ, Bool, ◌&&◌, ◌==◌, List, [], ◌∷◌, find, reverse, Option, Some, None, if◌then◌else◌}
 use Rattle.sg_ir.specs.Runs.{is_own}
-use Rattle.sg_exec.specs.declared.cell_write.CellWrite.{CellWrite}
+use Rattle.sg_exec.specs.declared.lanes.cell_write.CellWrite.{CellWrite}
 
 -- a write is an own write to this field
 abbrev pub is_own_to : ℕ → ℕ → CellWrite → Bool

@@ -1,8 +1,0 @@
-use Rattle.sg_exec.specs.steps.Accessing.{coord_in, AreMade, IsWanted, KeepStores}
-use Rattle.sg_exec.proofs.accesses.add_wants.Given as goal
-
-abbrev pub invariant-loop-k : goal.invariant-loop-k
-invariant-loop-k l = record {
-  stores : KeepStores l.fn.moments l.moments;
-  made : AreMade (λ k. IsWanted (record { layout = l.fn.layout; stmt = l.fn.stmt; at = coord_in l.fn.regs k l.fn.index })) l.fn.columns.first l.k l.fn.moments l.moments;
-}

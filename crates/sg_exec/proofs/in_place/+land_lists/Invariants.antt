@@ -1,5 +1,0 @@
-use Rattle.std.proofs.Common.{length}
-use Rattle.sg_exec.proofs.in_place.+land_lists.Given as goal
-
-abbrev pub decreases-land_lists : goal.decreases-land_lists
-decreases-land_lists l = length l.lists.now

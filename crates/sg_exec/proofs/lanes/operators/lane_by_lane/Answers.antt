@@ -1,0 +1,13 @@
+use Rattle.std.proofs.Common.{refl, arith}
+use Rattle.sg_words.specs.Words.{applied}
+use Rattle.sg_exec.proofs.EachLane.{are_none, are_more, each_of_two}
+use Rattle.sg_exec.proofs.lanes.operators.lane_by_lane.Goals as goal
+
+pub loop-k-init : goal.loop-k-init
+loop-k-init c = are_none _ _ refl
+
+pub loop-k-preserved : goal.loop-k-preserved
+loop-k-preserved c = are_more _ c.loop-k.k c.loop-k.words c.apply.result (omega arith) c.loop-k.invariant c.apply.ensures
+
+pub returns : goal.returns
+returns c = each_of_two (applied c.args.op c.args.ty) c.args.a c.args.b c.loop-k.words c.loop-k.k c.fits-a.0 c.fits-b.0 (omega arith) c.loop-k.invariant

@@ -1,8 +1,0 @@
-use Rattle.std.proofs.Common.{ℕ, List, ap₂, ◌∙◌}
-use Rattle.std.specs.Prelude.{bit_or}
-use lib.Lanes.{zip2}
-use Rattle.sg_exec.proofs.EachLane.{lor_is}
-use Rattle.sg_exec.proofs.operators.lor.Goals as goal
-
-pub returns : goal.returns
-returns c = ap₂ (λ (xs ys : List ℕ). zip2 bit_or xs ys) c.truths.ensures c.truths-2.ensures ∙ lor_is c.args.ty c.args.a c.args.b

@@ -1,0 +1,36 @@
+-- What place registers hold, as words: one for the layout and the node together, which is 0 where nothing is held, and those of the spot.
+use Rattle.std.specs.Prelude.{◌≡◌, ◌≢◌, ◌==◌, ◌+◌, ◌-◌, ◌*◌, ◌/◌, ◌%◌, ◌<◌, ◌≤◌, ◌^◌, ℕ, List, [], ◌∷◌, get_or, drop, IfSome, Option, None, Some, if◌then◌else◌}
+use Rattle.sg_store.specs.StoreWords.{StoreWords}
+use Rattle.sg_exec.specs.declared.lanes.held.Held.{Held}
+use Rattle.sg_exec.specs.declared.lanes.held_row.HeldRow.{HeldRow}
+use Rattle.sg_exec.specs.steps.Machines.{IsHeld}
+
+-- what three words stand for: one more than eight times the layout and the node, and the spot's part and slot
+abbrev pub held_of : ℕ → ℕ → ℕ → Option Held
+held_of kind part slot = if kind == 0 then None else Some (record { layout = (kind - 1) / 8; spot = record { node = (kind - 1) % 8; part = part; slot = slot } })
+
+-- the same of a row in a column
+abbrev pub held_at : HeldRow → ℕ → Option Held
+held_at row k = held_of (get_or row.kinds k 0) (get_or row.parts k 0) (get_or row.slots k 0)
+
+-- the same of each place in three lists
+abbrev pub held_rows : List ℕ → List ℕ → List ℕ → List (Option Held)
+held_rows [] parts slots = []
+held_rows (kind ∷ kinds) parts slots = held_of kind (get_or parts 0 0) (get_or slots 0 0) ∷ held_rows kinds (drop 1 parts) (drop 1 slots)
+
+-- the number of the layout fits a word together with a node's
+abbrev pub HasLayoutWord : Held → Type 0
+HasLayoutWord held = held.layout < 2 ^ 29
+
+-- the numbers of the layout and the node fit one word
+pub record FitsWord (held : Held) : Type 0 where
+  pub layout : HasLayoutWord held
+  pub node : held.spot.node < 7
+
+-- a word is 0 or another
+abbrev pub IsOneOf : ℕ → ℕ → Type 0
+IsOneOf word one = word ≢ 0 → word ≡ one
+
+-- each spot of a row is one of a store
+abbrev pub AreHeldAt : List StoreWords → HeldRow → Type 0
+AreHeldAt stores row = (k : ℕ) → k < 32 → IfSome (held_at row k) (IsHeld stores)

@@ -1,0 +1,170 @@
+//! Steps and values of a row of places.
+
+ghost use Rattle.std.specs.Prelude.{◌≡◌, ◌<◌, ℕ, get_or, IfSome};
+ghost use Rattle.sg_exec.specs.steps.Rows.{On};
+ghost use Rattle.sg_exec.specs.steps.Machines.{IsHeld, IsStoreOf, StepsDown};
+ghost use Rattle.sg_exec.specs.steps.Accessing.{IsValueAt};
+ghost use Rattle.sg_exec.specs.steps.Holding.{held_of, held_at, AreHeldAt, HasLayoutWord, IsOneOf};
+
+use crate::lanes::columns::Columns;
+use crate::lanes::held::Held;
+use crate::lanes::held_row::{HeldRow, HeldWords, held_in_some, held_where, one_of, words_of};
+use crate::lanes::known::{Known, known_of};
+use crate::lanes::spots::{below, value_held};
+use crate::lanes::values::ONE_POINT;
+use crate::lanes::view::View;
+use sg_coord::numbering;
+use sg_ir::places_tell;
+use std::simd::prelude::*;
+
+/// The places one node below, over words, in some columns.
+#[inline(always)]
+pub(crate) fn row_below(
+    view: &View,
+    columns: &Columns,
+    row: &HeldRow,
+    node: u32,
+    offsets: u32x32,
+) -> HeldRow
+    requires held { AreHeldAt view.now row.now }
+    ensures { (k : ℕ) → k < 32 → On columns.now.on k → StepsDown view.now node (get_or offsets k 0) (held_at row.now k) (held_at result k) }
+{
+    let here = held_in_some(row, columns);
+    all_below(view, &here, node, offsets)
+}
+
+/// The same in all columns.
+#[inline(always)]
+fn all_below(view: &View, row: &HeldRow, node: u32, offsets: u32x32) -> HeldRow
+    requires held { AreHeldAt view.now row.now }
+    ensures { (k : ℕ) → k < 32 → StepsDown view.now node (get_or offsets k 0) (held_at row.now k) (held_at result k) }
+{
+    match one_of(row.kinds) {
+        Some(one) => each_below(view, Some(one), row, node, offsets),
+        None => each_below(view, None, row, node, offsets),
+    }
+}
+
+/// The same. Where all that is held is of one layout and node, that is asked once.
+#[inline(always)]
+fn each_below(view: &View, one: Option<u32>, row: &HeldRow, node: u32, offsets: u32x32) -> HeldRow
+    requires held { AreHeldAt view.now row.now }
+    requires one { IfSome one (λ one. (k : ℕ) → k < 32 → IsOneOf (get_or row.now.kinds k 0) one) }
+    ensures { (k : ℕ) → k < 32 → StepsDown view.now node (get_or offsets k 0) (held_at row.now k) (held_at result k) }
+{
+    let known = known_by(view, one);
+    let (kinds, parts, slots) = (
+        row.kinds.to_array(),
+        row.parts.to_array(),
+        row.slots.to_array(),
+    );
+    let over = offsets.to_array();
+    let mut below_kinds = [0; 32];
+    let mut below_parts = [0; 32];
+    let mut below_slots = [0; 32];
+    for k in 0..32 {
+        let held = held_where(one, kinds[k], parts[k], slots[k]);
+        let words = words_below(view, known, held, node, over[k]);
+        below_kinds[k] = words.kind;
+        below_parts[k] = words.part;
+        below_slots[k] = words.slot;
+    }
+    HeldRow {
+        kinds: u32x32::from_array(below_kinds),
+        parts: u32x32::from_array(below_parts),
+        slots: u32x32::from_array(below_slots),
+    }
+}
+
+/// The words for the place one node below another.
+#[inline(always)]
+fn words_below(
+    view: &View,
+    known: Option<Known>,
+    held: Option<Held>,
+    node: u32,
+    offset: u32,
+) -> HeldWords
+    requires known { IfSome known (λ known. IsStoreOf view.now known.layout known.store.now) }
+    requires held { IfSome held (IsHeld view.now) }
+    requires layout { IfSome held HasLayoutWord }
+    ensures { StepsDown view.now node offset held (held_of result.kind result.part result.slot) }
+{
+    words_of(below(view, known, held, node, offset))
+}
+
+/// The store of the layout that a word for a layout and a node names.
+#[inline(always)]
+fn known_by<'a>(view: &View<'a>, one: Option<u32>) -> Option<Known<'a>>
+    ensures { IfSome result (λ known. IsStoreOf view.now known.layout known.store.now) }
+{
+    match one {
+        Some(kind) => {
+            if kind == 0 {
+                None
+            } else {
+                known_of(view, (kind - 1) / 8)
+            }
+        }
+        None => None,
+    }
+}
+
+/// The values of a field, from 0, at places, in some columns: 0 where nothing is active.
+#[inline(always)]
+pub(crate) fn row_values(view: &View, columns: &Columns, row: &HeldRow, field: u32) -> u32x32
+    requires held { AreHeldAt view.now row.now }
+    ensures { (k : ℕ) → k < 32 → On columns.now.on k → IsValueAt view.now (held_at row.now k) field (get_or result k 0) }
+{
+    let here = held_in_some(row, columns);
+    all_values(view, &here, field)
+}
+
+/// The same in all columns.
+#[inline(always)]
+fn all_values(view: &View, row: &HeldRow, field: u32) -> u32x32
+    requires held { AreHeldAt view.now row.now }
+    ensures { (k : ℕ) → k < 32 → IsValueAt view.now (held_at row.now k) field (get_or result k 0) }
+{
+    match one_of(row.kinds) {
+        Some(one) => each_value(view, Some(one), row, field),
+        None => each_value(view, None, row, field),
+    }
+}
+
+/// The same. Where all that is held is of one layout and node, that is asked once.
+#[inline(always)]
+fn each_value(view: &View, one: Option<u32>, row: &HeldRow, field: u32) -> u32x32
+    requires held { AreHeldAt view.now row.now }
+    requires one { IfSome one (λ one. (k : ℕ) → k < 32 → IsOneOf (get_or row.now.kinds k 0) one) }
+    ensures { (k : ℕ) → k < 32 → IsValueAt view.now (held_at row.now k) field (get_or result k 0) }
+{
+    let known = known_by(view, one);
+    let (kinds, parts, slots) = (
+        row.kinds.to_array(),
+        row.parts.to_array(),
+        row.slots.to_array(),
+    );
+    let mut words = [0; 32];
+    for k in 0..32 {
+        let held = held_where(one, kinds[k], parts[k], slots[k]);
+        words[k] = value_of(view, known, held, field);
+    }
+    u32x32::from_array(words)
+}
+
+/// The value of a field, from 0, at a place: 0 if nothing is active. Where the place is in the known store, that isn't looked for.
+#[inline(always)]
+fn value_of(view: &View, known: Option<Known>, held: Option<Held>, field: u32) -> u32
+    requires known { IfSome known (λ known. IsStoreOf view.now known.layout known.store.now) }
+    requires held { IfSome held (IsHeld view.now) }
+    ensures { IsValueAt view.now held field result }
+{
+    // for the laws that they ensure
+    numbering(&ONE_POINT);
+    places_tell();
+    match held {
+        Some(held) => value_held(view, known, held, field),
+        None => 0,
+    }
+}

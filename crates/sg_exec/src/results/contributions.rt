@@ -1,0 +1,151 @@
+ghost use Rattle.std.specs.Prelude.{◌≡◌, ◌++◌, ◌∷◌, ◌<◌, ◌≤◌, [], ℕ, length, OnOk, IfSome, Some, None, slice_get, MatchOption};
+ghost use Rattle.sg_accum.specs.Folding.{old_values, operator_of, IsSeatOf, HasGivenWord};
+ghost use Rattle.sg_exec.specs.declared.results.shared.Accumulated.{Accumulated};
+ghost use Rattle.sg_exec.specs.steps.Machines.{AreCells, IsCellOf};
+ghost use Rattle.sg_exec.specs.steps.Landing.{current};
+ghost use Rattle.sg_exec.specs.steps.Racing.{last_own, listed, ArePasses, AreSeats, HaveGiven};
+ghost use Rattle.sg_exec.specs.steps.Written.{own_write};
+ghost use Rattle.sg_exec.specs.steps.Puts.{kept_writes};
+
+use crate::lanes::cell_write::CellWrite;
+use crate::lanes::cells::Cells;
+use crate::results::own_writes::Puts;
+use crate::results::shared::{Accumulated, Owned};
+use sg_accum::AccSeat;
+use sg_flat::Way;
+use sg_store::{Store, Stores};
+use sg_words::{AccOp, Memory};
+
+/// Gives the contributions among writes to the passes, each by its seat.
+pub(crate) fn give_all(
+    stores: &Stores,
+    reached: &[Option<Store>],
+    accumulated: &[Accumulated],
+    writes: &[CellWrite],
+    seats: &mut Vec<AccSeat>,
+)
+    requires passes { ArePasses (current reached.now stores.now.list) accumulated.now }
+    requires cells { AreCells (current reached.now stores.now.list) writes.now }
+    requires seats { AreSeats accumulated.now seats.old.items }
+    ensures seats { AreSeats accumulated.now seats.new.items }
+    ensures gave { HaveGiven accumulated.now writes.now seats.old.items seats.new.items }
+{
+    let mut last = 0;
+    for write in writes {
+        last = give_one(stores, reached, accumulated, write, last, seats);
+    }
+}
+
+/// Gives a write to the pass of its field, if it is a contribution. The field is looked for from that of the last contribution on, whose
+/// number it is given and answers.
+#[inline(always)]
+fn give_one(
+    stores: &Stores,
+    reached: &[Option<Store>],
+    accumulated: &[Accumulated],
+    write: &CellWrite,
+    last: usize,
+    seats: &mut Vec<AccSeat>,
+) -> usize
+    requires passes { ArePasses (current reached.now stores.now.list) accumulated.now }
+    requires cell { IfSome write.now.cell (IsCellOf (current reached.now stores.now.list) write.now.layout) }
+    requires seats { AreSeats accumulated.now seats.old.items }
+    ensures seats { AreSeats accumulated.now seats.new.items }
+    ensures gave { HaveGiven accumulated.now (write.now ∷ []) seats.old.items seats.new.items }
+{
+    let (_stores, _reached) = (stores, reached);
+    match write.way {
+        Way::Own => return last,
+        Way::Acc(_op) => {}
+    }
+    let Some(cell) = write.cell else {
+        return last;
+    };
+    let Some(number) = number_of(accumulated, write.layout, write.place, last) else {
+        return last;
+    };
+    let seat = &mut seats[number];
+    give(&accumulated[number], seat, cell, write.value);
+    number
+}
+
+/// One contribution to a cell, by the field's operator.
+#[inline(always)]
+fn give(to: &Accumulated, seat: &mut AccSeat, cell: u32, word: u32)
+    requires own { IsSeatOf to.now.pass seat.old }
+    requires operator { operator_of to.now.pass ≡ to.now.op }
+    requires inside { cell < length (old_values to.now.pass) }
+    ensures own { IsSeatOf to.now.pass seat.new }
+    ensures gave { HasGivenWord cell word seat.old seat.new }
+{
+    match to.op {
+        AccOp::Add => to.pass.add(seat, cell as usize, word),
+        AccOp::Min => to.pass.least(seat, cell as usize, word),
+        AccOp::Max => to.pass.most(seat, cell as usize, word),
+    }
+}
+
+/// The number of a field among accumulated ones, which is looked for from one number on, and then before it.
+#[inline(always)]
+pub(crate) fn number_of(
+    accumulated: &[Accumulated],
+    layout: u32,
+    field: u32,
+    first: usize,
+) -> Option<usize>
+    ensures { MatchOption result
+        ((k : ℕ) (it : Accumulated) → slice_get accumulated.now k ≡ Some it → it.layout ≡ layout → it.field ≡ field → ⊥)
+        (λ k. (it : Accumulated) × (slice_get accumulated.now k ≡ Some it) × (it.layout ≡ layout) × (it.field ≡ field)) }
+{
+    let first = first.min(accumulated.len());
+    match number_between(accumulated, layout, field, first, accumulated.len()) {
+        Some(number) => Some(number),
+        None => number_between(accumulated, layout, field, 0, first),
+    }
+}
+
+/// The number of a field among accumulated ones, which is looked for from one number up to below another.
+fn number_between(
+    accumulated: &[Accumulated],
+    layout: u32,
+    field: u32,
+    from: usize,
+    to: usize,
+) -> Option<usize>
+    requires { to ≤ length accumulated.now }
+    ensures { MatchOption result
+        ((k : ℕ) (it : Accumulated) → from ≤ k → k < to → slice_get accumulated.now k ≡ Some it → it.layout ≡ layout → it.field ≡ field → ⊥)
+        (λ k. (it : Accumulated) × (slice_get accumulated.now k ≡ Some it) × (it.layout ≡ layout) × (it.field ≡ field)) }
+{
+    for number in from..to {
+        let it = &accumulated[number];
+        if it.layout == layout && it.field == field {
+            return Some(number);
+        }
+    }
+    None
+}
+
+/// Adds the last own write to each own-written field.
+pub(crate) fn put_all(owned: &[Owned], cells: &Cells, puts: &mut Puts) -> Result<(), Memory>
+    ensures puts { OnOk result (kept_writes puts.new ≡ kept_writes puts.old ++ last_own owned.now cells.now.writes) }
+    ensures cells { OnOk result (AreCells cells.now.stores (kept_writes puts.old) → AreCells cells.now.stores (kept_writes puts.new)) }
+{
+    for own in owned {
+        put_one(*own, cells, puts)?;
+    }
+    Ok(())
+}
+
+#[inline(always)]
+fn put_one(own: Owned, cells: &Cells, puts: &mut Puts) -> Result<(), Memory>
+    ensures puts { OnOk result (kept_writes puts.new ≡ kept_writes puts.old ++ listed (own_write own.layout own.field cells.now.writes)) }
+    ensures cells { OnOk result (AreCells cells.now.stores (kept_writes puts.old) → AreCells cells.now.stores (kept_writes puts.new)) }
+{
+    // for the cells that it ensures
+    cells.writes();
+    if let Some(write) = cells.own_write(own.layout, own.field) {
+        puts.push(write)?;
+    }
+    Ok(())
+}
