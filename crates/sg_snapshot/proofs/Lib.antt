@@ -1,0 +1,15 @@
+pub mod Bytes
+pub mod PartsRead
+pub mod PartsBack
+pub mod Fronts
+pub mod Layouts
+pub mod Laying
+pub mod Besides
+pub mod Giving
+pub mod Reaching
+pub mod Openings
+pub mod Steps
+pub mod Fillings
+pub mod Writings
+pub mod States
+pub mod Backs

@@ -1,0 +1,9 @@
+pub mod Numbers
+pub mod Parts
+pub mod FormLaws
+pub mod Image
+pub mod Restoring
+pub mod Restored
+pub mod steps
+pub mod SnapLaws
+pub mod Examples
