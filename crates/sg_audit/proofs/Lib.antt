@@ -1,0 +1,15 @@
+pub mod Numerals
+pub mod Lines
+pub mod Texts
+pub mod Verdicts
+pub mod NodeLinks
+pub mod SlotNumbers
+pub mod NodeTables
+pub mod TakesLetsGo
+pub mod HeldLinks
+pub mod LayoutsTables
+pub mod LayoutTakes
+pub mod LayoutFrees
+pub mod Following
+pub mod Stepped
+pub mod Built

@@ -1,0 +1,5 @@
+pub mod Reading
+pub mod Auditing
+pub mod AuditLaws
+pub mod Examples
+pub mod steps

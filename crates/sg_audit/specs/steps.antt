@@ -1,0 +1,5 @@
+pub mod Finding
+pub mod Tables
+pub mod Making
+pub mod Stepping
+pub mod Building

@@ -1,0 +1,11 @@
+pub mod Lists
+pub mod Once
+pub mod Step
+pub mod Lacks
+pub mod StoresPlaced
+pub mod PlacedOnce
+pub mod PlacingLoops
+pub mod RoomLoops
+pub mod LayoutChanges
+pub mod ChangeOrder
+pub mod PlacingChanges

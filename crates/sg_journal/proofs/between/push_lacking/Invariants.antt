@@ -1,0 +1,12 @@
+use Rattle.std.proofs.Common.{◌≡◌, ◌++◌, drop}
+use Rattle.sg_journal.specs.Placing.{AreRising}
+use Rattle.sg_journal.specs.steps.Lacking.{line_for}
+use Rattle.sg_journal.proofs.Lacks.{lacking_text}
+use Rattle.sg_journal.proofs.between.push_lacking.Given as goal
+
+abbrev pub invariant-loop-link : goal.invariant-loop-link
+invariant-loop-link l = record {
+  left : AreRising l.left;
+  text : l.lines.items ++ lacking_text (line_for l.taken l.layout l.node) l.left (drop l.link-index l.links)
+      ≡ l.fn.lines.items ++ lacking_text (line_for l.taken l.layout l.node) l.others l.links;
+}
