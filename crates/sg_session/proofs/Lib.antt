@@ -25,3 +25,4 @@ mod SameTasks
 mod PlainElses
 mod SamePrograms
 mod SameRuns
+mod WorkedCode

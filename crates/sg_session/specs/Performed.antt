@@ -5,6 +5,7 @@ use Rattle.sg_words.specs.declared.memory.Stop.TheVariants as stop
 use Rattle.sg_words.specs.declared.text.Text.{Text}
 use Rattle.sg_layout.specs.declared.shape.Shape.{Shape}
 use Rattle.sg_flat.specs.declared.state.FlatState.{FlatState}
+use Rattle.sg_flat.specs.State.{opening}
 use Rattle.sg_store.specs.StoreWords.{StoreWords}
 use Rattle.sg_names.specs.Tables.{Tables}
 use Rattle.sg_exec.specs.Standing.{StandForState}
@@ -27,6 +28,11 @@ HasState layouts stores = (state : FlatState) × StandForState layouts stores st
 pub record SessionParts : Type 0 where
   pub compiled : CompiledProgram
   pub stores : List StoreWords
+
+-- a session as it is opened: it has this compiled program, and its stores stand for the opening state
+pub record IsOpened (program : CompiledProgram) (session : SessionParts) : Type 0 where
+  pub compiled : session.compiled ≡ program
+  pub opening : StandForState program.layouts session.stores (opening program.layouts)
 
 -- the stores stand for what the meaning leaves, and the text is its text
 pub record LeavesMeaning (layouts : List Shape) (stores : List StoreWords) (text : List ℕ) (meaning : Result Left RunRefusal) : Type 0 where

@@ -1,6 +1,6 @@
 //! Opening a session.
 
-ghost use Rattle.std.specs.Prelude.{◌≡◌, IfOk};
+ghost use Rattle.std.specs.Prelude.{IfOk};
 ghost use Rattle.sg_flat.specs.State.{opening};
 ghost use Rattle.sg_exec.specs.Standing.{StandForState};
 
@@ -9,41 +9,28 @@ use crate::session::Session;
 use sg_store::{Store, Stores};
 use sg_words::{Items, Memory};
 use std::alloc::Global;
-use std::thread::Threads;
 
 impl Session {
-    ghost use Rattle.std.specs.Prelude.{◌≡◌, IfOk};
-    ghost use Rattle.sg_flat.specs.State.{opening};
-    ghost use Rattle.sg_exec.specs.Standing.{StandForState};
+    ghost use Rattle.std.specs.Prelude.{IfOk};
+    ghost use Rattle.sg_session.specs.Performed.{IsOpened};
 
-    /// A session at its start: what is active without any write, and all values 0. Up to so many workers make its stores; it waits for
-    /// them. Where memory runs out the compiled program is dropped.
-    pub fn open<R: Threads + Sync>(
-        rt: &R,
-        alloc: Global,
-        compiled: Compiled,
-        workers: u32,
-    ) -> Result<Session, Memory>
-        ensures compiled { IfOk result (λ session. session.compiled ≡ compiled) }
-        ensures opening { IfOk result (λ session. StandForState compiled.layouts session.stores (opening compiled.layouts)) }
+    /// A session at its start: what is active without any write, and all values 0. It waits for nobody. Where memory runs out the
+    /// compiled program is dropped.
+    pub fn open(alloc: Global, compiled: Compiled) -> Result<Session, Memory>
+        ensures { IfOk result (IsOpened compiled) }
     {
-        let stores = opening_stores(rt, alloc, &compiled, workers)?;
+        let stores = opening_stores(alloc, &compiled)?;
         Ok(Session { compiled, stores })
     }
 }
 
 /// The stores of a program's layouts at its start.
-pub(crate) fn opening_stores<R: Threads + Sync>(
-    rt: &R,
-    alloc: Global,
-    compiled: &Compiled,
-    workers: u32,
-) -> Result<Stores, Memory>
+pub(crate) fn opening_stores(alloc: Global, compiled: &Compiled) -> Result<Stores, Memory>
     ensures { IfOk result (λ stores. StandForState compiled.now.layouts stores.list (opening compiled.now.layouts)) }
 {
     let mut list = Items::new(alloc);
     for layout in compiled.layouts.list.as_slice() {
-        list.push(Store::make_by_workers(rt, alloc, layout, workers)?)?;
+        list.push(Store::make(alloc, layout)?)?;
     }
     Ok(Stores { list })
 }

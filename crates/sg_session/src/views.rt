@@ -91,7 +91,7 @@ fn stats<R: Threads + Sync>(
         text.bytes ≡ counts_of_layout (layout_name_of compiled.now.names layout) (slice_get compiled.now.layouts layout) (slice_get state.layouts layout)) }
 {
     let store = &stores.list.as_slice()[layout as usize];
-    sg_image::stats(
+    sg_image::stats_by_workers(
         rt,
         alloc,
         store,

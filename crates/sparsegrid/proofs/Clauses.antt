@@ -11,36 +11,39 @@ use Rattle.sg_session.specs.Performed.{SessionParts}
 use Rattle.sparsegrid.specs.declared.output.PutFailed.{PutFailed}
 use Rattle.sparsegrid.specs.declared.session.Done.{Done}
 use Rattle.sparsegrid.specs.Words.{Asked, good_words, is_gen}
-use Rattle.sparsegrid.specs.Meaning.{Meaning, Readings, meaning, meaning_by, meaning_of_words, meaning_of_asked, readings_in}
-use Rattle.sparsegrid.specs.Outcome.{Outside, HasWholeText, IsCutShort, IsEnding, HasSession, Wrote, AskedFront, WentAFront, AsksAs, ReadFaults, PutFaults, CountOf, ReadCount, StandsForLast, asked_more, counted_more}
-use Rattle.sparsegrid.specs.steps.Along.{SendCause, status_of, session_of, ReadMade, names_of, FollowedMeaning, NoneFailed, LastFailed, ReadsEnd, Went, IsEnd}
+use Rattle.sparsegrid.specs.Moves.{Move, names_in}
+use Rattle.sparsegrid.specs.Meaning.{Meaning, Readings, asked_of, moves_of, meaning, meaning_by, meaning_of_words, meaning_of_asked, readings_in}
+use Rattle.sparsegrid.specs.Outcome.{Outside, HasWholeText, IsCutShort, IsEnding, HasSession, Made, Wrote, IsFront, WentAFront, ReadFaults, PutFaults, CountOf, ReadCount, StandsForLast, counted_more}
+use Rattle.sparsegrid.specs.steps.Along.{SendCause, status_of, session_of, ReadMade, names_of, Follows, NoneFailed, LastFailed, ReadsEnd, Went, IsEnd}
 use Rattle.sparsegrid.proofs.Sources.{of_file}
-use Rattle.sparsegrid.proofs.Unread.{generated_asks, no_names}
+use Rattle.sparsegrid.proofs.Unread.{generated_asks, no_names, names_meant}
 use Rattle.sparsegrid.proofs.Readings.{count_low, count_rose, agree_told, agree_stopped, readings_of, agree_own}
 
 module _ (words : List (List ℕ)) (before after : Outside) (result : Result Done (Stop PutFailed)) (went : Went (meaning_by words) 0 before after result) (end : IfOk result IsEnd) where
   -- ---- by how a run ended
 
-  wrote_as : (m : Meaning) (r : Result Done (Stop PutFailed)) → FollowedMeaning m (names_of went.made) before after r → IsEnding (status_of r) → Wrote m before after (status_of r)
+  wrote_as : (m : Meaning) (r : Result Done (Stop PutFailed)) → Follows m went.did went.part r → IsEnding (status_of r) → Wrote m before after (status_of r)
   wrote_as m (Ok done) f ending =
-      record {
-        text = f.along.bytes;
-        status = f.along.status;
-        asked = went.asked ∙ ap (asked_more before.asked) (sym f.asked);
-        reads = went.reads ∙ ap (counted_more before.reads) (sym f.asked);
-      }
+      record { made = subst (λ (moves : List Move). Made moves [] before after) f.0.all (subst (λ (part : List ℕ). Made went.did part before after) f.1 went.grew); status = f.0.status }
   wrote_as m (Err (stop.Refused failed)) f ending = absurd (ending.0 refl)
   wrote_as m (Err stop.Memory) f ending = absurd (ending.1 refl)
 
-  front_as : (m : Meaning) (r : Result Done (Stop PutFailed)) → IfOk r IsEnd → FollowedMeaning m (names_of went.made) before after r → IsCutShort (status_of r) → WentAFront m before after (status_of r)
-  front_as m (Ok done) e f (inl three) = absurd (e.0 three)
-  front_as m (Ok done) e f (inr nine) = absurd (e.1 nine)
-  front_as m (Err why) e f cut =
-      record { text = f.along.bytes; names = record { names = names_of went.made; left = f.asked.0; whole = f.asked.1; asked = went.asked; reads = went.reads } }
-
-  names_as : (m : Meaning) (r : Result Done (Stop PutFailed)) → FollowedMeaning m (names_of went.made) before after r → AskedFront m before after
-  names_as m (Ok done) f = record { names = names_of went.made; left = []; whole = f.asked ∙ sym (append-nil (names_of went.made)); asked = went.asked; reads = went.reads }
-  names_as m (Err why) f = record { names = names_of went.made; left = f.asked.0; whole = f.asked.1; asked = went.asked; reads = went.reads }
+  -- the moves that were made are a front, whatever the status
+  front_as : (m : Meaning) (r : Result Done (Stop PutFailed)) → IfOk r IsEnd → Follows m went.did went.part r → WentAFront m before after (status_of r)
+  front_as m (Ok done) e f =
+      record {
+        done = went.did;
+        part = went.part;
+        front = record {
+          left = [];
+          whole = sym (append-nil went.did ∙ f.0.all);
+          failed = λ three. absurd (e.0 three);
+          other = λ other. f.1;
+          less = λ nine. absurd (e.1 nine);
+        };
+        made = went.grew;
+      }
+  front_as m (Err why) e f = record { done = went.did; part = went.part; front = f; made = went.grew }
 
   no_two : (r : Result Done (Stop PutFailed)) → IfOk r (λ done. done.status ≢ 2) → status_of r ≢ 2
   no_two (Ok done) other = other
@@ -57,17 +60,18 @@ module _ (words : List (List ℕ)) (before after : Outside) (result : Result Don
 
   -- ---- the readings
 
-  followed_none : (held : Held) → before.held ≡ Some held → NoneFailed before after went.made → FollowedMeaning (meaning words held None) (names_of went.made) before after result
-  followed_none held told none = went.followed (readings_in held None) (agree_told held 0 went.made (none.told held told))
+  followed_none : (held : Held) → before.held ≡ Some held → NoneFailed before after went.made → Follows (meaning words held None) went.did went.part result
+  followed_none held told none = went.follows (readings_in held None) (agree_told held 0 went.made (none.told held told))
 
   followed_stopped : (held : Held) → before.held ≡ Some held → (failed : LastFailed before after went.made) → after.reads < last_count
-      → FollowedMeaning (meaning words held (Some (after.reads - before.reads))) (names_of went.made) before after result
+      → Follows (meaning words held (Some (after.reads - before.reads))) went.did went.part result
   followed_stopped held told failed low =
-      let count : counted_more before.reads (names_of went.made) ≡ before.reads + length (names_of went.made) = count_low before.reads (names_of went.made) (rw (sym went.reads) low) in
+      let reads : after.reads ≡ counted_more before.reads (names_of went.made) = went.grew.reads ∙ ap (counted_more before.reads) went.names in
+      let count : counted_more before.reads (names_of went.made) ≡ before.reads + length (names_of went.made) = count_low before.reads (names_of went.made) (rw (sym reads) low) in
       let long : length (names_of went.made) ≡ length went.made = length-map went.made (λ (read : ReadMade). read.name) in
       let made : length went.made ≡ length (failed.earlier ++ failed.last ∷ []) = ap length failed.is in
-      let at : after.reads - before.reads ≡ suc (length failed.earlier + 0) = omega (arith, went.reads, length-append failed.earlier (failed.last ∷ [])) in
-      went.followed (readings_in held (Some (after.reads - before.reads)))
+      let at : after.reads - before.reads ≡ suc (length failed.earlier + 0) = omega (arith, reads, length-append failed.earlier (failed.last ∷ [])) in
+      went.follows (readings_in held (Some (after.reads - before.reads)))
       (rw failed.is (agree_stopped held (after.reads - before.reads) 0 failed.earlier failed.last at (failed.told held told) failed.missing))
 
   -- ---- the clauses
@@ -85,43 +89,44 @@ module _ (words : List (List ℕ)) (before after : Outside) (result : Result Don
     by_ends (inr failed) =
         wrote_as (meaning words held (Some (after.reads - before.reads))) result (followed_stopped held told failed.0 low) ((λ three. absurd (omega arith)), (λ nine. absurd (omega arith)))
 
-  pub front : IsCutShort (status_of result) → (held : Held) → before.held ≡ Some held → WentAFront (meaning words held None) before after (status_of result)
+  pub front : (held : Held) → before.held ≡ Some held → WentAFront (meaning words held None) before after (status_of result)
       ⊎ (Rose before.failed_reads after.failed_reads × (after.reads < last_count → WentAFront (meaning words held (Some (after.reads - before.reads))) before after (status_of result)))
-  front cut held told = by_ends went.ends where
+  front held told = by_ends went.ends where
     by_ends : ReadsEnd before after went.made result → WentAFront (meaning words held None) before after (status_of result)
         ⊎ (Rose before.failed_reads after.failed_reads × (after.reads < last_count → WentAFront (meaning words held (Some (after.reads - before.reads))) before after (status_of result)))
-    by_ends (inl well) = inl (front_as (meaning words held None) result end (followed_none held told well.0) cut)
-    by_ends (inr failed) =
-        inr (failed.0.fault, λ low. front_as (meaning words held (Some (after.reads - before.reads))) result end (followed_stopped held told failed.0 low) cut)
+    by_ends (inl well) = inl (front_as (meaning words held None) result end (followed_none held told well.0))
+    by_ends (inr failed) = inr (failed.0.fault, λ low. front_as (meaning words held (Some (after.reads - before.reads))) result end (followed_stopped held told failed.0 low))
 
-  own : FollowedMeaning (meaning_by words (readings_of 0 went.made)) (names_of went.made) before after result
-  own = went.followed (readings_of 0 went.made) (agree_own 0 went.made)
+  own : Follows (meaning_by words (readings_of 0 went.made)) went.did went.part result
+  own = went.follows (readings_of 0 went.made) (agree_own 0 went.made)
 
   pub ended : IsEnding (status_of result) → (readings : Readings) × Wrote (meaning_by words readings) before after (status_of result)
   ended ending = (readings_of 0 went.made, wrote_as (meaning_by words (readings_of 0 went.made)) result own ending)
 
-  pub asked : AsksAs words before after
-  asked = (readings_of 0 went.made, names_as (meaning_by words (readings_of 0 went.made)) result own)
+  pub asked : (readings : Readings) × WentAFront (meaning_by words readings) before after (status_of result)
+  asked = (readings_of 0 went.made, front_as (meaning_by words (readings_of 0 went.made)) result end own)
+
+  -- no move that was made is a read
+  unread : (m : Meaning) (r : Result Done (Stop PutFailed)) → asked_of m ≡ [] → Follows m went.did went.part r → after.reads ≡ before.reads
+  unread m r none f = went.grew.reads ∙ ap (counted_more before.reads) (no_names m went.did went.part r none f)
 
   pub reads : ReadCount (good_words words) before after (status_of result)
   reads = by_words (good_words words) result own where
-    by_words : (o : Option Asked) (r : Result Done (Stop PutFailed)) → FollowedMeaning (meaning_of_words o (readings_of 0 went.made)) (names_of went.made) before after r → ReadCount o before after (status_of r)
-    by_words None (Ok done) f = went.reads ∙ ap (counted_more before.reads) (sym f.asked)
-    by_words None (Err why) f = went.reads ∙ ap (counted_more before.reads) (front_none (names_of went.made) f.asked.0 (sym f.asked.1)) where
-      front_none : (xs ys : List (List ℕ)) → xs ++ ys ≡ [] → xs ≡ []
-      front_none [] ys h = refl
-      front_none (x ∷ xs) ys h = absurd (cc)
+    by_words : (o : Option Asked) (r : Result Done (Stop PutFailed)) → Follows (meaning_of_words o (readings_of 0 went.made)) went.did went.part r → ReadCount o before after (status_of r)
+    by_words None r f = unread (meaning_of_words None (readings_of 0 went.made)) r refl f
     by_words (Some wanted) r f = by_mode (is_gen wanted.mode) refl where
-      by_file : (a : Result Done (Stop PutFailed)) → is_gen wanted.mode ≡ false → FollowedMeaning (meaning_of_asked wanted (readings_of 0 went.made)) (names_of went.made) before after a
+      by_file : (a : Result Done (Stop PutFailed)) → is_gen wanted.mode ≡ false → Follows (meaning_of_asked wanted (readings_of 0 went.made)) went.did went.part a
           → IsEnding (status_of a) → Rose before.reads after.reads
-      by_file (Ok done) file g ending = rose (sym (ap (λ (m : Meaning). m.asked) (of_file wanted file (readings_of 0 went.made))) ∙ g.asked) where
-        rose : {rest : List (List ℕ)} → wanted.file ∷ rest ≡ names_of went.made → Rose before.reads after.reads
-        rose {rest} is = subst (λ (c : ℕ). Rose before.reads c) (sym (went.reads ∙ ap (counted_more before.reads) (sym is))) (count_rose before.reads wanted.file rest)
+      by_file (Ok done) file g ending =
+          rose (sym (ap (λ (m : Meaning). asked_of m) (of_file wanted file (readings_of 0 went.made))) ∙ sym (names_meant (meaning_of_asked wanted (readings_of 0 went.made))) ∙ ap (λ (moves : List Move). names_in moves) (sym g.0.all))
+        where
+          rose : {rest : List (List ℕ)} → wanted.file ∷ rest ≡ names_in went.did → Rose before.reads after.reads
+          rose {rest} is = subst (λ (c : ℕ). Rose before.reads c) (sym (went.grew.reads ∙ ap (counted_more before.reads) (sym is))) (count_rose before.reads wanted.file rest)
       by_file (Err (stop.Refused failed)) file g ending = absurd (ending.0 refl)
       by_file (Err stop.Memory) file g ending = absurd (ending.1 refl)
 
       by_mode : (b : Bool) → is_gen wanted.mode ≡ b → CountOf b before after (status_of r)
-      by_mode true gen = went.reads ∙ ap (counted_more before.reads) (no_names _ (names_of went.made) before after r (generated_asks wanted gen (readings_of 0 went.made)) f)
+      by_mode true gen = unread (meaning_of_asked wanted (readings_of 0 went.made)) r (generated_asks wanted gen (readings_of 0 went.made)) f
       by_mode false file = by_file r file f
 
   pub read_faults : before.failed_reads ≤ after.failed_reads → ReadFaults before after (status_of result)
@@ -164,8 +169,8 @@ module _ (words : List (List ℕ)) (before after : Outside) (result : Result Don
     well_last (Some kept) h = λ held told. h held told
 
     by_result : (r : Result Done (Stop PutFailed)) → IfOk r IsEnd → ReadsEnd before after went.made r
-        → ((held : Held) → before.held ≡ Some held → NoneFailed before after went.made → FollowedMeaning (meaning words held None) (names_of went.made) before after r)
+        → ((held : Held) → before.held ≡ Some held → NoneFailed before after went.made → Follows (meaning words held None) went.did went.part r)
         → IfSome (session_of r) (λ kept. (held : Held) → before.held ≡ Some held → StandsForLast (meaning words held None).last kept)
-    by_result (Ok done) e (inl well) f = well_last done.session (λ held told. (f held told well.0).along.last)
+    by_result (Ok done) e (inl well) f = well_last done.session (λ held told. (f held told well.0).0.last)
     by_result (Ok done) e (inr failed) f = by_session done.session done.status e.2 failed.1 (λ kept. (held : Held) → before.held ≡ Some held → StandsForLast (meaning words held None).last kept)
     by_result (Err why) e ends f = tt

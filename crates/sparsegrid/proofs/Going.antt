@@ -1,5 +1,7 @@
 -- Parts of a run one after the other, as their meanings have it.
 use Rattle.std.proofs.Common.{◌≡◌, ◌≢◌, ℕ, suc, ◌+◌, ◌⊎◌, inl, inr, List, [], ◌∷◌, ◌++◌, length, Option, Result, Ok, Err, IfOk, refl, sym, ap, ◌∙◌, subst, append_assoc, arith}
+use Rattle.std.specs.Option.{IfSome}
+use Rattle.std.proofs.lemmas.List.{append-nil}
 use Rattle.sg_words.specs.declared.memory.Stop.{Stop}
 use Rattle.sg_words.specs.declared.memory.Stop.TheVariants as stop
 use Rattle.sg_outside.specs.Counts.{Rose, one_more}
@@ -7,119 +9,153 @@ use Rattle.sg_outside.specs.Files.{Missing, asked_too}
 use Rattle.sg_outside.specs.Sink.{followed_by}
 use Rattle.sparsegrid.specs.declared.output.PutFailed.{PutFailed}
 use Rattle.sparsegrid.specs.declared.session.Done.{Done}
-use Rattle.sparsegrid.specs.Meaning.{Meaning, Readings, asking_for, before as before_text}
-use Rattle.sparsegrid.specs.Outcome.{Outside, asked_more, counted_more}
-use Rattle.sparsegrid.specs.steps.Along.{GrewByPart, WentAlong, ReadMade, names_of, Agree, AskedAll, FollowedMeaning, NoneFailed, ReadsEnd, Went}
-use Rattle.sparsegrid.proofs.Writing.{followed_by-nil, followed_by-twice}
-use Rattle.sparsegrid.proofs.Readings.{asked_twice, asked_none, counted_twice, names_twice, told_twice, agree_twice}
+use Rattle.sparsegrid.specs.Moves.{Move, ReadsFile, WritesText, writing, names_in, pieces_in, text_in}
+use Rattle.sparsegrid.specs.Meaning.{Meaning, Readings, moves_of, after_moves, asking_for, before as before_text}
+use Rattle.sparsegrid.specs.Outcome.{Output, Outside, StaysWritten, Grew, Made, IsFront, StandsForLast, told_more, counted_more}
+use Rattle.sparsegrid.specs.steps.Along.{PutsPart, Sends, Follows, ReadMade, names_of, Agree, NoneFailed, ReadsEnd, Went}
+use Rattle.sparsegrid.proofs.Writing.{names_append, text_whole, unread, writing_some, grew_none, grew_text, grew_part, made_twice, made_unread}
+use Rattle.sparsegrid.proofs.Readings.{names_twice, told_twice, agree_twice}
 
 -- a meaning whose status isn't 0 has a last line
 abbrev pub EndsInLine : Meaning → Type 0
-EndsInLine m = m.status ≢ 0 → m.text ≢ []
+EndsInLine m = m.status ≢ 0 → m.line ≢ []
+
+pub longer : (xs ys : List ℕ) → ys ≢ [] → xs ++ ys ≢ []
+longer [] ys h none = h none
+longer (x ∷ xs) ys h none = absurd (cc)
+
+-- ---- fronts of a meaning
+
+-- nothing of it was done
+pub at_start : (m : Meaning) → EndsInLine m → IsFront m [] [] 9
+at_start m ends = record {
+  left = moves_of m;
+  whole = refl;
+  failed = λ three. absurd (omega arith);
+  other = λ other. refl;
+  less = λ nine other none. longer (text_in m.moves) m.line (ends other) (sym (text_whole m) ∙ none);
+}
+
+-- the put of its first text failed
+pub at_text : (m : Meaning) (text : List ℕ) (rest : List Move) (old new : Output) (put : PutsPart old new text) → moves_of m ≡ writing text ++ rest → IsFront m [] put.part 3
+at_text m text rest old new put is =
+    record {
+      left = WritesText text ∷ rest;
+      whole = is ∙ ap (λ (moves : List Move). moves ++ rest) (writing_some text some);
+      failed = λ three. record { text = text; missing = put.missing; rest = rest; next = refl; whole = put.whole; less = put.less };
+      other = λ other. absurd (other refl);
+      less = λ nine. absurd (omega arith);
+    }
+  where
+    some : text ≢ []
+    some none = longer put.part put.missing put.less (sym put.whole ∙ none)
+
+-- a front of what comes after some moves
+after_front : (moves : List Move) (m : Meaning) (did : List Move) (part : List ℕ) (answer : ℕ) → IsFront m did part answer → IsFront (after_moves moves m) (moves ++ did) part answer
+after_front moves m did part answer front =
+    record {
+      left = front.left;
+      whole = append_assoc moves m.moves (writing m.line) ∙ ap (λ (more : List Move). moves ++ more) front.whole ∙ sym (append_assoc moves did front.left);
+      failed = front.failed;
+      other = front.other;
+      less = front.less;
+    }
+
+follows_after : (moves : List Move) (m : Meaning) (did : List Move) (part : List ℕ) (result : Result Done (Stop PutFailed)) → Follows m did part result → Follows (after_moves moves m) (moves ++ did) part result
+follows_after moves m did part (Ok done) follows = (
+  record {
+    all = ap (λ (more : List Move). moves ++ more) follows.0.all ∙ sym (append_assoc moves m.moves (writing m.line));
+    status = follows.0.status;
+    last = follows.0.last;
+  },
+  follows.1,
+)
+follows_after moves m did part (Err why) front = after_front moves m did part _ front
 
 -- ---- parts without a read
 
--- memory ran out before anything was written
-pub went_nowhere : (m : Meaning) (old new : Option (List ℕ)) → EndsInLine m → new ≡ old → WentAlong m old new (Err stop.Memory)
-went_nowhere m old new ends same =
-    record { bytes = record { written = []; missing = m.text; grew = same ∙ sym (followed_by-nil old); whole = refl; less = less }; status = tt; last = tt }
-  where
-    less : (◌≡◌ {A = ℕ} 9 3) ⊎ (m.status ≢ 0) → m.text ≢ []
-    less (inl three) = absurd (omega arith)
-    less (inr other) = ends other
+-- a part of a run without a read went along with a meaning
+pub record Gone (m : Meaning) (old new : Output) (result : Result Done (Stop PutFailed)) : Type 0 where
+  pub did : List Move
+  pub part : List ℕ
+  pub unread : names_in did ≡ []
+  pub grew : Grew did part old new
+  pub follows : Follows m did part result
 
-longer : (xs ys : List ℕ) → xs ≢ [] → xs ++ ys ≢ []
-longer [] ys h none = h refl
-longer (x ∷ xs) ys h none = absurd (cc)
+-- the one text of a meaning was put
+pub gone_text : (m : Meaning) (text : List ℕ) (old new : Output) (result : Result Done (Stop PutFailed)) → moves_of m ≡ writing text → EndsInLine m → Sends result old new text
+    → IfOk result (λ done. done.status ≡ m.status) → IfOk result (λ done. IfSome done.session (StandsForLast m.last)) → Gone m old new result
+gone_text m text old new (Ok done) is ends sent status last =
+    record { did = writing text; part = []; unread = unread text; grew = grew_text text old new sent; follows = (record { all = sym is; status = status; last = last }, refl) }
+gone_text m text old new (Err (stop.Refused failed)) is ends sent status last =
+    record { did = []; part = sent.part; unread = refl; grew = grew_part text old new sent; follows = at_text m text [] old new sent (is ∙ sym (append-nil (writing text))) }
+gone_text m text old new (Err stop.Memory) is ends sent status last =
+    record { did = []; part = []; unread = refl; grew = grew_none old new sent; follows = at_start m ends }
 
--- the put of a text failed, before the rest was written
-pub went_part : (text : List ℕ) (rest : Meaning) (old new : Option (List ℕ)) (failed : PutFailed) → GrewByPart old new text → WentAlong (before_text text rest) old new (Err (stop.Refused failed))
-went_part text rest old new failed part =
+-- before it the output stayed as it was
+pub gone_before : (m : Meaning) (old mid new : Output) (result : Result Done (Stop PutFailed)) → StaysWritten old mid → Gone m mid new result → Gone m old new result
+gone_before m old mid new result stays gone =
     record {
-      bytes = record {
-        written = part.written;
-        missing = part.missing ++ rest.text;
-        grew = part.grew;
-        whole = ap (λ t. t ++ rest.text) part.whole ∙ append_assoc part.written part.missing rest.text;
-        less = λ lacks. longer part.missing rest.text part.less;
+      did = gone.did;
+      part = gone.part;
+      unread = gone.unread;
+      grew = record {
+        written = gone.grew.written ∙ ap (λ (told : Option (List ℕ)). followed_by told (text_in gone.did ++ gone.part)) stays.written;
+        pieces = gone.grew.pieces ∙ ap (λ (told : Option (List (List ℕ))). told_more told (pieces_in gone.did)) stays.pieces;
       };
-      status = tt;
-      last = tt;
+      follows = gone.follows;
     }
 
--- a part without a read
-pub went_still : (m : Readings → Meaning) (n : ℕ) (before after : Outside) (result : Result Done (Stop PutFailed))
-    → ((readings : Readings) → WentAlong (m readings) before.written after.written result) → ((readings : Readings) → AskedAll result (m readings).asked [])
+pub went_still : (m : Readings → Meaning) (n : ℕ) (before after : Outside) (result : Result Done (Stop PutFailed)) (did : List Move) (part : List ℕ)
+    → names_in did ≡ [] → Grew did part before.output after.output → ((readings : Readings) → Follows (m readings) did part result)
     → after.asked ≡ before.asked → after.reads ≡ before.reads → after.failed_reads ≡ before.failed_reads → IfOk result (λ done. done.status ≢ 2) → Went m n before after result
-went_still m n before after result along asks asked reads faults status =
+went_still m n before after result did part none grew follows asked reads faults status =
     record {
       made = [];
-      followed = λ readings agree. record { along = along readings; asked = asks readings };
-      asked = asked ∙ asked_none before.asked;
-      reads = reads;
+      did = did;
+      part = part;
+      names = none;
+      grew = made_unread did part before after none grew asked reads;
+      follows = λ readings agree. follows readings;
       ends = inl (record { no_fault = faults; told = λ held told. tt }, status);
     }
 
--- memory ran out in a part without a read
+-- memory ran out before anything was done
 pub went_memory : (m : Readings → Meaning) (n : ℕ) (before after : Outside) → ((readings : Readings) → EndsInLine (m readings))
-    → after.written ≡ before.written → after.asked ≡ before.asked → after.reads ≡ before.reads → after.failed_reads ≡ before.failed_reads → Went m n before after (Err stop.Memory)
-went_memory m n before after ends written asked reads faults =
-    went_still m n before after (Err stop.Memory) (λ readings. went_nowhere (m readings) before.written after.written (ends readings) written) (λ readings. ((m readings).asked, refl)) asked reads faults tt
+    → StaysWritten before.output after.output → after.asked ≡ before.asked → after.reads ≡ before.reads → after.failed_reads ≡ before.failed_reads → Went m n before after (Err stop.Memory)
+went_memory m n before after ends stays asked reads faults =
+    went_still m n before after (Err stop.Memory) [] [] refl (grew_none before.output after.output stays) (λ readings. at_start (m readings) (ends readings)) asked reads faults tt
+
+-- the output is the same one
+pub stays_same : (output : Output) → StaysWritten output output
+stays_same output = record { written = refl; pieces = refl }
+
+-- a part that means one thing whatever is read
+pub went_gone : (m : Meaning) (n : ℕ) (before after : Outside) (result : Result Done (Stop PutFailed)) → Gone m before.output after.output result
+    → after.asked ≡ before.asked → after.reads ≡ before.reads → after.failed_reads ≡ before.failed_reads → IfOk result (λ done. done.status ≢ 2) → Went (λ readings. m) n before after result
+went_gone m n before after result gone asked reads faults status =
+    went_still (λ readings. m) n before after result gone.did gone.part gone.unread gone.grew (λ readings. gone.follows) asked reads faults status
 
 -- ---- a part after another
 
-asked_behind : (result : Result Done (Stop PutFailed)) (m : Meaning) (names more : List (List ℕ)) → AskedAll result m.asked more → AskedAll result (names ++ m.asked) (names ++ more)
-asked_behind (Ok done) m names more is = ap (λ (xs : List (List ℕ)). names ++ xs) is
-asked_behind (Err why) m names more front = (front.0, ap (λ (xs : List (List ℕ)). names ++ xs) front.1 ∙ sym (append_assoc names more front.0))
-
--- what is written after a text, as the rest of a meaning has it
-along_behind : (m : Meaning) (names : List (List ℕ)) (text : List ℕ) (old mid new : Option (List ℕ)) (result : Result Done (Stop PutFailed)) → mid ≡ followed_by old text
-    → WentAlong m mid new result → WentAlong (asking_for names (before_text text m)) old new result
-along_behind m names text old mid new (Ok done) came along =
-    record {
-      bytes = along.bytes ∙ ap (λ told. followed_by told m.text) came ∙ followed_by-twice old text m.text;
-      status = along.status;
-      last = along.last;
-    }
-along_behind m names text old mid new (Err why) came along =
-    let front = along.bytes in
-    record {
-      bytes = record {
-        written = text ++ front.written;
-        missing = front.missing;
-        grew = front.grew ∙ ap (λ told. followed_by told front.written) came ∙ followed_by-twice old text front.written;
-        whole = ap (λ t. text ++ t) front.whole ∙ sym (append_assoc text front.written front.missing);
-        less = front.less;
-      };
-      status = tt;
-      last = tt;
-    }
-
-pub compose : (m rest : Readings → Meaning) (n k : ℕ) (made : List ReadMade) (text : List ℕ) (before mid after : Outside) (result : Result Done (Stop PutFailed))
-    → k ≡ length made + n
-    → ((readings : Readings) → Agree readings n made → m readings ≡ asking_for (names_of made) (before_text text (rest readings)))
-    → mid.written ≡ followed_by before.written text → mid.asked ≡ asked_more before.asked (names_of made) → mid.reads ≡ counted_more before.reads (names_of made)
-    → mid.held ≡ before.held → NoneFailed before mid made → Went rest k mid after result → Went m n before after result
-compose m rest n k made text before mid after result at is written asked reads held none went =
+pub compose : (m rest : Readings → Meaning) (n k : ℕ) (made : List ReadMade) (did : List Move) (before mid after : Outside) (result : Result Done (Stop PutFailed))
+    → k ≡ length made + n → ((readings : Readings) → Agree readings n made → m readings ≡ after_moves did (rest readings))
+    → names_in did ≡ names_of made → Made did [] before mid → mid.held ≡ before.held → NoneFailed before mid made → Went rest k mid after result → Went m n before after result
+compose m rest n k made did before mid after result at is names grew held none went =
     record {
       made = made ++ went.made;
-      followed = λ readings agree. follows readings (agree_twice readings n k made went.made at agree);
-      asked = went.asked ∙ ap (λ a. asked_more a (names_of went.made)) asked ∙ asked_twice before.asked (names_of made) (names_of went.made)
-          ∙ ap (asked_more before.asked) (sym (names_twice made went.made));
-      reads = went.reads ∙ ap (λ c. counted_more c (names_of went.made)) reads ∙ counted_twice before.reads (names_of made) (names_of went.made)
-          ∙ ap (counted_more before.reads) (sym (names_twice made went.made));
+      did = did ++ went.did;
+      part = went.part;
+      names = names_append did went.did ∙ ap (λ (xs : List (List ℕ)). xs ++ names_in went.did) names ∙ ap (λ (xs : List (List ℕ)). names_of made ++ xs) went.names ∙ sym (names_twice made went.made);
+      grew = made_twice did went.did went.part before mid after grew went.grew;
+      follows = λ readings agree. follows readings (agree_twice readings n k made went.made at agree);
       ends = ends went.ends;
     }
   where
-    follows : (readings : Readings) → Agree readings n made × Agree readings k went.made → FollowedMeaning (m readings) (names_of (made ++ went.made)) before after result
+    follows : (readings : Readings) → Agree readings n made × Agree readings k went.made → Follows (m readings) (did ++ went.did) went.part result
     follows readings agree =
-        let then = went.followed readings agree.1 in
-        subst (λ (names : List (List ℕ)). FollowedMeaning (m readings) names before after result) (sym (names_twice made went.made))
-        (subst (λ (whole : Meaning). FollowedMeaning whole (names_of made ++ names_of went.made) before after result) (sym (is readings agree.0))
-        (record {
-          along = along_behind (rest readings) (names_of made) text before.written mid.written after.written result written then.along;
-          asked = asked_behind result (rest readings) (names_of made) (names_of went.made) then.asked;
-        }))
+        subst (λ (whole : Meaning). Follows whole (did ++ went.did) went.part result) (sym (is readings agree.0))
+        (follows_after did (rest readings) went.did went.part result (went.follows readings agree.1))
 
     ends : ReadsEnd mid after went.made result → ReadsEnd before after (made ++ went.made) result
     ends (inl well) =
@@ -139,26 +175,24 @@ compose m rest n k made text before mid after result at is written asked reads h
 
 -- the first read failed, and its line was written
 pub went_failed : (m : Readings → Meaning) (line : Meaning) (n : ℕ) (name : List ℕ) (limit : ℕ) (before after : Outside) (result : Result Done (Stop PutFailed))
-    → ((readings : Readings) → readings (suc n) name limit ≡ Missing → m readings ≡ asking_for (name ∷ []) line) → line.asked ≡ []
-    → WentAlong line before.written after.written result
+    → ((readings : Readings) → readings (suc n) name limit ≡ Missing → m readings ≡ asking_for name line) → Gone line before.output after.output result
     → after.asked ≡ asked_too before.asked name → after.reads ≡ one_more before.reads → Rose before.failed_reads after.failed_reads → IfOk result (λ done. done.status ≡ 2)
     → Went m n before after result
-went_failed m line n name limit before after result is none along asked reads rose status =
+went_failed m line n name limit before after result is gone asked reads rose status =
     record {
       made = read ∷ [];
-      followed = λ readings agree. subst (λ (whole : Meaning). FollowedMeaning whole (name ∷ []) before after result) (sym (is readings agree.0))
-          (record {
-            along = along_behind line (name ∷ []) [] before.written before.written after.written result (sym (followed_by-nil before.written)) along;
-            asked = asked_behind result line (name ∷ []) [] (none_asked result);
-          });
-      asked = asked;
-      reads = reads;
+      did = ReadsFile name ∷ gone.did;
+      part = gone.part;
+      names = ap (λ (names : List (List ℕ)). name ∷ names) gone.unread;
+      grew = record {
+        output = record { written = gone.grew.written; pieces = gone.grew.pieces };
+        asked = asked ∙ ap (λ (names : List (List ℕ)). told_more before.asked (name ∷ names)) (sym gone.unread);
+        reads = reads ∙ ap (λ (names : List (List ℕ)). counted_more before.reads (name ∷ names)) (sym gone.unread);
+      };
+      follows = λ readings agree. subst (λ (whole : Meaning). Follows whole (ReadsFile name ∷ gone.did) gone.part result) (sym (is readings agree.0))
+          (follows_after (ReadsFile name ∷ []) line gone.did gone.part result gone.follows);
       ends = inr (record { fault = rose; earlier = []; last = read; is = refl; missing = refl; told = λ files told. tt }, status);
     }
   where
     read : ReadMade
     read = record { name = name; limit = limit; given = Missing }
-
-    none_asked : (r : Result Done (Stop PutFailed)) → AskedAll r line.asked []
-    none_asked (Ok done) = none
-    none_asked (Err why) = ([], none)

@@ -1,5 +1,5 @@
 -- Where nothing is refused, a run means what its commands leave, one after the other.
-use Rattle.std.proofs.Common.{◌≡◌, ℕ, suc, ◌+◌, Bool, false, List, [], ◌∷◌, ◌++◌, Option, Some, None, Result, Ok, Err, refl, sym, ap, ◌∙◌, arith}
+use Rattle.std.proofs.Common.{◌≡◌, ℕ, suc, ◌+◌, Bool, false, List, [], ◌∷◌, ◌++◌, Option, Some, None, Result, Ok, Err, refl, sym, ap, ◌∙◌, append_assoc, arith}
 use Rattle.std.specs.Prelude.{find, if◌then◌else◌, is_none}
 use Rattle.std.specs.List.{flat_map}
 use Rattle.sg_words.specs.Results.{◌>>=◌}
@@ -19,8 +19,10 @@ use Rattle.sg_session.specs.Compiled.{CheckedProgram, unfolded_tasks}
 use Rattle.sg_session.specs.Commands.{Left, task_meaning}
 use Rattle.sg_session.specs.Independence.{left_by, left_by_program, last_after}
 use Rattle.sparsegrid.specs.Lines.{fault_last, run_last}
-use Rattle.sparsegrid.specs.Meaning.{Meaning, Readings, is_unbound, after_task, task_and_more, meaning_of_tasks, meaning_unless, meaning_of_run}
+use Rattle.sparsegrid.specs.Moves.{Move, pieces_of, writing, pieces_in, text_in}
+use Rattle.sparsegrid.specs.Meaning.{Meaning, moves_of, text_meant, before as before_text, Readings, is_unbound, after_task, task_and_more, meaning_of_tasks, meaning_unless, meaning_of_run}
 use Rattle.sparsegrid.specs.Independence.{reading_behind, reads_with, told_from, told, IsWhatIsLeft, MeaningIsOfCommands}
+use Rattle.sparsegrid.proofs.Writing.{pieces_append, text_append, text_written, pieces_written}
 use Rattle.sg_session.proofs.Uses.{bound_ok}
 
 -- a refused command has a status other than 0
@@ -35,12 +37,23 @@ run_status names file task (refusal.GridRows field) e = cc
 run_status names file task (refusal.Grid field line) e = cc
 run_status names file task (refusal.Run kernel fault) e = fault_status names kernel fault e
 
+-- a text before what else a run means
+pieces_before : (text : List ℕ) (m : Meaning) → pieces_in (moves_of (before_text text m)) ≡ pieces_of text ++ pieces_in (moves_of m)
+pieces_before text m =
+    ap (λ (moves : List Move). pieces_in moves) (append_assoc (writing text) m.moves (writing m.line)) ∙ pieces_append (writing text) (moves_of m)
+    ∙ ap (λ (pieces : List (List ℕ)). pieces ++ pieces_in (moves_of m)) (pieces_written text)
+
+text_before : (text : List ℕ) (m : Meaning) → text_meant (before_text text m) ≡ text ++ text_meant m
+text_before text m =
+    ap (λ (said : List ℕ). said ++ m.line) (text_append (writing text) m.moves ∙ ap (λ (t : List ℕ). t ++ text_in m.moves) (text_written text)) ∙ append_assoc text (text_in m.moves) m.line
+
 module _ (program : CheckedProgram) (bindings : List Binding) (readings : Readings) (given : ℕ → Reading) where
   -- what tasks from a state on leave, and that it is what they mean
   record Leave (place : ℕ) (tasks : List Task) (state : FlatState) (m : Meaning) : Type 0 where
     lefts : List Left
     left : left_by program given place tasks state ≡ Ok lefts
-    text : m.text ≡ flat_map (λ left. left.text) lefts
+    pieces : pieces_in (moves_of m) ≡ flat_map (λ left. pieces_of left.text) lefts
+    text : text_meant m ≡ flat_map (λ left. left.text) lefts
     last : m.last ≡ Some (last_after state lefts)
 
   by_answer : (place : ℕ) (task : Task) (tasks : List Task) (state : FlatState) (file : Option (List ℕ)) (more : FlatState → Meaning) (answer : Result Left RunRefusal)
@@ -53,7 +66,8 @@ module _ (program : CheckedProgram) (bindings : List Binding) (readings : Readin
         lefts = left ∷ rest_left.lefts;
         left = ap (λ (r : Result Left RunRefusal). r >>= (λ left. left_by program given (suc place) tasks left.state >>= (λ more. Ok (left ∷ more)))) is
             ∙ ap (λ (r : Result (List Left) RunRefusal). r >>= (λ more. Ok (left ∷ more))) rest_left.left;
-        text = ap (λ (text : List ℕ). left.text ++ text) rest_left.text;
+        pieces = pieces_before left.text (more left.state) ∙ ap (λ (pieces : List (List ℕ)). pieces_of left.text ++ pieces) rest_left.pieces;
+        text = text_before left.text (more left.state) ∙ ap (λ (text : List ℕ). left.text ++ text) rest_left.text;
         last = rest_left.last;
       }
 
@@ -64,12 +78,12 @@ module _ (program : CheckedProgram) (bindings : List Binding) (readings : Readin
       by_answer place task tasks state None (more reads) (task_meaning program state task Missing) (ap (task_meaning program state task) is) rest status
   by_file place reads task tasks state more (Some name) is rest status =
       let here = by_answer place task tasks state (Some name) (more (suc reads)) (task_meaning program state task (readings (suc reads) name most_grid_bytes)) (ap (task_meaning program state task) is) rest status in
-      record { lefts = here.lefts; left = here.left; text = here.text; last = here.last }
+      record { lefts = here.lefts; left = here.left; pieces = here.pieces; text = here.text; last = here.last }
 
   tasks_leave : (place reads : ℕ) (tasks : List Task) (state : FlatState) → ((i : ℕ) → given (i + place) ≡ told_from program.names bindings readings reads tasks i)
       → (meaning_of_tasks program bindings readings reads state tasks).status ≡ 0 → Leave place tasks state (meaning_of_tasks program bindings readings reads state tasks)
   unfolding meaning_of_tasks
-  tasks_leave place reads [] state are status = record { lefts = []; left = refl; text = refl; last = refl }
+  tasks_leave place reads [] state are status = record { lefts = []; left = refl; pieces = refl; text = refl; last = refl }
   tasks_leave place reads (task ∷ tasks) state are status =
       by_file place reads task tasks state (λ after next. meaning_of_tasks program bindings readings after next tasks) (file_of_task program.names bindings task) (ap given (omega arith) ∙ are 0)
       (λ next. tasks_leave (suc place) (reads_with reads (file_of_task program.names bindings task)) tasks next (λ i. ap given (omega arith) ∙ are (suc i))) status
@@ -131,7 +145,7 @@ meaning_is_of_commands program bindings readings = record { leaves = by_find (fi
   by_find (Some task) status = absurd (cc)
   by_find None status =
       let all = tasks_leave program bindings readings given 0 1 tasks (opening program.layouts) given_is status in
-      (all.lefts, record { left = all.left; text = all.text; last = all.last })
+      (all.lefts, record { left = all.left; pieces = all.pieces; text = all.text; last = all.last })
 
   whole : (lefts : List Left) → left_by_program program given ≡ Ok lefts → (meaning_of_run program bindings readings tasks).status ≡ 0
   whole lefts e =

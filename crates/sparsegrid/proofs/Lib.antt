@@ -17,8 +17,11 @@ pub mod Sources
 pub mod OfFile
 pub mod Lowered
 pub mod Codes
+pub mod Open
 pub mod Unread
 pub mod Lefts
 pub mod NoGrids
 pub mod TwoRuns
+pub mod TwoCalls
+pub mod WorkedAlike
 pub mod Generating

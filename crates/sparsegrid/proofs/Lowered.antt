@@ -8,23 +8,28 @@ use Rattle.sg_session.specs.declared.refusal.Refusal.{Refusal}
 use Rattle.sg_session.specs.Bindings.{Binding}
 use Rattle.sg_session.specs.Compiled.{CheckedProgram}
 use Rattle.sg_session.specs.Compiling.{spelled_program, compiled_program}
-use Rattle.sparsegrid.specs.declared.words.Mode.{Mode}
-use Rattle.sparsegrid.specs.declared.words.Mode.TheVariants as mode
-use Rattle.sparsegrid.specs.Words.{Asked, good_words, is_gen}
+use Rattle.sparsegrid.specs.Words.{Asked, Doing, performs, generates, looks, writes_code, doing, good_words, is_gen}
+use Rattle.sparsegrid.specs.Moves.{pieces_in, text_in}
 use Rattle.sparsegrid.specs.Generated.{generated_text}
 use Rattle.sparsegrid.specs.Lines.{refusal_last}
-use Rattle.sparsegrid.specs.Meaning.{Meaning, Readings, is_lower, asks_code, meaning_in, items_or_none, meaning_of_compiled, meaning_of_source, meaning_of_file, meaning_of_generated, meaning_of_asked, meaning_of_words, meaning_by}
+use Rattle.sparsegrid.specs.Meaning.{Meaning, Readings, is_code, asks_code, meaning_in, items_or_none, meaning_of_compiled, meaning_of_source, meaning_of_file, meaning_of_generated, meaning_of_asked, meaning_of_words, meaning_by}
 use Rattle.sparsegrid.proofs.Sources.{file_statuses}
+
+-- a meaning without any text
+pub record WritesNothing (m : Meaning) : Type 0 where
+  pub no_pieces : pieces_in m.moves ≡ []
+  pub no_text : text_in m.moves ≡ []
+  pub no_line : m.line ≡ []
 
 -- if all is done, there is no text
 abbrev IsSilent : Meaning → Type 0
-IsSilent m = m.status ≡ 0 → m.text ≡ []
+IsSilent m = m.status ≡ 0 → WritesNothing m
 
-in_silent : (m : Mode) (program : CheckedProgram) (bindings : List Binding) (readings : Readings) → is_lower m ≡ true → IsSilent (meaning_in m program bindings readings)
-in_silent mode.Run program bindings readings lower = absurd (cc)
-in_silent mode.Check program bindings readings lower = absurd (cc)
-in_silent mode.Lower program bindings readings lower = λ zero. refl
-in_silent mode.Gen program bindings readings lower = absurd (cc)
+in_silent : (what : Doing) (program : CheckedProgram) (bindings : List Binding) (readings : Readings) → is_code what ≡ true → IsSilent (meaning_in what program bindings readings)
+in_silent performs program bindings readings lower = absurd (cc)
+in_silent generates program bindings readings lower = absurd (cc)
+in_silent looks program bindings readings lower = absurd (cc)
+in_silent writes_code program bindings readings lower = λ zero. record { no_pieces = refl; no_text = refl; no_line = refl }
 
 refused_file : (items : List Item) (why : Refusal) → (refusal_last items why).status ≢ 0
 refused_file items why = by_status (file_statuses items why) where
@@ -33,20 +38,21 @@ refused_file items why = by_status (file_statuses items why) where
   by_status (inr (inl five)) = λ zero. absurd (omega (arith, five, zero))
   by_status (inr (inr eight)) = λ zero. absurd (omega (arith, eight, zero))
 
-compiled_silent : (asked : Asked) (readings : Readings) (bytes : List ℕ) (answer : Result CheckedProgram Refusal) → is_lower asked.mode ≡ true → IsSilent (meaning_of_compiled asked readings bytes answer)
+compiled_silent : (asked : Asked) (readings : Readings) (bytes : List ℕ) (answer : Result CheckedProgram Refusal) → is_code (doing asked.mode) ≡ true → IsSilent (meaning_of_compiled asked readings bytes answer)
 compiled_silent asked readings bytes (Err why) lower = λ zero. absurd (refused_file (items_or_none (spelled_program bytes)) why zero)
-compiled_silent asked readings bytes (Ok program) lower = in_silent asked.mode program asked.bindings readings lower
+compiled_silent asked readings bytes (Ok program) lower = in_silent (doing asked.mode) program asked.bindings readings lower
 
-source_silent : (asked : Asked) (readings : Readings) (given : Reading) → is_lower asked.mode ≡ true → IsSilent (meaning_of_source asked readings given)
+source_silent : (asked : Asked) (readings : Readings) (given : Reading) → is_code (doing asked.mode) ≡ true → IsSilent (meaning_of_source asked readings given)
 source_silent asked readings Missing lower = λ zero. absurd (omega (arith, zero))
 source_silent asked readings TooMany lower = λ zero. absurd (omega (arith, zero))
 source_silent asked readings (Bytes bytes) lower = compiled_silent asked readings bytes (compiled_program bytes) lower
 
-asked_silent : (asked : Asked) (readings : Readings) → is_lower asked.mode ≡ true → IsSilent (meaning_of_asked asked readings)
+asked_silent : (asked : Asked) (readings : Readings) → is_code (doing asked.mode) ≡ true → IsSilent (meaning_of_asked asked readings)
 asked_silent asked readings lower = by_mode (is_gen asked.mode) where
   by_mode : (b : Bool) → IsSilent (if b then meaning_of_generated asked readings else meaning_of_file asked readings)
   by_mode true = compiled_silent asked readings (generated_text asked.number) (compiled_program (generated_text asked.number)) lower
-  by_mode false = source_silent asked readings (readings 1 asked.file most_file_bytes) lower
+  by_mode false = λ zero. let silent = source_silent asked readings (readings 1 asked.file most_file_bytes) lower zero in
+      record { no_pieces = silent.no_pieces; no_text = silent.no_text; no_line = silent.no_line }
 
 pub words_silent : (words : List (List ℕ)) (readings : Readings) → asks_code (good_words words) ≡ true → IsSilent (meaning_by words readings)
 words_silent words readings = by_words (good_words words) where

@@ -6,7 +6,7 @@ use Rattle.std.proofs.lemmas.List.{append-nil}
 use Rattle.sg_outside.specs.Counts.{Rose, one_more, last_count}
 use Rattle.sg_outside.specs.Files.{Held, Missing}
 use Rattle.sparsegrid.specs.Meaning.{Readings, readings_in}
-use Rattle.sparsegrid.specs.Outcome.{asked_more, counted_more}
+use Rattle.sparsegrid.specs.Outcome.{counted_more}
 use Rattle.sparsegrid.specs.steps.Along.{ReadMade, Agree, AreTold, names_of}
 
 test_same : (a b : ℕ) → a ≡ b → (a == b) ≡ true
@@ -16,14 +16,6 @@ test_other : (a b : ℕ) → a ≢ b → (a == b) ≡ false
 test_other a b h = grind (arith, nat_tests)
 
 -- ---- lists of reads one after the other
-
-pub asked_twice : (asked : Option (List (List ℕ))) (xs ys : List (List ℕ)) → asked_more (asked_more asked xs) ys ≡ asked_more asked (xs ++ ys)
-asked_twice None xs ys = refl
-asked_twice (Some told) xs ys = ap Some (append_assoc told xs ys)
-
-pub counted_twice : (count : ℕ) (xs ys : List (List ℕ)) → counted_more (counted_more count xs) ys ≡ counted_more count (xs ++ ys)
-counted_twice count [] ys = refl
-counted_twice count (x ∷ xs) ys = counted_twice (one_more count) xs ys
 
 pub names_twice : (made more : List ReadMade) → names_of (made ++ more) ≡ names_of made ++ names_of more
 names_twice [] more = refl
@@ -38,10 +30,6 @@ agree_twice readings n k [] more at agree = (tt, subst (λ (m : ℕ). Agree read
 agree_twice readings n k (read ∷ made) more at agree =
     let rest = agree_twice readings (suc n) k made more (omega arith) agree.1 in
     ((agree.0, rest.0), rest.1)
-
-pub asked_none : (asked : Option (List (List ℕ))) → asked ≡ asked_more asked []
-asked_none None = refl
-asked_none (Some told) = ap Some (sym (append-nil told))
 
 -- ---- how many reads there were
 

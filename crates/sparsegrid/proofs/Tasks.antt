@@ -2,14 +2,14 @@
 use Rattle.std.proofs.Common.{◌≡◌, ◌≢◌, ℕ, suc, ◌+◌, Bool, true, false, List, [], ◌∷◌, ◌++◌, map, length, Option, Some, None, Result, Ok, Err, IfOk, refl, sym, ap, ◌∙◌, subst, append_assoc, arith}
 use Rattle.std.specs.Prelude.{IsSome, slice_get}
 use Rattle.sg_words.specs.Results.{◌>>=◌, fault_as}
-use Rattle.std.proofs.lemmas.List.{length-append}
+use Rattle.std.specs.Option.{IfSome}
+use Rattle.std.proofs.lemmas.List.{append-nil, length-append}
 use Rattle.std.specs.List.{AllByRecursion}
 use Rattle.sg_words.specs.declared.memory.Stop.{Stop}
 use Rattle.sg_words.specs.declared.memory.Stop.TheVariants as stop
 use Rattle.sg_words.specs.declared.text.Text.{Text}
 use Rattle.sg_outside.specs.Counts.{Rose}
 use Rattle.sg_outside.specs.Files.{Held, Reading, Bytes, TooMany, Missing, reading}
-use Rattle.sg_outside.specs.Sink.{followed_by}
 use Rattle.sg_layout.specs.declared.shape.Shape.{Shape}
 use Rattle.sg_flat.specs.declared.state.FlatState.{FlatState}
 use Rattle.sg_flat.specs.declared.effects.Write.{Write}
@@ -38,37 +38,31 @@ use Rattle.sparsegrid.specs.declared.output.PutFailed.{PutFailed}
 use Rattle.sparsegrid.specs.declared.session.Done.{Done}
 use Rattle.sparsegrid.specs.declared.last_line.LastLine.{LastLine}
 use Rattle.sparsegrid.specs.Lines.{run_last}
-use Rattle.sparsegrid.specs.Meaning.{Meaning, Readings, refused_with, all_done, asking_for, before as before_text, after_task, task_and_more, meaning_of_tasks}
-use Rattle.sparsegrid.specs.Outcome.{Outside, asked_more, counted_more}
-use Rattle.sparsegrid.specs.steps.Along.{GrewByPart, Sends, WroteAll, line_text, ended_with, WentAlong, ReadMade, names_of, Agree, AreTold, AskedAll, load_reads, NoneFailed, Went, Came}
-use Rattle.sparsegrid.proofs.Writing.{followed_by-nil, followed_by-twice}
-use Rattle.sparsegrid.proofs.Readings.{asked_twice, asked_none, counted_twice, names_twice, told_twice, agree_twice}
-use Rattle.sparsegrid.proofs.Going.{EndsInLine, went_part, went_still, went_memory, went_failed, compose}
+use Rattle.sparsegrid.specs.Moves.{Move, ReadsFile, writing, names_in}
+use Rattle.sparsegrid.specs.Meaning.{Meaning, Readings, moves_of, after_moves, refused_with, all_done, asking_for, before as before_text, after_task, task_and_more, meaning_of_tasks}
+use Rattle.sparsegrid.specs.Outcome.{Output, Outside, StaysWritten, Made, StandsForLast}
+use Rattle.sparsegrid.specs.steps.Along.{PutsText, PutsPart, Sends, line_text, ended_with, Follows, ReadMade, names_of, Agree, AreTold, load_reads, NoneFailed, Went, Came}
+use Rattle.sparsegrid.proofs.Writing.{unread, names_append, grew_none, grew_text, grew_part, made_twice, made_none, made_unread, made_read}
+use Rattle.sparsegrid.proofs.Readings.{names_twice, told_twice, agree_twice}
+use Rattle.sparsegrid.proofs.Going.{EndsInLine, longer, at_text, Gone, gone_text, gone_before, stays_same, went_still, went_memory, went_gone, went_failed, compose}
 
 -- ---- a refused meaning ends in its line
-
-not_empty : (xs ys : List ℕ) → ys ≢ [] → xs ++ ys ≢ []
-not_empty [] ys h none = h none
-not_empty (x ∷ xs) ys h none = absurd (cc)
 
 cons_not_empty : (x : ℕ) (xs : List ℕ) → ◌≢◌ {A = List ℕ} (x ∷ xs) []
 cons_not_empty x xs none = absurd (cc)
 
-pub refused_ends : (state : Option FlatState) (last : LastLine) → (refused_with state last).text ≢ []
-refused_ends state last = not_empty last.line (10 ∷ []) (cons_not_empty 10 [])
+pub refused_ends : (state : Option FlatState) (last : LastLine) → EndsInLine (refused_with state last)
+refused_ends state last = λ other. longer last.line (10 ∷ []) (cons_not_empty 10 [])
 
 some_none : (o : Option (List ℕ)) → IsSome o → o ≡ None → ⊥
 some_none None has is = absurd (cc)
 some_none (Some name) has is = absurd (cc)
 
-asking_none : (m : Meaning) → m ≡ asking_for [] m
-asking_none m = refl
-
 module _ (compiled : CheckedProgram) (bindings : List Binding) where
   after_ends : (state : FlatState) (file : Option (List ℕ)) (task : Task) (more : FlatState → Meaning) (answer : Result Left RunRefusal)
       → ((next : FlatState) → EndsInLine (more next)) → EndsInLine (after_task compiled state file task more answer)
-  after_ends state file task more (Ok left) rest = λ other. not_empty left.text (more left.state).text (rest left.state other)
-  after_ends state file task more (Err why) rest = λ other. refused_ends (Some state) (run_last compiled.names file task why)
+  after_ends state file task more (Ok left) rest = rest left.state
+  after_ends state file task more (Err why) rest = refused_ends (Some state) (run_last compiled.names file task why)
 
   pub tasks_end : (readings : Readings) (n : ℕ) (state : FlatState) (tasks : List Task) → EndsInLine (meaning_of_tasks compiled bindings readings n state tasks)
   unfolding meaning_of_tasks
@@ -81,6 +75,15 @@ module _ (compiled : CheckedProgram) (bindings : List Binding) where
     by_file None rest = after_ends state None task (more n) (task_meaning compiled state task Missing) (rest n)
     by_file (Some name) rest =
         after_ends state (Some name) task (more (suc n)) (task_meaning compiled state task (readings (suc n) name most_grid_bytes)) (rest (suc n))
+
+-- the moves by which a task reads its file, where it has one
+abbrev load_moves : Option (List ℕ) → List Move
+load_moves None = []
+load_moves (Some name) = ReadsFile name ∷ []
+
+load_names : (file : Option (List ℕ)) (given : Reading) → names_in (load_moves file) ≡ names_of (load_reads file given)
+load_names None given = refl
+load_names (Some name) given = refl
 
 module _ (compiled : CheckedProgram) (binds : List Bind) where
   tasks_step : (readings : Readings) (n : ℕ) (state : FlatState) (task : Task) (tasks : List Task)
@@ -108,7 +111,7 @@ module _ (compiled : CheckedProgram) (binds : List Bind) where
   one_task : (readings : Readings) (n : ℕ) (state : FlatState) (task : Task) (tasks : List Task) (given : Reading) → HasFile compiled.names (map binding_read binds) task
       → Agree readings n (load_reads (file_of_task compiled.names (map binding_read binds) task) given)
       → meaning_of_tasks compiled (map binding_read binds) readings n state (task ∷ tasks)
-      ≡ asking_for (names_of (load_reads (file_of_task compiled.names (map binding_read binds) task) given))
+      ≡ after_moves (load_moves (file_of_task compiled.names (map binding_read binds) task))
       (after_task compiled state (file_of_task compiled.names (map binding_read binds) task) task
       (λ next. meaning_of_tasks compiled (map binding_read binds) readings (length (load_reads (file_of_task compiled.names (map binding_read binds) task) given) + n) next tasks)
       (task_meaning compiled state task given))
@@ -124,19 +127,16 @@ module _ (compiled : CheckedProgram) (binds : List Bind) where
 
     by_file : (file : Option (List ℕ)) → file_of_task compiled.names (map binding_read binds) task ≡ file → Agree readings n (load_reads file given)
         → task_and_more compiled readings n state task more file
-        ≡ asking_for (names_of (load_reads file given)) (after_task compiled state file task (more (length (load_reads file given) + n)) (task_meaning compiled state task given))
+        ≡ after_moves (load_moves file) (after_task compiled state file task (more (length (load_reads file given) + n)) (task_meaning compiled state task given))
     by_file None none agrees =
         ap (λ (a : Result Left RunRefusal). after_task compiled state None task (more n) a) (given_same state task given has none)
         ∙ ap (λ (k : ℕ). after_task compiled state None task (more k) (task_meaning compiled state task given)) none_more
-        ∙ asking_none (after_task compiled state None task (more (length (load_reads None given) + n)) (task_meaning compiled state task given))
     by_file (Some name) some agrees =
-        ap (λ (r : Reading). asking_for (name ∷ []) (after_task compiled state (Some name) task (more (suc n)) (task_meaning compiled state task r))) agrees.0
-        ∙ ap (λ (k : ℕ). asking_for (name ∷ []) (after_task compiled state (Some name) task (more k) (task_meaning compiled state task given))) (one_more_read name)
+        ap (λ (r : Reading). asking_for name (after_task compiled state (Some name) task (more (suc n)) (task_meaning compiled state task r))) agrees.0
+        ∙ ap (λ (k : ℕ). asking_for name (after_task compiled state (Some name) task (more k) (task_meaning compiled state task given))) (one_more_read name)
 
-  regrouped : (names more : List (List ℕ)) (text text' : List ℕ) (m : Meaning) → asking_for names (before_text text (asking_for more (before_text text' m))) ≡ asking_for (names ++ more) (before_text (text ++ text') m)
-  regrouped names more text text' m =
-      ap (λ (t : List ℕ). let n : Meaning = record { text = t; status = m.status; last = m.last; asked = names ++ (more ++ m.asked) } in n) (sym (append_assoc text text' m.text))
-      ∙ ap (λ (a : List (List ℕ)). let n : Meaning = record { text = (text ++ text') ++ m.text; status = m.status; last = m.last; asked = a } in n) (sym (append_assoc names more m.asked))
+  regrouped : (one two : List Move) (m : Meaning) → after_moves one (after_moves two m) ≡ after_moves (one ++ two) m
+  regrouped one two m = ap (λ (moves : List Move). let n : Meaning = record { moves = moves; line = m.line; status = m.status; last = m.last } in n) (sym (append_assoc one two m.moves))
 
 -- ---- what a step read
 
@@ -178,13 +178,11 @@ cause_kept (Err (stop.Refused (refusal.GridRows field))) before now no_read caus
 cause_kept (Err (stop.Refused (refusal.Grid field line))) before now no_read cause = cause
 cause_kept (Err (stop.Refused (refusal.Run kernel fault))) before now no_read cause = cause
 
-pub asked_by_load : (file : Option (List ℕ)) (given : Reading) (asked : Option (List (List ℕ))) → asked_after file asked ≡ asked_more asked (names_of (load_reads file given))
-asked_by_load None given asked = asked_none asked
-asked_by_load (Some name) given asked = refl
-
-pub reads_by_load : (file : Option (List ℕ)) (given : Reading) (reads : ℕ) → reads_after file reads ≡ counted_more reads (names_of (load_reads file given))
-reads_by_load None given reads = refl
-reads_by_load (Some name) given reads = refl
+-- what a step read
+pub made_by_load : (file : Option (List ℕ)) (now next : Outside) → StaysWritten now.output next.output → next.asked ≡ asked_after file now.asked → next.reads ≡ reads_after file now.reads
+    → Made (load_moves file) [] now next
+made_by_load None now next stays asked reads = made_none now next stays asked reads
+made_by_load (Some name) now next stays asked reads = made_read name now next stays asked reads
 
 -- a task whose read failed was told so: only a missing file means it
 pub read_refused : (compiled : CheckedProgram) (state : FlatState) (task : Task) (given : Reading) (field : ℕ) → task_meaning compiled state task given ≡ Err (refusal.Read field) → given ≡ Missing
@@ -261,16 +259,10 @@ module _ (compiled : CheckedProgram) (binds : List Bind) where
   abbrev file : Task → Option (List ℕ)
   file task = file_of_task compiled.names (map binding_read binds) task
 
-  -- the reads of a step that didn't fail
-  step_asked : (state : FlatState) (task : Task) (stores : List StoreWords) (result : Result Text (Stop RunRefusal)) (now next : Outside) (given : Reading)
-      → Stepped compiled binds state task stores result now next → next.asked ≡ asked_more now.asked (names_of (load_reads (file task) given))
-  step_asked state task stores result now next given did =
-      did.asked ∙ asked_by_load (file_of_task compiled.names (map binding_read binds) task) given now.asked
-
-  step_reads : (state : FlatState) (task : Task) (stores : List StoreWords) (result : Result Text (Stop RunRefusal)) (now next : Outside) (given : Reading)
-      → Stepped compiled binds state task stores result now next → next.reads ≡ counted_more now.reads (names_of (load_reads (file task) given))
-  step_reads state task stores result now next given did =
-      did.reads ∙ reads_by_load (file_of_task compiled.names (map binding_read binds) task) given now.reads
+  -- the moves of a step before its text is written
+  step_made : (state : FlatState) (task : Task) (stores : List StoreWords) (result : Result Text (Stop RunRefusal)) (now next : Outside)
+      → Stepped compiled binds state task stores result now next → StaysWritten now.output next.output → Made (load_moves (file task)) [] now next
+  step_made state task stores result now next did stays = made_by_load (file_of_task compiled.names (map binding_read binds) task) now next stays did.asked did.reads
 
   step_none : (state : FlatState) (task : Task) (stores : List StoreWords) (result : Result Text (Stop RunRefusal)) (now next : Outside)
       → IsNoRead result → (did : Stepped compiled binds state task stores result now next) → NoneFailed now next (load_reads (file task) did.chosen.0)
@@ -286,36 +278,37 @@ module _ (compiled : CheckedProgram) (binds : List Bind) where
   came_start start tasks stores now stand =
       record {
         made = [];
+        did = [];
         state = start;
-        text = [];
         stand = stand;
-        grew = sym (followed_by-nil now.written);
-        asked = asked_none now.asked;
-        reads = refl;
+        names = refl;
+        grew = made_none now now (stays_same now.output) refl refl;
         held = refl;
         none = record { no_fault = refl; told = λ h e. tt };
         is = λ readings agree. refl;
       }
 
-  -- one more task was performed, and its text was written
-  pub came_next : (start : FlatState) (tasks rest rest' : List Task) (task : Task) (stores stores' : List StoreWords) (text : Text) (before now next : Outside)
+  -- one more task was performed, and its text was written: `mid` is the outside between these
+  pub came_next : (start : FlatState) (tasks rest rest' : List Task) (task : Task) (stores stores' : List StoreWords) (text : Text) (before now mid next : Outside)
       → rest ≡ task ∷ rest' → (came : Came compiled (map binding_read binds) start tasks rest stores before now)
-      → Stepped compiled binds came.state task stores' (Ok text) now next → next.written ≡ followed_by now.written text.bytes
+      → Stepped compiled binds came.state task stores' (Ok text) now mid → StaysWritten now.output mid.output
+      → PutsText mid.output next.output text.bytes → next.asked ≡ mid.asked → next.reads ≡ mid.reads → next.failed_reads ≡ mid.failed_reads → next.held ≡ mid.held
       → Came compiled (map binding_read binds) start tasks rest' stores' before next
-  came_next start tasks rest rest' task stores stores' text before now next split came did sent =
+  came_next start tasks rest rest' task stores stores' text before now mid next split came did stays sent asked reads faults held =
       record {
         made = came.made ++ more;
+        did = came.did ++ moves;
         state = left.left.state;
-        text = came.text ++ left.left.text;
         stand = left.stand;
-        grew = sent ∙ ap (λ (t : List ℕ). followed_by now.written t) left.text_is ∙ ap (λ told. followed_by told left.left.text) came.grew ∙ followed_by-twice before.written came.text left.left.text;
-        asked = step_asked came.state task stores' (Ok text) now next given did ∙ ap (λ a. asked_more a (names_of more)) came.asked ∙ asked_twice before.asked (names_of came.made) (names_of more)
-            ∙ ap (asked_more before.asked) (sym (names_twice came.made more));
-        reads = step_reads came.state task stores' (Ok text) now next given did ∙ ap (λ c. counted_more c (names_of more)) came.reads ∙ counted_twice before.reads (names_of came.made) (names_of more)
-            ∙ ap (counted_more before.reads) (sym (names_twice came.made more));
-        held = did.held ∙ came.held;
+        names = names_append came.did moves ∙ ap (λ (xs : List (List ℕ)). xs ++ names_in moves) came.names ∙ ap (λ (xs : List (List ℕ)). names_of came.made ++ xs) names
+            ∙ sym (names_twice came.made more);
+        grew = made_twice came.did moves [] before now next came.grew
+            (made_twice (load_moves (file task)) (writing left.left.text) [] now mid next (step_made came.state task stores' (Ok text) now mid did stays)
+            (made_unread (writing left.left.text) [] mid next (unread left.left.text)
+            (grew_text left.left.text mid.output next.output (subst (λ (t : List ℕ). PutsText mid.output next.output t) left.text_is sent)) asked reads));
+        held = held ∙ did.held ∙ came.held;
         none = record {
-          no_fault = none.no_fault ∙ came.none.no_fault;
+          no_fault = faults ∙ none.no_fault ∙ came.none.no_fault;
           told = λ h e. told_twice h came.made more (came.none.told h e) (none.told h (came.held ∙ e));
         };
         is = is;
@@ -330,27 +323,33 @@ module _ (compiled : CheckedProgram) (binds : List Bind) where
       left : LeavesMeaning compiled.layouts stores' text.bytes (task_meaning compiled came.state task given)
       left = did.chosen.1
 
-      none : NoneFailed now next more
-      none = step_none came.state task stores' (Ok text) now next (λ f e. absurd (cc)) did
+      moves : List Move
+      moves = load_moves (file task) ++ writing left.left.text
+
+      names : names_in moves ≡ names_of more
+      names = names_append (load_moves (file task)) (writing left.left.text) ∙ ap (λ (xs : List (List ℕ)). names_in (load_moves (file task)) ++ xs) (unread left.left.text)
+          ∙ append-nil (names_in (load_moves (file task))) ∙ load_names (file task) given
+
+      none : NoneFailed now mid more
+      none = step_none came.state task stores' (Ok text) now mid (λ f e. absurd (cc)) did
 
       count : length more + (length came.made + 1) ≡ length (came.made ++ more) + 1
       count = omega (arith, length-append came.made more)
 
       is : (readings : Readings) → Agree readings 1 (came.made ++ more)
           → meaning_of_tasks compiled (map binding_read binds) readings 1 start tasks
-          ≡ asking_for (names_of (came.made ++ more)) (before_text (came.text ++ left.left.text) (meaning_of_tasks compiled (map binding_read binds) readings (length (came.made ++ more) + 1) left.left.state rest'))
+          ≡ after_moves (came.did ++ moves) (meaning_of_tasks compiled (map binding_read binds) readings (length (came.made ++ more) + 1) left.left.state rest')
       is readings agree =
           let two = agree_twice readings 1 (length came.made + 1) came.made more refl agree in
-          let step : meaning_of_tasks compiled (map binding_read binds) readings (length came.made + 1) came.state rest
-          ≡ asking_for (names_of more) (before_text left.left.text (meaning_of_tasks compiled (map binding_read binds) readings (length more + (length came.made + 1)) left.left.state rest')) =
+          let then = meaning_of_tasks compiled (map binding_read binds) readings (length more + (length came.made + 1)) left.left.state rest' in
+          let step : meaning_of_tasks compiled (map binding_read binds) readings (length came.made + 1) came.state rest ≡ after_moves (load_moves (file task)) (before_text left.left.text then) =
           ap (meaning_of_tasks compiled (map binding_read binds) readings (length came.made + 1) came.state) split
           ∙ one_task compiled binds readings (length came.made + 1) came.state task rest' given did.has two.1
-          ∙ ap (λ (a : Result Left RunRefusal). asking_for (names_of more) (after_task compiled came.state (file task) task (λ following. meaning_of_tasks compiled (map binding_read binds) readings (length more + (length came.made + 1)) following rest') a)) left.is in
+          ∙ ap (λ (a : Result Left RunRefusal). after_moves (load_moves (file task)) (after_task compiled came.state (file task) task (λ following. meaning_of_tasks compiled (map binding_read binds) readings (length more + (length came.made + 1)) following rest') a)) left.is in
           came.is readings two.0
-          ∙ ap (λ (m : Meaning). asking_for (names_of came.made) (before_text came.text m)) step
-          ∙ regrouped compiled binds (names_of came.made) (names_of more) came.text left.left.text (meaning_of_tasks compiled (map binding_read binds) readings (length more + (length came.made + 1)) left.left.state rest')
-          ∙ ap (λ (names : List (List ℕ)). asking_for names (before_text (came.text ++ left.left.text) (meaning_of_tasks compiled (map binding_read binds) readings (length more + (length came.made + 1)) left.left.state rest'))) (sym (names_twice came.made more))
-          ∙ ap (λ (n : ℕ). asking_for (names_of (came.made ++ more)) (before_text (came.text ++ left.left.text) (meaning_of_tasks compiled (map binding_read binds) readings n left.left.state rest'))) count
+          ∙ ap (λ (m : Meaning). after_moves came.did m) (step ∙ regrouped compiled binds (load_moves (file task)) (writing left.left.text) then)
+          ∙ regrouped compiled binds came.did moves then
+          ∙ ap (λ (n : ℕ). after_moves (came.did ++ moves) (meaning_of_tasks compiled (map binding_read binds) readings n left.left.state rest')) count
 
   -- the rest of the tasks went, so all did
   pub came_went : (start : FlatState) (tasks rest : List Task) (stores : List StoreWords) (before now after : Outside) (result : Result Done (Stop PutFailed))
@@ -358,7 +357,7 @@ module _ (compiled : CheckedProgram) (binds : List Bind) where
       → Went (λ readings. meaning_of_tasks compiled (map binding_read binds) readings (length came.made + 1) came.state rest) (length came.made + 1) now after result
       → Went (λ readings. meaning_of_tasks compiled (map binding_read binds) readings 1 start tasks) 1 before after result
   came_went start tasks rest stores before now after result came went =
-      compose _ _ 1 (length came.made + 1) came.made came.text before now after result refl came.is came.grew came.asked came.reads came.held came.none went
+      compose _ _ 1 (length came.made + 1) came.made came.did before now after result refl came.is came.names came.grew came.held came.none went
 
   -- no task is left
   pub went_all : (start : FlatState) (tasks rest : List Task) (before now : Outside) (session : SessionParts) → rest ≡ [] → Compiles compiled session.compiled
@@ -366,18 +365,14 @@ module _ (compiled : CheckedProgram) (binds : List Bind) where
       → Went (λ readings. meaning_of_tasks compiled (map binding_read binds) readings 1 start tasks) 1 before now (ended_with session (Ok 0))
   went_all start tasks rest before now session none same came =
       came_went start tasks rest session.stores before now now (ended_with session (Ok 0)) came
-      (went_still _ (length came.made + 1) now now (ended_with session (Ok 0)) (λ readings. subst (λ (m : Meaning). WentAlong m now.written now.written (ended_with session (Ok 0))) (sym (is readings)) along)
-      (λ readings. ap (λ (m : Meaning). m.asked) (is readings)) refl refl refl (λ e. absurd (omega arith)))
+      (went_still _ (length came.made + 1) now now (ended_with session (Ok 0)) [] [] refl (grew_none now.output now.output (stays_same now.output))
+      (λ readings. subst (λ (m : Meaning). Follows m [] [] (ended_with session (Ok 0))) (sym (is readings)) follows) refl refl refl (λ e. absurd (omega arith)))
     where
       is : (readings : Readings) → meaning_of_tasks compiled (map binding_read binds) readings (length came.made + 1) came.state rest ≡ all_done [] came.state
       is readings = ap (meaning_of_tasks compiled (map binding_read binds) readings (length came.made + 1) came.state) none ∙ tasks_none compiled binds readings (length came.made + 1) came.state
 
-      along : WentAlong (all_done [] came.state) now.written now.written (ended_with session (Ok 0))
-      along = record {
-        bytes = sym (followed_by-nil now.written);
-        status = refl;
-        last = subst (λ (ls : List Shape). StandForState ls session.stores came.state) (sym same.layouts) came.stand;
-      }
+      follows : Follows (all_done [] came.state) [] [] (ended_with session (Ok 0))
+      follows = (record { all = refl; status = refl; last = subst (λ (ls : List Shape). StandForState ls session.stores came.state) (sym same.layouts) came.stand }, refl)
 
   -- ---- if a task cuts the run short, or ends it
 
@@ -388,13 +383,13 @@ module _ (compiled : CheckedProgram) (binds : List Bind) where
 
   -- what stands after a task goes on after its reads
   went_behind : (n : ℕ) (state : FlatState) (task : Task) (rest rest' : List Task) (stores : List StoreWords) (answer : Result Text (Stop RunRefusal)) (now mid after : Outside) (result : Result Done (Stop PutFailed))
-      → rest ≡ task ∷ rest' → IsNoRead answer → (did : Stepped compiled binds state task stores answer now mid) → mid.written ≡ now.written
+      → rest ≡ task ∷ rest' → IsNoRead answer → (did : Stepped compiled binds state task stores answer now mid) → StaysWritten now.output mid.output
       → Went (behind state task rest' did.chosen.0 n) (length (load_reads (file task) did.chosen.0) + n) mid after result
       → Went (λ readings. meaning_of_tasks compiled (map binding_read binds) readings n state rest) n now after result
-  went_behind n state task rest rest' stores answer now mid after result split no_read did same went =
-      compose _ (behind state task rest' did.chosen.0 n) n (length (load_reads (file task) did.chosen.0) + n) (load_reads (file task) did.chosen.0) [] now mid after result refl
+  went_behind n state task rest rest' stores answer now mid after result split no_read did stays went =
+      compose _ (behind state task rest' did.chosen.0 n) n (length (load_reads (file task) did.chosen.0) + n) (load_reads (file task) did.chosen.0) (load_moves (file task)) now mid after result refl
       (λ readings agree. ap (meaning_of_tasks compiled (map binding_read binds) readings n state) split ∙ one_task compiled binds readings n state task rest' did.chosen.0 did.has agree)
-      (same ∙ sym (followed_by-nil now.written)) (step_asked state task stores answer now mid did.chosen.0 did) (step_reads state task stores answer now mid did.chosen.0 did)
+      (load_names (file task) did.chosen.0) (step_made state task stores answer now mid did stays)
       did.held (step_none state task stores answer now mid no_read did) went
 
   behind_ends : (state : FlatState) (task : Task) (rest : List Task) (given : Reading) (n : ℕ) (readings : Readings) → EndsInLine (behind state task rest given n readings)
@@ -405,12 +400,12 @@ module _ (compiled : CheckedProgram) (binds : List Bind) where
   -- the put of the task's text failed, or there was no memory for it
   pub cut_in_send : (start : FlatState) (tasks rest rest' : List Task) (task : Task) (stores stores' : List StoreWords) (text : Text) (before now mid after : Outside) (why : Stop PutFailed)
       → rest ≡ task ∷ rest' → (came : Came compiled (map binding_read binds) start tasks rest stores before now)
-      → Stepped compiled binds came.state task stores' (Ok text) now mid → mid.written ≡ now.written
-      → Sends {A = Unit} (Err why) mid.written after.written text.bytes → after.asked ≡ mid.asked → after.reads ≡ mid.reads → after.failed_reads ≡ mid.failed_reads
+      → Stepped compiled binds came.state task stores' (Ok text) now mid → StaysWritten now.output mid.output
+      → Sends {A = Unit} (Err why) mid.output after.output text.bytes → after.asked ≡ mid.asked → after.reads ≡ mid.reads → after.failed_reads ≡ mid.failed_reads
       → Went (λ readings. meaning_of_tasks compiled (map binding_read binds) readings 1 start tasks) 1 before after (Err why)
-  cut_in_send start tasks rest rest' task stores stores' text before now mid after why split came did same sent asked reads faults =
+  cut_in_send start tasks rest rest' task stores stores' text before now mid after why split came did stays sent asked reads faults =
       came_went start tasks rest stores before now after (Err why) came
-      (went_behind (length came.made + 1) came.state task rest rest' stores' (Ok text) now mid after (Err why) split (λ f e. absurd (cc)) did same (went why sent))
+      (went_behind (length came.made + 1) came.state task rest rest' stores' (Ok text) now mid after (Err why) split (λ f e. absurd (cc)) did stays (went why sent))
     where
       left : LeavesMeaning compiled.layouts stores' text.bytes (task_meaning compiled came.state task did.chosen.0)
       left = did.chosen.1
@@ -421,58 +416,67 @@ module _ (compiled : CheckedProgram) (binds : List Bind) where
       k : ℕ
       k = length (load_reads (file task) did.chosen.0) + n
 
-      is : (readings : Readings) → behind came.state task rest' did.chosen.0 n readings ≡ before_text left.left.text (meaning_of_tasks compiled (map binding_read binds) readings k left.left.state rest')
+      then : Readings → Meaning
+      then readings = meaning_of_tasks compiled (map binding_read binds) readings k left.left.state rest'
+
+      is : (readings : Readings) → behind came.state task rest' did.chosen.0 n readings ≡ before_text left.left.text (then readings)
       is readings = ap (λ (a : Result Left RunRefusal). after_task compiled came.state (file task) task (λ next. meaning_of_tasks compiled (map binding_read binds) readings k next rest') a) left.is
 
-      went : (w : Stop PutFailed) → Sends {A = Unit} (Err w) mid.written after.written text.bytes → Went (behind came.state task rest' did.chosen.0 n) k mid after (Err w)
+      went : (w : Stop PutFailed) → Sends {A = Unit} (Err w) mid.output after.output text.bytes → Went (behind came.state task rest' did.chosen.0 n) k mid after (Err w)
       went stop.Memory nothing = went_memory (behind came.state task rest' did.chosen.0 n) k mid after (behind_ends came.state task rest' did.chosen.0 n) nothing asked reads faults
       went (stop.Refused failed) part =
-          went_still (behind came.state task rest' did.chosen.0 n) k mid after (Err (stop.Refused failed))
-          (λ readings. subst (λ (m : Meaning). WentAlong m mid.written after.written (Err (stop.Refused failed))) (sym (is readings))
-          (went_part left.left.text (meaning_of_tasks compiled (map binding_read binds) readings k left.left.state rest') mid.written after.written failed
-          (subst (λ (t : List ℕ). GrewByPart mid.written after.written t) left.text_is part)))
-          (λ readings. ((behind came.state task rest' did.chosen.0 n readings).asked, refl)) asked reads faults tt
+          went_still (behind came.state task rest' did.chosen.0 n) k mid after (Err (stop.Refused failed)) [] part.part refl (grew_part text.bytes mid.output after.output part)
+          (λ readings. at_text (behind came.state task rest' did.chosen.0 n readings) text.bytes (moves_of (then readings)) mid.output after.output part
+          (ap (λ (m : Meaning). moves_of m) (is readings) ∙ append_assoc (writing left.left.text) (then readings).moves (writing (then readings).line)
+          ∙ ap (λ (t : List ℕ). writing t ++ moves_of (then readings)) (sym left.text_is)))
+          asked reads faults tt
 
   -- there was no memory for the task
   pub cut_in_step : (start : FlatState) (tasks rest rest' : List Task) (task : Task) (stores stores' : List StoreWords) (before now after : Outside)
       → rest ≡ task ∷ rest' → (came : Came compiled (map binding_read binds) start tasks rest stores before now)
-      → Stepped compiled binds came.state task stores' (Err stop.Memory) now after → after.written ≡ now.written
+      → Stepped compiled binds came.state task stores' (Err stop.Memory) now after → StaysWritten now.output after.output
       → Went (λ readings. meaning_of_tasks compiled (map binding_read binds) readings 1 start tasks) 1 before after (Err stop.Memory)
-  cut_in_step start tasks rest rest' task stores stores' before now after split came did same =
+  cut_in_step start tasks rest rest' task stores stores' before now after split came did stays =
       came_went start tasks rest stores before now after (Err stop.Memory) came
-      (went_behind (length came.made + 1) came.state task rest rest' stores' (Err stop.Memory) now after after (Err stop.Memory) split (λ f e. absurd (cc)) did same
+      (went_behind (length came.made + 1) came.state task rest rest' stores' (Err stop.Memory) now after after (Err stop.Memory) split (λ f e. absurd (cc)) did stays
       (went_memory (behind came.state task rest' did.chosen.0 (length came.made + 1)) (length (load_reads (file task) did.chosen.0) + (length came.made + 1)) after after
-      (behind_ends came.state task rest' did.chosen.0 (length came.made + 1)) refl refl refl refl))
+      (behind_ends came.state task rest' did.chosen.0 (length came.made + 1)) (stays_same after.output) refl refl refl))
+
+  sent_line : (session : SessionParts) (answer : Result ℕ (Stop PutFailed)) (old new : Output) (text : List ℕ) → Sends answer old new text → Sends (ended_with session answer) old new text
+  sent_line session (Ok status) old new text sent = sent
+  sent_line session (Err (stop.Refused failed)) old new text sent = sent
+  sent_line session (Err stop.Memory) old new text sent = sent
+
+  same_status : (session : SessionParts) (answer : Result ℕ (Stop PutFailed)) (line : ℕ) → IfOk answer (λ status. status ≡ line) → IfOk (ended_with session answer) (λ done. done.status ≡ line)
+  same_status session (Ok status) line is = is
+  same_status session (Err why) line is = tt
+
+  same_last : (state : FlatState) (session : SessionParts) (answer : Result ℕ (Stop PutFailed)) → Compiles compiled session.compiled → StandForState compiled.layouts session.stores state
+      → IfOk (ended_with session answer) (λ done. IfSome done.session (StandsForLast (Some state)))
+  same_last state session (Ok status) same stand = subst (λ (ls : List Shape). StandForState ls session.stores state) (sym same.layouts) stand
+  same_last state session (Err why) same stand = tt
 
   -- what was written of a last line goes along with it
-  along_line : (state : FlatState) (last : LastLine) (old new : Option (List ℕ)) (session : SessionParts) (answer : Result ℕ (Stop PutFailed))
-      → WroteAll answer (line_text last) last.status old new → IfOk answer (λ status. status ≡ last.status) → Compiles compiled session.compiled → StandForState compiled.layouts session.stores state
-      → WentAlong (refused_with (Some state) last) old new (ended_with session answer)
-  along_line state last old new session (Ok status) wrote is same stand =
-      record { bytes = wrote; status = is; last = subst (λ (ls : List Shape). StandForState ls session.stores state) (sym same.layouts) stand }
-  along_line state last old new session (Err why) wrote is same stand = record { bytes = wrote; status = tt; last = tt }
-
-  none_asked : (session : SessionParts) (answer : Result ℕ (Stop PutFailed)) → AskedAll (ended_with session answer) [] []
-  none_asked session (Ok status) = refl
-  none_asked session (Err why) = ([], refl)
+  gone_line : (state : FlatState) (last : LastLine) (old new : Output) (session : SessionParts) (answer : Result ℕ (Stop PutFailed))
+      → Sends answer old new (line_text last) → IfOk answer (λ status. status ≡ last.status) → Compiles compiled session.compiled → StandForState compiled.layouts session.stores state
+      → Gone (refused_with (Some state) last) old new (ended_with session answer)
+  gone_line state last old new session answer sent is same stand =
+      gone_text (refused_with (Some state) last) (line_text last) old new (ended_with session answer) refl (refused_ends (Some state) last) (sent_line session answer old new (line_text last) sent)
+      (same_status session answer last.status is) (same_last state session answer same stand)
 
   other_status : (session : SessionParts) (answer : Result ℕ (Stop PutFailed)) (line : ℕ) → IfOk answer (λ status. status ≡ line) → line ≢ 2 → IfOk (ended_with session answer) (λ done. done.status ≢ 2)
   other_status session (Ok status) line is other = λ two. other (sym is ∙ two)
   other_status session (Err why) line is other = tt
 
-  two_status : (session : SessionParts) (answer : Result ℕ (Stop PutFailed)) → IfOk answer (λ status. status ≡ 2) → IfOk (ended_with session answer) (λ done. done.status ≡ 2)
-  two_status session (Ok status) is = is
-  two_status session (Err why) is = tt
-
   -- the task was refused, and its line written
   pub ended_in_task : (start : FlatState) (tasks rest rest' : List Task) (task : Task) (stores : List StoreWords) (session : SessionParts) (before now mid after : Outside) (why : RunRefusal) (answer : Result ℕ (Stop PutFailed))
       → rest ≡ task ∷ rest' → Compiles compiled session.compiled → (came : Came compiled (map binding_read binds) start tasks rest stores before now)
-      → Stepped compiled binds came.state task session.stores (Err (stop.Refused why)) now mid → session.stores ≡ stores → mid.written ≡ now.written
-      → WroteAll answer (line_text (run_last compiled.names (file_of_task compiled.names (map binding_read binds) task) task why)) (run_last compiled.names (file_of_task compiled.names (map binding_read binds) task) task why).status mid.written after.written
+      → Stepped compiled binds came.state task session.stores (Err (stop.Refused why)) now mid → session.stores ≡ stores → StaysWritten now.output mid.output
+      → Sends answer mid.output after.output (line_text (run_last compiled.names (file_of_task compiled.names (map binding_read binds) task) task why))
       → IfOk answer (λ status. status ≡ (run_last compiled.names (file_of_task compiled.names (map binding_read binds) task) task why).status)
       → after.asked ≡ mid.asked → after.reads ≡ mid.reads → after.failed_reads ≡ mid.failed_reads
       → Went (λ readings. meaning_of_tasks compiled (map binding_read binds) readings 1 start tasks) 1 before after (ended_with session answer)
-  ended_in_task start tasks rest rest' task stores session before now mid after why answer split same came did stay written wrote status asked reads faults =
+  ended_in_task start tasks rest rest' task stores session before now mid after why answer split same came did stay stays sent status asked reads faults =
       came_went start tasks rest stores before now after (ended_with session answer) came (by_read (is_read why) refl)
     where
       n : ℕ
@@ -484,12 +488,14 @@ module _ (compiled : CheckedProgram) (binds : List Bind) where
       stand : StandForState compiled.layouts session.stores came.state
       stand = subst (λ (s : List StoreWords). StandForState compiled.layouts s came.state) (sym stay) came.stand
 
+      gone : Gone (refused_with (Some came.state) last) mid.output after.output (ended_with session answer)
+      gone = gone_line came.state last mid.output after.output session answer sent status same stand
+
       by_read : (test : Bool) → is_read why ≡ test → Went (λ readings. meaning_of_tasks compiled (map binding_read binds) readings n came.state rest) n now after (ended_with session answer)
       by_read false no_read =
-          went_behind n came.state task rest rest' session.stores (Err (stop.Refused why)) now mid after (ended_with session answer) split (no_read_refusal why no_read) did written
-          (went_still (behind came.state task rest' did.chosen.0 n) (length (load_reads (file task) did.chosen.0) + n) mid after (ended_with session answer)
-          (λ readings. subst (λ (m : Meaning). WentAlong m mid.written after.written (ended_with session answer)) (sym (is readings)) (along_line came.state last mid.written after.written session answer wrote status same stand))
-          (λ readings. subst (λ (m : Meaning). AskedAll (ended_with session answer) m.asked []) (sym (is readings)) (none_asked session answer))
+          went_behind n came.state task rest rest' session.stores (Err (stop.Refused why)) now mid after (ended_with session answer) split (no_read_refusal why no_read) did stays
+          (went_still (behind came.state task rest' did.chosen.0 n) (length (load_reads (file task) did.chosen.0) + n) mid after (ended_with session answer) gone.did gone.part gone.unread gone.grew
+          (λ readings. subst (λ (m : Meaning). Follows m gone.did gone.part (ended_with session answer)) (sym (is readings)) gone.follows)
           asked reads faults (other_status session answer last.status status (no_read_status compiled.names (file task) task why no_read)))
         where
           is : (readings : Readings) → behind came.state task rest' did.chosen.0 n readings ≡ refused_with (Some came.state) last
@@ -498,9 +504,6 @@ module _ (compiled : CheckedProgram) (binds : List Bind) where
       by_read true read = by_why why refl read where
         by_why : (w : RunRefusal) → why ≡ w → is_read w ≡ true → Went (λ readings. meaning_of_tasks compiled (map binding_read binds) readings n came.state rest) n now after (ended_with session answer)
         by_why (refusal.Read field) is_it sure = by_file (file task) refl where
-          line : LastLine
-          line = run_last compiled.names (file task) task (refusal.Read field)
-
           means : task_meaning compiled came.state task did.chosen.0 ≡ Err (refusal.Read field)
           means = did.chosen.1 ∙ ap (λ (w : RunRefusal). let r : Result Left RunRefusal = Err w in r) is_it
 
@@ -521,24 +524,21 @@ module _ (compiled : CheckedProgram) (binds : List Bind) where
             no_load (Prune layout) has nothing e = absurd (cc)
             no_load (Clear layout) has nothing e = absurd (cc)
           by_file (Some name) some =
-              went_failed (λ readings. meaning_of_tasks compiled (map binding_read binds) readings n came.state rest) (refused_with (Some came.state) line) n name most_grid_bytes now after (ended_with session answer)
-              is refl (along_line came.state line now.written after.written session answer
-              (subst (λ (w : RunRefusal). WroteAll answer (line_text (run_last compiled.names (file task) task w)) (run_last compiled.names (file task) task w).status now.written after.written) is_it
-              (subst (λ (old : Option (List ℕ)). WroteAll answer (line_text last) last.status old after.written) written wrote))
-              (subst (λ (w : RunRefusal). IfOk answer (λ s. s ≡ (run_last compiled.names (file task) task w).status)) is_it status) same stand)
-              (asked ∙ step_asked came.state task session.stores (Err (stop.Refused why)) now mid did.chosen.0 did ∙ ap (λ (f : Option (List ℕ)). asked_more now.asked (names_of (load_reads f did.chosen.0))) some)
-              (reads ∙ step_reads came.state task session.stores (Err (stop.Refused why)) now mid did.chosen.0 did ∙ ap (λ (f : Option (List ℕ)). counted_more now.reads (names_of (load_reads f did.chosen.0))) some)
+              went_failed (λ readings. meaning_of_tasks compiled (map binding_read binds) readings n came.state rest) (refused_with (Some came.state) last) n name most_grid_bytes now after (ended_with session answer)
+              is (gone_before (refused_with (Some came.state) last) now.output mid.output after.output (ended_with session answer) stays gone)
+              (asked ∙ did.asked ∙ ap (λ (f : Option (List ℕ)). asked_after f now.asked) some)
+              (reads ∙ did.reads ∙ ap (λ (f : Option (List ℕ)). reads_after f now.reads) some)
               (subst (λ (c : ℕ). Rose now.failed_reads c) (sym faults) (subst (λ (w : RunRefusal). StepCause (Err (stop.Refused w)) now.failed_reads mid.failed_reads) is_it did.cause))
-              (two_status session answer (subst (λ (w : RunRefusal). IfOk answer (λ s. s ≡ (run_last compiled.names (file task) task w).status)) is_it status))
+              (same_status session answer 2 (subst (λ (w : RunRefusal). IfOk answer (λ s. s ≡ (run_last compiled.names (file task) task w).status)) is_it status))
             where
-              is : (readings : Readings) → readings (suc n) name most_grid_bytes ≡ Missing → meaning_of_tasks compiled (map binding_read binds) readings n came.state rest ≡ asking_for (name ∷ []) (refused_with (Some came.state) line)
+              is : (readings : Readings) → readings (suc n) name most_grid_bytes ≡ Missing → meaning_of_tasks compiled (map binding_read binds) readings n came.state rest ≡ asking_for name (refused_with (Some came.state) last)
               is readings failed =
                   ap (meaning_of_tasks compiled (map binding_read binds) readings n came.state) split
                   ∙ tasks_step compiled binds readings n came.state task rest'
                   ∙ ap (λ (f : Option (List ℕ)). task_and_more compiled readings n came.state task (λ following next. meaning_of_tasks compiled (map binding_read binds) readings following next rest') f) some
-                  ∙ ap (λ (r : Reading). asking_for (name ∷ []) (after_task compiled came.state (Some name) task (λ next. meaning_of_tasks compiled (map binding_read binds) readings (suc n) next rest') (task_meaning compiled came.state task r))) (failed ∙ sym missing)
-                  ∙ ap (λ (a : Result Left RunRefusal). asking_for (name ∷ []) (after_task compiled came.state (Some name) task (λ next. meaning_of_tasks compiled (map binding_read binds) readings (suc n) next rest') a)) means
-                  ∙ ap (λ (f : Option (List ℕ)). asking_for (name ∷ []) (refused_with (Some came.state) (run_last compiled.names f task (refusal.Read field)))) (sym some)
+                  ∙ ap (λ (r : Reading). asking_for name (after_task compiled came.state (Some name) task (λ next. meaning_of_tasks compiled (map binding_read binds) readings (suc n) next rest') (task_meaning compiled came.state task r))) (failed ∙ sym missing)
+                  ∙ ap (λ (a : Result Left RunRefusal). asking_for name (after_task compiled came.state (Some name) task (λ next. meaning_of_tasks compiled (map binding_read binds) readings (suc n) next rest') a)) did.chosen.1
+                  ∙ ap (λ (f : Option (List ℕ)). asking_for name (refused_with (Some came.state) (run_last compiled.names f task why))) (sym some)
         by_why (refusal.GridBytes field) is_it sure = absurd (cc)
         by_why (refusal.GridRows field) is_it sure = absurd (cc)
         by_why (refusal.Grid field l) is_it sure = absurd (cc)
@@ -587,11 +587,11 @@ stepped program other binds state task stores stores' result now next compiles s
     kept given did = subst (Performs other.layouts stores' result) (task_kept program other compiles stores state stand_other task given) did
 
 -- a line that was written in the words of other names
-pub line_of : (names other : Tables) (binds : List Bind) (task : Task) (why : RunRefusal) (answer : Result ℕ (Stop PutFailed)) (old new : Option (List ℕ)) → other ≡ names
-    → WroteAll answer (line_text (run_last other (file_of_task other (map binding_read binds) task) task why)) (run_last other (file_of_task other (map binding_read binds) task) task why).status old new
-    → WroteAll answer (line_text (run_last names (file_of_task names (map binding_read binds) task) task why)) (run_last names (file_of_task names (map binding_read binds) task) task why).status old new
-line_of names other binds task why answer old new same wrote =
-    subst (λ (t : Tables). WroteAll answer (line_text (run_last t (file_of_task t (map binding_read binds) task) task why)) (run_last t (file_of_task t (map binding_read binds) task) task why).status old new) same wrote
+pub line_of : (names other : Tables) (binds : List Bind) (task : Task) (why : RunRefusal) (answer : Result ℕ (Stop PutFailed)) (old new : Output) → other ≡ names
+    → Sends answer old new (line_text (run_last other (file_of_task other (map binding_read binds) task) task why))
+    → Sends answer old new (line_text (run_last names (file_of_task names (map binding_read binds) task) task why))
+line_of names other binds task why answer old new same sent =
+    subst (λ (t : Tables). Sends answer old new (line_text (run_last t (file_of_task t (map binding_read binds) task) task why))) same sent
 
 pub line_status_of : (names other : Tables) (binds : List Bind) (task : Task) (why : RunRefusal) (answer : Result ℕ (Stop PutFailed)) → other ≡ names
     → IfOk answer (λ status. status ≡ (run_last other (file_of_task other (map binding_read binds) task) task why).status)

@@ -28,8 +28,9 @@ use Rattle.sg_session.specs.Commands.{Left, row_write, bounds_or_none, grid_refu
 use Rattle.sg_session.specs.Independence.{LayoutsDontMatter, left_by}
 use Rattle.sparsegrid.specs.declared.words.Mode.{Mode}
 use Rattle.sparsegrid.specs.declared.words.Mode.TheVariants as mode
-use Rattle.sparsegrid.specs.Words.{Asked, is_gen, good_words}
-use Rattle.sparsegrid.specs.Meaning.{Meaning, asking_for, readings_in, meaning_of_run, meaning_in, meaning_of_compiled, meaning_of_source, meaning_of_file, meaning_of_generated, meaning_of_asked, meaning_of_words, meaning}
+use Rattle.sparsegrid.specs.Moves.{pieces_in}
+use Rattle.sparsegrid.specs.Words.{Asked, doing, is_gen, good_words}
+use Rattle.sparsegrid.specs.Meaning.{Meaning, moves_of, text_meant, asking_for, readings_in, meaning_of_run, meaning_in, meaning_of_compiled, meaning_of_source, meaning_of_file, meaning_of_generated, meaning_of_asked, meaning_of_words, meaning}
 use Rattle.sparsegrid.specs.Independence.{reading_behind, reads_with, told_from, told, IsWhatIsLeft, MeaningIsOfCommands, AreSameBut, LayoutsDontMatterToRuns}
 use Rattle.sparsegrid.proofs.NoGrids.{no_grid}
 use Rattle.sg_session.proofs.Uses.{bound_ok, tasks_same}
@@ -120,23 +121,23 @@ module _ (words : List (List ℕ)) (held : Held) (asked : Asked) (file : List �
       → meaning_of_source asked (readings_in held None) (if fits then Bytes file else TooMany) ≡ in_run
   of_source false status = absurd (cc)
   of_source true status =
-      ap (meaning_of_compiled asked (readings_in held None) file) checked ∙ ap (λ (m : Mode). meaning_in m program asked.bindings (readings_in held None)) runs
+      ap (meaning_of_compiled asked (readings_in held None) file) checked ∙ ap (λ (m : Mode). meaning_in (doing m) program asked.bindings (readings_in held None)) runs
 
-  run_meant : (meaning words held None).status ≡ 0 → meaning words held None ≡ asking_for (asked.file ∷ []) in_run
+  run_meant : (meaning words held None).status ≡ 0 → meaning words held None ≡ asking_for asked.file in_run
   run_meant status =
       let first : meaning words held None ≡ meaning_of_asked asked (readings_in held None) = ap (λ (good : Option Asked). meaning_of_words good (readings_in held None)) words_are in
       let second : meaning_of_asked asked (readings_in held None) ≡ meaning_of_file asked (readings_in held None) =
       ap (λ (m : Mode). if is_gen m then meaning_of_generated asked (readings_in held None) else meaning_of_file asked (readings_in held None)) runs in
-      let third : meaning_of_file asked (readings_in held None) ≡ asking_for (asked.file ∷ []) (meaning_of_source asked (readings_in held None) (reading_at (Some file) most_file_bytes)) =
-      ap (λ (given : Option (List ℕ)). asking_for (asked.file ∷ []) (meaning_of_source asked (readings_in held None) (reading_at given most_file_bytes))) has in
-      let whole : meaning words held None ≡ asking_for (asked.file ∷ []) (meaning_of_source asked (readings_in held None) (reading_at (Some file) most_file_bytes)) = first ∙ second ∙ third in
-      whole ∙ ap (asking_for (asked.file ∷ [])) (of_source (nat_le (length file) most_file_bytes) (sym (ap (λ (m : Meaning). m.status) whole) ∙ status))
+      let third : meaning_of_file asked (readings_in held None) ≡ asking_for asked.file (meaning_of_source asked (readings_in held None) (reading_at (Some file) most_file_bytes)) =
+      ap (λ (given : Option (List ℕ)). asking_for asked.file (meaning_of_source asked (readings_in held None) (reading_at given most_file_bytes))) has in
+      let whole : meaning words held None ≡ asking_for asked.file (meaning_of_source asked (readings_in held None) (reading_at (Some file) most_file_bytes)) = first ∙ second ∙ third in
+      whole ∙ ap (asking_for asked.file) (of_source (nat_le (length file) most_file_bytes) (sym (ap (λ (m : Meaning). m.status) whole) ∙ status))
 
   run_left : MeaningIsOfCommands → (meaning words held None).status ≡ 0 → (lefts : List Left) × IsWhatIsLeft program asked.bindings (readings_in held None) (meaning words held None) lefts
   run_left law status =
       let is = run_meant status in
       let made = (law program asked.bindings (readings_in held None)).leaves (sym (ap (λ (m : Meaning). m.status) is) ∙ status) in
-      (made.0, record { left = made.1.left; text = ap (λ (m : Meaning). m.text) is ∙ made.1.text; last = ap (λ (m : Meaning). m.last) is ∙ made.1.last })
+      (made.0, record { left = made.1.left; pieces = ap (λ (m : Meaning). pieces_in (moves_of m)) is ∙ made.1.pieces; text = ap (λ (m : Meaning). text_meant m) is ∙ made.1.text; last = ap (λ (m : Meaning). m.last) is ∙ made.1.last })
 
 -- ---- the law
 

@@ -1,6 +1,7 @@
 -- What a generated program means asks for no file.
 use Rattle.std.proofs.Common.{◌≡◌, ℕ, Bool, true, List, [], ◌∷◌, ◌++◌, Option, Some, None, Result, Ok, Err, refl, sym, ap, ◌∙◌, subst}
 use Rattle.std.specs.Prelude.{find, option_and_then, if◌then◌else◌}
+use Rattle.std.proofs.lemmas.List.{append-nil}
 use Rattle.sg_words.specs.declared.memory.Stop.{Stop}
 use Rattle.sg_ast.specs.declared.token.Name.{Name}
 use Rattle.sg_outside.specs.Files.{Reading, Bytes, Missing}
@@ -18,13 +19,14 @@ use Rattle.sg_session.specs.Compiling.{compiled_program}
 use Rattle.sg_session.specs.Bindings.{Binding, file_bound, file_of_task}
 use Rattle.sparsegrid.specs.declared.output.PutFailed.{PutFailed}
 use Rattle.sparsegrid.specs.declared.session.Done.{Done}
-use Rattle.sparsegrid.specs.declared.words.Mode.{Mode}
 use Rattle.sparsegrid.specs.declared.words.Mode.TheVariants as mode
-use Rattle.sparsegrid.specs.Words.{Asked, is_gen}
+use Rattle.sparsegrid.specs.Words.{Asked, Doing, performs, generates, looks, writes_code, doing, is_generated, is_gen}
+use Rattle.sparsegrid.specs.Moves.{Move, writing, names_in}
 use Rattle.sparsegrid.specs.Generated.{generated_text}
-use Rattle.sparsegrid.specs.Meaning.{Meaning, Readings, asking_for, meaning_of_source, is_unbound, after_task, task_and_more, meaning_of_tasks, meaning_unless, meaning_of_run, meaning_in, meaning_of_compiled, meaning_of_file, meaning_of_generated, meaning_of_asked}
-use Rattle.sparsegrid.specs.Outcome.{Outside, asked_more, counted_more}
-use Rattle.sparsegrid.specs.steps.Along.{ReadMade, names_of, Agree, FollowedMeaning, ReadsEnd, Went}
+use Rattle.sparsegrid.specs.Meaning.{Meaning, Readings, asked_of, moves_of, asking_for, meaning_of_source, is_unbound, after_task, task_and_more, meaning_of_tasks, meaning_unless, meaning_of_run, meaning_in, meaning_of_compiled, meaning_of_file, meaning_of_generated, meaning_of_asked}
+use Rattle.sparsegrid.specs.Outcome.{Outside, IsFront}
+use Rattle.sparsegrid.specs.steps.Along.{ReadMade, names_of, Agree, Follows, ReadsEnd, Went}
+use Rattle.sparsegrid.proofs.Writing.{names_append, unread}
 use Rattle.sparsegrid.proofs.Readings.{readings_of, agree_own}
 use Rattle.sparsegrid.proofs.Sources.{went_same}
 
@@ -41,69 +43,78 @@ no_file names (Stats layout) = refl
 no_file names (Prune layout) = refl
 no_file names (Clear layout) = refl
 
-tasks_ask : (program : CheckedProgram) (readings : Readings) (n : ℕ) (state : FlatState) (tasks : List Task) → (meaning_of_tasks program [] readings n state tasks).asked ≡ []
+tasks_ask : (program : CheckedProgram) (readings : Readings) (n : ℕ) (state : FlatState) (tasks : List Task) → asked_of (meaning_of_tasks program [] readings n state tasks) ≡ []
 unfolding meaning_of_tasks
 tasks_ask program readings n state [] = refl
 tasks_ask program readings n state (task ∷ tasks) =
-    ap (λ (file : Option (List ℕ)). (task_and_more program readings n state task more file).asked) (no_file program.names task) ∙ by_answer (task_meaning program state task Missing)
+    ap (λ (file : Option (List ℕ)). asked_of (task_and_more program readings n state task more file)) (no_file program.names task) ∙ by_answer (task_meaning program state task Missing)
     (λ next. tasks_ask program readings n next tasks)
   where
     more : ℕ → FlatState → Meaning
     more after next = meaning_of_tasks program [] readings after next tasks
 
-    by_answer : (answer : Result Left RunRefusal) → ((next : FlatState) → (more n next).asked ≡ []) → (after_task program state None task (more n) answer).asked ≡ []
-    by_answer (Ok left) rest = rest left.state
+    by_answer : (answer : Result Left RunRefusal) → ((next : FlatState) → asked_of (more n next) ≡ []) → asked_of (after_task program state None task (more n) answer) ≡ []
+    by_answer (Ok left) rest = names_append (writing left.text) (more n left.state).moves ∙ ap (λ (names : List (List ℕ)). names ++ asked_of (more n left.state)) (unread left.text) ∙ rest left.state
     by_answer (Err why) rest = refl
 
-run_asks : (program : CheckedProgram) (readings : Readings) (tasks : List Task) → (meaning_of_run program [] readings tasks).asked ≡ []
+run_asks : (program : CheckedProgram) (readings : Readings) (tasks : List Task) → asked_of (meaning_of_run program [] readings tasks) ≡ []
 run_asks program readings tasks = by_find (find (is_unbound program.names []) tasks) where
-  by_find : (o : Option Task) → (meaning_unless o program [] readings tasks).asked ≡ []
+  by_find : (o : Option Task) → asked_of (meaning_unless o program [] readings tasks) ≡ []
   by_find None = tasks_ask program readings 1 (opening program.layouts) tasks
   by_find (Some task) = refl
 
-gen_asks : (m : Mode) (program : CheckedProgram) (bindings : List Binding) (readings : Readings) → is_gen m ≡ true → (meaning_in m program bindings readings).asked ≡ []
-gen_asks mode.Run program bindings readings gen = absurd (cc)
-gen_asks mode.Check program bindings readings gen = absurd (cc)
-gen_asks mode.Lower program bindings readings gen = absurd (cc)
-gen_asks mode.Gen program bindings readings gen = run_asks program readings (unfolded_tasks program.commands)
+gen_asks : (what : Doing) (program : CheckedProgram) (bindings : List Binding) (readings : Readings) → is_generated what ≡ true → asked_of (meaning_in what program bindings readings) ≡ []
+gen_asks performs program bindings readings gen = absurd (cc)
+gen_asks generates program bindings readings gen = run_asks program readings (unfolded_tasks program.commands)
+gen_asks looks program bindings readings gen = absurd (cc)
+gen_asks writes_code program bindings readings gen = absurd (cc)
 
-pub compiled_asks : (asked : Asked) → is_gen asked.mode ≡ true → (readings : Readings) (bytes : List ℕ) (answer : Result CheckedProgram Refusal) → (meaning_of_compiled asked readings bytes answer).asked ≡ []
+pub compiled_asks : (asked : Asked) → is_gen asked.mode ≡ true → (readings : Readings) (bytes : List ℕ) (answer : Result CheckedProgram Refusal) → asked_of (meaning_of_compiled asked readings bytes answer) ≡ []
 compiled_asks asked gen readings bytes (Err why) = refl
-compiled_asks asked gen readings bytes (Ok program) = gen_asks asked.mode program asked.bindings readings gen
+compiled_asks asked gen readings bytes (Ok program) = gen_asks (doing asked.mode) program asked.bindings readings gen
 
 -- the generated program is run
 pub of_generated : (asked : Asked) → is_gen asked.mode ≡ true → (readings : Readings) → meaning_of_asked asked readings ≡ meaning_of_generated asked readings
 of_generated asked gen readings = ap (λ (b : Bool). if b then meaning_of_generated asked readings else meaning_of_file asked readings) gen
 
-pub generated_asks : (asked : Asked) → is_gen asked.mode ≡ true → (readings : Readings) → (meaning_of_asked asked readings).asked ≡ []
+pub generated_asks : (asked : Asked) → is_gen asked.mode ≡ true → (readings : Readings) → asked_of (meaning_of_asked asked readings) ≡ []
 generated_asks asked gen readings =
-    ap (λ (m : Meaning). m.asked) (of_generated asked gen readings) ∙ compiled_asks asked gen readings (generated_text asked.number) (compiled_program (generated_text asked.number))
+    ap (λ (m : Meaning). asked_of m) (of_generated asked gen readings) ∙ compiled_asks asked gen readings (generated_text asked.number) (compiled_program (generated_text asked.number))
 
 front_none : (xs ys : List (List ℕ)) → xs ++ ys ≡ [] → xs ≡ []
 front_none [] ys h = refl
 front_none (x ∷ xs) ys h = absurd (cc)
 
+pub names_meant : (m : Meaning) → names_in (moves_of m) ≡ asked_of m
+names_meant m = names_append m.moves (writing m.line) ∙ ap (λ (names : List (List ℕ)). asked_of m ++ names) (unread m.line) ∙ append-nil (asked_of m)
+
+front_names : (m : Meaning) (did : List Move) (part : List ℕ) (answer : ℕ) → asked_of m ≡ [] → IsFront m did part answer → names_in did ≡ []
+front_names m did part answer none front =
+    front_none (names_in did) (names_in front.left) (sym (names_append did front.left) ∙ ap (λ (moves : List Move). names_in moves) (sym front.whole) ∙ names_meant m ∙ none)
+
 -- if a meaning asks for no file, none was read
-pub no_names : (m : Meaning) (names : List (List ℕ)) (before after : Outside) (result : Result Done (Stop PutFailed)) → m.asked ≡ [] → FollowedMeaning m names before after result → names ≡ []
-no_names m names before after (Ok done) none followed = sym followed.asked ∙ none
-no_names m names before after (Err why) none followed = front_none names followed.asked.0 (sym followed.asked.1 ∙ none)
+pub no_names : (m : Meaning) (did : List Move) (part : List ℕ) (result : Result Done (Stop PutFailed)) → asked_of m ≡ [] → Follows m did part result → names_in did ≡ []
+no_names m did part (Ok done) none follows = ap (λ (moves : List Move). names_in moves) follows.0.all ∙ names_meant m ∙ none
+no_names m did part (Err why) none front = front_names m did part _ none front
 
 nothing_made : (made : List ReadMade) → names_of made ≡ [] → made ≡ []
 nothing_made [] none = refl
 nothing_made (read ∷ made) none = absurd (cc)
 
 -- so it doesn't count how many reads came before
-pub went_unread : (m : Readings → Meaning) (n k : ℕ) (before after : Outside) (result : Result Done (Stop PutFailed)) → ((readings : Readings) → (m readings).asked ≡ [])
+pub went_unread : (m : Readings → Meaning) (n k : ℕ) (before after : Outside) (result : Result Done (Stop PutFailed)) → ((readings : Readings) → asked_of (m readings) ≡ [])
     → Went m n before after result → Went m k before after result
 went_unread m n k before after result none went =
-    let own = went.followed (readings_of n went.made) (agree_own n went.made) in
-    let names : names_of went.made ≡ [] = no_names (m (readings_of n went.made)) (names_of went.made) before after result (none (readings_of n went.made)) own in
-    let made : went.made ≡ [] = nothing_made went.made names in
+    let own = went.follows (readings_of n went.made) (agree_own n went.made) in
+    let names : names_in went.did ≡ [] = no_names (m (readings_of n went.made)) went.did went.part result (none (readings_of n went.made)) own in
+    let made : went.made ≡ [] = nothing_made went.made (sym went.names ∙ names) in
     record {
       made = [];
-      followed = λ readings agree. subst (λ (ns : List (List ℕ)). FollowedMeaning (m readings) ns before after result) names (went.followed readings (subst (λ (ms : List ReadMade). Agree readings n ms) (sym made) tt));
-      asked = went.asked ∙ ap (asked_more before.asked) names;
-      reads = went.reads ∙ ap (counted_more before.reads) names;
+      did = went.did;
+      part = went.part;
+      names = names;
+      grew = went.grew;
+      follows = λ readings agree. went.follows readings (subst (λ (ms : List ReadMade). Agree readings n ms) (sym made) tt);
       ends = subst (λ (ms : List ReadMade). ReadsEnd before after ms result) made went.ends;
     }
 
@@ -118,9 +129,9 @@ generated_went asked bytes before after result gen same went =
 -- it means what a file with its text means, but that no file is asked for
 pub generated_is_text : (workers number : ℕ) (file : List ℕ) (readings : Readings) → readings 1 file most_file_bytes ≡ Bytes (generated_text number)
     → meaning_of_asked (record { workers = workers; mode = mode.Run; file = file; bindings = []; number = 0 }) readings
-    ≡ asking_for (file ∷ []) (meaning_of_asked (record { workers = workers; mode = mode.Gen; file = []; bindings = []; number = number }) readings)
+    ≡ asking_for file (meaning_of_asked (record { workers = workers; mode = mode.Gen; file = []; bindings = []; number = number }) readings)
 generated_is_text workers number file readings holds =
-    ap (λ (given : Reading). asking_for (file ∷ []) (meaning_of_source of_file readings given)) holds ∙ ap (λ (m : Meaning). asking_for (file ∷ []) m) (by_answer (compiled_program (generated_text number)))
+    ap (λ (given : Reading). asking_for file (meaning_of_source of_file readings given)) holds ∙ ap (λ (m : Meaning). asking_for file m) (by_answer (compiled_program (generated_text number)))
   where
     of_file : Asked
     of_file = record { workers = workers; mode = mode.Run; file = file; bindings = []; number = 0 }

@@ -8,6 +8,8 @@ use Rattle.sg_coord.specs.declared.coord.Coord.{Coord}
 use Rattle.sg_layout.specs.declared.shape.Kind.TheVariants.{Dense}
 use Rattle.sg_layout.specs.declared.shape.Shape.{Shape}
 use Rattle.sg_outside.specs.Files.{Held, Reading, Bytes, Missing}
+use Rattle.sg_outside.specs.Sink.{followed_by}
+use Rattle.sg_exec.specs.Standing.{StandForState}
 use Rattle.sg_grid.specs.Fronts.{rest_after, count_at, number_at, number_before, further_part_at, coordinate_at, row_at, head_at}
 use Rattle.sg_grid.specs.Limits.{most_grid_bytes}
 use Rattle.sg_grid.specs.Reading.{row_in, rows_of}
@@ -19,10 +21,13 @@ use Rattle.sg_session.specs.declared.tasks.Stage.TheVariants.{Once}
 use Rattle.sg_session.specs.Bindings.{Binding, file_of_task}
 use Rattle.sg_session.specs.Compiled.{CheckedProgram, unfolded_tasks}
 use Rattle.sg_session.specs.Commands.{Left}
-use Rattle.sg_session.specs.Independence.{AreSameUpToNodes, RunsNeutral, RunsLeaveSame, left_by_program, last_state}
+use Rattle.sg_session.specs.Independence.{AreSameUpToNodes, RunsNeutral, HaveSameValues, AllLeaveSame, RunsLeaveSame, left_by_program, last_state}
+use Rattle.sg_session.specs.Performed.{SessionParts}
 use Rattle.sparsegrid.specs.declared.words.Mode.TheVariants as mode
 use Rattle.sparsegrid.specs.Words.{Asked, good_words}
-use Rattle.sparsegrid.specs.Meaning.{Meaning, Readings, readings_in, meaning_of_tasks, meaning_of_run, meaning}
+use Rattle.sparsegrid.specs.Moves.{ReadsFile, WritesText, pieces_of, pieces_in}
+use Rattle.sparsegrid.specs.Meaning.{Meaning, moves_of, text_meant, Readings, readings_in, meaning_of_tasks, meaning_of_run, meaning}
+use Rattle.sparsegrid.specs.Outcome.{Outside, WroteMeaning, open_text, StandsForLast, IsOfFile}
 
 -- ---- what the commands of a run leave
 
@@ -46,10 +51,12 @@ told_from names bindings readings reads (task ∷ tasks) (suc place) = told_from
 abbrev pub told : CheckedProgram → List Binding → Readings → ℕ → Reading
 told program bindings readings place = told_from program.names bindings readings 1 (unfolded_tasks program.commands) place
 
--- A meaning is what commands leave: its text is their texts, one after the other, and its last state is that after the last of them.
+-- A meaning is what commands leave: its text is their texts, one after the other and each by one put, and its last state is that after the last
+-- of them.
 pub record IsWhatIsLeft (program : CheckedProgram) (bindings : List Binding) (readings : Readings) (m : Meaning) (lefts : List Left) : Type 0 where
   pub left : left_by_program program (told program bindings readings) ≡ Ok lefts
-  pub text : m.text ≡ flat_map (λ left. left.text) lefts
+  pub pieces : pieces_in (moves_of m) ≡ flat_map (λ left. pieces_of left.text) lefts
+  pub text : text_meant m ≡ flat_map (λ left. left.text) lefts
   pub last : m.last ≡ Some (last_state program lefts)
 
 -- A meaning is of the commands of a program: it has status 0 exactly when none of them is refused, and then it is what they leave.
@@ -94,6 +101,39 @@ abbrev pub LayoutsDontMatterToRuns : Type 0
 LayoutsDontMatterToRuns = (words : List (List ℕ)) (held held' : Held) (asked : Asked) (first second : CheckedProgram) →
     DifferInLayouts words held held' asked first second → (meaning words held None).status ≡ 0 → (meaning words held' None).status ≡ 0 →
     MeanSame held held' asked.bindings first second (meaning words held None) (meaning words held' None)
+
+-- ---- two calls of `run`
+
+-- A call of `run` with these words over these files ended with status 0 and left this session. This is what its clauses `whole`, `last` and
+-- `program` say then.
+pub record LeftSession (words : List (List ℕ)) (held : Held) (before after : Outside) (session : SessionParts) : Type 0 where
+  pub told : before.held ≡ Some held
+  pub wrote : WroteMeaning words (open_text words (Some session)) None before after 0
+  pub last : StandsForLast (meaning words held None).last session
+  pub program : IsOfFile words held session
+
+-- the stores of a session stand for the state after these commands, and the text of the call is the texts of them
+pub record IsAfter (program : CheckedProgram) (lefts : List Left) (before after : Outside) (session : SessionParts) : Type 0 where
+  pub stand : StandForState session.compiled.layouts session.stores (last_state program lefts)
+  pub written : after.output.written ≡ followed_by before.output.written (flat_map (λ left. left.text) lefts)
+
+-- What two calls left: the stores of their sessions stand for states with the same values. The states after each command have the same values, too,
+-- and the images that were written are the same.
+pub record SessionsAreSame (first second : CheckedProgram) (before after before' after' : Outside) (session session' : SessionParts) : Type 0 where
+  pub lefts : List Left
+  pub rights : List Left
+  pub one : IsAfter first lefts before after session
+  pub other : IsAfter second rights before' after' session'
+  pub values : HaveSameValues session.compiled.layouts session'.compiled.layouts (last_state first lefts) (last_state second rights)
+  pub each : AllLeaveSame session.compiled.layouts session'.compiled.layouts (unfolded_tasks first.commands) lefts rights
+
+-- Two calls over files that differ in the nodes of layouts alone, both of which end with status 0, leave sessions with the same values, and write the
+-- same images.
+abbrev pub LayoutsDontMatterToCalls : Type 0
+LayoutsDontMatterToCalls = (words : List (List ℕ)) (held held' : Held) (asked : Asked) (first second : CheckedProgram) (before after before' after' : Outside)
+    (session session' : SessionParts) → DifferInLayouts words held held' asked first second →
+    LeftSession words held before after session → LeftSession words held' before' after' session' →
+    SessionsAreSame first second before after before' after' session session'
 
 -- ---- examples
 
@@ -155,6 +195,6 @@ left_by_each = refl
 
 -- and so the run means
 meant_by_both : meaning_of_run loads_and_dumps from_f lists_a_seven (unfolded_tasks loads_and_dumps.commands)
-    ≡ record { text = codes "grid 1 4\n0 0\n1 0\n2 7\n3 0\n"; status = 0; last = Some loaded_line; asked = codes "f" ∷ [] }
+    ≡ record { moves = ReadsFile (codes "f") ∷ WritesText (codes "grid 1 4\n0 0\n1 0\n2 7\n3 0\n") ∷ []; line = []; status = 0; last = Some loaded_line }
 unfolding meaning_of_tasks rows_of head_at row_in row_at coordinate_at further_part_at number_before number_at count_at rest_after digits
 meant_by_both = refl

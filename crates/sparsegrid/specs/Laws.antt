@@ -1,5 +1,5 @@
 -- What follows from the clauses and the meaning of a run.
-use Rattle.std.specs.Prelude.{◌≡◌, ◌≢◌, ℕ, List, [], ◌∷◌, None}
+use Rattle.std.specs.Prelude.{◌≡◌, ◌≢◌, ℕ, List, [], None}
 use Rattle.sg_outside.specs.Counts.{Rose}
 use Rattle.sg_outside.specs.Files.{Bytes}
 use Rattle.sg_lexer.specs.Limits.{most_file_bytes}
@@ -10,13 +10,13 @@ use Rattle.sparsegrid.specs.Outcome.{Outside, HasWholeText, WroteMeaning, ReadFa
 
 -- if neither count of faults rose and memory didn't run out, a run wrote the whole of what it means
 abbrev pub FaultlessIsWhole : Type 0
-FaultlessIsWhole = (words : List (List ℕ)) (code : List ℕ) (before after : Outside) (status : ℕ)
-    → (HasWholeText status → WroteMeaning words code None before after status) → ReadFaults before after status → PutFaults before after status
+FaultlessIsWhole = (words : List (List ℕ)) (opened : List ℕ) (before after : Outside) (status : ℕ)
+    → (HasWholeText status → WroteMeaning words opened None before after status) → ReadFaults before after status → PutFaults before after status
     → ¬ Rose before.failed_reads after.failed_reads → ¬ Rose before.failed_puts after.failed_puts → status ≢ 9
-    → WroteMeaning words code None before after status
+    → WroteMeaning words opened None before after status
 
 -- the generated program of a number means what a file with its text means, but that no file is asked for
 abbrev pub GeneratedIsText : Type 0
 GeneratedIsText = (workers number : ℕ) (file : List ℕ) (readings : Readings) → readings 1 file most_file_bytes ≡ Bytes (generated_text number)
     → meaning_of_asked (record { workers = workers; mode = mode.Run; file = file; bindings = []; number = 0 }) readings
-    ≡ asking_for (file ∷ []) (meaning_of_asked (record { workers = workers; mode = mode.Gen; file = []; bindings = []; number = number }) readings)
+    ≡ asking_for file (meaning_of_asked (record { workers = workers; mode = mode.Gen; file = []; bindings = []; number = number }) readings)

@@ -3,6 +3,7 @@ pub mod Words
 pub mod WordExamples
 pub mod Lines
 pub mod Generated
+pub mod Moves
 pub mod Meaning
 pub mod Outcome
 pub mod Laws

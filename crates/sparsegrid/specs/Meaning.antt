@@ -1,4 +1,4 @@
--- What a run means: the text that it writes, its status, the last state, and the files that it asks for.
+-- What a run means: its moves, its last line, its status, and the last state.
 use Rattle.std.specs.Prelude.{ℕ, suc, Bool, true, false, ◌&&◌, List, [], ◌∷◌, ◌++◌, find, if◌then◌else◌, ◌==◌, Option, Some, None, is_none, Result, Ok, Err}
 use Rattle.sg_outside.specs.Files.{Held, Reading, Bytes, TooMany, Missing, reading}
 use Rattle.sg_ast.specs.declared.program.Item.{Item}
@@ -18,23 +18,38 @@ use Rattle.sg_session.specs.Commands.{Left, task_meaning}
 use Rattle.sg_session.specs.Texts.{check_text}
 use Rattle.sg_session.specs.Bindings.{file_of_field, file_of_task, Binding}
 use Rattle.sparsegrid.specs.declared.last_line.LastLine.{LastLine}
-use Rattle.sparsegrid.specs.declared.words.Mode.{Mode}
-use Rattle.sparsegrid.specs.declared.words.Mode.TheVariants as mode
-use Rattle.sparsegrid.specs.Words.{Asked, good_words, is_gen}
+use Rattle.sparsegrid.specs.Words.{Asked, Doing, performs, generates, looks, writes_code, doing, good_words, is_gen}
+use Rattle.sparsegrid.specs.Moves.{Move, ReadsFile, writing, names_in, text_in}
 use Rattle.sparsegrid.specs.Generated.{generated_text}
 use Rattle.sparsegrid.specs.Lines.{words_last, no_file_last, read_last, file_bytes_last, refusal_last, run_last, field_text}
 
--- what a run means: the text that it writes, its status, the last state, where it leaves one, and the names of the files that it asks for,
--- in order
+-- What a run means: the moves that it makes before its last line; that line with its newline, which is empty if all is done; its status; and the
+-- last state, where it leaves one.
 pub record Meaning : Type 0 where
-  pub text : List ℕ
+  pub moves : List Move
+  pub line : List ℕ
   pub status : ℕ
   pub last : Option FlatState
-  pub asked : List (List ℕ)
+
+-- all moves: the last line is written after the others
+abbrev pub moves_of : Meaning → List Move
+moves_of m = m.moves ++ writing m.line
+
+-- what it says before its last line
+abbrev pub said : Meaning → List ℕ
+said m = text_in m.moves
+
+-- the text that it writes
+abbrev pub text_meant : Meaning → List ℕ
+text_meant m = said m ++ m.line
+
+-- the names of the files that it asks for, in order
+abbrev pub asked_of : Meaning → List (List ℕ)
+asked_of m = names_in m.moves
 
 -- a refusal writes its one line, with the state that it leaves, if any
 abbrev pub refused_with : Option FlatState → LastLine → Meaning
-refused_with state last = record { text = last.line ++ 10 ∷ []; status = last.status; last = state; asked = [] }
+refused_with state last = record { moves = []; line = last.line ++ 10 ∷ []; status = last.status; last = state }
 
 -- a refusal before the first command leaves no state
 abbrev pub refused_before_tasks : LastLine → Meaning
@@ -42,15 +57,19 @@ refused_before_tasks last = refused_with None last
 
 -- all is done: this text is written, and this is the state
 abbrev pub all_done : List ℕ → FlatState → Meaning
-all_done text state = record { text = text; status = 0; last = Some state; asked = [] }
+all_done text state = record { moves = writing text; line = []; status = 0; last = Some state }
+
+-- moves, and then what else the run means
+abbrev pub after_moves : List Move → Meaning → Meaning
+after_moves moves m = record { moves = moves ++ m.moves; line = m.line; status = m.status; last = m.last }
 
 -- a text, and then what else the run means
 abbrev pub before : List ℕ → Meaning → Meaning
-before text m = record { text = text ++ m.text; status = m.status; last = m.last; asked = m.asked }
+before text m = after_moves (writing text) m
 
--- files are asked for, and then what else the run means
-abbrev pub asking_for : List (List ℕ) → Meaning → Meaning
-asking_for names m = record { text = m.text; status = m.status; last = m.last; asked = names ++ m.asked }
+-- a file is asked for, and then what else the run means
+abbrev pub asking_for : List ℕ → Meaning → Meaning
+asking_for name m = after_moves (ReadsFile name ∷ []) m
 
 -- what the reads of a run give: that of a number, counted from 1, of the file of a name, under a limit on its bytes
 abbrev pub Readings : Type 0
@@ -80,7 +99,7 @@ after_task program state file task more (Err why) = refused_with (Some state) (r
 abbrev pub task_and_more : CheckedProgram → Readings → ℕ → FlatState → Task → (ℕ → FlatState → Meaning) → Option (List ℕ) → Meaning
 task_and_more program readings reads state task more None = after_task program state None task (more reads) (task_meaning program state task Missing)
 task_and_more program readings reads state task more (Some name) =
-    asking_for (name ∷ []) (after_task program state (Some name) task (more (suc reads)) (task_meaning program state task (readings (suc reads) name most_grid_bytes)))
+    asking_for name (after_task program state (Some name) task (more (suc reads)) (task_meaning program state task (readings (suc reads) name most_grid_bytes)))
 
 -- tasks from a state on, up to the first that is refused; so many reads were before them
 unfoldable pub meaning_of_tasks : CheckedProgram → List Binding → Readings → ℕ → FlatState → List Task → Meaning
@@ -99,14 +118,13 @@ meaning_unless None program bindings readings tasks = meaning_of_tasks program b
 abbrev pub meaning_of_run : CheckedProgram → List Binding → Readings → List Task → Meaning
 meaning_of_run program bindings readings tasks = meaning_unless (find (is_unbound program.names bindings) tasks) program bindings readings tasks
 
--- What is done with a compiled program: its tasks are performed, its kernels are looked at, or their access code is written. That text is no
--- part of the meaning, since the code's registers may be numbered in any way: it is that of the session which the run leaves. The tasks of a
--- generated program have no files.
-abbrev pub meaning_in : Mode → CheckedProgram → List Binding → Readings → Meaning
-meaning_in mode.Run program bindings readings = meaning_of_run program bindings readings (unfolded_tasks program.commands)
-meaning_in mode.Check program bindings readings = all_done (check_text program.names program.neutral) (opening program.layouts)
-meaning_in mode.Lower program bindings readings = all_done [] (opening program.layouts)
-meaning_in mode.Gen program bindings readings = meaning_of_run program [] readings (unfolded_tasks program.commands)
+-- What is done with a compiled program. The text of access code is no part of the meaning, since the code's registers may be numbered in any way:
+-- it is that of the session which the run leaves. The tasks of a generated program have no files.
+abbrev pub meaning_in : Doing → CheckedProgram → List Binding → Readings → Meaning
+meaning_in performs program bindings readings = meaning_of_run program bindings readings (unfolded_tasks program.commands)
+meaning_in generates program bindings readings = meaning_of_run program [] readings (unfolded_tasks program.commands)
+meaning_in looks program bindings readings = all_done (check_text program.names program.neutral) (opening program.layouts)
+meaning_in writes_code program bindings readings = all_done [] (opening program.layouts)
 
 -- the items of a program, if there is one
 abbrev pub items_or_none : Result Program Refusal → List Item
@@ -116,7 +134,7 @@ items_or_none (Err refusal) = []
 -- a checked program, or the refusal of these bytes
 abbrev pub meaning_of_compiled : Asked → Readings → List ℕ → Result CheckedProgram Refusal → Meaning
 meaning_of_compiled asked readings bytes (Err refusal) = refused_before_tasks (refusal_last (items_or_none (spelled_program bytes)) refusal)
-meaning_of_compiled asked readings bytes (Ok program) = meaning_in asked.mode program asked.bindings readings
+meaning_of_compiled asked readings bytes (Ok program) = meaning_in (doing asked.mode) program asked.bindings readings
 
 -- what the read of the file gave
 abbrev pub meaning_of_source : Asked → Readings → Reading → Meaning
@@ -126,7 +144,7 @@ meaning_of_source asked readings (Bytes bytes) = meaning_of_compiled asked readi
 
 -- the file that good words name is the first that is asked for
 abbrev pub meaning_of_file : Asked → Readings → Meaning
-meaning_of_file asked readings = asking_for (asked.file ∷ []) (meaning_of_source asked readings (readings 1 asked.file most_file_bytes))
+meaning_of_file asked readings = asking_for asked.file (meaning_of_source asked readings (readings 1 asked.file most_file_bytes))
 
 -- the generated program is asked of no file
 abbrev pub meaning_of_generated : Asked → Readings → Meaning
@@ -145,28 +163,27 @@ meaning_of_words (Some asked) readings = meaning_of_asked asked readings
 abbrev pub meaning_by : List (List ℕ) → Readings → Meaning
 meaning_by words readings = meaning_of_words (good_words words) readings
 
--- ---- the text of access code
+-- ---- what a meaning leaves open
 
--- the mode is to write access code
-abbrev pub is_lower : Mode → Bool
-is_lower mode.Run = false
-is_lower mode.Check = false
-is_lower mode.Lower = true
-is_lower mode.Gen = false
+-- whether access code is written
+abbrev pub is_code : Doing → Bool
+is_code performs = false
+is_code generates = false
+is_code looks = false
+is_code writes_code = true
 
 -- good words ask for access code; bad ones ask for nothing
 abbrev pub asks_code : Option Asked → Bool
 asks_code None = false
-asks_code (Some asked) = is_lower asked.mode
+asks_code (Some asked) = is_code (doing asked.mode)
 
--- a meaning with the text of access code after its own, where this is so
-abbrev pub with_text : Bool → List ℕ → Meaning → Meaning
-with_text false code m = m
-with_text true code m = record { text = m.text ++ code; status = m.status; last = m.last; asked = m.asked }
+-- a meaning with this text before its last line, too
+abbrev pub saying : List ℕ → Meaning → Meaning
+saying text m = record { moves = m.moves ++ writing text; line = m.line; status = m.status; last = m.last }
 
--- A meaning has no text of its own where the words ask for code and the status is 0: then its text is that of this code.
-abbrev pub with_code : List (List ℕ) → List ℕ → Meaning → Meaning
-with_code words code m = with_text (asks_code (good_words words) && (m.status == 0)) code m
+-- A meaning leaves a text open where the words ask for access code and all is done. This is the meaning with that text.
+abbrev pub with_open : List (List ℕ) → List ℕ → Meaning → Meaning
+with_open words opened m = if asks_code (good_words words) && (m.status == 0) then saying opened m else m
 
 -- ---- the reads
 

@@ -16,7 +16,13 @@ use Rattle.sg_session.specs.Compiling.{compiled_program}
 use Rattle.sg_session.specs.Texts.{lower_text}
 use Rattle.sparsegrid.specs.Words.{Asked, good_words, is_gen}
 use Rattle.sparsegrid.specs.Generated.{generated_text}
-use Rattle.sparsegrid.specs.Meaning.{Meaning, Readings, meaning, meaning_by, asks_code, with_code}
+use Rattle.sparsegrid.specs.Moves.{Move, WritesText, names_in, pieces_in, text_in}
+use Rattle.sparsegrid.specs.Meaning.{Meaning, Readings, moves_of, meaning, meaning_by, asks_code, with_open}
+
+-- what a sink tells at one moment: the bytes that were written so far, and the pieces that were put whole, in order, where these are told
+pub record Output : Type 0 where
+  pub written : Option (List ℕ)
+  pub pieces : Option (List (List ℕ))
 
 -- what files and a sink tell at one moment
 pub record Outside : Type 0 where
@@ -26,9 +32,13 @@ pub record Outside : Type 0 where
   -- how many reads there were, and how many of them failed
   pub reads : ℕ
   pub failed_reads : ℕ
-  -- the bytes that were written so far, where these are told, and how many puts failed
-  pub written : Option (List ℕ)
+  -- what was written so far, and how many puts failed
+  pub output : Output
   pub failed_puts : ℕ
+
+-- what this sink tells of what was written
+abbrev pub output_of : {S : Type 0} → sink_of.Ghosts S → S → Output
+output_of of_sink out = record { written = of_sink.has out; pieces = of_sink.pieces out }
 
 -- what these files and this sink tell
 abbrev pub outside_of : {F S : Type 0} → files_of.Ghosts F → sink_of.Ghosts S → F → S → Outside
@@ -37,13 +47,13 @@ outside_of of_files of_sink files out = record {
   asked = of_files.asked files;
   reads = of_files.reads files;
   failed_reads = of_files.faults files;
-  written = of_sink.has out;
+  output = output_of of_sink out;
   failed_puts = of_sink.faults out;
 }
 
--- the names that were read so far, with more of them; if nothing is told, nothing is
-abbrev pub asked_more : Option (List (List ℕ)) → List (List ℕ) → Option (List (List ℕ))
-asked_more asked names = option_map (λ told. told ++ names) asked
+-- what was told so far, with more of it; if nothing is told, nothing is
+abbrev pub told_more : Option (List (List ℕ)) → List (List ℕ) → Option (List (List ℕ))
+told_more told more = option_map (λ before. before ++ more) told
 
 -- a kept count after one more for each of these names: it stays at its last value
 abbrev pub counted_more : ℕ → List (List ℕ) → ℕ
@@ -81,65 +91,89 @@ abbrev pub code_in : Option SessionParts → List ℕ
 code_in None = []
 code_in (Some session) = lower_text session.compiled.names session.compiled.kernels
 
--- ---- what was written and asked for, where the files are told
+-- the text that a meaning leaves open, of a run that leaves this session: that of its access code where the words ask for it
+abbrev pub open_text : List (List ℕ) → Option SessionParts → List ℕ
+open_text words session = if asks_code (good_words words) then code_in session else []
 
--- the written bytes grew by exactly the text of the meaning, the status is its status, and exactly the files that it asks for were read
+-- ---- what was written and read
+
+-- the output grew by the texts of these moves, each put whole, and then by a part of a further text
+pub record Grew (moves : List Move) (part : List ℕ) (old new : Output) : Type 0 where
+  pub written : new.written ≡ followed_by old.written (text_in moves ++ part)
+  pub pieces : new.pieces ≡ told_more old.pieces (pieces_in moves)
+
+-- just these moves were made, each whole, and then a part of a further text was written
+pub record Made (moves : List Move) (part : List ℕ) (before after : Outside) : Type 0 where
+  pub output : Grew moves part before.output after.output
+  pub asked : after.asked ≡ told_more before.asked (names_in moves)
+  pub reads : after.reads ≡ counted_more before.reads (names_in moves)
+
+-- the output stays as it was
+pub record StaysWritten (old new : Output) : Type 0 where
+  pub written : new.written ≡ old.written
+  pub pieces : new.pieces ≡ old.pieces
+
+-- ---- the whole of what is meant
+
+-- all moves of the meaning were made, and the status is its status
 pub record Wrote (m : Meaning) (before after : Outside) (answer : ℕ) : Type 0 where
-  pub text : after.written ≡ followed_by before.written m.text
+  pub made : Made (moves_of m) [] before after
   pub status : answer ≡ m.status
-  pub asked : after.asked ≡ asked_more before.asked m.asked
-  pub reads : after.reads ≡ counted_more before.reads m.asked
 
--- A run with these words wrote what it means, where the read of the given number fails, if any; `code` is the text of the access code of the
--- session that it leaves.
+-- A run with these words did what it means, where the read of the given number fails, if any; `opened` is the text that the meaning leaves open.
 abbrev pub WroteMeaning : List (List ℕ) → List ℕ → Option ℕ → Outside → Outside → ℕ → Type 0
-WroteMeaning words code stop before after status =
-    (held : Held) → before.held ≡ Some held → Wrote (with_code words code (meaning words held stop)) before after status
+WroteMeaning words opened stop before after status =
+    (held : Held) → before.held ≡ Some held → Wrote (with_open words opened (meaning words held stop)) before after status
 
--- it wrote what it means where its last read fails
+-- it did what it means where its last read fails
 abbrev pub WroteStopped : List (List ℕ) → List ℕ → Outside → Outside → ℕ → Type 0
-WroteStopped words code before after status =
-    after.reads < last_count → WroteMeaning words code (Some (after.reads - before.reads)) before after status
+WroteStopped words opened before after status =
+    after.reads < last_count → WroteMeaning words opened (Some (after.reads - before.reads)) before after status
 
--- The written bytes grew by a front of the text that goes with a status. Some of the text is missing where a put failed, and where the text
--- ends in a last line.
-pub record TextFront (text : List ℕ) (status : ℕ) (old new : Option (List ℕ)) (answer : ℕ) : Type 0 where
-  pub written : List ℕ
+-- ---- a front of what is meant
+
+-- the next of these moves is to write a text, of which this is a part that isn't the whole
+pub record BeginsNext (part : List ℕ) (left : List Move) : Type 0 where
+  pub text : List ℕ
   pub missing : List ℕ
-  pub grew : new ≡ followed_by old written
-  pub whole : text ≡ written ++ missing
-  pub less : (answer ≡ 3) ⊎ (status ≢ 0) → missing ≢ []
+  pub rest : List Move
+  pub next : left ≡ WritesText text ∷ rest
+  pub whole : text ≡ part ++ missing
+  pub less : missing ≢ []
 
--- the files that were read are a front of those that a meaning asks for, each in one read
-pub record AskedFront (m : Meaning) (before after : Outside) : Type 0 where
-  pub names : List (List ℕ)
-  pub left : List (List ℕ)
-  pub whole : m.asked ≡ names ++ left
-  pub asked : after.asked ≡ asked_more before.asked names
-  pub reads : after.reads ≡ counted_more before.reads names
+-- These moves are the first of those that a meaning makes. With status 3 the next is to write a text, the put of which failed. With every other
+-- status no text was written in part, and with 9 some of the text is missing where it ends in a last line.
+pub record IsFront (m : Meaning) (done : List Move) (part : List ℕ) (answer : ℕ) : Type 0 where
+  pub left : List Move
+  pub whole : moves_of m ≡ done ++ left
+  pub failed : answer ≡ 3 → BeginsNext part left
+  pub other : answer ≢ 3 → part ≡ []
+  pub less : answer ≡ 9 → m.status ≢ 0 → text_in left ≢ []
 
--- a front of the text was written, and a front of the files was read
+-- a front of the moves of a meaning was made
 pub record WentAFront (m : Meaning) (before after : Outside) (answer : ℕ) : Type 0 where
-  pub text : TextFront m.text m.status before.written after.written answer
-  pub names : AskedFront m before after
+  pub done : List Move
+  pub part : List ℕ
+  pub front : IsFront m done part answer
+  pub made : Made done part before after
 
 -- a run went along a front of what it means; only where a read failed it may be what it means where its last read fails
 abbrev pub WroteFront : List (List ℕ) → List ℕ → Outside → Outside → ℕ → Type 0
-WroteFront words code before after status =
+WroteFront words opened before after status =
     (held : Held) → before.held ≡ Some held →
-    WentAFront (with_code words code (meaning words held None)) before after status
+    WentAFront (with_open words opened (meaning words held None)) before after status
     ⊎ (Rose before.failed_reads after.failed_reads
-    × (after.reads < last_count → WentAFront (with_code words code (meaning words held (Some (after.reads - before.reads)))) before after status))
+    × (after.reads < last_count → WentAFront (with_open words opened (meaning words held (Some (after.reads - before.reads)))) before after status))
 
--- ---- what was written and asked for, whatever the files tell
+-- ---- whatever the files tell
 
 -- a run ended as it means where its reads give some readings
 abbrev pub EndsAs : List (List ℕ) → List ℕ → Outside → Outside → ℕ → Type 0
-EndsAs words code before after status = (readings : Readings) × Wrote (with_code words code (meaning_by words readings)) before after status
+EndsAs words opened before after status = (readings : Readings) × Wrote (with_open words opened (meaning_by words readings)) before after status
 
--- a run asked for a front of the files that it means to ask for, where its reads give some readings
-abbrev pub AsksAs : List (List ℕ) → Outside → Outside → Type 0
-AsksAs words before after = (readings : Readings) × AskedFront (meaning_by words readings) before after
+-- a run made a front of the moves that it means to make, where its reads give some readings
+abbrev pub AsksAs : List (List ℕ) → List ℕ → Outside → Outside → ℕ → Type 0
+AsksAs words opened before after status = (readings : Readings) × WentAFront (with_open words opened (meaning_by words readings)) before after status
 
 -- ---- the faults: none is made up, passed over or forgotten
 

@@ -114,12 +114,31 @@ abbrev pub mode_of : Option (List ℕ) → Option Mode
 mode_of None = Some mode.Run
 mode_of (Some value) = if bytes_eq value (codes "run") then Some mode.Run else (if bytes_eq value (codes "check") then Some mode.Check else (if bytes_eq value (codes "lower") then Some mode.Lower else (if bytes_eq value (codes "gen") then Some mode.Gen else None)))
 
+-- what is done with a program: its tasks are performed; those of the generated one are; its kernels are looked at; or their access code is
+-- written
+pub data Doing : Type 0 where
+  performs : Doing
+  generates : Doing
+  looks : Doing
+  writes_code : Doing
+
+-- what a mode does
+abbrev pub doing : Mode → Doing
+doing mode.Run = performs
+doing mode.Check = looks
+doing mode.Lower = writes_code
+doing mode.Gen = generates
+
+-- whether the program is the generated one
+abbrev pub is_generated : Doing → Bool
+is_generated performs = false
+is_generated generates = true
+is_generated looks = false
+is_generated writes_code = false
+
 -- whether the generated program is run
 abbrev pub is_gen : Mode → Bool
-is_gen mode.Run = false
-is_gen mode.Check = false
-is_gen mode.Lower = false
-is_gen mode.Gen = true
+is_gen mode = is_generated (doing mode)
 
 -- the file that is bound to a name isn't empty
 abbrev pub is_file : List ℕ → Bool

@@ -9,8 +9,8 @@ ghost use Rattle.sg_session.specs.Performed.{HasFile};
 ghost use Rattle.sg_session.specs.Bindings.{binding_read, file_of_task};
 ghost use Rattle.sparsegrid.specs.Lines.{run_last};
 ghost use Rattle.sparsegrid.specs.Meaning.{meaning_of_tasks};
-ghost use Rattle.sparsegrid.specs.Outcome.{outside_of};
-ghost use Rattle.sparsegrid.specs.steps.Along.{SendCause, WroteAll, Went, line_text, ended_with};
+ghost use Rattle.sparsegrid.specs.Outcome.{outside_of, output_of};
+ghost use Rattle.sparsegrid.specs.steps.Along.{Sends, SendCause, Went, line_text, ended_with};
 
 use crate::output::{PutFailed, send, send_last};
 use crate::run_line::run_last;
@@ -73,10 +73,8 @@ fn refuse_task<S: Sink>(
     refusal: RunRefusal,
 ) -> Result<u8, Stop<PutFailed>>
     requires { IsTask compiled.now task }
-    ensures wrote { WroteAll result
-        (line_text (run_last compiled.now.names (file_of_task compiled.now.names (map binding_read binds.now.list) task) task refusal))
-        (run_last compiled.now.names (file_of_task compiled.now.names (map binding_read binds.now.list) task) task refusal).status
-        (S.has out.old) (S.has out.new) }
+    ensures sends { Sends result (output_of S.Sink out.old) (output_of S.Sink out.new)
+        (line_text (run_last compiled.now.names (file_of_task compiled.now.names (map binding_read binds.now.list) task) task refusal)) }
     ensures cause { SendCause result (S.faults out.old) (S.faults out.new) }
     ensures status { IfOk result (λ status. status ≡
         (run_last compiled.now.names (file_of_task compiled.now.names (map binding_read binds.now.list) task) task refusal).status) }

@@ -1,6 +1,6 @@
 //! What follows from the clauses and the meaning of a run, each as the contract of a function that does nothing.
 
-ghost use Rattle.sparsegrid.specs.Independence.{LayoutsDontMatterToRuns, MeaningIsOfCommands};
+ghost use Rattle.sparsegrid.specs.Independence.{LayoutsDontMatterToCalls, LayoutsDontMatterToRuns, MeaningIsOfCommands};
 ghost use Rattle.sparsegrid.specs.Laws.{FaultlessIsWhole, GeneratedIsText};
 
 use sg_parser::laws::parsed_is_spelled;
@@ -31,4 +31,13 @@ pub fn layouts_dont_matter_to_runs()
     parsed_is_spelled();
     meaning_is_of_commands();
     layouts_dont_matter();
+}
+
+/// Two calls of `run` over files that differ in the nodes of layouts alone, both of which end with status 0, leave sessions with the same
+/// values, and write the same images, if they run neutral kernels alone.
+pub fn layouts_dont_matter_to_calls()
+    ensures { LayoutsDontMatterToCalls }
+{
+    // for the law that it ensures
+    layouts_dont_matter_to_runs();
 }

@@ -1,5 +1,6 @@
-ghost use Rattle.std.specs.Prelude.{◌≡◌, ℕ, List, Option, ◌<◌, IfOk};
-ghost use Rattle.sparsegrid.specs.steps.Along.{Sends, KeepsWritten, SendCause, WroteAll, line_text};
+ghost use Rattle.std.specs.Prelude.{◌≡◌, ◌<◌, IfOk};
+ghost use Rattle.sparsegrid.specs.Outcome.{output_of};
+ghost use Rattle.sparsegrid.specs.steps.Along.{Sends, KeepsWritten, SendCause, line_text};
 
 use crate::last_line::LastLine;
 use sg_outside::{Put, Sink};
@@ -11,10 +12,10 @@ use std::alloc::Global;
 pub struct PutFailed;
 
 /// Writes a text by one put; an empty text is not written.
-#[tactic(auto, using(crate::proofs::Writing::part_taken))]
+#[tactic(auto, using(crate::proofs::Writing::sent_all, crate::proofs::Writing::sent_none, crate::proofs::Writing::part_taken))]
 pub fn send<S: Sink>(out: &mut S, text: &[u8]) -> Result<(), Stop<PutFailed>>
-    ensures bytes { Sends result (S.has out.old) (S.has out.new) text.now }
-    ensures quiet { KeepsWritten result (S.has out.old) (S.has out.new) }
+    ensures sends { Sends result (output_of S.Sink out.old) (output_of S.Sink out.new) text.now }
+    ensures quiet { KeepsWritten result (output_of S.Sink out.old) (output_of S.Sink out.new) }
     ensures cause { SendCause result (S.faults out.old) (S.faults out.new) }
 {
     if text.is_empty() {
@@ -33,8 +34,8 @@ pub fn send_last<S: Sink>(
     out: &mut S,
     last: &LastLine,
 ) -> Result<u8, Stop<PutFailed>>
-    ensures wrote { WroteAll result (line_text last.now) last.now.status (S.has out.old) (S.has out.new) }
-    ensures quiet { KeepsWritten result (S.has out.old) (S.has out.new) }
+    ensures sends { Sends result (output_of S.Sink out.old) (output_of S.Sink out.new) (line_text last.now) }
+    ensures quiet { KeepsWritten result (output_of S.Sink out.old) (output_of S.Sink out.new) }
     ensures cause { SendCause result (S.faults out.old) (S.faults out.new) }
     ensures status { IfOk result (λ status. status ≡ last.now.status) }
 {

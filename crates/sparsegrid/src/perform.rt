@@ -6,9 +6,10 @@ ghost use Rattle.sg_session.specs.Texts as texts_of;
 ghost use Rattle.sg_session.specs.Compiled.{CheckedProgram, Compiles, IsTask, unfolded_tasks};
 ghost use Rattle.sg_session.specs.Bindings.{binding_read};
 ghost use Rattle.sg_flat.specs.State.{opening};
-ghost use Rattle.sparsegrid.specs.Meaning.{meaning_of_run, meaning_of_tasks, is_unbound, all_done};
-ghost use Rattle.sparsegrid.specs.Outcome.{outside_of, HasSession};
-ghost use Rattle.sparsegrid.specs.steps.Along.{WentAlong, KeepsWritten, Went, SendCause, IsEnd, LeavesProgram};
+ghost use Rattle.sg_exec.specs.Standing.{StandForState};
+ghost use Rattle.sparsegrid.specs.Meaning.{meaning_of_run, meaning_of_tasks, is_unbound};
+ghost use Rattle.sparsegrid.specs.Outcome.{output_of, outside_of, HasSession};
+ghost use Rattle.sparsegrid.specs.steps.Along.{Sends, KeepsWritten, Went, SendCause, IsEnd, LeavesOnly, LeavesProgram};
 
 use crate::drive::drive;
 use crate::output::{PutFailed, send};
@@ -22,40 +23,40 @@ use std::alloc::Global;
 use std::thread::Threads;
 
 /// Writes for each kernel whether it is neutral.
-pub(crate) fn check<R: Threads + Sync, S: Sink>(
-    rt: &R,
+pub(crate) fn check<S: Sink>(
     alloc: Global,
     compiled: Compiled,
     out: &mut S,
 ) -> Result<Done, Stop<PutFailed>>
-    ensures along { WentAlong (all_done (texts_of.check_text compiled.names compiled.neutral) (opening compiled.layouts)) (S.has out.old) (S.has out.new) result }
+    ensures sends { Sends result (output_of S.Sink out.old) (output_of S.Sink out.new) (texts_of.check_text compiled.names compiled.neutral) }
+    ensures opened { LeavesOnly (λ session. StandForState compiled.layouts session.stores (opening compiled.layouts)) result }
     ensures cause { SendCause result (S.faults out.old) (S.faults out.new) }
     ensures end { IfOk result IsEnd }
     ensures program { LeavesProgram compiled result }
     ensures status { IfOk result (λ done. done.status ≡ 0) }
 {
     match check_text(alloc, &compiled) {
-        Ok(text) => leave_open(rt, alloc, compiled, text.bytes.as_slice(), out),
+        Ok(text) => leave_open(alloc, compiled, text.bytes.as_slice(), out),
         Err(Memory) => Err(Stop::Memory),
     }
 }
 
 /// Writes a text and leaves the stores of a program as they are opened.
-pub(crate) fn leave_open<R: Threads + Sync, S: Sink>(
-    rt: &R,
+pub(crate) fn leave_open<S: Sink>(
     alloc: Global,
     compiled: Compiled,
     text: &[u8],
     out: &mut S,
 ) -> Result<Done, Stop<PutFailed>>
-    ensures along { WentAlong (all_done text.now (opening compiled.layouts)) (S.has out.old) (S.has out.new) result }
-    ensures quiet { KeepsWritten result (S.has out.old) (S.has out.new) }
+    ensures sends { Sends result (output_of S.Sink out.old) (output_of S.Sink out.new) text.now }
+    ensures quiet { KeepsWritten result (output_of S.Sink out.old) (output_of S.Sink out.new) }
+    ensures opened { LeavesOnly (λ session. StandForState compiled.layouts session.stores (opening compiled.layouts)) result }
     ensures cause { SendCause result (S.faults out.old) (S.faults out.new) }
     ensures end { IfOk result IsEnd }
     ensures program { LeavesProgram compiled result }
     ensures status { IfOk result (λ done. done.status ≡ 0) }
 {
-    match Session::open(rt, alloc, compiled, 1) {
+    match Session::open(alloc, compiled) {
         Ok(session) => match send(out, text) {
             Ok(()) => Ok(Done {
                 status: 0,
@@ -133,7 +134,7 @@ fn perform_tasks<R: Threads + Sync, F: Files, S: Sink, G: Gate + Sync>(
     ensures end { IfOk result IsEnd }
     ensures program { LeavesProgram compiled result }
 {
-    match Session::open(rt, alloc, compiled, workers) {
+    match Session::open(alloc, compiled) {
         Ok(opened) => {
             let mut session = opened;
             match drive(

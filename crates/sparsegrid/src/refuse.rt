@@ -5,8 +5,9 @@ ghost use Rattle.sg_lexer.specs.Limits.{most_file_bytes};
 ghost use Rattle.sg_session.specs.Compiling.{spelled_program};
 ghost use Rattle.sg_session.specs.Compiled.{IsTask};
 ghost use Rattle.sparsegrid.specs.Lines.{words_last, no_file_last, read_last, file_bytes_last, field_text, refusal_last};
-ghost use Rattle.sparsegrid.specs.Meaning.{items_or_none, refused_before_tasks};
-ghost use Rattle.sparsegrid.specs.steps.Along.{WentAlong, KeepsWritten, SendCause};
+ghost use Rattle.sparsegrid.specs.Meaning.{items_or_none};
+ghost use Rattle.sparsegrid.specs.Outcome.{output_of};
+ghost use Rattle.sparsegrid.specs.steps.Along.{Sends, KeepsWritten, SendCause, line_text};
 
 use crate::last_line::{
     LastLine, file_bytes_last, no_file_last, read_last, refusal_last, words_last,
@@ -21,8 +22,8 @@ use std::alloc::Global;
 
 /// Writes the last line of a run that leaves no session.
 fn refuse<S: Sink>(alloc: Global, out: &mut S, last: &LastLine) -> Result<Done, Stop<PutFailed>>
-    ensures along { WentAlong (refused_before_tasks last.now) (S.has out.old) (S.has out.new) result }
-    ensures quiet { KeepsWritten result (S.has out.old) (S.has out.new) }
+    ensures sends { Sends result (output_of S.Sink out.old) (output_of S.Sink out.new) (line_text last.now) }
+    ensures quiet { KeepsWritten result (output_of S.Sink out.old) (output_of S.Sink out.new) }
     ensures cause { SendCause result (S.faults out.old) (S.faults out.new) }
     ensures status { IfOk result (λ done. done.status ≡ last.now.status) }
     ensures session { IfOk result (λ done. done.session ≡ None) }
@@ -38,8 +39,8 @@ fn refuse<S: Sink>(alloc: Global, out: &mut S, last: &LastLine) -> Result<Done, 
 
 /// Writes the last line of a run with bad words.
 pub(crate) fn refuse_words<S: Sink>(alloc: Global, out: &mut S) -> Result<Done, Stop<PutFailed>>
-    ensures along { WentAlong (refused_before_tasks words_last) (S.has out.old) (S.has out.new) result }
-    ensures quiet { KeepsWritten result (S.has out.old) (S.has out.new) }
+    ensures sends { Sends result (output_of S.Sink out.old) (output_of S.Sink out.new) (line_text words_last) }
+    ensures quiet { KeepsWritten result (output_of S.Sink out.old) (output_of S.Sink out.new) }
     ensures cause { SendCause result (S.faults out.old) (S.faults out.new) }
     ensures status { IfOk result (λ done. done.status ≡ 1) }
     ensures session { IfOk result (λ done. done.session ≡ None) }
@@ -52,8 +53,8 @@ pub(crate) fn refuse_words<S: Sink>(alloc: Global, out: &mut S) -> Result<Done, 
 
 /// Writes the last line of a run whose file has too many bytes.
 pub(crate) fn refuse_long<S: Sink>(alloc: Global, out: &mut S) -> Result<Done, Stop<PutFailed>>
-    ensures along { WentAlong (refused_before_tasks file_bytes_last) (S.has out.old) (S.has out.new) result }
-    ensures quiet { KeepsWritten result (S.has out.old) (S.has out.new) }
+    ensures sends { Sends result (output_of S.Sink out.old) (output_of S.Sink out.new) (line_text file_bytes_last) }
+    ensures quiet { KeepsWritten result (output_of S.Sink out.old) (output_of S.Sink out.new) }
     ensures cause { SendCause result (S.faults out.old) (S.faults out.new) }
     ensures status { IfOk result (λ done. done.status ≡ 8) }
     ensures session { IfOk result (λ done. done.session ≡ None) }
@@ -70,8 +71,8 @@ pub(crate) fn refuse_read<S: Sink>(
     out: &mut S,
     name: &str,
 ) -> Result<Done, Stop<PutFailed>>
-    ensures along { WentAlong (refused_before_tasks (read_last name.now)) (S.has out.old) (S.has out.new) result }
-    ensures quiet { KeepsWritten result (S.has out.old) (S.has out.new) }
+    ensures sends { Sends result (output_of S.Sink out.old) (output_of S.Sink out.new) (line_text (read_last name.now)) }
+    ensures quiet { KeepsWritten result (output_of S.Sink out.old) (output_of S.Sink out.new) }
     ensures cause { SendCause result (S.faults out.old) (S.faults out.new) }
     ensures status { IfOk result (λ done. done.status ≡ 2) }
     ensures session { IfOk result (λ done. done.session ≡ None) }
@@ -90,7 +91,7 @@ pub(crate) fn refuse_unbound<S: Sink>(
     task: Task,
 ) -> Result<Done, Stop<PutFailed>>
     requires { IsTask compiled.now task }
-    ensures along { WentAlong (refused_before_tasks (no_file_last (field_text compiled.now.names task))) (S.has out.old) (S.has out.new) result }
+    ensures sends { Sends result (output_of S.Sink out.old) (output_of S.Sink out.new) (line_text (no_file_last (field_text compiled.now.names task))) }
     ensures cause { SendCause result (S.faults out.old) (S.faults out.new) }
     ensures status { IfOk result (λ done. done.status ≡ 1) }
     ensures session { IfOk result (λ done. done.session ≡ None) }
@@ -110,8 +111,8 @@ pub(crate) fn refuse_source<S: Sink>(
     refusal: Refusal,
 ) -> Result<Done, Stop<PutFailed>>
     requires { length bytes.now ≤ most_file_bytes }
-    ensures along { WentAlong (refused_before_tasks (refusal_last (items_or_none (spelled_program bytes.now)) refusal)) (S.has out.old) (S.has out.new) result }
-    ensures quiet { KeepsWritten result (S.has out.old) (S.has out.new) }
+    ensures sends { Sends result (output_of S.Sink out.old) (output_of S.Sink out.new) (line_text (refusal_last (items_or_none (spelled_program bytes.now)) refusal)) }
+    ensures quiet { KeepsWritten result (output_of S.Sink out.old) (output_of S.Sink out.new) }
     ensures cause { SendCause result (S.faults out.old) (S.faults out.new) }
     ensures status { IfOk result (λ done. done.status ≡ (refusal_last (items_or_none (spelled_program bytes.now)) refusal).status) }
     ensures session { IfOk result (λ done. done.session ≡ None) }

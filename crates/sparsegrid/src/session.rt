@@ -7,10 +7,9 @@ ghost use Rattle.sg_session.specs.Compiled.{CheckedProgram, Compiles};
 ghost use Rattle.sg_session.specs.Bindings.{binding_read};
 ghost use Rattle.sparsegrid.specs.Texts.{texts};
 ghost use Rattle.sparsegrid.specs.Words as spec_words;
-ghost use Rattle.sparsegrid.specs.Words.{asked_by, good_words};
-ghost use Rattle.sparsegrid.specs.Meaning as spec;
-ghost use Rattle.sparsegrid.specs.Meaning.{asks_code, meaning, meaning_by, meaning_of_asked, meaning_of_compiled, meaning_in};
-ghost use Rattle.sparsegrid.specs.Outcome.{outside_of, HasWholeText, IsCutShort, IsEnding, LeavesSession, code_in, WroteMeaning, WroteStopped, WroteFront, EndsAs, AsksAs, ReadFaults, PutFaults, ReadCount, StandsForLast, IsOfAsked, IsOfFile};
+ghost use Rattle.sparsegrid.specs.Words.{asked_by, doing, good_words};
+ghost use Rattle.sparsegrid.specs.Meaning.{is_code, asks_code, meaning, meaning_by, meaning_of_asked, meaning_of_compiled, meaning_in};
+ghost use Rattle.sparsegrid.specs.Outcome.{output_of, outside_of, HasWholeText, IsCutShort, IsEnding, LeavesSession, code_in, open_text, WroteMeaning, WroteStopped, WroteFront, EndsAs, AsksAs, StaysWritten, ReadFaults, PutFaults, ReadCount, StandsForLast, IsOfAsked, IsOfFile};
 ghost use Rattle.sparsegrid.specs.steps.Along.{Went, KeepsWritten, SendCause, IsEnd, LeavesOnly, LeavesProgram, status_of, session_of, PutsCode};
 
 use crate::generated::{generated_text, is_gen};
@@ -47,21 +46,22 @@ pub fn run<R: Threads + Sync, F: Files, S: Sink, G: Gate + Sync>(
     out: &mut S,
     gate: &G,
 ) -> Done
-    // With any status but 2, 3 and 9 exactly the text of the meaning was written, the status is its status, and exactly the files that it
-    // asks for were read.
-    ensures whole { HasWholeText result.status → WroteMeaning (texts words.now) (code_in result.session) None
+    // With any status but 2, 3 and 9 exactly the moves of the meaning were made: its texts were written, each by one put, and the files that it
+    // asks for were read. The status is its status.
+    ensures whole { HasWholeText result.status → WroteMeaning (texts words.now) (open_text (texts words.now) result.session) None
         (outside_of F.Files S.Sink files.old out.old) (outside_of F.Files S.Sink files.new out.new) result.status }
     // With status 2 the read that failed was the last one, and the meaning is that of the run in which it fails.
-    ensures stopped { result.status ≡ 2 → WroteStopped (texts words.now) (code_in result.session)
+    ensures stopped { result.status ≡ 2 → WroteStopped (texts words.now) (open_text (texts words.now) result.session)
         (outside_of F.Files S.Sink files.old out.old) (outside_of F.Files S.Sink files.new out.new) result.status }
-    // With status 3 or 9 a front of the text was written, and with 3 not the whole of it, nor with 9 the whole of a last line; and a front
-    // of the files was read.
-    ensures front { IsCutShort result.status → WroteFront (texts words.now) (code_in result.session)
+    // With status 3 or 9 a front of the moves was made. With 3 the next of them was to write a text, of which a part was written: so no file was
+    // read that the run asks for after that text. With 9 no text was written in part, nor the whole of a last line.
+    ensures front { IsCutShort result.status → WroteFront (texts words.now) (open_text (texts words.now) result.session)
         (outside_of F.Files S.Sink files.old out.old) (outside_of F.Files S.Sink files.new out.new) result.status }
     // In mode lower running out of memory leaves the written bytes as they were.
-    ensures quiet { asks_code (good_words (texts words.now)) ≡ true → result.status ≡ 9 → S.has out.new ≡ S.has out.old }
+    ensures quiet { asks_code (good_words (texts words.now)) ≡ true → result.status ≡ 9 →
+        StaysWritten (output_of S.Sink out.old) (output_of S.Sink out.new) }
     // Whatever the files and the sink tell, a run that came to its end ended as it means where its reads give some readings.
-    ensures ended { IsEnding result.status → EndsAs (texts words.now) (code_in result.session)
+    ensures ended { IsEnding result.status → EndsAs (texts words.now) (open_text (texts words.now) result.session)
         (outside_of F.Files S.Sink files.old out.old) (outside_of F.Files S.Sink files.new out.new) result.status }
 
     // No fault is made up, and none is passed over or forgotten.
@@ -70,10 +70,10 @@ pub fn run<R: Threads + Sync, F: Files, S: Sink, G: Gate + Sync>(
     ensures put_faults { PutFaults
         (outside_of F.Files S.Sink files.old out.old) (outside_of F.Files S.Sink files.new out.new) result.status }
 
-    // The files that the run means to ask for are read, each in one read, up to where it ends or is cut short, and none with bad words; the
-    // files stay as they are.
-    ensures asked { AsksAs (texts words.now)
-        (outside_of F.Files S.Sink files.old out.old) (outside_of F.Files S.Sink files.new out.new) }
+    // Whatever they tell, the moves that the run means to make where its reads give some readings are made in their order, each file is read in
+    // one read, up to where the run ends or is cut short, and none with bad words; the files stay as they are.
+    ensures asked { AsksAs (texts words.now) (open_text (texts words.now) result.session)
+        (outside_of F.Files S.Sink files.old out.old) (outside_of F.Files S.Sink files.new out.new) result.status }
     ensures reads { ReadCount (good_words (texts words.now))
         (outside_of F.Files S.Sink files.old out.old) (outside_of F.Files S.Sink files.new out.new) result.status }
     ensures holds { F.holds files.new ≡ F.holds files.old }
@@ -93,7 +93,7 @@ pub fn run<R: Threads + Sync, F: Files, S: Sink, G: Gate + Sync>(
 
 /// Writes the access code of a run that is done in mode lower, and gives how the run ended.
 fn with_code<S: Sink>(alloc: Global, lower: bool, done: Done, out: &mut S) -> Done
-    ensures { PutsCode lower done result (S.has out.old) (S.has out.new) (S.faults out.old) (S.faults out.new) }
+    ensures { PutsCode lower done result (output_of S.Sink out.old) (output_of S.Sink out.new) (S.faults out.old) (S.faults out.new) }
 {
     if !lower || done.status != 0 {
         return done;
@@ -158,7 +158,7 @@ fn answer<R: Threads + Sync, F: Files, S: Sink, G: Gate + Sync>(
     requires { lower.old ≡ false }
     ensures went { Went (meaning_by (texts words.now)) 0
         (outside_of F.Files S.Sink files.old out.old) (outside_of F.Files S.Sink files.new out.new) result }
-    ensures quiet { asks_code (good_words (texts words.now)) ≡ true → KeepsWritten result (S.has out.old) (S.has out.new) }
+    ensures quiet { asks_code (good_words (texts words.now)) ≡ true → KeepsWritten result (output_of S.Sink out.old) (output_of S.Sink out.new) }
     ensures holds { F.holds files.new ≡ F.holds files.old }
     ensures never_falls { F.faults files.old ≤ F.faults files.new }
     ensures cause { SendCause result (S.faults out.old) (S.faults out.new) }
@@ -178,7 +178,7 @@ fn answer<R: Threads + Sync, F: Files, S: Sink, G: Gate + Sync>(
 }
 
 fn is_lower(mode: Mode) -> bool
-    ensures { result ≡ spec.is_lower mode }
+    ensures { result ≡ is_code (doing mode) }
 {
     match mode {
         Mode::Run => false,
@@ -201,7 +201,7 @@ fn run_asked<R: Threads + Sync, F: Files, S: Sink, G: Gate + Sync>(
     requires few { asked.now.workers ≤ 16 }
     ensures went { Went (meaning_of_asked (asked_by asked.now)) 0
         (outside_of F.Files S.Sink files.old out.old) (outside_of F.Files S.Sink files.new out.new) result }
-    ensures quiet { spec.is_lower asked.now.mode ≡ true → KeepsWritten result (S.has out.old) (S.has out.new) }
+    ensures quiet { is_code (doing asked.now.mode) ≡ true → KeepsWritten result (output_of S.Sink out.old) (output_of S.Sink out.new) }
     ensures holds { F.holds files.new ≡ F.holds files.old }
     ensures never_falls { F.faults files.old ≤ F.faults files.new }
     ensures cause { SendCause result (S.faults out.old) (S.faults out.new) }
@@ -230,7 +230,7 @@ fn run_generated<R: Threads + Sync, F: Files, S: Sink, G: Gate + Sync>(
     requires number { spec_words.is_gen asked.now.mode ≡ true }
     ensures went { Went (meaning_of_asked (asked_by asked.now)) 0
         (outside_of F.Files S.Sink files.old out.old) (outside_of F.Files S.Sink files.new out.new) result }
-    ensures quiet { spec.is_lower asked.now.mode ≡ true → KeepsWritten result (S.has out.old) (S.has out.new) }
+    ensures quiet { is_code (doing asked.now.mode) ≡ true → KeepsWritten result (output_of S.Sink out.old) (output_of S.Sink out.new) }
     ensures holds { F.holds files.new ≡ F.holds files.old }
     ensures never_falls { F.faults files.old ≤ F.faults files.new }
     ensures cause { SendCause result (S.faults out.old) (S.faults out.new) }
@@ -258,7 +258,7 @@ fn run_file<R: Threads + Sync, F: Files, S: Sink, G: Gate + Sync>(
     requires file { spec_words.is_gen asked.now.mode ≡ false }
     ensures went { Went (meaning_of_asked (asked_by asked.now)) 0
         (outside_of F.Files S.Sink files.old out.old) (outside_of F.Files S.Sink files.new out.new) result }
-    ensures quiet { spec.is_lower asked.now.mode ≡ true → KeepsWritten result (S.has out.old) (S.has out.new) }
+    ensures quiet { is_code (doing asked.now.mode) ≡ true → KeepsWritten result (output_of S.Sink out.old) (output_of S.Sink out.new) }
     ensures holds { F.holds files.new ≡ F.holds files.old }
     ensures never_falls { F.faults files.old ≤ F.faults files.new }
     ensures cause { SendCause result (S.faults out.old) (S.faults out.new) }
@@ -291,7 +291,7 @@ fn run_source<R: Threads + Sync, F: Files, S: Sink, G: Gate + Sync>(
     requires few { asked.now.workers ≤ 16 }
     ensures went { Went (λ readings. meaning_of_compiled (asked_by asked.now) readings bytes.now (compiled_program bytes.now)) 1
         (outside_of F.Files S.Sink files.old out.old) (outside_of F.Files S.Sink files.new out.new) result }
-    ensures quiet { spec.is_lower asked.now.mode ≡ true → KeepsWritten result (S.has out.old) (S.has out.new) }
+    ensures quiet { is_code (doing asked.now.mode) ≡ true → KeepsWritten result (output_of S.Sink out.old) (output_of S.Sink out.new) }
     ensures holds { F.holds files.new ≡ F.holds files.old }
     ensures never_falls { F.faults files.old ≤ F.faults files.new }
     ensures cause { SendCause result (S.faults out.old) (S.faults out.new) }
@@ -318,9 +318,9 @@ fn run_compiled<R: Threads + Sync, F: Files, S: Sink, G: Gate + Sync>(
     requires some { 1 ≤ asked.now.workers }
     requires few { asked.now.workers ≤ 16 }
     ensures went { (program : CheckedProgram) → Compiles program compiled →
-        Went (meaning_in asked.now.mode program (map binding_read asked.now.binds.list)) 1
+        Went (meaning_in (doing asked.now.mode) program (map binding_read asked.now.binds.list)) 1
         (outside_of F.Files S.Sink files.old out.old) (outside_of F.Files S.Sink files.new out.new) result }
-    ensures quiet { spec.is_lower asked.now.mode ≡ true → KeepsWritten result (S.has out.old) (S.has out.new) }
+    ensures quiet { is_code (doing asked.now.mode) ≡ true → KeepsWritten result (output_of S.Sink out.old) (output_of S.Sink out.new) }
     ensures holds { F.holds files.new ≡ F.holds files.old }
     ensures never_falls { F.faults files.old ≤ F.faults files.new }
     ensures cause { SendCause result (S.faults out.old) (S.faults out.new) }
@@ -338,8 +338,8 @@ fn run_compiled<R: Threads + Sync, F: Files, S: Sink, G: Gate + Sync>(
             asked.workers,
             gate,
         ),
-        Mode::Check => check(rt, alloc, compiled, out),
-        Mode::Lower => leave_open(rt, alloc, compiled, b"", out),
+        Mode::Check => check(alloc, compiled, out),
+        Mode::Lower => leave_open(alloc, compiled, b"", out),
         Mode::Gen => {
             let binds = no_binds(alloc);
             perform(rt, alloc, compiled, &binds, files, out, asked.workers, gate)

@@ -256,7 +256,7 @@ fn tells<R: Threads + Sync>(
         return Err(Memory);
     }
     match compile(alloc, file.as_bytes()) {
-        Ok(compiled) => match Session::open(rt, alloc, compiled, 2) {
+        Ok(compiled) => match Session::open(alloc, compiled) {
             Ok(mut session) => goes(rt, alloc, &mut session, steps),
             Err(Memory) => Err(Memory),
         },

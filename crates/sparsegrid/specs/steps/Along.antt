@@ -18,30 +18,37 @@ use Rattle.sg_exec.specs.Standing.{StandForState}
 use Rattle.sparsegrid.specs.declared.output.PutFailed.{PutFailed}
 use Rattle.sparsegrid.specs.declared.session.Done.{Done}
 use Rattle.sparsegrid.specs.declared.last_line.LastLine.{LastLine}
-use Rattle.sparsegrid.specs.Meaning.{Meaning, Readings, asking_for, before as before_text, meaning_of_tasks}
-use Rattle.sparsegrid.specs.Outcome.{Outside, TextFront, HasSession, StandsForLast, asked_more, counted_more, code_in}
+use Rattle.sparsegrid.specs.Moves.{Move, pieces_of, names_in}
+use Rattle.sparsegrid.specs.Meaning.{Meaning, Readings, moves_of, after_moves, meaning_of_tasks}
+use Rattle.sparsegrid.specs.Outcome.{Output, StaysWritten, Outside, Made, IsFront, HasSession, StandsForLast, told_more, code_in}
 
 -- ---- the sink
 
--- the written bytes grew by a front of this text that isn't the whole of it
-pub record GrewByPart (old new : Option (List ℕ)) (text : List ℕ) : Type 0 where
-  pub written : List ℕ
+-- a text was written by one put, and an empty one by none
+pub record PutsText (old new : Output) (text : List ℕ) : Type 0 where
+  pub written : new.written ≡ followed_by old.written text
+  pub pieces : new.pieces ≡ told_more old.pieces (pieces_of text)
+
+-- the put of a text failed: a part of it was written that isn't the whole
+pub record PutsPart (old new : Output) (text : List ℕ) : Type 0 where
+  pub part : List ℕ
   pub missing : List ℕ
-  pub grew : new ≡ followed_by old written
-  pub whole : text ≡ written ++ missing
+  pub written : new.written ≡ followed_by old.written part
+  pub pieces : new.pieces ≡ old.pieces
+  pub whole : text ≡ part ++ missing
   pub less : missing ≢ []
 
--- what a text that is put leaves: the whole of it, a front where the put failed, and nothing if memory ran out
-abbrev pub Sends : {A : Type 0} → Result A (Stop PutFailed) → Option (List ℕ) → Option (List ℕ) → List ℕ → Type 0
-Sends (Ok done) old new text = new ≡ followed_by old text
-Sends (Err (stop.Refused failed)) old new text = GrewByPart old new text
-Sends (Err stop.Memory) old new text = new ≡ old
+-- what a text that is put leaves: the whole of it, a part where the put failed, and nothing if memory ran out
+abbrev pub Sends : {A : Type 0} → Result A (Stop PutFailed) → Output → Output → List ℕ → Type 0
+Sends (Ok done) old new text = PutsText old new text
+Sends (Err (stop.Refused failed)) old new text = PutsPart old new text
+Sends (Err stop.Memory) old new text = StaysWritten old new
 
--- if memory ran out, the written bytes stayed as they were
-abbrev pub KeepsWritten : {A : Type 0} → Result A (Stop PutFailed) → Option (List ℕ) → Option (List ℕ) → Type 0
+-- if memory ran out, the output stayed as it was
+abbrev pub KeepsWritten : {A : Type 0} → Result A (Stop PutFailed) → Output → Output → Type 0
 KeepsWritten (Ok done) old new = Unit {0}
 KeepsWritten (Err (stop.Refused failed)) old new = Unit {0}
-KeepsWritten (Err stop.Memory) old new = new ≡ old
+KeepsWritten (Err stop.Memory) old new = StaysWritten old new
 
 -- the sink's count of faults rose, and didn't fall, where a put failed, and else stays
 abbrev pub SendCause : {A : Type 0} → Result A (Stop PutFailed) → ℕ → ℕ → Type 0
@@ -66,11 +73,6 @@ abbrev pub session_of : Result Done (Stop PutFailed) → Option SessionParts
 session_of (Ok done) = done.session
 session_of (Err why) = None
 
--- the text that goes with a status was written whole, or where the run was cut short a front of it
-abbrev pub WroteAll : {A : Type 0} → Result A (Stop PutFailed) → List ℕ → ℕ → Option (List ℕ) → Option (List ℕ) → Type 0
-WroteAll (Ok done) text status old new = new ≡ followed_by old text
-WroteAll (Err why) text status old new = TextFront text status old new (cut_status why)
-
 -- if a session is left, it is one of which a fact holds
 abbrev pub LeavesOnly : (SessionParts → Type 0) → Result Done (Stop PutFailed) → Type 0
 LeavesOnly P result = IfOk result (λ done. IfSome done.session P)
@@ -88,12 +90,16 @@ abbrev pub ended_with : SessionParts → Result ℕ (Stop PutFailed) → Result 
 ended_with session (Ok status) = Ok (record { status = status; session = Some session })
 ended_with session (Err why) = Err why
 
--- what a part of a run wrote is what a meaning says: at its end the whole text, the status and the last state, and where it was cut short a
--- front of the text
-pub record WentAlong (m : Meaning) (old new : Option (List ℕ)) (result : Result Done (Stop PutFailed)) : Type 0 where
-  pub bytes : WroteAll result m.text m.status old new
-  pub status : IfOk result (λ done. done.status ≡ m.status)
-  pub last : IfOk result (λ done. IfSome done.session (StandsForLast m.last))
+-- a part of a run came to its end: these are all moves of the meaning, and the status and the last state are its own
+pub record CameToEnd (m : Meaning) (did : List Move) (done : Done) : Type 0 where
+  pub all : did ≡ moves_of m
+  pub status : done.status ≡ m.status
+  pub last : IfSome done.session (StandsForLast m.last)
+
+-- what a part of a run did is what a meaning says: all of it, or where the run was cut short a front
+abbrev pub Follows : Meaning → List Move → List ℕ → Result Done (Stop PutFailed) → Type 0
+Follows m did part (Ok done) = CameToEnd m did done × (part ≡ [])
+Follows m did part (Err why) = IsFront m did part (cut_status why)
 
 -- ---- the reads of a part of a run
 
@@ -115,16 +121,6 @@ Agree readings before (read ∷ made) = (readings (suc before) read.name read.li
 -- each read gave what these files hold
 abbrev pub AreTold : Held → List ReadMade → Type 0
 AreTold held made = AllByRecursion (λ read. read.given ≡ reading held read.name read.limit) made
-
--- all names that a meaning asks for were read, or where the run was cut short a front of them
-abbrev pub AskedAll : {A : Type 0} → Result A (Stop PutFailed) → List (List ℕ) → List (List ℕ) → Type 0
-AskedAll (Ok done) asked names = asked ≡ names
-AskedAll (Err why) asked names = (left : List (List ℕ)) × (asked ≡ names ++ left)
-
--- a part of a run went along with a meaning that asks for these names
-pub record FollowedMeaning (m : Meaning) (names : List (List ℕ)) (before after : Outside) (result : Result Done (Stop PutFailed)) : Type 0 where
-  pub along : WentAlong m before.written after.written result
-  pub asked : AskedAll result m.asked names
 
 -- what the read of a file that may be there gave, in a load
 abbrev pub load_reads : Option (List ℕ) → Reading → List ReadMade
@@ -150,30 +146,32 @@ abbrev pub ReadsEnd : Outside → Outside → List ReadMade → Result Done (Sto
 ReadsEnd before after made result =
     (NoneFailed before after made × IfOk result (λ done. done.status ≢ 2)) ⊎ (LastFailed before after made × IfOk result (λ done. done.status ≡ 2))
 
--- a part of a run, after so many reads, did what a meaning says that takes the readings: `made` are its reads
+-- a part of a run, after so many reads, did what a meaning says that takes the readings: `made` are its reads, `did` its moves, and `part` is what
+-- was written of a text whose put failed
 pub record Went (m : Readings → Meaning) (earlier : ℕ) (before after : Outside) (result : Result Done (Stop PutFailed)) : Type 0 where
   pub made : List ReadMade
-  pub followed : (readings : Readings) → Agree readings earlier made → FollowedMeaning (m readings) (names_of made) before after result
-  pub asked : after.asked ≡ asked_more before.asked (names_of made)
-  pub reads : after.reads ≡ counted_more before.reads (names_of made)
+  pub did : List Move
+  pub part : List ℕ
+  pub names : names_in did ≡ names_of made
+  pub grew : Made did part before after
+  pub follows : (readings : Readings) → Agree readings earlier made → Follows (m readings) did part result
   pub ends : ReadsEnd before after made result
 
 -- ---- performed tasks
 
--- tasks were performed from a state on up to these that are left: `made` are the reads, `text` is what was written, and the stores stand for
--- the state that is reached
+-- tasks were performed from a state on up to these that are left: `made` are the reads, `did` are the moves, and the stores stand for the state
+-- that is reached
 pub record Came (program : CheckedProgram) (bindings : List Binding) (start : FlatState) (tasks rest : List Task) (stores : List StoreWords) (before now : Outside) : Type 0 where
   pub made : List ReadMade
+  pub did : List Move
   pub state : FlatState
-  pub text : List ℕ
   pub stand : StandForState program.layouts stores state
-  pub grew : now.written ≡ followed_by before.written text
-  pub asked : now.asked ≡ asked_more before.asked (names_of made)
-  pub reads : now.reads ≡ counted_more before.reads (names_of made)
+  pub names : names_in did ≡ names_of made
+  pub grew : Made did [] before now
   pub held : now.held ≡ before.held
   pub none : NoneFailed before now made
   pub is : (readings : Readings) → Agree readings 1 made
-      → meaning_of_tasks program bindings readings 1 start tasks ≡ asking_for (names_of made) (before_text text (meaning_of_tasks program bindings readings (length made + 1) state rest))
+      → meaning_of_tasks program bindings readings 1 start tasks ≡ after_moves did (meaning_of_tasks program bindings readings (length made + 1) state rest)
 
 -- how a run that came to its end ended: not by a failed put or running out of memory, and with a session exactly when its status leaves one
 abbrev pub IsEnd : Done → Type 0
@@ -192,8 +190,8 @@ code_left lower done = if lower && (done.status == 0) then code_in done.session 
 
 -- How a run ended that has come this far: its text of code was written; or the put failed, and the session is left all the same; or memory ran
 -- out, and nothing more was written.
-abbrev pub PutsCode : Bool → Done → Done → Option (List ℕ) → Option (List ℕ) → ℕ → ℕ → Type 0
+abbrev pub PutsCode : Bool → Done → Done → Output → Output → ℕ → ℕ → Type 0
 PutsCode lower done end old new faults now =
-    ((end ≡ done) × (new ≡ followed_by old (code_left lower done)) × (now ≡ faults))
-    ⊎ ((IsDue lower done × (end ≡ record { status = 3; session = done.session }) × GrewByPart old new (code_left lower done) × Rose faults now × (faults ≤ now))
-    ⊎ (IsDue lower done × (end ≡ record { status = 9; session = None }) × (new ≡ old) × (now ≡ faults)))
+    ((end ≡ done) × PutsText old new (code_left lower done) × (now ≡ faults))
+    ⊎ ((IsDue lower done × (end ≡ record { status = 3; session = done.session }) × PutsPart old new (code_left lower done) × Rose faults now × (faults ≤ now))
+    ⊎ (IsDue lower done × (end ≡ record { status = 9; session = None }) × StaysWritten old new × (now ≡ faults)))

@@ -117,6 +117,8 @@ struct NarrowSink {
 impl Sink for NarrowSink {
     ghost has = { λ _. None };
 
+    ghost pieces = { λ _. None };
+
     ghost faults = { λ _. 0 };
 
     fn put(&mut self, _piece: &[u8]) -> Put {

@@ -172,3 +172,25 @@ fn two_workers_meet(rt: HostRuntime) -> Result<(), Fail> {
     }
     Ok(())
 }
+
+/// Both want the same block, one of them activates it, and each contributes to its first cell.
+#[test]
+fn two_workers_meet_under_a_pointer(rt: HostRuntime) -> Result<(), Fail> {
+    let alloc = rt.alloc();
+    for phase in [Phase::Activate, Phase::Values] {
+        let setting = Setting {
+            words: &["--workers", "2", "p.sg"],
+            ..Setting::of(
+                "layout A(i) { pointer(i: 4) cap 4; dense(i: 4); field x: i32; } kernel k { for p in 0..2 { x[0] += 1; } } run k; dump x;",
+            )
+        };
+        let gate = HoldGate::new(phase, LOOKS);
+        let mut out = MemSink::new(alloc, Vec::new(alloc), 0);
+        let seen = setting.gated(&rt, alloc, &mut out, &gate)?;
+        assert_eq!(rt; seen.status, 0);
+        assert!(rt; gate.met());
+        assert_eq!(rt; out.bytes(), b"grid 1 4\n0 2\n1 0\n2 0\n3 0\n".as_slice());
+        assert_eq!(rt; seen.active, Some((4, 4)));
+    }
+    Ok(())
+}

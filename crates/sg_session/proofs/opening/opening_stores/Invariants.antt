@@ -4,4 +4,4 @@ use Rattle.sg_exec.specs.Standing.{StandForState}
 use Rattle.sg_session.proofs.opening.opening_stores.Given as goal
 
 abbrev pub invariant-loop-layout : goal.invariant-loop-layout
-invariant-loop-layout g l = StandForState (take l.layout-index l.layout-items) l.list (opening (take l.layout-index l.layout-items))
+invariant-loop-layout l = StandForState (take l.layout-index l.layout-items) l.list (opening (take l.layout-index l.layout-items))

@@ -10,7 +10,7 @@ returns g c =
     let layouts = c.args.compiled.now.layouts in
     let stores = c.args.stores.now.list in
     let k = c.args.layout in
-    stats_done layouts stores (layout_name_of c.args.compiled.now.names k) c.layout_name.result.now c.as_slice-2.result.now k c.index-as_slice-layout.result c.stats.result
+    stats_done layouts stores (layout_name_of c.args.compiled.now.names k) c.layout_name.result.now c.as_slice-2.result.now k c.index-as_slice-layout.result c.stats_by_workers.result
     (ap (λ (p : CompiledProgram). layout_name_of p.names k) (sym c.compiled.view_is) ∙ c.layout_name.ensures) c.as_slice-2.ensures
     (at_place stores c.as_slice.result.now k c.index-as_slice-layout.result c.as_slice.ensures (has_own_store layouts stores k c.requires.stand c.requires.layout) c.index-as_slice-layout.is)
-    c.stats.ensures
+    c.stats_by_workers.ensures

@@ -1,15 +1,15 @@
 use Rattle.std.proofs.Common.{◌+◌, drop, ap, ◌∙◌, refl, subst, sym, arith, map, List, ℕ, Err, Ok}
 use Rattle.std.proofs.lemmas.List.{drop_all}
 use Rattle.sg_words.specs.declared.memory.Stop.TheVariants as stop
-use Rattle.sg_outside.specs.Sink.{followed_by}
 use Rattle.sg_layout.specs.declared.shape.Shape.{Shape}
 use Rattle.sg_exec.specs.Standing.{StandForState}
 use Rattle.sg_session.specs.Compiled.{CompiledProgram, Compiles, IsTask}
 use Rattle.sg_session.specs.Bindings.{binding_read}
 use Rattle.sg_session.specs.Performed.{SessionParts, HasFile}
-use Rattle.sparsegrid.specs.Outcome.{outside_of}
-use Rattle.sparsegrid.specs.steps.Along.{Sends}
+use Rattle.sparsegrid.specs.Outcome.{output_of, outside_of}
+use Rattle.sparsegrid.specs.steps.Along.{PutsText, Sends}
 use Rattle.sparsegrid.proofs.Bound.{split_at}
+use Rattle.sparsegrid.proofs.Going.{stays_same}
 use Rattle.sparsegrid.proofs.Tasks.{came_start, came_next, went_all, cut_in_send, cut_in_step, ended_in_task, stepped, has_head, tail_of, line_of, line_status_of}
 use Rattle.sparsegrid.proofs.drive.drive.Goals as goal
 
@@ -34,11 +34,13 @@ loop-task-preserved g c =
     record {
       came = λ program compiles start stand. let came = c.loop-task.invariant.came program compiles start stand in
           let here = subst (Compiles program) (sym c.loop-task.invariant.compiled) compiles in
-          came_next program binds start tasks (drop i tasks) (drop (i + 1) tasks) _ c.loop-task.session.stores c.step.new.self.stores c.in-Ok.text _ _ _ split came
+          came_next program binds start tasks (drop i tasks) (drop (i + 1) tasks) _ c.loop-task.session.stores c.step.new.self.stores c.in-Ok.text _ _
+          (outside_of g.F.Files g.S.Sink c.step.new.files c.loop-task.out) _ split came
           (stepped program c.loop-task.session.compiled binds came.state _ c.loop-task.session.stores c.step.new.self.stores (Ok c.in-Ok.text) _ _ here came.stand
           (has_head program compiled binds (drop i tasks) (drop (i + 1) tasks) _ compiles split c.loop-task.invariant.bound)
           c.in-Ok.ensures.told c.in-Ok.ensures.performed c.in-Ok.ensures.asked c.in-Ok.ensures.reads c.in-Ok.ensures.cause c.in-Ok.ensures.holds)
-          (c.in-Ok-send.ensures.bytes ∙ ap (followed_by (g.S.Sink.has c.loop-task.out)) c.as_slice.ensures);
+          (stays_same (output_of g.S.Sink c.loop-task.out))
+          (subst (λ (text : List ℕ). PutsText (output_of g.S.Sink c.loop-task.out) (output_of g.S.Sink c.send.new.out) text) c.as_slice.ensures c.in-Ok-send.ensures.sends) refl refl refl refl;
       compiled = c.step.ensures.compiled ∙ c.loop-task.invariant.compiled;
       there = tail_of (IsTask compiled) (drop i tasks) (drop (i + 1) tasks) _ split c.loop-task.invariant.there;
       bound = tail_of (HasFile compiled.names (map binding_read binds)) (drop i tasks) (drop (i + 1) tasks) _ split c.loop-task.invariant.bound;
@@ -61,7 +63,8 @@ returns-in-Err-clause-went g c = λ program compiles start stand.
     (stepped program c.loop-task.session.compiled binds came.state _ c.loop-task.session.stores c.step.new.self.stores (Ok c.in-Ok.text) _ _ here came.stand
     (has_head program compiled binds (drop i tasks) (drop (i + 1) tasks) _ compiles split c.loop-task.invariant.bound)
     c.in-Ok.ensures.told c.in-Ok.ensures.performed c.in-Ok.ensures.asked c.in-Ok.ensures.reads c.in-Ok.ensures.cause c.in-Ok.ensures.holds)
-    refl (subst (λ (text : List ℕ). Sends {A = Unit} (Err c.in-Err.why) (g.S.Sink.has c.loop-task.out) (g.S.Sink.has c.send.new.out) text) c.as_slice.ensures c.in-Err.ensures.bytes) refl refl refl
+    (stays_same (output_of g.S.Sink c.loop-task.out))
+    (subst (λ (text : List ℕ). Sends {A = Unit} (Err c.in-Err.why) (output_of g.S.Sink c.loop-task.out) (output_of g.S.Sink c.send.new.out) text) c.as_slice.ensures c.in-Err.ensures.sends) refl refl refl
 
 pub returns-in-Err-Refused-clause-went : goal.returns-in-Err-Refused-clause-went
 returns-in-Err-Refused-clause-went g c = λ program compiles start stand.
@@ -77,15 +80,15 @@ returns-in-Err-Refused-clause-went g c = λ program compiles start stand.
     let told = rw c.in-Err-Refused.field-0-is at c.in-Err-Refused.ensures.told in
     let performed = rw c.in-Err-Refused.field-0-is at c.in-Err-Refused.ensures.performed in
     let cause = rw c.in-Err-Refused.field-0-is at c.in-Err-Refused.ensures.cause in
-    let wrote = rw c.in-Err-Refused.field-0-is at c.refuse_task.ensures.wrote in
+    let sends = rw c.in-Err-Refused.field-0-is at c.refuse_task.ensures.sends in
     let status = rw c.in-Err-Refused.field-0-is at c.refuse_task.ensures.status in
     ended_in_task program binds start tasks (drop i tasks) (drop (i + 1) tasks) _ c.loop-task.session.stores c.step.new.self _ _
     (outside_of g.F.Files g.S.Sink c.step.new.files c.loop-task.out) _ c.in-Err-Refused.refusal c.refuse_task.result split (subst (Compiles program) (sym same) compiles) came
     (stepped program c.loop-task.session.compiled binds came.state _ c.loop-task.session.stores c.step.new.self.stores (Err (stop.Refused c.in-Err-Refused.refusal)) _ _ here came.stand
     (has_head program compiled binds (drop i tasks) (drop (i + 1) tasks) _ compiles split c.loop-task.invariant.bound)
     told performed c.in-Err-Refused.ensures.asked c.in-Err-Refused.ensures.reads cause c.in-Err-Refused.ensures.holds)
-    c.in-Err-Refused.ensures.stays refl
-    (line_of program.names c.session.inside.compiled.names binds _ c.in-Err-Refused.refusal c.refuse_task.result _ _ inside wrote)
+    c.in-Err-Refused.ensures.stays (stays_same (output_of g.S.Sink c.loop-task.out))
+    (line_of program.names c.session.inside.compiled.names binds _ c.in-Err-Refused.refusal c.refuse_task.result _ _ inside sends)
     (line_status_of program.names c.session.inside.compiled.names binds _ c.in-Err-Refused.refusal c.refuse_task.result inside status) refl refl refl
 
 pub returns-in-Err-Memory-clause-went : goal.returns-in-Err-Memory-clause-went
@@ -103,7 +106,7 @@ returns-in-Err-Memory-clause-went g c = λ program compiles start stand.
     cut_in_step program binds start tasks (drop i tasks) (drop (i + 1) tasks) _ c.loop-task.session.stores c.step.new.self.stores _ _ _ split came
     (stepped program c.loop-task.session.compiled binds came.state _ c.loop-task.session.stores c.step.new.self.stores (Err stop.Memory) _ _ here came.stand
     (has_head program compiled binds (drop i tasks) (drop (i + 1) tasks) _ compiles split c.loop-task.invariant.bound)
-    told performed c.in-Err-Memory.ensures.asked c.in-Err-Memory.ensures.reads cause c.in-Err-Memory.ensures.holds) refl
+    told performed c.in-Err-Memory.ensures.asked c.in-Err-Memory.ensures.reads cause c.in-Err-Memory.ensures.holds) (stays_same (output_of g.S.Sink c.loop-task.out))
 
 pub returns-clause-went : goal.returns-clause-went
 returns-clause-went g c = λ program compiles start stand.

@@ -8,8 +8,8 @@ use Rattle.sg_flat.specs.State.{opening}
 use Rattle.sparsegrid.specs.Lines.{no_file_last, field_text}
 use Rattle.sparsegrid.specs.Meaning.{refused_before_tasks, meaning_of_run, meaning_of_tasks, is_unbound}
 use Rattle.sparsegrid.proofs.Bound.{holds_of_found}
-use Rattle.sparsegrid.proofs.Going.{went_memory}
-use Rattle.sparsegrid.proofs.Sources.{went_same, went_line, run_ends, run_unbound, not_two, same_first, line_named}
+use Rattle.sparsegrid.proofs.Going.{stays_same, went_memory}
+use Rattle.sparsegrid.proofs.Sources.{went_same, went_refused, run_ends, run_unbound, same_first, line_named}
 use Rattle.sparsegrid.proofs.perform.perform.Goals as goal
 
 pub refuse_unbound-requires : goal.refuse_unbound-requires
@@ -21,11 +21,11 @@ pub returns-in-Some-clause-went : goal.returns-in-Some-clause-went
 returns-in-Some-clause-went g c = λ program compiles.
     let bindings = map binding_read c.args.binds.now.list in
     let tasks = unfolded_tasks program.commands in
-    let last = refused_before_tasks (no_file_last (field_text program.names c.in-Some.task)) in
+    let last = no_file_last (field_text program.names c.in-Some.task) in
     let found = same_first program c.args.compiled bindings c.as_slice.result.now (Some c.in-Some.task) compiles (c.as_slice.ensures ∙ c.in-Ok.ensures.tasks) c.in-Some.ensures in
-    went_same (λ readings. meaning_of_run program bindings readings tasks) (λ readings. last) 1 _ _ c.refuse_unbound.result (λ readings. run_unbound program bindings readings tasks (Some c.in-Some.task) found)
-    (went_line last 1 _ _ c.refuse_unbound.result refl (line_named program c.args.compiled c.in-Some.task _ _ c.refuse_unbound.result compiles c.refuse_unbound.ensures.along)
-    refl refl refl (not_two c.refuse_unbound.result 1 (λ e. absurd (omega arith)) c.refuse_unbound.ensures.status))
+    went_same (λ readings. meaning_of_run program bindings readings tasks) (λ readings. refused_before_tasks last) 1 _ _ c.refuse_unbound.result (λ readings. run_unbound program bindings readings tasks (Some c.in-Some.task) found)
+    (went_refused last 1 _ _ c.refuse_unbound.result (line_named program c.args.compiled c.in-Some.task _ _ c.refuse_unbound.result compiles c.refuse_unbound.ensures.sends)
+    c.refuse_unbound.ensures.status c.refuse_unbound.ensures.session (λ two. absurd (omega arith)) refl refl refl)
 
 pub returns-in-None-clause-went : goal.returns-in-None-clause-went
 returns-in-None-clause-went g c = λ program compiles.
@@ -41,4 +41,4 @@ pub returns-in-Err-clause-went : goal.returns-in-Err-clause-went
 returns-in-Err-clause-went g c = λ program compiles.
     let bindings = map binding_read c.args.binds.now.list in
     let tasks = unfolded_tasks program.commands in
-    went_memory (λ readings. meaning_of_run program bindings readings tasks) 1 _ _ (λ readings. run_ends program bindings readings tasks) refl refl refl refl
+    went_memory (λ readings. meaning_of_run program bindings readings tasks) 1 _ _ (λ readings. run_ends program bindings readings tasks) (stays_same _) refl refl refl

@@ -3,7 +3,7 @@ use Rattle.sg_flat.specs.State.{opening}
 use Rattle.sg_session.specs.Bindings.{binding_read}
 use Rattle.sparsegrid.specs.Meaning.{meaning_of_tasks}
 use Rattle.sparsegrid.proofs.Bound.{all_bound}
-use Rattle.sparsegrid.proofs.Going.{went_memory}
+use Rattle.sparsegrid.proofs.Going.{stays_same, went_memory}
 use Rattle.sparsegrid.proofs.Tasks.{tasks_end}
 use Rattle.sparsegrid.proofs.Sources.{from_opened, went_kept}
 use Rattle.sparsegrid.proofs.perform.perform_tasks.Goals as goal
@@ -25,4 +25,4 @@ pub returns-in-Err-clause-went : goal.returns-in-Err-clause-went
 returns-in-Err-clause-went g c = λ program compiles.
     let bindings = map binding_read c.args.binds.now.list in
     went_memory (λ readings. meaning_of_tasks program bindings readings 1 (opening program.layouts) c.args.tasks.now) 1 _ _
-    (λ readings. tasks_end program bindings readings 1 (opening program.layouts) c.args.tasks.now) refl refl refl refl
+    (λ readings. tasks_end program bindings readings 1 (opening program.layouts) c.args.tasks.now) (stays_same _) refl refl refl

@@ -6,8 +6,8 @@ use Rattle.sg_session.specs.Compiling.{spelled_program, compiled_program}
 use Rattle.sparsegrid.specs.Words.{asked_by}
 use Rattle.sparsegrid.specs.Lines.{refusal_last}
 use Rattle.sparsegrid.specs.Meaning.{refused_before_tasks, meaning_of_compiled, items_or_none}
-use Rattle.sparsegrid.proofs.Going.{went_memory}
-use Rattle.sparsegrid.proofs.Sources.{compiled_went, compiled_left, went_same, went_line, compiled_ends, file_status_not_two, refused_end}
+use Rattle.sparsegrid.proofs.Going.{stays_same, went_memory}
+use Rattle.sparsegrid.proofs.Sources.{compiled_went, compiled_left, went_same, went_refused, compiled_ends, file_not_two, refused_end}
 use Rattle.sparsegrid.proofs.session.run_source.Goals as goal
 
 pub returns-in-Ok-clause-went : goal.returns-in-Ok-clause-went
@@ -23,8 +23,8 @@ returns-in-Err-Refused-clause-went g c =
     went_same (λ readings. meaning_of_compiled (asked_by c.args.asked.now) readings c.args.bytes.now (compiled_program c.args.bytes.now))
     (λ readings. refused_before_tasks (refusal_last (items_or_none (spelled_program c.args.bytes.now)) c.in-Err-Refused.refusal)) 1 _ _ c.refuse_source.result
     (λ readings. ap (λ (a : Result CheckedProgram Refusal). meaning_of_compiled (asked_by c.args.asked.now) readings c.args.bytes.now a) why)
-    (went_line (refused_before_tasks (refusal_last (items_or_none (spelled_program c.args.bytes.now)) c.in-Err-Refused.refusal)) 1 _ _ c.refuse_source.result refl c.refuse_source.ensures.along refl refl refl
-    (file_status_not_two c.refuse_source.result (items_or_none (spelled_program c.args.bytes.now)) c.in-Err-Refused.refusal c.refuse_source.ensures.status))
+    (went_refused (refusal_last (items_or_none (spelled_program c.args.bytes.now)) c.in-Err-Refused.refusal) 1 _ _ c.refuse_source.result c.refuse_source.ensures.sends c.refuse_source.ensures.status c.refuse_source.ensures.session
+    (file_not_two (items_or_none (spelled_program c.args.bytes.now)) c.in-Err-Refused.refusal) refl refl refl)
 
 pub returns-in-Err-Refused-clause-end : goal.returns-in-Err-Refused-clause-end
 returns-in-Err-Refused-clause-end g c =
@@ -33,4 +33,4 @@ returns-in-Err-Refused-clause-end g c =
 pub returns-in-Err-Memory-clause-went : goal.returns-in-Err-Memory-clause-went
 returns-in-Err-Memory-clause-went g c =
     went_memory (λ readings. meaning_of_compiled (asked_by c.args.asked.now) readings c.args.bytes.now (compiled_program c.args.bytes.now)) 1 _ _
-    (λ readings. compiled_ends (asked_by c.args.asked.now) readings c.args.bytes.now (compiled_program c.args.bytes.now)) refl refl refl refl
+    (λ readings. compiled_ends (asked_by c.args.asked.now) readings c.args.bytes.now (compiled_program c.args.bytes.now)) (stays_same _) refl refl refl
