@@ -1,0 +1,11 @@
+pub mod Moved
+pub mod Converts
+pub mod Counted
+pub mod Tallied
+pub mod Lives
+pub mod Advises
+pub mod AlikeTests
+pub mod Pieced
+pub mod Opens
+pub mod Words
+pub mod Uses

@@ -1,0 +1,7 @@
+pub mod Alike
+pub mod Converted
+pub mod Used
+pub mod Advising
+pub mod Advised
+pub mod Examples
+pub mod steps
