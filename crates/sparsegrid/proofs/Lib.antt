@@ -24,4 +24,8 @@ pub mod NoGrids
 pub mod TwoRuns
 pub mod TwoCalls
 pub mod WorkedAlike
+pub mod WorkedSpelled
+pub mod WorkedCompiled
+pub mod WorkedEffects
+pub mod WorkedRun
 pub mod Generating

@@ -10,3 +10,4 @@ pub mod Laws
 pub mod Independence
 pub mod steps
 pub mod Examples
+pub mod WorkedRun

@@ -2,6 +2,7 @@
 
 ghost use Rattle.sparsegrid.specs.Independence.{LayoutsDontMatterToCalls, LayoutsDontMatterToRuns, MeaningIsOfCommands};
 ghost use Rattle.sparsegrid.specs.Laws.{FaultlessIsWhole, GeneratedIsText};
+ghost use Rattle.sparsegrid.specs.WorkedRun.{WorkedRun};
 
 use sg_parser::laws::parsed_is_spelled;
 use sg_session::laws::layouts_dont_matter;
@@ -41,3 +42,9 @@ pub fn layouts_dont_matter_to_calls()
     // for the law that it ensures
     layouts_dont_matter_to_runs();
 }
+
+/// What a file with a kernel means, worked from its bytes to its text and its status; and what it means if the kernel writes outside.
+#[tactic(auto, using(crate::proofs::WorkedRun::worked_run))]
+pub fn worked_run()
+    ensures { WorkedRun }
+{}

@@ -72,14 +72,28 @@ const TWO_DUMPS: &str =
 const DUMP_AND_REFUSAL: &str =
     "layout A(i) { dense(i: 1); field x: i32; } kernel bad { for i in 0..2 { x[i] = 7; } } dump x; run bad; dump x;";
 
+const TWICE: &str =
+    "layout A(i) { dense(i: 1); field x: u32; } kernel k { for i in A { x[i] = x[i] * 2u + 1u; } } times 3 { run k; } dump x; clear A; dump x;";
+
+const DUMP_AND_FULL_POOL: &str =
+    "layout A(i) { pointer(i: 4) cap 1; dense(i: 4); field x: i32; } kernel one { for i in 0..1 { x[i] = 1; } } \
+     kernel two { for i in 4..5 { x[i] = 2; } } run one; dump x; run two; dump x;";
+
 /// A source, the put that fails, how many bytes it takes, the status, and what was written.
 static PUTS: &[(&str, &[u64], usize, u8, &str)] = &[
+    (TWICE, &[1], 0, 3, ""),
+    (TWICE, &[1], 1, 3, "g"),
+    (TWICE, &[1], 5, 3, "grid "),
+    (TWICE, &[2], 0, 3, "grid 1 1\n0 7\n"),
+    (TWICE, &[2], 1, 3, "grid 1 1\n0 7\ng"),
+    (TWICE, &[2], 3, 3, "grid 1 1\n0 7\ngri"),
+    (TWICE, &[2], 5, 3, "grid 1 1\n0 7\ngrid "),
     (
-        "layout A(i) { dense(i: 1); field x: u32; } kernel k { for i in A { x[i] = x[i] * 2u + 1u; } } times 3 { run k; } dump x; clear A; dump x;",
+        DUMP_AND_FULL_POOL,
         &[2],
+        4,
         3,
-        3,
-        "grid 1 1\n0 7\ngri",
+        "grid 1 4\n0 1\n1 0\n2 0\n3 0\nrefu",
     ),
     (TWO_DUMPS, &[2], 99, 3, "grid 1 1\n0 0\ngrid 1 1\n0 7"),
     (TWO_DUMPS, &[3], 3, 0, "grid 1 1\n0 0\ngrid 1 1\n0 7\n"),

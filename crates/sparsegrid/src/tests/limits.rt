@@ -1,6 +1,6 @@
 //! Files at their limits, and one past them.
 
-use super::setting::{ends, repeated};
+use super::setting::{compare, ends, repeated};
 use std::alloc::{AllocError, Global};
 use std::test::Fail;
 
@@ -192,4 +192,64 @@ fn a_long_kernel(rt: HostRuntime) -> Result<(), Fail> {
         "layout L(i) {{ dense(i: 2); field x: i32; }} kernel k {{ for i in 0..2 {{ let a = 7; {steps}x[i] = a; }} }} run k; dump x;"
     )?;
     ends(&rt, alloc, source.as_str(), 0, "grid 1 2\n0 7\n1 2729\n")
+}
+
+/// Programs at a limit of turns, storage words, an axis, a cap, a box or an image, and one past it, with the status and the text.
+static SIZES: &[(&str, u8, &str)] = &[
+    (
+        "layout A(i) { dense(i: 1); field x: i32; } kernel k { for p in 0..1 { x[0] += 1; } } times 1000 { run k; } dump x;",
+        0,
+        "grid 1 1\n0 1000\n",
+    ),
+    (
+        "layout A(i) { dense(i: 1); field x: i32; } kernel k { for p in 0..1 { x[0] += 1; } } times 1001 { run k; } dump x;",
+        8,
+        "refused: limit: times\n",
+    ),
+    (
+        "layout A(i, j) { dense(i: 32768, j: 128); field x: i32; }",
+        0,
+        "",
+    ),
+    (
+        "layout A(i, j) { dense(i: 32768, j: 256); field x: i32; }",
+        8,
+        "refused: limit: words\n",
+    ),
+    ("layout A(i) { dense(i: 32768); field x: i32; }", 0, ""),
+    (
+        "layout A(i) { dense(i: 32768); dense(i: 2); field x: i32; }",
+        8,
+        "refused: limit: layout A\n",
+    ),
+    (
+        "layout A(i) { pointer(i: 1) cap 65536; field x: i32; }",
+        0,
+        "",
+    ),
+    (
+        "layout A(i) { pointer(i: 1) cap 65537; field x: i32; }",
+        5,
+        "refused: layout: A node 1 rule 5\n",
+    ),
+    (
+        "layout A(i) { dense(i: 1); field x: i32; } kernel k { for p in 0..1048576 { x[0] += 1; } } run k; dump x;",
+        0,
+        "grid 1 1\n0 1048576\n",
+    ),
+    (
+        "layout A(i) { dense(i: 1); field x: i32; } kernel k { for p in 0..1048577 { x[0] += 1; } } run k; dump x;",
+        8,
+        "refused: limit: box k\n",
+    ),
+    (
+        "layout A(i, j) { dense(i: 2048, j: 1024); field x: i32; } image x 0 9;",
+        8,
+        "refused: limit: image\n",
+    ),
+];
+
+#[test]
+fn limits_of_sizes(rt: HostRuntime) -> Result<(), Fail> {
+    compare(&rt, rt.alloc(), SIZES)
 }

@@ -23,6 +23,7 @@ static GRIDS: &[(&[(&str, &str)], u8, &str)] = &[
     (&[("g", "grid 1 1\n16 5\n")], 6, "refused: grid: x line 2\n"),
     (&[("g", "grid 2 0\n")], 6, "refused: grid: x line 1\n"),
     (&[("g", "")], 6, "refused: grid: x line 1\n"),
+    (&[("g", "grid 1 1")], 6, "refused: grid: x line 1\n"),
     (
         &[("g", "grid 1 1048577\n")],
         8,
@@ -52,53 +53,83 @@ static OTHERS: &[(&str, &str)] = &[
     ("a", "grid 1 2\n0 1\n2 5\n"),
     ("b", "grid 1 1\n1 -7\n"),
     ("c=d", "grid 1 1\n3 9\n"),
+    ("px.grid", "grid 1 4\n0 5\n1 300\n2 5\n3 17\n"),
+    ("py.grid", "grid 1 4\n0 8\n1 40\n2 8\n3 17\n"),
+    ("m.grid", "grid 1 4\n0 2\n1 3\n2 5\n3 7\n"),
 ];
 
-static TWO: &str =
+const TWO: &str =
     "layout A(i) { dense(i: 4); field x: i32; } layout C(i) { bitmasked(i: 4); field y: i32; field z: i32; } \
      kernel k { for i in C { x[i] += y[i]; } } load x; load y; run k; dump x; load y; dump y;";
 
-/// The words, the reads that fail, the status, and what is written. A program that loads `x`, `y` and `y` again.
-static READS: &[(&[&str], &[u64], u8, &str)] = &[
+const SCATTER: &str = "layout P(p) { dense(p: 4); field px: i32; field py: i32; field m: i32; } \
+     layout G(i, j) { hash(i: 4, j: 4) cap 16; pointer(i: 2, j: 2) cap 64; bitmasked(i: 8, j: 8); field g: i32; } \
+     kernel scatter { for p in P { g[px[p] >> 4, py[p] >> 4] += m[p]; } } load px; load py; load m; run scatter; dump g;";
+
+const SCATTER_WORDS: &[&str] = &["p.sg", "px=px.grid", "py=py.grid", "m=m.grid"];
+
+/// A source, the words, the reads that fail, the status, and what is written.
+static READS: &[(&str, &[&str], &[u64], u8, &str)] = &[
     (
+        TWO,
         &["p.sg", "x=a", "y=b"],
         &[],
         0,
         "grid 1 4\n0 1\n1 -7\n2 5\n3 0\ngrid 1 1\n1 -7\n",
     ),
     (
+        TWO,
         &["--workers=1", "p.sg", "y=c=d", "x=b", "z=nowhere"],
         &[5],
         0,
         "grid 1 4\n0 0\n1 -7\n2 0\n3 9\ngrid 1 1\n3 9\n",
     ),
-    (&["p.sg", "x=a", "y=b"], &[1], 2, "refused: read p.sg\n"),
-    (&["p.sg", "x=a", "y=b"], &[2], 2, "refused: read a\n"),
-    (&["p.sg", "x=a", "y=b"], &[3], 2, "refused: read b\n"),
     (
+        TWO,
+        &["p.sg", "x=a", "y=b"],
+        &[1],
+        2,
+        "refused: read p.sg\n",
+    ),
+    (TWO, &["p.sg", "x=a", "y=b"], &[2], 2, "refused: read a\n"),
+    (TWO, &["p.sg", "x=a", "y=b"], &[3], 2, "refused: read b\n"),
+    (
+        TWO,
         &["p.sg", "x=a", "y=b"],
         &[4],
         2,
         "grid 1 4\n0 1\n1 -7\n2 5\n3 0\nrefused: read b\n",
     ),
     (
+        TWO,
         &["p.sg", "x=a", "y=nowhere"],
         &[],
         2,
         "refused: read nowhere\n",
     ),
-    (&["p.sg", "x=a"], &[], 1, "refused: no file for y\n"),
-    (&["p.sg", "y=a"], &[], 1, "refused: no file for x\n"),
-    (&["p.sg", "z=a"], &[], 1, "refused: no file for x\n"),
+    (TWO, &["p.sg", "x=a"], &[], 1, "refused: no file for y\n"),
+    (TWO, &["p.sg", "y=a"], &[], 1, "refused: no file for x\n"),
+    (TWO, &["p.sg", "z=a"], &[], 1, "refused: no file for x\n"),
+    (
+        SCATTER,
+        SCATTER_WORDS,
+        &[],
+        0,
+        "grid 2 3\n0 0 7\n1 1 7\n18 2 3\n",
+    ),
+    (SCATTER, SCATTER_WORDS, &[1], 2, "refused: read p.sg\n"),
+    (SCATTER, SCATTER_WORDS, &[2], 2, "refused: read px.grid\n"),
+    (SCATTER, SCATTER_WORDS, &[3], 2, "refused: read py.grid\n"),
+    (SCATTER, SCATTER_WORDS, &[4], 2, "refused: read m.grid\n"),
 ];
 
 fn reads_end<R: Threads + Sync + Abort>(rt: &R, alloc: Global) -> Result<(), Fail> {
-    for (words, failing_reads, status, text) in READS {
+    for (source, words, failing_reads, status, text) in READS {
         let setting = Setting {
             words,
             others: OTHERS,
             failing_reads,
-            ..Setting::of(TWO)
+            ..Setting::of(source)
         };
         setting.ends(rt, alloc, *status, text)?;
     }

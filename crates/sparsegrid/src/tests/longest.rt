@@ -1,4 +1,4 @@
-//! The longest file that may be loaded.
+//! The longest files that may be loaded, the most rows, and the largest image.
 
 use super::setting::{EveryWorker, named, owned, repeated, run_over};
 use sg_outside::{MemFiles, MemSink};
@@ -15,25 +15,24 @@ static LONG: &[(&str, u8, &str)] = &[
     (" ", 8, "refused: limit: grid bytes x\n"),
 ];
 
-/// The files of a program that loads one of 2^24 blanks and what stands after them.
-fn long_files(alloc: Global, more: &str) -> Result<MemFiles, AllocError> {
-    let mut text = repeated(alloc, "                ", 1 << 20)?;
-    text.push_str(more)?;
+/// The files of a program that loads a grid.
+fn files(alloc: Global, source: &str, grid: &str) -> Result<MemFiles, AllocError> {
     let mut list = Vec::new(alloc);
-    list.push(named(alloc, "p.sg", BLOCKS)?)?;
-    list.push(named(alloc, "g", text.as_str())?)?;
+    list.push(named(alloc, "p.sg", source)?)?;
+    list.push(named(alloc, "g", grid)?)?;
     Ok(MemFiles::new(list, Vec::new(alloc)))
 }
 
-fn long_ends<R: Threads + Sync + Abort>(
+fn loaded<R: Threads + Sync + Abort>(
     rt: &R,
     alloc: Global,
-    more: &str,
+    source: &str,
+    grid: &str,
     status: u8,
     text: &str,
 ) -> Result<(), Fail> {
     let words = owned(alloc, &["p.sg", "x=g"])?;
-    let mut files = long_files(alloc, more)?;
+    let mut files = files(alloc, source, grid)?;
     let mut out = MemSink::new(alloc, Vec::new(alloc), 0);
     let seen = run_over(
         rt,
@@ -50,8 +49,41 @@ fn long_ends<R: Threads + Sync + Abort>(
 
 #[test]
 fn longest_grids(rt: HostRuntime) -> Result<(), Fail> {
+    let alloc = rt.alloc();
     for (more, status, text) in LONG {
-        long_ends(&rt, rt.alloc(), more, *status, text)?;
+        let mut grid = repeated(alloc, "                ", 1 << 20)?;
+        grid.push_str(more)?;
+        loaded(&rt, alloc, BLOCKS, grid.as_str(), *status, text)?;
     }
     Ok(())
+}
+
+static SQUARE: &str =
+    "layout A(i, j) { dense(i: 1024, j: 1024); field x: i32; } load x; dump x; image x 0 1;";
+
+/// As many rows as a grid may have, each with the value 1.
+fn most_rows(alloc: Global) -> Result<String, AllocError> {
+    let mut text = String::from_str(alloc, "grid 2 1048576\n")?;
+    for row in 0..1048576_u32 {
+        let (i, j) = (row / 1024, row % 1024);
+        text.push_str(format!(in alloc; "{i} {j} 1\n")?.as_str())?;
+    }
+    Ok(text)
+}
+
+/// A white image of as many points.
+fn white(alloc: Global) -> Result<String, AllocError> {
+    let lines = repeated(alloc, "255 255 255 255 255 255 255 255 255 255 255\n", 93)?;
+    let row = format!(in alloc; "{lines}255\n")?;
+    let rows = repeated(alloc, row.as_str(), 1024)?;
+    format!(in alloc; "P2\n1024 1024\n255\n{rows}")
+}
+
+#[test]
+fn most_rows_and_points(rt: HostRuntime) -> Result<(), Fail> {
+    let alloc = rt.alloc();
+    let grid = most_rows(alloc)?;
+    let image = white(alloc)?;
+    let text = format!(in alloc; "{grid}{image}")?;
+    loaded(&rt, alloc, SQUARE, grid.as_str(), 0, text.as_str())
 }

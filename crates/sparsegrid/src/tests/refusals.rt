@@ -14,6 +14,17 @@ static REFUSALS: &[(&str, u8, &str)] = &[
         "refused: limit: name bytes\n",
     ),
     ("const abcdefghijklmnopqrstuvwxyz012345 = 1;", 0, ""),
+    // a program that is cut before its last sign, and behind its kernel
+    (
+        "layout A(i) { dense(i: 4); field x: i32; } kernel k { for i in 0..4 { x[i] = i * i; } } run k; dump x",
+        4,
+        "refused: syntax: item 4 line 1\n",
+    ),
+    (
+        "layout A(i) { dense(i: 4); field x: i32; } kernel k { for i in 0..4 { x[i] = i * i; } }",
+        0,
+        "",
+    ),
     // names
     (
         "const N = 1; const N = 2;",

@@ -181,7 +181,7 @@ fn two_workers_meet_under_a_pointer(rt: HostRuntime) -> Result<(), Fail> {
         let setting = Setting {
             words: &["--workers", "2", "p.sg"],
             ..Setting::of(
-                "layout A(i) { pointer(i: 4) cap 4; dense(i: 4); field x: i32; } kernel k { for p in 0..2 { x[0] += 1; } } run k; dump x;",
+                "layout A(i) { pointer(i: 4) cap 1; dense(i: 4); field x: i32; } kernel k { for p in 0..2 { x[0] += 1; } } run k; dump x;",
             )
         };
         let gate = HoldGate::new(phase, LOOKS);
