@@ -1,0 +1,14 @@
+pub mod Inert
+pub mod StatementWords
+pub mod PartLemmas
+pub mod ItemLemmas
+pub mod ShownLemmas
+pub mod HeadLemmas
+pub mod Bound
+pub mod AdmitLemmas
+pub mod LengthLemmas
+pub mod Joined
+pub mod FrontLemmas
+pub mod PlaceLemmas
+pub mod Origins
+pub mod ExplainLemmas

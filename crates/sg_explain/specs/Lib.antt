@@ -1,0 +1,12 @@
+pub mod Parts
+pub mod Statements
+pub mod KernelItems
+pub mod KernelParts
+pub mod Shown
+pub mod TypePlaces
+pub mod AdmitPlaces
+pub mod Places
+pub mod ShownBytes
+pub mod Fronts
+pub mod Explained
+pub mod steps

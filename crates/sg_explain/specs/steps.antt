@@ -1,0 +1,3 @@
+pub mod ItemLengths
+pub mod Certified
+pub mod TokenPlaces
