@@ -1,6 +1,7 @@
 //! Where in a file a refusal is, and what it says.
 #![tactic(auto)]
 
+mod commands;
 mod cuts;
 mod endings;
 pub mod finer;

@@ -1,5 +1,6 @@
 //! Where refusals are that are neither of syntax nor of a kernel.
 
+use crate::commands::broken_command;
 use crate::cuts::{front_tokens, tokens_behind};
 use crate::items::next_item;
 use crate::kinds::{is_name, is_sign, is_word};
@@ -218,7 +219,10 @@ pub(crate) fn other_place(tokens: &[Spanned], refusal: Refusal) -> Option<Place>
         Refusal::Layout { layout, fault } => layout_place(layout_item(tokens, layout)?, fault),
         Refusal::Command { item } => {
             let (_, here) = item_at(tokens, item)?;
-            item_place(here)
+            match broken_command(tokens, here) {
+                Some(place) => Some(place),
+                None => item_place(here),
+            }
         }
         Refusal::Times => times_place(tokens),
         Refusal::Image => image_place(tokens),

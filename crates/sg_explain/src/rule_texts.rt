@@ -268,6 +268,27 @@ pub(crate) const GRID_BYTES: Rule = Rule {
     instead: "two files, and two fields or runs",
 };
 
+pub(crate) const SNAPSHOT: Rule = Rule {
+    line: "snapshot",
+    sentence: "a snapshot is whole, and of a file with the same axes, fields and blocks",
+    breaks: "sparsegrid --from=NAME FILE, where NAME is no snapshot, or one of other layouts",
+    instead: "a snapshot that sparsegrid --mode=save writes of these layouts",
+};
+
+pub(crate) const SNAPSHOT_BYTES: Rule = Rule {
+    line: "limit: snapshot bytes",
+    sentence: "a snapshot has at most 67,108,864 bytes",
+    breaks: "sparsegrid --from=NAME FILE, where NAME is larger",
+    instead: "a snapshot that sparsegrid --mode=save writes of these layouts",
+};
+
+pub(crate) const JOURNAL_BYTES: Rule = Rule {
+    line: "limit: journal bytes",
+    sentence: "a journal has at most 16,777,216 bytes",
+    breaks: "sparsegrid --mode=audit FILE journal=NAME, where NAME is larger",
+    instead: "a journal of fewer commands",
+};
+
 pub(crate) const OUTSIDE: Rule = Rule {
     line: "write outside: kernel K statement S at C1 C2 C3",
     sentence: "a kernel writes inside its layouts alone",
@@ -322,6 +343,9 @@ pub(crate) static RULES: &[Rule] = &[
     GRID,
     GRID_ROWS,
     GRID_BYTES,
+    SNAPSHOT,
+    SNAPSHOT_BYTES,
+    JOURNAL_BYTES,
     OUTSIDE,
     POOL,
 ];

@@ -50,6 +50,9 @@ fn push_line(
         (b"limit:", b"grid", Some(found)) => push_ruled(alloc, text, asked, Some(found)),
         (b"words", _, None) => push_ruled(alloc, text, asked, None),
         (b"read", _, None) => push_ruled(alloc, text, asked, None),
+        (b"snapshot", _, None) => push_ruled(alloc, text, asked, None),
+        (b"limit:", b"snapshot", None) => push_ruled(alloc, text, asked, None),
+        (b"limit:", b"journal", None) => push_ruled(alloc, text, asked, None),
         _ => push_other(alloc, text, asked),
     }
 }

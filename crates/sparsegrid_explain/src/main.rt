@@ -15,24 +15,36 @@ use sg_outside::{RealFiles, RealOut};
 use std::io::{BufReader, ErrorKind};
 use std::process::ExitCode;
 use std::rt::Env;
-use std::{env, io};
+use std::thread::Builder;
+use std::{env, io, rt};
 pub use words::{Words, read_words};
 
-/// Runs the program with the words of the command line, over the files, the input and the output of the system. A command line that is
-/// not UTF-8 has bad words.
+/// How many bytes of stack the thread of the program has, whatever `main` is given. The deepest file takes a tenth of them.
+const STACK: usize = 1 << 20;
+
+/// Runs the program on a thread with a stack of its own. If there can't be one, it runs here.
 fn main(rt: HostRuntime) -> ExitCode {
-    let words = match command_line(&rt) {
+    let apart = move || -> u8 { run_words(&rt) };
+    match Builder::new().stack_size(STACK).spawn(&rt, apart) {
+        Ok(thread) => ExitCode::from(thread.join(&rt)),
+        Err(_) => ExitCode::from(run_words(&rt)),
+    }
+}
+
+/// Runs the program with the words of the command line, over the files, the input and the output of the system, and gives its status. A command
+/// line that is not UTF-8 has bad words.
+fn run_words<R: Env + AllocGlobal + Input + Print + rt::Files>(rt: &R) -> u8 {
+    let words = match command_line(rt) {
         Ok(words) => words,
-        Err(error) if error.kind() == ErrorKind::OutOfMemory => return ExitCode::from(9),
+        Err(error) if error.kind() == ErrorKind::OutOfMemory => return 9,
         Err(_) => Vec::new(rt.alloc()),
     };
-    let mut files = RealFiles::new(&rt);
-    let mut out = RealOut::new(&rt);
+    let mut files = RealFiles::new(rt);
+    let mut out = RealOut::new(rt);
     let Ok(input) = BufReader::new(rt.alloc(), rt.reader()) else {
-        return ExitCode::from(9);
+        return 9;
     };
-    let status = run(rt.alloc(), words.as_slice(), &mut files, input, &mut out);
-    ExitCode::from(status)
+    run(rt.alloc(), words.as_slice(), &mut files, input, &mut out)
 }
 
 /// The words after the program's name.

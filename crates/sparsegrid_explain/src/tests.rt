@@ -2,6 +2,12 @@
 
 mod editors;
 mod places;
+mod places_inside;
+mod places_kernels;
+mod places_limits;
+mod places_names;
+mod places_repeated;
+mod places_sizes;
 mod places_too;
 mod runs;
 mod syntax;

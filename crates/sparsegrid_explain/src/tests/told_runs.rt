@@ -64,6 +64,24 @@ pub(super) static RUNS: &[(&str, &str, &str, usize)] = &[
     ),
     (
         "layout A(i) { dense(i: 4); field x: i32; field y: i32; }\ndump x;\n",
+        "refused: snapshot",
+        "p.sg: a snapshot is whole, and of a file",
+        0,
+    ),
+    (
+        "layout A(i) { dense(i: 4); field x: i32; field y: i32; }\ndump x;\n",
+        "refused: limit: snapshot bytes",
+        "p.sg: a snapshot has at most 67,108,864 bytes",
+        0,
+    ),
+    (
+        "layout A(i) { dense(i: 4); field x: i32; field y: i32; }\ndump x;\n",
+        "refused: limit: journal bytes",
+        "p.sg: a journal has at most 16,777,216 bytes",
+        0,
+    ),
+    (
+        "layout A(i) { dense(i: 4); field x: i32; field y: i32; }\ndump x;\n",
         "refused: write outside: kernel nope statement 1 at 3",
         "p.sg: nothing is refused before the first command, and this line is of another file",
         0,
