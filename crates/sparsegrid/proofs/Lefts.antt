@@ -19,6 +19,8 @@ use Rattle.sg_session.specs.Compiled.{CheckedProgram, unfolded_tasks}
 use Rattle.sg_session.specs.Commands.{Left, task_meaning}
 use Rattle.sg_session.specs.Independence.{left_by, left_by_program, last_after}
 use Rattle.sparsegrid.specs.Lines.{fault_last, run_last}
+use Rattle.sparsegrid.specs.declared.showing.Showing.TheVariants.{Texts}
+use Rattle.sparsegrid.specs.Telling.{Telling, telling_of}
 use Rattle.sparsegrid.specs.Moves.{Move, pieces_of, writing, pieces_in, text_in}
 use Rattle.sparsegrid.specs.Meaning.{Meaning, moves_of, text_meant, before as before_text, Readings, is_unbound, after_task, task_and_more, meaning_of_tasks, meaning_unless, meaning_of_run}
 use Rattle.sparsegrid.specs.Independence.{reading_behind, reads_with, told_from, told, IsWhatIsLeft, MeaningIsOfCommands}
@@ -48,6 +50,9 @@ text_before text m =
     ap (λ (said : List ℕ). said ++ m.line) (text_append (writing text) m.moves ∙ ap (λ (t : List ℕ). t ++ text_in m.moves) (text_written text)) ∙ append_assoc text (text_in m.moves) m.line
 
 module _ (program : CheckedProgram) (bindings : List Binding) (readings : Readings) (given : ℕ → Reading) where
+  abbrev telling : Telling
+  telling = telling_of program.names program.layouts Texts
+
   -- what tasks from a state on leave, and that it is what they mean
   record Leave (place : ℕ) (tasks : List Task) (state : FlatState) (m : Meaning) : Type 0 where
     lefts : List Left
@@ -56,11 +61,11 @@ module _ (program : CheckedProgram) (bindings : List Binding) (readings : Readin
     text : text_meant m ≡ flat_map (λ left. left.text) lefts
     last : m.last ≡ Some (last_after state lefts)
 
-  by_answer : (place : ℕ) (task : Task) (tasks : List Task) (state : FlatState) (file : Option (List ℕ)) (more : FlatState → Meaning) (answer : Result Left RunRefusal)
+  by_answer : (place number : ℕ) (task : Task) (tasks : List Task) (state : FlatState) (file : Option (List ℕ)) (more : FlatState → Meaning) (answer : Result Left RunRefusal)
       → task_meaning program state task (given place) ≡ answer → ((next : FlatState) → (more next).status ≡ 0 → Leave (suc place) tasks next (more next))
-      → (after_task program state file task more answer).status ≡ 0 → Leave place (task ∷ tasks) state (after_task program state file task more answer)
-  by_answer place task tasks state file more (Err why) is rest status = absurd (run_status program.names file task why status)
-  by_answer place task tasks state file more (Ok left) is rest status =
+      → (after_task program telling number state file task more answer).status ≡ 0 → Leave place (task ∷ tasks) state (after_task program telling number state file task more answer)
+  by_answer place number task tasks state file more (Err why) is rest status = absurd (run_status program.names file task why status)
+  by_answer place number task tasks state file more (Ok left) is rest status =
       let rest_left = rest left.state status in
       record {
         lefts = left ∷ rest_left.lefts;
@@ -71,40 +76,40 @@ module _ (program : CheckedProgram) (bindings : List Binding) (readings : Readin
         last = rest_left.last;
       }
 
-  by_file : (place reads : ℕ) (task : Task) (tasks : List Task) (state : FlatState) (more : ℕ → FlatState → Meaning) (file : Option (List ℕ)) → given place ≡ reading_behind readings reads file
+  by_file : (place number reads : ℕ) (task : Task) (tasks : List Task) (state : FlatState) (more : ℕ → FlatState → Meaning) (file : Option (List ℕ)) → given place ≡ reading_behind readings reads file
       → ((next : FlatState) → (more (reads_with reads file) next).status ≡ 0 → Leave (suc place) tasks next (more (reads_with reads file) next))
-      → (task_and_more program readings reads state task more file).status ≡ 0 → Leave place (task ∷ tasks) state (task_and_more program readings reads state task more file)
-  by_file place reads task tasks state more None is rest status =
-      by_answer place task tasks state None (more reads) (task_meaning program state task Missing) (ap (task_meaning program state task) is) rest status
-  by_file place reads task tasks state more (Some name) is rest status =
-      let here = by_answer place task tasks state (Some name) (more (suc reads)) (task_meaning program state task (readings (suc reads) name most_grid_bytes)) (ap (task_meaning program state task) is) rest status in
+      → (task_and_more program telling readings number reads state task more file).status ≡ 0 → Leave place (task ∷ tasks) state (task_and_more program telling readings number reads state task more file)
+  by_file place number reads task tasks state more None is rest status =
+      by_answer place number task tasks state None (more reads) (task_meaning program state task Missing) (ap (task_meaning program state task) is) rest status
+  by_file place number reads task tasks state more (Some name) is rest status =
+      let here = by_answer place number task tasks state (Some name) (more (suc reads)) (task_meaning program state task (readings (suc reads) name most_grid_bytes)) (ap (task_meaning program state task) is) rest status in
       record { lefts = here.lefts; left = here.left; pieces = here.pieces; text = here.text; last = here.last }
 
-  tasks_leave : (place reads : ℕ) (tasks : List Task) (state : FlatState) → ((i : ℕ) → given (i + place) ≡ told_from program.names bindings readings reads tasks i)
-      → (meaning_of_tasks program bindings readings reads state tasks).status ≡ 0 → Leave place tasks state (meaning_of_tasks program bindings readings reads state tasks)
+  tasks_leave : (place number reads : ℕ) (tasks : List Task) (state : FlatState) → ((i : ℕ) → given (i + place) ≡ told_from program.names bindings readings reads tasks i)
+      → (meaning_of_tasks program bindings telling readings number reads state tasks).status ≡ 0 → Leave place tasks state (meaning_of_tasks program bindings telling readings number reads state tasks)
   unfolding meaning_of_tasks
-  tasks_leave place reads [] state are status = record { lefts = []; left = refl; pieces = refl; text = refl; last = refl }
-  tasks_leave place reads (task ∷ tasks) state are status =
-      by_file place reads task tasks state (λ after next. meaning_of_tasks program bindings readings after next tasks) (file_of_task program.names bindings task) (ap given (omega arith) ∙ are 0)
-      (λ next. tasks_leave (suc place) (reads_with reads (file_of_task program.names bindings task)) tasks next (λ i. ap given (omega arith) ∙ are (suc i))) status
+  tasks_leave place number reads [] state are status = record { lefts = []; left = refl; pieces = refl; text = refl; last = refl }
+  tasks_leave place number reads (task ∷ tasks) state are status =
+      by_file place number reads task tasks state (λ after next. meaning_of_tasks program bindings telling readings (suc number) after next tasks) (file_of_task program.names bindings task) (ap given (omega arith) ∙ are 0)
+      (λ next. tasks_leave (suc place) (suc number) (reads_with reads (file_of_task program.names bindings task)) tasks next (λ i. ap given (omega arith) ∙ are (suc i))) status
 
   -- if none is refused, they mean status 0
-  file_whole : (reads : ℕ) (task : Task) (state : FlatState) (more : ℕ → FlatState → Meaning) (left : Left) (file : Option (List ℕ)) → task_meaning program state task (reading_behind readings reads file) ≡ Ok left
-      → (more (reads_with reads file) left.state).status ≡ 0 → (task_and_more program readings reads state task more file).status ≡ 0
-  file_whole reads task state more left None is rest = ap (λ (answer : Result Left RunRefusal). (after_task program state None task (more reads) answer).status) is ∙ rest
-  file_whole reads task state more left (Some name) is rest = ap (λ (answer : Result Left RunRefusal). (after_task program state (Some name) task (more (suc reads)) answer).status) is ∙ rest
+  file_whole : (number reads : ℕ) (task : Task) (state : FlatState) (more : ℕ → FlatState → Meaning) (left : Left) (file : Option (List ℕ)) → task_meaning program state task (reading_behind readings reads file) ≡ Ok left
+      → (more (reads_with reads file) left.state).status ≡ 0 → (task_and_more program telling readings number reads state task more file).status ≡ 0
+  file_whole number reads task state more left None is rest = ap (λ (answer : Result Left RunRefusal). (after_task program telling number state None task (more reads) answer).status) is ∙ rest
+  file_whole number reads task state more left (Some name) is rest = ap (λ (answer : Result Left RunRefusal). (after_task program telling number state (Some name) task (more (suc reads)) answer).status) is ∙ rest
 
-  tasks_whole : (place reads : ℕ) (tasks : List Task) (state : FlatState) (lefts : List Left) → ((i : ℕ) → given (i + place) ≡ told_from program.names bindings readings reads tasks i)
-      → left_by program given place tasks state ≡ Ok lefts → (meaning_of_tasks program bindings readings reads state tasks).status ≡ 0
+  tasks_whole : (place number reads : ℕ) (tasks : List Task) (state : FlatState) (lefts : List Left) → ((i : ℕ) → given (i + place) ≡ told_from program.names bindings readings reads tasks i)
+      → left_by program given place tasks state ≡ Ok lefts → (meaning_of_tasks program bindings telling readings number reads state tasks).status ≡ 0
   unfolding meaning_of_tasks
-  tasks_whole place reads [] state lefts are e = refl
-  tasks_whole place reads (task ∷ tasks) state lefts are e =
+  tasks_whole place number reads [] state lefts are e = refl
+  tasks_whole place number reads (task ∷ tasks) state lefts are e =
       let file = file_of_task program.names bindings task in
       let here = bound_ok (task_meaning program state task (given place)) (λ (left : Left). left_by program given (suc place) tasks left.state >>= (λ more. Ok (left ∷ more))) lefts e in
       let rest = bound_ok (left_by program given (suc place) tasks here.x.state) (λ more. Ok (here.x ∷ more)) lefts here.gives in
       let given_is : given place ≡ reading_behind readings reads file = ap given (omega arith) ∙ are 0 in
-      file_whole reads task state (λ after next. meaning_of_tasks program bindings readings after next tasks) here.x file (sym (ap (task_meaning program state task) given_is) ∙ here.is)
-      (tasks_whole (suc place) (reads_with reads file) tasks here.x.state rest.x (λ i. ap given (omega arith) ∙ are (suc i)) rest.is)
+      file_whole number reads task state (λ after next. meaning_of_tasks program bindings telling readings (suc number) after next tasks) here.x file (sym (ap (task_meaning program state task) given_is) ∙ here.is)
+      (tasks_whole (suc place) (suc number) (reads_with reads file) tasks here.x.state rest.x (λ i. ap given (omega arith) ∙ are (suc i)) rest.is)
 
   -- and each load has a file
   load_bound : (reads : ℕ) (task : Task) (state : FlatState) (left : Left) → task_meaning program state task (reading_behind readings reads (file_of_task program.names bindings task)) ≡ Ok left → is_unbound program.names bindings task ≡ false
@@ -141,13 +146,13 @@ meaning_is_of_commands program bindings readings = record { leaves = by_find (fi
   given_is : (i : ℕ) → given (i + 0) ≡ told_from program.names bindings readings 1 tasks i
   given_is i = ap given (omega arith)
 
-  by_find : (o : Option Task) → (meaning_unless o program bindings readings tasks).status ≡ 0 → (lefts : List Left) × IsWhatIsLeft program bindings readings (meaning_unless o program bindings readings tasks) lefts
+  by_find : (o : Option Task) → (meaning_unless o program (telling_of program.names program.layouts Texts) None bindings readings tasks).status ≡ 0 → (lefts : List Left) × IsWhatIsLeft program bindings readings (meaning_unless o program (telling_of program.names program.layouts Texts) None bindings readings tasks) lefts
   by_find (Some task) status = absurd (cc)
   by_find None status =
-      let all = tasks_leave program bindings readings given 0 1 tasks (opening program.layouts) given_is status in
+      let all = tasks_leave program bindings readings given 0 0 1 tasks (opening program.layouts) given_is status in
       (all.lefts, record { left = all.left; pieces = all.pieces; text = all.text; last = all.last })
 
-  whole : (lefts : List Left) → left_by_program program given ≡ Ok lefts → (meaning_of_run program bindings readings tasks).status ≡ 0
+  whole : (lefts : List Left) → left_by_program program given ≡ Ok lefts → (meaning_of_run program (telling_of program.names program.layouts Texts) None bindings readings tasks).status ≡ 0
   whole lefts e =
-      ap (λ (o : Option Task). (meaning_unless o program bindings readings tasks).status) (loads_bound program bindings readings given 0 1 tasks (opening program.layouts) lefts given_is e)
-      ∙ tasks_whole program bindings readings given 0 1 tasks (opening program.layouts) lefts given_is e
+      ap (λ (o : Option Task). (meaning_unless o program (telling_of program.names program.layouts Texts) None bindings readings tasks).status) (loads_bound program bindings readings given 0 1 tasks (opening program.layouts) lefts given_is e)
+      ∙ tasks_whole program bindings readings given 0 0 1 tasks (opening program.layouts) lefts given_is e

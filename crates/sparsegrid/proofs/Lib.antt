@@ -1,3 +1,4 @@
+mod AdviceLines
 mod Cuts
 mod Workers
 mod SplitForms
@@ -7,6 +8,7 @@ mod SplitWalk
 mod SplitFront
 mod SplitWords
 mod SplitParse
+mod Asking
 pub mod Writing
 pub mod Bound
 pub mod Readings
@@ -14,6 +16,8 @@ pub mod Going
 pub mod Tasks
 pub mod Clauses
 pub mod Sources
+pub mod Audits
+pub mod Beginning
 pub mod OfFile
 pub mod Lowered
 pub mod Codes

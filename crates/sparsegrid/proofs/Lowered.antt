@@ -8,7 +8,7 @@ use Rattle.sg_session.specs.declared.refusal.Refusal.{Refusal}
 use Rattle.sg_session.specs.Bindings.{Binding}
 use Rattle.sg_session.specs.Compiled.{CheckedProgram}
 use Rattle.sg_session.specs.Compiling.{spelled_program, compiled_program}
-use Rattle.sparsegrid.specs.Words.{Asked, Doing, performs, generates, looks, writes_code, doing, good_words, is_gen}
+use Rattle.sparsegrid.specs.Words.{Asked, Doing, performs, generates, looks, writes_code, audits, doing, good_words, is_gen}
 use Rattle.sparsegrid.specs.Moves.{pieces_in, text_in}
 use Rattle.sparsegrid.specs.Generated.{generated_text}
 use Rattle.sparsegrid.specs.Lines.{refusal_last}
@@ -25,11 +25,12 @@ pub record WritesNothing (m : Meaning) : Type 0 where
 abbrev IsSilent : Meaning → Type 0
 IsSilent m = m.status ≡ 0 → WritesNothing m
 
-in_silent : (what : Doing) (program : CheckedProgram) (bindings : List Binding) (readings : Readings) → is_code what ≡ true → IsSilent (meaning_in what program bindings readings)
-in_silent performs program bindings readings lower = absurd (cc)
-in_silent generates program bindings readings lower = absurd (cc)
-in_silent looks program bindings readings lower = absurd (cc)
-in_silent writes_code program bindings readings lower = λ zero. record { no_pieces = refl; no_text = refl; no_line = refl }
+in_silent : (what : Doing) (program : CheckedProgram) (from : Option (List ℕ)) (bindings : List Binding) (readings : Readings) → is_code what ≡ true → IsSilent (meaning_in what program from bindings readings)
+in_silent (performs shown) program from bindings readings lower = absurd (cc)
+in_silent generates program from bindings readings lower = absurd (cc)
+in_silent looks program from bindings readings lower = absurd (cc)
+in_silent writes_code program from bindings readings lower = λ zero. record { no_pieces = refl; no_text = refl; no_line = refl }
+in_silent audits program from bindings readings lower = absurd (cc)
 
 refused_file : (items : List Item) (why : Refusal) → (refusal_last items why).status ≢ 0
 refused_file items why = by_status (file_statuses items why) where
@@ -40,7 +41,7 @@ refused_file items why = by_status (file_statuses items why) where
 
 compiled_silent : (asked : Asked) (readings : Readings) (bytes : List ℕ) (answer : Result CheckedProgram Refusal) → is_code (doing asked.mode) ≡ true → IsSilent (meaning_of_compiled asked readings bytes answer)
 compiled_silent asked readings bytes (Err why) lower = λ zero. absurd (refused_file (items_or_none (spelled_program bytes)) why zero)
-compiled_silent asked readings bytes (Ok program) lower = in_silent (doing asked.mode) program asked.bindings readings lower
+compiled_silent asked readings bytes (Ok program) lower = in_silent (doing asked.mode) program asked.from asked.bindings readings lower
 
 source_silent : (asked : Asked) (readings : Readings) (given : Reading) → is_code (doing asked.mode) ≡ true → IsSilent (meaning_of_source asked readings given)
 source_silent asked readings Missing lower = λ zero. absurd (omega (arith, zero))

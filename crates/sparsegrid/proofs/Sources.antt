@@ -33,11 +33,17 @@ use Rattle.sparsegrid.specs.declared.output.PutFailed.{PutFailed}
 use Rattle.sparsegrid.specs.declared.session.Done.{Done}
 use Rattle.sg_session.specs.declared.binds.Bind.{Bind}
 use Rattle.sg_session.specs.Bindings.{Binding, binding_read}
-use Rattle.sparsegrid.specs.Words.{Asked, Doing, performs, generates, looks, writes_code, doing, good_words, is_gen}
+use Rattle.sparsegrid.specs.Words.{Asked, Doing, performs, generates, looks, writes_code, audits, doing, good_words, is_gen}
+use Rattle.sg_snapshot.specs.declared.fault.SnapFault.{SnapFault}
+use Rattle.sg_snapshot.specs.Restoring.{restored}
+use Rattle.sparsegrid.specs.declared.showing.Showing.TheVariants.{Texts}
+use Rattle.sparsegrid.specs.Limits.{most_snapshot_bytes}
+use Rattle.sparsegrid.specs.Telling.{Telling, telling_of}
 use Rattle.sparsegrid.specs.Moves.{Move, ReadsFile, writing}
+use Rattle.sparsegrid.specs.Verdicts.{most_journal_bytes, journal_file}
 use Rattle.sparsegrid.specs.Generated.{generated_text}
-use Rattle.sparsegrid.specs.Lines.{read_last, file_bytes_last, no_file_last, refusal_last, field_text, words_last}
-use Rattle.sparsegrid.specs.Meaning.{Meaning, Readings, refused_before_tasks, all_done, asking_for, is_unbound, meaning_of_tasks, meaning_unless, meaning_of_run, meaning_in, items_or_none, meaning_of_compiled, meaning_of_source, meaning_of_file, meaning_of_generated, meaning_of_asked, meaning_of_words, meaning_by}
+use Rattle.sparsegrid.specs.Lines.{read_last, file_bytes_last, journal_bytes_last, no_file_last, refusal_last, field_text, snapshot_bytes_last, snapshot_last, words_last}
+use Rattle.sparsegrid.specs.Meaning.{Meaning, Readings, refused_before_tasks, all_done, asking_for, is_unbound, left_by_snapshot, after_restoring, after_snapshot, begun, meaning_of_tasks, meaning_unless, meaning_of_run, meaning_in, after_journal, items_or_none, meaning_of_compiled, meaning_of_source, meaning_of_file, meaning_of_generated, meaning_of_asked, meaning_of_words, meaning_by}
 use Rattle.sparsegrid.specs.Outcome.{Output, Outside, StaysWritten, Made, HasSession, StandsForLast}
 use Rattle.sparsegrid.specs.steps.Along.{Sends, CameToEnd, Follows, Went, line_text, ReadsEnd, ended_with, IsEnd, LeavesOnly, LeavesProgram}
 use Rattle.sparsegrid.proofs.Writing.{made_read}
@@ -46,21 +52,44 @@ use Rattle.sparsegrid.proofs.Tasks.{refused_ends, tasks_end}
 
 -- ---- a meaning whose status isn't 0 ends in a line
 
-pub run_ends : (compiled : CheckedProgram) (bindings : List Binding) (readings : Readings) (tasks : List Task) → EndsInLine (meaning_of_run compiled bindings readings tasks)
-run_ends compiled bindings readings tasks = by_find (find (is_unbound compiled.names bindings) tasks) where
-  by_find : (o : Option Task) → EndsInLine (meaning_unless o compiled bindings readings tasks)
-  by_find None = tasks_end compiled bindings readings 1 (opening compiled.layouts) tasks
+-- what comes after a snapshot ends in a line where its status isn't 0
+pub snapshot_ends : (program : CheckedProgram) (name : List ℕ) (more : FlatState → Meaning) (given : Reading) → ((state : FlatState) → EndsInLine (more state)) → EndsInLine (after_snapshot program name more given)
+snapshot_ends program name more Missing ends = refused_ends None (read_last name)
+snapshot_ends program name more TooMany ends = refused_ends None snapshot_bytes_last
+snapshot_ends program name more (Bytes bytes) ends = by_restored (restored program.layouts bytes) where
+  by_restored : (answer : Result FlatState SnapFault) → EndsInLine (after_restoring program more answer)
+  by_restored (Ok state) = ends state
+  by_restored (Err fault) = refused_ends (left_by_snapshot program.layouts fault) (snapshot_last program.names fault)
+
+pub begun_ends : (program : CheckedProgram) (from : Option (List ℕ)) (readings : Readings) (more : ℕ → FlatState → Meaning) → ((reads : ℕ) (state : FlatState) → EndsInLine (more reads state))
+    → EndsInLine (begun program from readings more)
+begun_ends program None readings more ends = ends 1 (opening program.layouts)
+begun_ends program (Some name) readings more ends = snapshot_ends program name (more 2) (readings 2 name most_snapshot_bytes) (ends 2)
+
+pub run_ends : (compiled : CheckedProgram) (telling : Telling) (from : Option (List ℕ)) (bindings : List Binding) (readings : Readings) (tasks : List Task)
+    → EndsInLine (meaning_of_run compiled telling from bindings readings tasks)
+run_ends compiled telling from bindings readings tasks = by_find (find (is_unbound compiled.names bindings) tasks) where
+  by_find : (o : Option Task) → EndsInLine (meaning_unless o compiled telling from bindings readings tasks)
+  by_find None =
+      begun_ends compiled from readings (λ reads state. meaning_of_tasks compiled bindings telling readings 0 reads state tasks)
+      (λ reads state. tasks_end compiled bindings telling readings 0 reads state tasks)
   by_find (Some task) = refused_ends None (no_file_last (field_text compiled.names task))
 
-pub in_ends : (what : Doing) (compiled : CheckedProgram) (bindings : List Binding) (readings : Readings) → EndsInLine (meaning_in what compiled bindings readings)
-in_ends performs compiled bindings readings = run_ends compiled bindings readings (unfolded_tasks compiled.commands)
-in_ends generates compiled bindings readings = run_ends compiled [] readings (unfolded_tasks compiled.commands)
-in_ends looks compiled bindings readings = λ other. absurd (other refl)
-in_ends writes_code compiled bindings readings = λ other. absurd (other refl)
+pub journal_ends : (compiled : CheckedProgram) (name : List ℕ) (given : Reading) → EndsInLine (after_journal compiled name given)
+journal_ends compiled name Missing = refused_ends None (read_last name)
+journal_ends compiled name TooMany = refused_ends None journal_bytes_last
+journal_ends compiled name (Bytes bytes) = λ other. absurd (other refl)
+
+pub in_ends : (what : Doing) (compiled : CheckedProgram) (from : Option (List ℕ)) (bindings : List Binding) (readings : Readings) → EndsInLine (meaning_in what compiled from bindings readings)
+in_ends (performs shown) compiled from bindings readings = run_ends compiled (telling_of compiled.names compiled.layouts shown) from bindings readings (unfolded_tasks compiled.commands)
+in_ends generates compiled from bindings readings = run_ends compiled (telling_of compiled.names compiled.layouts Texts) None [] readings (unfolded_tasks compiled.commands)
+in_ends looks compiled from bindings readings = λ other. absurd (other refl)
+in_ends writes_code compiled from bindings readings = λ other. absurd (other refl)
+in_ends audits compiled from bindings readings = journal_ends compiled (journal_file bindings) (readings 2 (journal_file bindings) most_journal_bytes)
 
 pub compiled_ends : (asked : Asked) (readings : Readings) (bytes : List ℕ) (answer : Result CheckedProgram Refusal) → EndsInLine (meaning_of_compiled asked readings bytes answer)
 compiled_ends asked readings bytes (Err why) = refused_ends None (refusal_last (items_or_none (spelled_program bytes)) why)
-compiled_ends asked readings bytes (Ok compiled) = in_ends (doing asked.mode) compiled asked.bindings readings
+compiled_ends asked readings bytes (Ok compiled) = in_ends (doing asked.mode) compiled asked.from asked.bindings readings
 
 source_ends : (asked : Asked) (readings : Readings) (given : Reading) → EndsInLine (meaning_of_source asked readings given)
 source_ends asked readings Missing = refused_ends None (read_last asked.file)
@@ -250,17 +279,18 @@ went_kept m n before after session status done same kept went =
     ends (inl well) = inl (well.0, λ two. well.1 (sym same ∙ two))
     ends (inr failed) = inr (failed.0, same ∙ failed.1)
 
-pub run_unbound : (compiled : CheckedProgram) (bindings : List Binding) (readings : Readings) (tasks : List Task) (o : Option Task) → o ≡ find (is_unbound compiled.names bindings) tasks
-    → meaning_of_run compiled bindings readings tasks ≡ meaning_unless o compiled bindings readings tasks
-run_unbound compiled bindings readings tasks o is = ap (λ (f : Option Task). meaning_unless f compiled bindings readings tasks) (sym is)
+pub run_unbound : (compiled : CheckedProgram) (telling : Telling) (from : Option (List ℕ)) (bindings : List Binding) (readings : Readings) (tasks : List Task) (o : Option Task)
+    → o ≡ find (is_unbound compiled.names bindings) tasks
+    → meaning_of_run compiled telling from bindings readings tasks ≡ meaning_unless o compiled telling from bindings readings tasks
+run_unbound compiled telling from bindings readings tasks o is = ap (λ (f : Option Task). meaning_unless f compiled telling from bindings readings tasks) (sym is)
 
 -- what tasks do from the opening state of a session is what they do from that of its program
-pub from_opened : (program : CheckedProgram) (compiled : CompiledProgram) (bindings : List Binding) (tasks : List Task) (before after : Outside) (opened : SessionParts) (result : Result Done (Stop PutFailed))
+pub from_opened : (program : CheckedProgram) (compiled : CompiledProgram) (opened : SessionParts) (m : FlatState → Readings → Meaning) (n : ℕ) (before after : Outside) (result : Result Done (Stop PutFailed))
     → Compiles program compiled → opened.compiled ≡ compiled → StandForState compiled.layouts opened.stores (opening compiled.layouts)
-    → ((p : CheckedProgram) → Compiles p opened.compiled → (state : FlatState) → StandForState opened.compiled.layouts opened.stores state → Went (λ readings. meaning_of_tasks p bindings readings 1 state tasks) 1 before after result)
-    → Went (λ readings. meaning_of_tasks program bindings readings 1 (opening program.layouts) tasks) 1 before after result
-from_opened program compiled bindings tasks before after opened result compiles same stand went =
-    went program (subst (Compiles program) (sym same) compiles) (opening program.layouts)
+    → (Compiles program opened.compiled → (state : FlatState) → StandForState opened.compiled.layouts opened.stores state → Went (m state) n before after result)
+    → Went (m (opening program.layouts)) n before after result
+from_opened program compiled opened m n before after result compiles same stand went =
+    went (subst (Compiles program) (sym same) compiles) (opening program.layouts)
     (subst (λ (ls : List Shape). StandForState opened.compiled.layouts opened.stores (opening ls)) compiles.layouts
     (subst (λ (c : CompiledProgram). StandForState c.layouts opened.stores (opening compiled.layouts)) (sym same) stand))
 
@@ -278,7 +308,7 @@ line_named program compiled task old new result compiles sent = subst (λ (t : T
 
 -- what is done with a compiled program is what its file means
 pub compiled_went : (asked : Asked) (bytes : List ℕ) (answer : Result CheckedProgram Refusal) (compiled : CompiledProgram) (before after : Outside) (result : Result Done (Stop PutFailed))
-    → IsOkAnd answer (λ program. Compiles program compiled) → ((program : CheckedProgram) → Compiles program compiled → Went (meaning_in (doing asked.mode) program asked.bindings) 1 before after result)
+    → IsOkAnd answer (λ program. Compiles program compiled) → ((program : CheckedProgram) → Compiles program compiled → Went (meaning_in (doing asked.mode) program asked.from asked.bindings) 1 before after result)
     → Went (λ readings. meaning_of_compiled asked readings bytes answer) 1 before after result
 compiled_went asked bytes (Ok program) compiled before after result compiles went = went program compiles
 compiled_went asked bytes (Err why) compiled before after result compiles went = absurd compiles
@@ -322,9 +352,10 @@ went_opened program compiled text other n before after result compiles same sent
     (subst (λ (t : List ℕ). Sends result before.output after.output t) same sent) status (opened_last program compiled result compiles left stand))
     asked reads faults (not_two result 0 (λ e. absurd (omega arith)) status)
 
--- if no name is bound
-pub went_unbound : (program : CheckedProgram) (binds : List Bind) (before after : Outside) (result : Result Done (Stop PutFailed)) → binds ≡ []
-    → Went (λ readings. meaning_of_run program (map binding_read binds) readings (unfolded_tasks program.commands)) 1 before after result
-    → Went (λ readings. meaning_of_run program [] readings (unfolded_tasks program.commands)) 1 before after result
-went_unbound program binds before after result none went =
-    subst (λ (bs : List Bind). Went (λ readings. meaning_of_run program (map binding_read bs) readings (unfolded_tasks program.commands)) 1 before after result) none went
+-- if no name is bound, and no snapshot is given
+pub went_unbound : (program : CheckedProgram) (telling : Telling) (from : Option (List ℕ)) (binds : List Bind) (before after : Outside) (result : Result Done (Stop PutFailed)) → from ≡ None → binds ≡ []
+    → Went (λ readings. meaning_of_run program telling from (map binding_read binds) readings (unfolded_tasks program.commands)) 1 before after result
+    → Went (λ readings. meaning_of_run program telling None [] readings (unfolded_tasks program.commands)) 1 before after result
+went_unbound program telling from binds before after result bare none went =
+    subst (λ (f : Option (List ℕ)). Went (λ readings. meaning_of_run program telling f [] readings (unfolded_tasks program.commands)) 1 before after result) bare
+    (subst (λ (bs : List Bind). Went (λ readings. meaning_of_run program telling from (map binding_read bs) readings (unfolded_tasks program.commands)) 1 before after result) none went)

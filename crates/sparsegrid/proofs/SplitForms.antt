@@ -5,7 +5,7 @@ use Rattle.std.specs.Str.{bytes_eq, chars}
 use Rattle.sg_words.specs.Options.{◌>>=◌}
 use Rattle.clap.specs.Lexer.{long_of, short_of}
 use Rattle.clap.specs.Walk.{Text}
-use Rattle.sparsegrid.specs.Words.{WordParts, WordPlace, front, workers_value, mode_value, behind_dashes, at_end, with_mode, with_workers}
+use Rattle.sparsegrid.specs.Words.{WordParts, WordPlace, front, workers_value, mode_value, from_value, behind_dashes, at_end, with_from, with_mode, with_workers}
 
 -- `--`, a long option with its value, a short option, or none of these
 pub data Form : Type 0 where
@@ -58,7 +58,7 @@ is_form word = by_equal (bytes_eq word (45 ∷ 45 ∷ [])) refl
     by_equal false is = by_long is (long_of word) refl
 
 abbrev pub with_word_kept : WordPlace → Text → WordParts → WordPlace × WordParts
-with_word_kept next word parts = (next, record { workers = parts.workers; mode = parts.mode; positionals = parts.positionals ++ word ∷ [] })
+with_word_kept next word parts = (next, record { workers = parts.workers; mode = parts.mode; from = parts.from; positionals = parts.positionals ++ word ∷ [] })
 
 abbrev pub option_named : WordPlace → (Text → Option (WordPlace × WordParts)) → Option Text → WordParts → Option (WordPlace × WordParts)
 option_named awaiting given None parts = Some (awaiting, parts)
@@ -68,7 +68,8 @@ option_named awaiting given (Some v) parts = given v
 abbrev pub named : Text → Option Text → WordParts → Option (WordPlace × WordParts)
 named n v parts =
     if bytes_eq (codes "workers") n then option_named workers_value (λ v. with_workers v parts) v parts
-    else (if bytes_eq (codes "mode") n then option_named mode_value (λ v. with_mode v parts) v parts else None)
+    else (if bytes_eq (codes "mode") n then option_named mode_value (λ v. with_mode v parts) v parts
+    else (if bytes_eq (codes "from") n then option_named from_value (λ v. with_from v parts) v parts else None))
 
 abbrev pub split_front : Form → Text → WordParts → Option (WordPlace × WordParts)
 split_front separator word parts = Some (behind_dashes, parts)
@@ -85,6 +86,7 @@ abbrev pub split_word : WordPlace → Form → Text → WordParts → Option (Wo
 split_word front form word parts = split_front form word parts
 split_word workers_value form word parts = split_value form (with_workers word parts)
 split_word mode_value form word parts = split_value form (with_mode word parts)
+split_word from_value form word parts = split_value form (with_from word parts)
 split_word behind_dashes form word parts = Some (with_word_kept behind_dashes word parts)
 
 unfoldable pub split_from : WordPlace → WordParts → List Text → Option WordParts

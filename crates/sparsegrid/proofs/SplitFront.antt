@@ -7,7 +7,7 @@ use Rattle.std.proofs.lemmas.Option.{same_Some}
 use Rattle.std.proofs.lemmas.Slice.Eq.{bytes_eq-Decides}
 use Rattle.clap.specs.Lexer.{long_of, name_and_value, short_of}
 use Rattle.clap.specs.Walk.{Text}
-use Rattle.sparsegrid.specs.Words.{WordParts, WordPlace, front, workers_value, mode_value, at_front, begins_with_dash, can_be_positional, with_carried, with_mode, with_positional, with_workers}
+use Rattle.sparsegrid.specs.Words.{WordParts, WordPlace, front, workers_value, mode_value, from_value, at_front, begins_with_dash, can_be_positional, with_carried, with_from, with_mode, with_positional, with_workers}
 use Rattle.sparsegrid.proofs.SplitForms.{named}
 use Rattle.sparsegrid.proofs.SplitRows.{equal_texts}
 
@@ -86,13 +86,13 @@ before_single (x ∷ xs) single = go (is_equals x) refl
 -- such a word is positional at the front, if anything
 pub front_single : (word : Text) (parts : WordParts) → begins_double word ≡ false → at_front word parts ≡ with_positional front word parts
 front_single word parts single =
-    rw (no_match word [] single, no_match word (codes "workers") single, no_match word (codes "mode") single) (go (list_any is_equals word))
+    rw (no_match word [] single, no_match word (codes "workers") single, no_match word (codes "mode") single, no_match word (codes "from") single) (go (list_any is_equals word))
   where
     go : (b : Bool) → with_carried word parts (cond b (Some (before_first is_equals word, after_first is_equals word)) None) ≡ with_positional front word parts
     go false = refl
     go true =
         let cut = before_single word single in
-        rw (no_match (before_first is_equals word) (codes "workers") cut, no_match (before_first is_equals word) (codes "mode") cut) refl
+        rw (no_match (before_first is_equals word) (codes "workers") cut, no_match (before_first is_equals word) (codes "mode") cut, no_match (before_first is_equals word) (codes "from") cut) refl
 
 -- a word that is neither `--` nor a long option begins so
 pub single_from : (word : Text) → bytes_eq word (45 ∷ 45 ∷ []) ≡ false → long_of word ≡ None → begins_double word ≡ false
@@ -179,22 +179,23 @@ has_no_equals rest name has none = go (bytes_eq rest name) refl
 double_front : (y : ℕ) (ys : Text) (parts : WordParts) → at_front (45 ∷ 45 ∷ y ∷ ys) parts ≡ named (name_and_value (y ∷ ys)).0 (name_and_value (y ∷ ys)).1 parts
 double_front y ys parts = go (list_any is_equals (y ∷ ys)) refl
   where
-    flipped : (n : Text) (a b c : Option (WordPlace × WordParts)) → cond (bytes_eq n (codes "workers")) a (cond (bytes_eq n (codes "mode")) b c) ≡ cond (bytes_eq (codes "workers") n) a (cond (bytes_eq (codes "mode") n) b c)
-    flipped n a b c = rw (same_either_way n (codes "workers"), same_either_way n (codes "mode")) refl
+    flipped : (n : Text) (a b c d : Option (WordPlace × WordParts)) → cond (bytes_eq n (codes "workers")) a (cond (bytes_eq n (codes "mode")) b (cond (bytes_eq n (codes "from")) c d))
+        ≡ cond (bytes_eq (codes "workers") n) a (cond (bytes_eq (codes "mode") n) b (cond (bytes_eq (codes "from") n) c d))
+    flipped n a b c d = rw (same_either_way n (codes "workers"), same_either_way n (codes "mode"), same_either_way n (codes "from")) refl
 
     go : (has : Bool) → list_any is_equals (y ∷ ys) ≡ has
-        → cond (bytes_eq (y ∷ ys) (codes "workers")) (Some (workers_value, parts)) (cond (bytes_eq (y ∷ ys) (codes "mode")) (Some (mode_value, parts))
-        (with_carried (45 ∷ 45 ∷ y ∷ ys) parts (cond has (Some (before_first is_equals (45 ∷ 45 ∷ y ∷ ys), after_first is_equals (45 ∷ 45 ∷ y ∷ ys))) None)))
+        → cond (bytes_eq (y ∷ ys) (codes "workers")) (Some (workers_value, parts)) (cond (bytes_eq (y ∷ ys) (codes "mode")) (Some (mode_value, parts)) (cond (bytes_eq (y ∷ ys) (codes "from")) (Some (from_value, parts))
+        (with_carried (45 ∷ 45 ∷ y ∷ ys) parts (cond has (Some (before_first is_equals (45 ∷ 45 ∷ y ∷ ys), after_first is_equals (45 ∷ 45 ∷ y ∷ ys))) None))))
         ≡ named (before_first is_equals (y ∷ ys)) (cond has (Some (after_first is_equals (y ∷ ys))) None) parts
     go true e =
         let before : before_first is_equals (45 ∷ 45 ∷ y ∷ ys) ≡ 45 ∷ 45 ∷ before_first is_equals (y ∷ ys) =
         before_later 45 (45 ∷ y ∷ ys) refl ∙ ap (λ (t : Text). 45 ∷ t) (before_later 45 (y ∷ ys) refl) in
         let after : after_first is_equals (45 ∷ 45 ∷ y ∷ ys) ≡ after_first is_equals (y ∷ ys) = after_later 45 (45 ∷ y ∷ ys) refl ∙ after_later 45 (y ∷ ys) refl in
-        rw (has_no_equals (y ∷ ys) (codes "workers") e refl, has_no_equals (y ∷ ys) (codes "mode") e refl)
+        rw (has_no_equals (y ∷ ys) (codes "workers") e refl, has_no_equals (y ∷ ys) (codes "mode") e refl, has_no_equals (y ∷ ys) (codes "from") e refl)
         (ap₂ (λ (b a : Text). with_carried (45 ∷ 45 ∷ y ∷ ys) parts (Some (b, a))) before after
-        ∙ flipped (before_first is_equals (y ∷ ys)) (with_workers (after_first is_equals (y ∷ ys)) parts) (with_mode (after_first is_equals (y ∷ ys)) parts) None)
+        ∙ flipped (before_first is_equals (y ∷ ys)) (with_workers (after_first is_equals (y ∷ ys)) parts) (with_mode (after_first is_equals (y ∷ ys)) parts) (with_from (after_first is_equals (y ∷ ys)) parts) None)
     go false e =
-        flipped (y ∷ ys) (Some (workers_value, parts)) (Some (mode_value, parts)) None ∙ ap (λ (n : Text). named n None parts) (sym (before_none (y ∷ ys) e))
+        flipped (y ∷ ys) (Some (workers_value, parts)) (Some (mode_value, parts)) (Some (from_value, parts)) None ∙ ap (λ (n : Text). named n None parts) (sym (before_none (y ∷ ys) e))
 
 pub long_front : (word n : Text) (v : Option Text) (parts : WordParts) → IsLong word n v → at_front word parts ≡ named n v parts
 long_front word n v parts so =

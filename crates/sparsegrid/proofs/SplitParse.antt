@@ -15,14 +15,14 @@ use Rattle.clap.specs.declared.error.kind.ErrorKind.{ErrorKind}
 use Rattle.clap.specs.declared.error.kind.ErrorKind.TheVariants.{OutOfMemory}
 use Rattle.clap.specs.declared.parser.matches.ArgMatches.{ArgMatches}
 use Rattle.clap.specs.Faults.{check_fault, defaults_fault, entered_fault, fault_of, is_simple_and_free, level_fault, settle_fault, walk_fault}
-use Rattle.sparsegrid.specs.Words.{WordParts, front, good_words}
-use Rattle.sparsegrid.specs.steps.Splitting.{asked_in, has_fault, parts_of_rows, words_command, rows_split, unless}
+use Rattle.sparsegrid.specs.Words.{WordParts, asked_of, front, good_words, mode_of, workers_of}
+use Rattle.sparsegrid.specs.steps.Splitting.{asked_in, has_dash_for_from, has_fault, parts_of_rows, words_command, rows_split, unless}
 use Rattle.sparsegrid.proofs.SplitTurns.{at, fault_or_else, nothing_more, rules, shape}
 use Rattle.sparsegrid.proofs.SplitWalk.{Stands, fails, last_rows, same_split}
-use Rattle.sparsegrid.proofs.SplitWords.{same_from}
+use Rattle.sparsegrid.proofs.SplitWords.{bad_value, same_from}
 
 abbrev nothing_found : WordParts
-nothing_found = record { workers = None; mode = None; positionals = [] }
+nothing_found = record { workers = None; mode = None; from = None; positionals = [] }
 
 abbrev start : Walk
 start = at [] None idle false
@@ -70,16 +70,16 @@ stands = record {
   is = refl;
   rest = refl;
   quiet = refl;
-  shows = record { parts_are = refl; has_workers = refl; has_mode = refl };
+  shows = record { parts_are = refl; has_workers = refl; has_mode = refl; has_from = refl };
 }
 
--- what the rows of a parse ask for is what good words ask for
-pub same_asked : (words : List Text) → (rows_split words >>= (λ rows. asked_in (parts_of_rows rows))) ≡ good_words words
+-- what the rows of a parse ask for is what good words ask for, but where a value of `--from` begins with `-`
+pub same_asked : (words : List Text) → has_dash_for_from words ≡ false → (rows_split words >>= (λ rows. asked_in (parts_of_rows rows))) ≡ good_words words
 unfolding rows_split
-same_asked words =
+same_asked words no_dash =
     let found : unless (has_fault (fault_of words_command words)) (matches_of words_command words) ≡ unless (fails start words) (last_rows start words) = ap₂ unless (fault_is words) (rows_are words) in
     ap (λ (o : Option (List Row)). o >>= (λ rows. asked_in (parts_of_rows rows))) found ∙ regroup (fails start words) (last_rows start words)
-    ∙ ap (λ (o : Option WordParts). o >>= asked_in) (same_split words front nothing_found start stands) ∙ same_from words front nothing_found refl
+    ∙ ap (λ (o : Option WordParts). o >>= asked_in) (same_split words front nothing_found start stands) ∙ same_from words front nothing_found no_dash refl
   where
     regroup : (b : Bool) (rows : List Row) → (unless b rows >>= (λ rows. asked_in (parts_of_rows rows))) ≡ (unless b (parts_of_rows rows) >>= asked_in)
     regroup true rows = refl
@@ -112,11 +112,16 @@ module _ (command : App) (is : command ≡ words_command) (words : List Text) wh
           ap (λ (b : Bool). unless b (matches_of words_command words)) (sym (ap (λ (a : App). has_fault (fault_of a words)) is) ∙ has_among (kind_of e) (fault_of command words) among)
 
 -- what the rows ask for, if there are some
-pub asked_of_rows : (words : List Text) (rows : List Row) → rows_split words ≡ Some rows → good_words words ≡ asked_in (parts_of_rows rows)
-asked_of_rows words rows is = sym (same_asked words) ∙ ap (λ (o : Option (List Row)). o >>= (λ rows. asked_in (parts_of_rows rows))) is
+pub asked_of_rows : (words : List Text) (rows : List Row) → has_dash_for_from words ≡ false → rows_split words ≡ Some rows → good_words words ≡ asked_in (parts_of_rows rows)
+asked_of_rows words rows none is = sym (same_asked words none) ∙ ap (λ (o : Option (List Row)). o >>= (λ rows. asked_in (parts_of_rows rows))) is
 
-pub nothing_asked : (words : List Text) → rows_split words ≡ None → good_words words ≡ None
-nothing_asked words is = sym (same_asked words) ∙ ap (λ (o : Option (List Row)). o >>= (λ rows. asked_in (parts_of_rows rows))) is
+pub nothing_asked : (words : List Text) → has_dash_for_from words ≡ false → rows_split words ≡ None → good_words words ≡ None
+nothing_asked words none is = sym (same_asked words none) ∙ ap (λ (o : Option (List Row)). o >>= (λ rows. asked_in (parts_of_rows rows))) is
+
+pub nothing_for_dash : (words : List Text) → has_dash_for_from words ≡ true → good_words words ≡ None
+nothing_for_dash words dash =
+    ap (λ (o : Option WordParts). o >>= (λ parts. workers_of parts.workers >>= (λ workers. mode_of parts.mode >>= (λ mode. asked_of workers mode parts.from parts.positionals))))
+    (bad_value words front nothing_found dash)
 
 -- ---- what the getters read
 
@@ -127,14 +132,15 @@ texts_or : (raw : Option (Bor (List (Bor Text)))) (other : Bor (List (Bor Text))
 texts_or None other none = ap (map (λ (word : Bor Text). word.now)) none
 texts_or (Some words) other none = refl
 
-pub parts_read : (f : Found) (workers mode : Option (Bor Text)) (raw : Option (Bor (List (Bor Text)))) (other words : Bor (List (Bor Text)))
-    → option_map (λ s. s.now) workers ≡ first_value f (codes "workers") → option_map (λ s. s.now) mode ≡ first_value f (codes "mode")
+pub parts_read : (f : Found) (workers mode from : Option (Bor Text)) (raw : Option (Bor (List (Bor Text)))) (other words : Bor (List (Bor Text)))
+    → option_map (λ s. s.now) workers ≡ first_value f (codes "workers") → option_map (λ s. s.now) mode ≡ first_value f (codes "mode") → option_map (λ s. s.now) from ≡ first_value f (codes "from")
     → option_map texts_at raw ≡ option_map raw_values (matched_of f (codes "positionals")) → words ≡ unwrap_or raw other → other.now ≡ []
-    → asked_in (record { workers = option_copied workers; mode = option_copied mode; positionals = texts_at words }) ≡ asked_in (parts_of_rows (rows_of f))
-parts_read f workers mode raw other words workers_is mode_is raw_is words_are none =
+    → asked_in (record { workers = option_copied workers; mode = option_copied mode; from = option_copied from; positionals = texts_at words }) ≡ asked_in (parts_of_rows (rows_of f))
+parts_read f workers mode from raw other words workers_is mode_is from_is raw_is words_are none =
     let positionals_are = ap texts_at words_are ∙ texts_or raw other none ∙ ap (λ (o : Option (List Text)). unwrap_or o []) (raw_is ∙ raw_values-rows f (codes "positionals")) in
     ap asked_in (λ i. record {
       workers = (workers_is ∙ first_value-rows f (codes "workers")) i;
       mode = (mode_is ∙ first_value-rows f (codes "mode")) i;
+      from = (from_is ∙ first_value-rows f (codes "from")) i;
       positionals = positionals_are i;
     })

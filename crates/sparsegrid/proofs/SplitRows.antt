@@ -80,9 +80,10 @@ pub record Shows (rows : List Row) (parts : WordParts) : Type 0 where
   pub parts_are : parts_of_rows rows ≡ parts
   pub has_workers : has_row (codes "workers") rows ≡ is_some parts.workers
   pub has_mode : has_row (codes "mode") rows ≡ is_some parts.mode
+  pub has_from : has_row (codes "from") rows ≡ is_some parts.from
 
 pub shows_workers : (how : Reading) (s : ValueSource) (v : Text) (rows : List Row) (parts : WordParts) → Shows rows parts → is_some parts.workers ≡ false
-    → Shows (with_values (codes "workers") how s (v ∷ []) (without (codes "workers") rows)) (record { workers = Some v; mode = parts.mode; positionals = parts.positionals })
+    → Shows (with_values (codes "workers") how s (v ∷ []) (without (codes "workers") rows)) (record { workers = Some v; mode = parts.mode; from = parts.from; positionals = parts.positionals })
 shows_workers how s v rows parts shows none =
     let absent : has_row (codes "workers") rows ≡ false = shows.has_workers ∙ none in
     let is : without (codes "workers") rows ≡ rows = at_row_absent (codes "workers") (λ _. []) [] rows absent ∙ append-nil rows in
@@ -92,14 +93,16 @@ shows_workers how s v rows parts shows none =
       parts_are = λ i. record {
         workers = (ap (first_of (codes "workers")) (at_row_absent (codes "workers") (more_values s (v ∷ [])) _ rows absent) ∙ found) i;
         mode = (ap (option_and_then (λ (r : Row). slice_get r.values 0)) (find_other (codes "workers") (codes "mode") refl how s (v ∷ []) rows) ∙ ap (λ (p : WordParts). p.mode) shows.parts_are) i;
+        from = (ap (option_and_then (λ (r : Row). slice_get r.values 0)) (find_other (codes "workers") (codes "from") refl how s (v ∷ []) rows) ∙ ap (λ (p : WordParts). p.from) shows.parts_are) i;
         positionals = (ap (λ (o : Option Row). unwrap_or (option_map (λ (r : Row). r.values) o) []) (find_other (codes "workers") (codes "positionals") refl how s (v ∷ []) rows) ∙ ap (λ (p : WordParts). p.positionals) shows.parts_are) i;
       };
       has_workers = ap (has_row (codes "workers")) (at_row_absent (codes "workers") (more_values s (v ∷ [])) _ rows absent) ∙ has_behind (λ r. bytes_eq r.id (codes "workers")) rows _ refl;
       has_mode = has_other (codes "workers") (codes "mode") refl how s (v ∷ []) rows ∙ shows.has_mode;
+      has_from = has_other (codes "workers") (codes "from") refl how s (v ∷ []) rows ∙ shows.has_from;
     })
 
 pub shows_mode : (how : Reading) (s : ValueSource) (v : Text) (rows : List Row) (parts : WordParts) → Shows rows parts → is_some parts.mode ≡ false
-    → Shows (with_values (codes "mode") how s (v ∷ []) (without (codes "mode") rows)) (record { workers = parts.workers; mode = Some v; positionals = parts.positionals })
+    → Shows (with_values (codes "mode") how s (v ∷ []) (without (codes "mode") rows)) (record { workers = parts.workers; mode = Some v; from = parts.from; positionals = parts.positionals })
 shows_mode how s v rows parts shows none =
     let absent : has_row (codes "mode") rows ≡ false = shows.has_mode ∙ none in
     let is : without (codes "mode") rows ≡ rows = at_row_absent (codes "mode") (λ _. []) [] rows absent ∙ append-nil rows in
@@ -109,20 +112,43 @@ shows_mode how s v rows parts shows none =
       parts_are = λ i. record {
         workers = (ap (option_and_then (λ (r : Row). slice_get r.values 0)) (find_other (codes "mode") (codes "workers") refl how s (v ∷ []) rows) ∙ ap (λ (p : WordParts). p.workers) shows.parts_are) i;
         mode = (ap (first_of (codes "mode")) (at_row_absent (codes "mode") (more_values s (v ∷ [])) _ rows absent) ∙ found) i;
+        from = (ap (option_and_then (λ (r : Row). slice_get r.values 0)) (find_other (codes "mode") (codes "from") refl how s (v ∷ []) rows) ∙ ap (λ (p : WordParts). p.from) shows.parts_are) i;
         positionals = (ap (λ (o : Option Row). unwrap_or (option_map (λ (r : Row). r.values) o) []) (find_other (codes "mode") (codes "positionals") refl how s (v ∷ []) rows) ∙ ap (λ (p : WordParts). p.positionals) shows.parts_are) i;
       };
       has_workers = has_other (codes "mode") (codes "workers") refl how s (v ∷ []) rows ∙ shows.has_workers;
       has_mode = ap (has_row (codes "mode")) (at_row_absent (codes "mode") (more_values s (v ∷ [])) _ rows absent) ∙ has_behind (λ r. bytes_eq r.id (codes "mode")) rows _ refl;
+      has_from = has_other (codes "mode") (codes "from") refl how s (v ∷ []) rows ∙ shows.has_from;
+    })
+
+pub shows_from : (how : Reading) (s : ValueSource) (v : Text) (rows : List Row) (parts : WordParts) → Shows rows parts → is_some parts.from ≡ false
+    → Shows (with_values (codes "from") how s (v ∷ []) (without (codes "from") rows)) (record { workers = parts.workers; mode = parts.mode; from = Some v; positionals = parts.positionals })
+shows_from how s v rows parts shows none =
+    let absent : has_row (codes "from") rows ≡ false = shows.has_from ∙ none in
+    let is : without (codes "from") rows ≡ rows = at_row_absent (codes "from") (λ _. []) [] rows absent ∙ append-nil rows in
+    let found : first_of (codes "from") (rows ++ (record { id = codes "from"; values = v ∷ []; count = None; source = Some s; reading = how }) ∷ []) ≡ Some v =
+    ap (option_and_then (λ (r : Row). slice_get r.values 0)) (find_behind (λ r. bytes_eq r.id (codes "from")) rows _ absent refl) in
+    rw is (record {
+      parts_are = λ i. record {
+        workers = (ap (option_and_then (λ (r : Row). slice_get r.values 0)) (find_other (codes "from") (codes "workers") refl how s (v ∷ []) rows) ∙ ap (λ (p : WordParts). p.workers) shows.parts_are) i;
+        mode = (ap (option_and_then (λ (r : Row). slice_get r.values 0)) (find_other (codes "from") (codes "mode") refl how s (v ∷ []) rows) ∙ ap (λ (p : WordParts). p.mode) shows.parts_are) i;
+        from = (ap (first_of (codes "from")) (at_row_absent (codes "from") (more_values s (v ∷ [])) _ rows absent) ∙ found) i;
+        positionals = (ap (λ (o : Option Row). unwrap_or (option_map (λ (r : Row). r.values) o) []) (find_other (codes "from") (codes "positionals") refl how s (v ∷ []) rows) ∙ ap (λ (p : WordParts). p.positionals) shows.parts_are) i;
+      };
+      has_workers = has_other (codes "from") (codes "workers") refl how s (v ∷ []) rows ∙ shows.has_workers;
+      has_mode = has_other (codes "from") (codes "mode") refl how s (v ∷ []) rows ∙ shows.has_mode;
+      has_from = ap (has_row (codes "from")) (at_row_absent (codes "from") (more_values s (v ∷ [])) _ rows absent) ∙ has_behind (λ r. bytes_eq r.id (codes "from")) rows _ refl;
     })
 
 pub shows_positional : (how : Reading) (s : ValueSource) (v : Text) (rows : List Row) (parts : WordParts) → Shows rows parts
-    → Shows (with_values (codes "positionals") how s (v ∷ []) rows) (record { workers = parts.workers; mode = parts.mode; positionals = parts.positionals ++ v ∷ [] })
+    → Shows (with_values (codes "positionals") how s (v ∷ []) rows) (record { workers = parts.workers; mode = parts.mode; from = parts.from; positionals = parts.positionals ++ v ∷ [] })
 shows_positional how s v rows parts shows = record {
   parts_are = λ i. record {
     workers = (ap (option_and_then (λ (r : Row). slice_get r.values 0)) (find_other (codes "positionals") (codes "workers") refl how s (v ∷ []) rows) ∙ ap (λ (p : WordParts). p.workers) shows.parts_are) i;
     mode = (ap (option_and_then (λ (r : Row). slice_get r.values 0)) (find_other (codes "positionals") (codes "mode") refl how s (v ∷ []) rows) ∙ ap (λ (p : WordParts). p.mode) shows.parts_are) i;
+    from = (ap (option_and_then (λ (r : Row). slice_get r.values 0)) (find_other (codes "positionals") (codes "from") refl how s (v ∷ []) rows) ∙ ap (λ (p : WordParts). p.from) shows.parts_are) i;
     positionals = (ap (λ (o : Option (List Text)). unwrap_or o []) (all_more (codes "positionals") how s (v ∷ []) rows refl) ∙ ap (λ (p : WordParts). p.positionals ++ v ∷ []) shows.parts_are) i;
   };
   has_workers = has_other (codes "positionals") (codes "workers") refl how s (v ∷ []) rows ∙ shows.has_workers;
   has_mode = has_other (codes "positionals") (codes "mode") refl how s (v ∷ []) rows ∙ shows.has_mode;
+  has_from = has_other (codes "positionals") (codes "from") refl how s (v ∷ []) rows ∙ shows.has_from;
 }

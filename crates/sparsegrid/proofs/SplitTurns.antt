@@ -40,7 +40,7 @@ abbrev pub filled_positionals : Rule
 filled_positionals = record (filled_option (codes "positionals")) { long = None; index = Some 1; action = Some Append }
 
 abbrev pub rules : List Rule
-rules = filled_option (codes "workers") ∷ filled_option (codes "mode") ∷ filled_positionals ∷ []
+rules = filled_option (codes "workers") ∷ filled_option (codes "mode") ∷ filled_option (codes "from") ∷ filled_positionals ∷ []
 
 abbrev pub shape : Shape
 shape = record {
@@ -142,7 +142,9 @@ fault_if false = refl
 
 abbrev pub rule_named : Text → Option Rule
 rule_named n =
-    cond (bytes_eq (codes "workers") n) (Some (filled_option (codes "workers"))) (cond (bytes_eq (codes "mode") n) (Some (filled_option (codes "mode"))) None)
+    cond (bytes_eq (codes "workers") n) (Some (filled_option (codes "workers")))
+    (cond (bytes_eq (codes "mode") n) (Some (filled_option (codes "mode")))
+    (cond (bytes_eq (codes "from") n) (Some (filled_option (codes "from"))) None))
 
 pub by_long : (n : Text) → arg_by_long rules n ≡ rule_named n
 by_long n = simp or_no

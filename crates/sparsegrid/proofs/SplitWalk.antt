@@ -8,10 +8,10 @@ use Rattle.clap.specs.declared.parser.matches.ValueSource.TheVariants.{CommandLi
 use Rattle.clap.specs.Lexer.{long_of}
 use Rattle.clap.specs.Walk.{Row, Text, Waiting, Walk, arg_by_long, has_row, idle, option, positional, reading_by, settled_rows, walked, with_values, without}
 use Rattle.clap.specs.Faults.{settle_fault, turn_fault, walk_fault}
-use Rattle.sparsegrid.specs.Words.{WordParts, WordPlace, front, workers_value, mode_value, behind_dashes, at_end, with_mode, with_workers}
+use Rattle.sparsegrid.specs.Words.{WordParts, WordPlace, front, workers_value, mode_value, from_value, behind_dashes, at_end, with_from, with_mode, with_workers}
 use Rattle.sparsegrid.specs.steps.Splitting.{has_fault, parts_of_rows, unless}
 use Rattle.sparsegrid.proofs.SplitForms.{Form, IsForm, IsPlainWord, form_of, is_form, long, named, option_named, plain, separator, short, split_from, split_front, split_value, split_word, with_word_kept}
-use Rattle.sparsegrid.proofs.SplitRows.{Shows, shows_mode, shows_positional, shows_workers}
+use Rattle.sparsegrid.proofs.SplitRows.{Shows, shows_from, shows_mode, shows_positional, shows_workers}
 use Rattle.sparsegrid.proofs.SplitTurns.{at, awaits_fails, awaits_next, behind_fails, behind_next, by_long, fault_if, fault_or_else, filled_option, given_fails, given_next, is_wrong, next, now_rows, plain_fails, plain_next, rests, rules, separator_fails, separator_next, shape, short_fails, turn_fails, unknown_fails, value_fails, value_next}
 
 -- ---- a walk that ends in a refusal: a use that is refused is pending, and no option waits
@@ -32,12 +32,15 @@ abbrev IsOption : Text → Type 0
 IsOption n = (id : Text) × (arg_by_long rules n ≡ Some (filled_option id))
 
 option_or_none : (n : Text) → (arg_by_long rules n ≡ None) ⊎ IsOption n
-option_or_none n = go (bytes_eq (codes "workers") n) (bytes_eq (codes "mode") n) (by_long n)
+option_or_none n = go (bytes_eq (codes "workers") n) (bytes_eq (codes "mode") n) (bytes_eq (codes "from") n) (by_long n)
   where
-    go : (b d : Bool) → arg_by_long rules n ≡ cond b (Some (filled_option (codes "workers"))) (cond d (Some (filled_option (codes "mode"))) None) → (arg_by_long rules n ≡ None) ⊎ IsOption n
-    go true d is = inr (codes "workers", is)
-    go false true is = inr (codes "mode", is)
-    go false false is = inl is
+    go : (b d f : Bool)
+        → arg_by_long rules n ≡ cond b (Some (filled_option (codes "workers"))) (cond d (Some (filled_option (codes "mode"))) (cond f (Some (filled_option (codes "from"))) None))
+        → (arg_by_long rules n ≡ None) ⊎ IsOption n
+    go true d f is = inr (codes "workers", is)
+    go false true f is = inr (codes "mode", is)
+    go false false true is = inr (codes "from", is)
+    go false false false is = inl is
 
 -- if a use that is refused is pending, a long option is refused
 long_refused : (rows : List Row) (pending : Option (Text × List Text)) (waiting : Waiting) (word n : Text) (v : Option Text) → bytes_eq word (45 ∷ 45 ∷ []) ≡ false → long_of word ≡ Some (n, v)
@@ -92,6 +95,7 @@ abbrev pub Stands : WordPlace → WordParts → Walk → Type 0
 Stands front parts w = Resting false parts w
 Stands workers_value parts w = Awaiting (codes "workers") parts w
 Stands mode_value parts w = Awaiting (codes "mode") parts w
+Stands from_value parts w = Awaiting (codes "from") parts w
 Stands behind_dashes parts w = Resting true parts w
 
 abbrev Turned : Walk → Text → Option (WordPlace × WordParts) → Type 0
@@ -105,6 +109,9 @@ pending_wrong_workers rows v = fault_if (has_row (codes "workers") rows)
 pending_wrong_mode : (rows : List Row) (v : Text) → is_wrong rows (Some (codes "mode", v ∷ [])) ≡ has_row (codes "mode") rows
 pending_wrong_mode rows v = fault_if (has_row (codes "mode") rows)
 
+pending_wrong_from : (rows : List Row) (v : Text) → is_wrong rows (Some (codes "from", v ∷ [])) ≡ has_row (codes "from") rows
+pending_wrong_from rows v = fault_if (has_row (codes "from") rows)
+
 -- an option with its value, where the value counts by whether the option has come before
 module _ (rows : List Row) (pending : Option (Text × List Text)) (waiting : Waiting) (parts : WordParts) (quiet : is_wrong rows pending ≡ false) (shows : Shows (now_rows pending rows) parts)
     (word : Text) (apart : bytes_eq word (45 ∷ 45 ∷ []) ≡ false) where
@@ -116,7 +123,7 @@ module _ (rows : List Row) (pending : Option (Text × List Text)) (waiting : Wai
       fails = given_fails rows pending waiting word apart (codes "workers") n found v is ∙ ap₂ (λ (a b : Bool). a || b) quiet shows.has_workers
 
       go : (o : Option Text) → parts.workers ≡ o
-          → Turned (at rows pending waiting false) word (cond (is_none o) (Some (front, record { workers = Some v; mode = parts.mode; positionals = parts.positionals })) None)
+          → Turned (at rows pending waiting false) word (cond (is_none o) (Some (front, record { workers = Some v; mode = parts.mode; from = parts.from; positionals = parts.positionals })) None)
       go None e = (
         fails ∙ ap is_some e,
         record {
@@ -139,7 +146,7 @@ module _ (rows : List Row) (pending : Option (Text × List Text)) (waiting : Wai
       fails = given_fails rows pending waiting word apart (codes "mode") n found v is ∙ ap₂ (λ (a b : Bool). a || b) quiet shows.has_mode
 
       go : (o : Option Text) → parts.mode ≡ o
-          → Turned (at rows pending waiting false) word (cond (is_none o) (Some (front, record { workers = parts.workers; mode = Some v; positionals = parts.positionals })) None)
+          → Turned (at rows pending waiting false) word (cond (is_none o) (Some (front, record { workers = parts.workers; mode = Some v; from = parts.from; positionals = parts.positionals })) None)
       go None e = (
         fails ∙ ap is_some e,
         record {
@@ -150,6 +157,29 @@ module _ (rows : List Row) (pending : Option (Text × List Text)) (waiting : Wai
           rest = refl;
           quiet = refl;
           shows = shows_mode _ _ v (now_rows pending rows) parts shows (ap is_some e);
+        },
+      )
+      go (Some x) e = inl (fails ∙ ap is_some e)
+
+  given_from : (n v : Text) → arg_by_long rules n ≡ Some (filled_option (codes "from")) → long_of word ≡ Some (n, Some v)
+      → Turned (at rows pending waiting false) word (with_from v parts)
+  given_from n v found is = go parts.from refl
+    where
+      fails : turn_fails (at rows pending waiting false) word ≡ is_some parts.from
+      fails = given_fails rows pending waiting word apart (codes "from") n found v is ∙ ap₂ (λ (a b : Bool). a || b) quiet shows.has_from
+
+      go : (o : Option Text) → parts.from ≡ o
+          → Turned (at rows pending waiting false) word (cond (is_none o) (Some (front, record { workers = parts.workers; mode = parts.mode; from = Some v; positionals = parts.positionals })) None)
+      go None e = (
+        fails ∙ ap is_some e,
+        record {
+          rows = with_values (codes "from") (reading_by (filled_option (codes "from"))) CommandLine (v ∷ []) (without (codes "from") (now_rows pending rows));
+          pending = None;
+          waiting = idle;
+          is = given_next rows pending waiting word apart (codes "from") n found v is;
+          rest = refl;
+          quiet = refl;
+          shows = shows_from _ _ v (now_rows pending rows) parts shows (ap is_some e);
         },
       )
       go (Some x) e = inl (fails ∙ ap is_some e)
@@ -178,15 +208,31 @@ module _ (rows : List Row) (pending : Option (Text × List Text)) (waiting : Wai
   )
   named_mode n (Some v) found is = given_mode n v found is
 
+  named_from : (n : Text) (v : Option Text) → arg_by_long rules n ≡ Some (filled_option (codes "from")) → long_of word ≡ Some (n, v)
+      → Turned (at rows pending waiting false) word (option_named from_value (λ v. with_from v parts) v parts)
+  named_from n None found is = (
+    awaits_fails rows pending waiting word apart (codes "from") n found is ∙ quiet,
+    record {
+      rows = now_rows pending rows;
+      is = awaits_next rows pending waiting word apart (codes "from") n found is;
+      shows = shows;
+    },
+  )
+  named_from n (Some v) found is = given_from n v found is
+
   named_turn : (n : Text) (v : Option Text) → long_of word ≡ Some (n, v) → Turned (at rows pending waiting false) word (named n v parts)
-  named_turn n v is = go (bytes_eq (codes "workers") n) (bytes_eq (codes "mode") n) (by_long n)
+  named_turn n v is = go (bytes_eq (codes "workers") n) (bytes_eq (codes "mode") n) (bytes_eq (codes "from") n) (by_long n)
     where
-      go : (b d : Bool) → arg_by_long rules n ≡ cond b (Some (filled_option (codes "workers"))) (cond d (Some (filled_option (codes "mode"))) None)
+      go : (b d f : Bool)
+          → arg_by_long rules n ≡ cond b (Some (filled_option (codes "workers"))) (cond d (Some (filled_option (codes "mode"))) (cond f (Some (filled_option (codes "from"))) None))
           → Turned (at rows pending waiting false) word
-          (cond b (option_named workers_value (λ v. with_workers v parts) v parts) (cond d (option_named mode_value (λ v. with_mode v parts) v parts) None))
-      go true d found = named_workers n v found is
-      go false true found = named_mode n v found is
-      go false false found = inl (unknown_fails rows pending waiting word apart n v is found)
+          (cond b (option_named workers_value (λ v. with_workers v parts) v parts)
+          (cond d (option_named mode_value (λ v. with_mode v parts) v parts)
+          (cond f (option_named from_value (λ v. with_from v parts) v parts) None)))
+      go true d f found = named_workers n v found is
+      go false true f found = named_mode n v found is
+      go false false true found = named_from n v found is
+      go false false false found = inl (unknown_fails rows pending waiting word apart n v is found)
 
 front_turn : (parts : WordParts) (w : Walk) → Resting false parts w → (word : Text) → Turned w word (split_front (form_of word) word parts)
 front_turn parts w so word = subst (λ (v : Walk). Turned v word (split_front (form_of word) word parts)) (sym so.is) (by_form (form_of word) (is_form word))
@@ -251,7 +297,7 @@ workers_turn parts w so word = subst (λ (v : Walk). Turned v word (split_value 
   where
     by_option : bytes_eq word (45 ∷ 45 ∷ []) ≡ false → long_of word ≡ None → IsPlainWord word → (o : Option Text) → parts.workers ≡ o
         → Turned (at so.rows (Some (codes "workers", [])) (option (codes "workers")) false) word
-        (cond (is_none o) (Some (front, record { workers = Some word; mode = parts.mode; positionals = parts.positionals })) None)
+        (cond (is_none o) (Some (front, record { workers = Some word; mode = parts.mode; from = parts.from; positionals = parts.positionals })) None)
     by_option apart none is None e = (
       value_fails so.rows (codes "workers") word refl refl apart none is,
       record {
@@ -285,7 +331,7 @@ mode_turn parts w so word = subst (λ (v : Walk). Turned v word (split_value (fo
   where
     by_option : bytes_eq word (45 ∷ 45 ∷ []) ≡ false → long_of word ≡ None → IsPlainWord word → (o : Option Text) → parts.mode ≡ o
         → Turned (at so.rows (Some (codes "mode", [])) (option (codes "mode")) false) word
-        (cond (is_none o) (Some (front, record { workers = parts.workers; mode = Some word; positionals = parts.positionals })) None)
+        (cond (is_none o) (Some (front, record { workers = parts.workers; mode = Some word; from = parts.from; positionals = parts.positionals })) None)
     by_option apart none is None e = (
       value_fails so.rows (codes "mode") word refl refl apart none is,
       record {
@@ -314,10 +360,45 @@ mode_turn parts w so word = subst (λ (v : Walk). Turned v word (split_value (fo
     by_form short is = inl (short_fails so.rows (Some (codes "mode", [])) (option (codes "mode")) word is.0 is.1 is.2 is.3 is.4 is.5)
     by_form plain is = by_option is.0 is.1 is.2 parts.mode refl
 
+from_turn : (parts : WordParts) (w : Walk) → Awaiting (codes "from") parts w → (word : Text) → Turned w word (split_value (form_of word) (with_from word parts))
+from_turn parts w so word = subst (λ (v : Walk). Turned v word (split_value (form_of word) (with_from word parts))) (sym so.is) (by_form (form_of word) (is_form word))
+  where
+    by_option : bytes_eq word (45 ∷ 45 ∷ []) ≡ false → long_of word ≡ None → IsPlainWord word → (o : Option Text) → parts.from ≡ o
+        → Turned (at so.rows (Some (codes "from", [])) (option (codes "from")) false) word
+        (cond (is_none o) (Some (front, record { workers = parts.workers; mode = parts.mode; from = Some word; positionals = parts.positionals })) None)
+    by_option apart none is None e = (
+      value_fails so.rows (codes "from") word refl refl apart none is,
+      record {
+        rows = so.rows;
+        pending = Some (codes "from", word ∷ []);
+        waiting = idle;
+        is = value_next so.rows (codes "from") word refl refl apart none is;
+        rest = refl;
+        quiet = pending_wrong_from so.rows word ∙ so.shows.has_from ∙ ap is_some e;
+        shows = shows_from _ _ word so.rows parts so.shows (ap is_some e);
+      },
+    )
+    by_option apart none is (Some x) e = inr (record {
+      rows = so.rows;
+      pending = Some (codes "from", word ∷ []);
+      waiting = idle;
+      trailing = false;
+      is = value_next so.rows (codes "from") word refl refl apart none is;
+      rest = refl;
+      wrong = pending_wrong_from so.rows word ∙ so.shows.has_from ∙ ap is_some e;
+    })
+
+    by_form : (form : Form) → IsForm word form → Turned (at so.rows (Some (codes "from", [])) (option (codes "from")) false) word (split_value form (with_from word parts))
+    by_form separator is = stays_unmet (codes "from") so.rows refl word is
+    by_form (long n v) is = inl (long_refused so.rows (Some (codes "from", [])) (option (codes "from")) word n v is.0 is.1 refl)
+    by_form short is = inl (short_fails so.rows (Some (codes "from", [])) (option (codes "from")) word is.0 is.1 is.2 is.3 is.4 is.5)
+    by_form plain is = by_option is.0 is.1 is.2 parts.from refl
+
 turn : (place : WordPlace) (parts : WordParts) (w : Walk) → Stands place parts w → (word : Text) → Turned w word (split_word place (form_of word) word parts)
 turn front parts w so word = front_turn parts w so word
 turn workers_value parts w so word = workers_turn parts w so word
 turn mode_value parts w so word = mode_turn parts w so word
+turn from_value parts w so word = from_turn parts w so word
 turn behind_dashes parts w so word = behind_turn parts w so word
 
 -- ---- all words
@@ -364,6 +445,7 @@ unfolding walk_fault
 same_end front parts w so = ap (λ (v : Walk). found_from v []) so.is ∙ ap₂ unless so.quiet so.shows.parts_are
 same_end workers_value parts w so = ap (λ (v : Walk). found_from v []) so.is
 same_end mode_value parts w so = ap (λ (v : Walk). found_from v []) so.is
+same_end from_value parts w so = ap (λ (v : Walk). found_from v []) so.is
 same_end behind_dashes parts w so = ap (λ (v : Walk). found_from v []) so.is ∙ ap₂ unless so.quiet so.shows.parts_are
 
 -- the walk finds the parts of the words as they are split

@@ -39,6 +39,7 @@ use Rattle.sparsegrid.specs.declared.session.Done.{Done}
 use Rattle.sparsegrid.specs.declared.last_line.LastLine.{LastLine}
 use Rattle.sparsegrid.specs.Lines.{run_last}
 use Rattle.sparsegrid.specs.Moves.{Move, ReadsFile, writing, names_in}
+use Rattle.sparsegrid.specs.Telling.{Telling}
 use Rattle.sparsegrid.specs.Meaning.{Meaning, Readings, moves_of, after_moves, refused_with, all_done, asking_for, before as before_text, after_task, task_and_more, meaning_of_tasks}
 use Rattle.sparsegrid.specs.Outcome.{Output, Outside, StaysWritten, Made, StandsForLast}
 use Rattle.sparsegrid.specs.steps.Along.{PutsText, PutsPart, Sends, line_text, ended_with, Follows, ReadMade, names_of, Agree, AreTold, load_reads, NoneFailed, Went, Came}
@@ -58,23 +59,23 @@ some_none : (o : Option (List ℕ)) → IsSome o → o ≡ None → ⊥
 some_none None has is = absurd (cc)
 some_none (Some name) has is = absurd (cc)
 
-module _ (compiled : CheckedProgram) (bindings : List Binding) where
-  after_ends : (state : FlatState) (file : Option (List ℕ)) (task : Task) (more : FlatState → Meaning) (answer : Result Left RunRefusal)
-      → ((next : FlatState) → EndsInLine (more next)) → EndsInLine (after_task compiled state file task more answer)
-  after_ends state file task more (Ok left) rest = rest left.state
-  after_ends state file task more (Err why) rest = refused_ends (Some state) (run_last compiled.names file task why)
+module _ (compiled : CheckedProgram) (bindings : List Binding) (telling : Telling) where
+  after_ends : (number : ℕ) (state : FlatState) (file : Option (List ℕ)) (task : Task) (more : FlatState → Meaning) (answer : Result Left RunRefusal)
+      → ((next : FlatState) → EndsInLine (more next)) → EndsInLine (after_task compiled telling number state file task more answer)
+  after_ends number state file task more (Ok left) rest = rest left.state
+  after_ends number state file task more (Err why) rest = refused_ends (Some state) (run_last compiled.names file task why)
 
-  pub tasks_end : (readings : Readings) (n : ℕ) (state : FlatState) (tasks : List Task) → EndsInLine (meaning_of_tasks compiled bindings readings n state tasks)
+  pub tasks_end : (readings : Readings) (number n : ℕ) (state : FlatState) (tasks : List Task) → EndsInLine (meaning_of_tasks compiled bindings telling readings number n state tasks)
   unfolding meaning_of_tasks
-  tasks_end readings n state [] = λ other. absurd (other refl)
-  tasks_end readings n state (task ∷ tasks) = by_file (file_of_task compiled.names bindings task) (λ after next. tasks_end readings after next tasks) where
+  tasks_end readings number n state [] = λ other. absurd (other refl)
+  tasks_end readings number n state (task ∷ tasks) = by_file (file_of_task compiled.names bindings task) (λ after next. tasks_end readings (suc number) after next tasks) where
     more : ℕ → FlatState → Meaning
-    more after next = meaning_of_tasks compiled bindings readings after next tasks
+    more after next = meaning_of_tasks compiled bindings telling readings (suc number) after next tasks
 
-    by_file : (file : Option (List ℕ)) → ((after : ℕ) (next : FlatState) → EndsInLine (more after next)) → EndsInLine (task_and_more compiled readings n state task more file)
-    by_file None rest = after_ends state None task (more n) (task_meaning compiled state task Missing) (rest n)
+    by_file : (file : Option (List ℕ)) → ((after : ℕ) (next : FlatState) → EndsInLine (more after next)) → EndsInLine (task_and_more compiled telling readings number n state task more file)
+    by_file None rest = after_ends number state None task (more n) (task_meaning compiled state task Missing) (rest n)
     by_file (Some name) rest =
-        after_ends state (Some name) task (more (suc n)) (task_meaning compiled state task (readings (suc n) name most_grid_bytes)) (rest (suc n))
+        after_ends number state (Some name) task (more (suc n)) (task_meaning compiled state task (readings (suc n) name most_grid_bytes)) (rest (suc n))
 
 -- the moves by which a task reads its file, where it has one
 abbrev load_moves : Option (List ℕ) → List Move
@@ -85,16 +86,17 @@ load_names : (file : Option (List ℕ)) (given : Reading) → names_in (load_mov
 load_names None given = refl
 load_names (Some name) given = refl
 
-module _ (compiled : CheckedProgram) (binds : List Bind) where
-  tasks_step : (readings : Readings) (n : ℕ) (state : FlatState) (task : Task) (tasks : List Task)
-      → meaning_of_tasks compiled (map binding_read binds) readings n state (task ∷ tasks)
-      ≡ task_and_more compiled readings n state task (λ after next. meaning_of_tasks compiled (map binding_read binds) readings after next tasks) (file_of_task compiled.names (map binding_read binds) task)
+module _ (compiled : CheckedProgram) (binds : List Bind) (telling : Telling) where
+  tasks_step : (readings : Readings) (number n : ℕ) (state : FlatState) (task : Task) (tasks : List Task)
+      → meaning_of_tasks compiled (map binding_read binds) telling readings number n state (task ∷ tasks)
+      ≡ task_and_more compiled telling readings number n state task (λ after next. meaning_of_tasks compiled (map binding_read binds) telling readings (suc number) after next tasks)
+      (file_of_task compiled.names (map binding_read binds) task)
   unfolding meaning_of_tasks
-  tasks_step readings n state task tasks = refl
+  tasks_step readings number n state task tasks = refl
 
-  tasks_none : (readings : Readings) (n : ℕ) (state : FlatState) → meaning_of_tasks compiled (map binding_read binds) readings n state [] ≡ all_done [] state
+  tasks_none : (readings : Readings) (number n : ℕ) (state : FlatState) → meaning_of_tasks compiled (map binding_read binds) telling readings number n state [] ≡ all_done (telling.ending state) state
   unfolding meaning_of_tasks
-  tasks_none readings n state = refl
+  tasks_none readings number n state = refl
 
   -- a task without a file means the same whatever was read
   given_same : (state : FlatState) (task : Task) (given : Reading) → HasFile compiled.names (map binding_read binds) task → file_of_task compiled.names (map binding_read binds) task ≡ None
@@ -108,16 +110,16 @@ module _ (compiled : CheckedProgram) (binds : List Bind) where
   given_same state (Clear layout) given has none = refl
 
   -- what a task and those after it mean, where its read gave this
-  one_task : (readings : Readings) (n : ℕ) (state : FlatState) (task : Task) (tasks : List Task) (given : Reading) → HasFile compiled.names (map binding_read binds) task
+  one_task : (readings : Readings) (number n : ℕ) (state : FlatState) (task : Task) (tasks : List Task) (given : Reading) → HasFile compiled.names (map binding_read binds) task
       → Agree readings n (load_reads (file_of_task compiled.names (map binding_read binds) task) given)
-      → meaning_of_tasks compiled (map binding_read binds) readings n state (task ∷ tasks)
+      → meaning_of_tasks compiled (map binding_read binds) telling readings number n state (task ∷ tasks)
       ≡ after_moves (load_moves (file_of_task compiled.names (map binding_read binds) task))
-      (after_task compiled state (file_of_task compiled.names (map binding_read binds) task) task
-      (λ next. meaning_of_tasks compiled (map binding_read binds) readings (length (load_reads (file_of_task compiled.names (map binding_read binds) task) given) + n) next tasks)
+      (after_task compiled telling number state (file_of_task compiled.names (map binding_read binds) task) task
+      (λ next. meaning_of_tasks compiled (map binding_read binds) telling readings (suc number) (length (load_reads (file_of_task compiled.names (map binding_read binds) task) given) + n) next tasks)
       (task_meaning compiled state task given))
-  one_task readings n state task tasks given has agree = tasks_step readings n state task tasks ∙ by_file (file_of_task compiled.names (map binding_read binds) task) refl agree where
+  one_task readings number n state task tasks given has agree = tasks_step readings number n state task tasks ∙ by_file (file_of_task compiled.names (map binding_read binds) task) refl agree where
     more : ℕ → FlatState → Meaning
-    more after next = meaning_of_tasks compiled (map binding_read binds) readings after next tasks
+    more after next = meaning_of_tasks compiled (map binding_read binds) telling readings (suc number) after next tasks
 
     none_more : n ≡ length (load_reads None given) + n
     none_more = omega arith
@@ -126,14 +128,14 @@ module _ (compiled : CheckedProgram) (binds : List Bind) where
     one_more_read name = omega arith
 
     by_file : (file : Option (List ℕ)) → file_of_task compiled.names (map binding_read binds) task ≡ file → Agree readings n (load_reads file given)
-        → task_and_more compiled readings n state task more file
-        ≡ after_moves (load_moves file) (after_task compiled state file task (more (length (load_reads file given) + n)) (task_meaning compiled state task given))
+        → task_and_more compiled telling readings number n state task more file
+        ≡ after_moves (load_moves file) (after_task compiled telling number state file task (more (length (load_reads file given) + n)) (task_meaning compiled state task given))
     by_file None none agrees =
-        ap (λ (a : Result Left RunRefusal). after_task compiled state None task (more n) a) (given_same state task given has none)
-        ∙ ap (λ (k : ℕ). after_task compiled state None task (more k) (task_meaning compiled state task given)) none_more
+        ap (λ (a : Result Left RunRefusal). after_task compiled telling number state None task (more n) a) (given_same state task given has none)
+        ∙ ap (λ (k : ℕ). after_task compiled telling number state None task (more k) (task_meaning compiled state task given)) none_more
     by_file (Some name) some agrees =
-        ap (λ (r : Reading). asking_for name (after_task compiled state (Some name) task (more (suc n)) (task_meaning compiled state task r))) agrees.0
-        ∙ ap (λ (k : ℕ). asking_for name (after_task compiled state (Some name) task (more k) (task_meaning compiled state task given))) (one_more_read name)
+        ap (λ (r : Reading). asking_for name (after_task compiled telling number state (Some name) task (more (suc n)) (task_meaning compiled state task r))) agrees.0
+        ∙ ap (λ (k : ℕ). asking_for name (after_task compiled telling number state (Some name) task (more k) (task_meaning compiled state task given))) (one_more_read name)
 
   regrouped : (one two : List Move) (m : Meaning) → after_moves one (after_moves two m) ≡ after_moves (one ++ two) m
   regrouped one two m = ap (λ (moves : List Move). let n : Meaning = record { moves = moves; line = m.line; status = m.status; last = m.last } in n) (sym (append_assoc one two m.moves))
@@ -255,7 +257,7 @@ pub record Stepped (compiled : CheckedProgram) (binds : List Bind) (state : Flat
   pub cause : StepCause result now.failed_reads next.failed_reads
   pub held : next.held ≡ now.held
 
-module _ (compiled : CheckedProgram) (binds : List Bind) where
+module _ (compiled : CheckedProgram) (binds : List Bind) (telling : Telling) (earlier : ℕ) where
   abbrev file : Task → Option (List ℕ)
   file task = file_of_task compiled.names (map binding_read binds) task
 
@@ -274,7 +276,7 @@ module _ (compiled : CheckedProgram) (binds : List Bind) where
 
   -- tasks before any of them was performed
   pub came_start : (start : FlatState) (tasks : List Task) (stores : List StoreWords) (now : Outside) → StandForState compiled.layouts stores start
-      → Came compiled (map binding_read binds) start tasks tasks stores now now
+      → Came compiled (map binding_read binds) telling earlier start tasks 0 tasks stores now now
   came_start start tasks stores now stand =
       record {
         made = [];
@@ -285,16 +287,19 @@ module _ (compiled : CheckedProgram) (binds : List Bind) where
         grew = made_none now now (stays_same now.output) refl refl;
         held = refl;
         none = record { no_fault = refl; told = λ h e. tt };
-        is = λ readings agree. refl;
+        is = λ readings agree. ap (λ (n : ℕ). after_moves [] (meaning_of_tasks compiled (map binding_read binds) telling readings 0 n start tasks)) none_made;
       }
+    where
+      none_made : earlier ≡ 0 + earlier
+      none_made = omega arith
 
   -- one more task was performed, and its text was written: `mid` is the outside between these
-  pub came_next : (start : FlatState) (tasks rest rest' : List Task) (task : Task) (stores stores' : List StoreWords) (text : Text) (before now mid next : Outside)
-      → rest ≡ task ∷ rest' → (came : Came compiled (map binding_read binds) start tasks rest stores before now)
+  pub came_next : (start : FlatState) (tasks : List Task) (number : ℕ) (rest rest' : List Task) (task : Task) (stores stores' : List StoreWords) (text : Text) (before now mid next : Outside)
+      → rest ≡ task ∷ rest' → (came : Came compiled (map binding_read binds) telling earlier start tasks number rest stores before now)
       → Stepped compiled binds came.state task stores' (Ok text) now mid → StaysWritten now.output mid.output
-      → PutsText mid.output next.output text.bytes → next.asked ≡ mid.asked → next.reads ≡ mid.reads → next.failed_reads ≡ mid.failed_reads → next.held ≡ mid.held
-      → Came compiled (map binding_read binds) start tasks rest' stores' before next
-  came_next start tasks rest rest' task stores stores' text before now mid next split came did stays sent asked reads faults held =
+      → PutsText mid.output next.output (telling.each number text.bytes) → next.asked ≡ mid.asked → next.reads ≡ mid.reads → next.failed_reads ≡ mid.failed_reads → next.held ≡ mid.held
+      → Came compiled (map binding_read binds) telling earlier start tasks (suc number) rest' stores' before next
+  came_next start tasks number rest rest' task stores stores' text before now mid next split came did stays sent asked reads faults held =
       record {
         made = came.made ++ more;
         did = came.did ++ moves;
@@ -303,9 +308,9 @@ module _ (compiled : CheckedProgram) (binds : List Bind) where
         names = names_append came.did moves ∙ ap (λ (xs : List (List ℕ)). xs ++ names_in moves) came.names ∙ ap (λ (xs : List (List ℕ)). names_of came.made ++ xs) names
             ∙ sym (names_twice came.made more);
         grew = made_twice came.did moves [] before now next came.grew
-            (made_twice (load_moves (file task)) (writing left.left.text) [] now mid next (step_made came.state task stores' (Ok text) now mid did stays)
-            (made_unread (writing left.left.text) [] mid next (unread left.left.text)
-            (grew_text left.left.text mid.output next.output (subst (λ (t : List ℕ). PutsText mid.output next.output t) left.text_is sent)) asked reads));
+            (made_twice (load_moves (file task)) (writing (telling.each number left.left.text)) [] now mid next (step_made came.state task stores' (Ok text) now mid did stays)
+            (made_unread (writing (telling.each number left.left.text)) [] mid next (unread (telling.each number left.left.text))
+            (grew_text (telling.each number left.left.text) mid.output next.output (subst (λ (t : List ℕ). PutsText mid.output next.output (telling.each number t)) left.text_is sent)) asked reads));
         held = held ∙ did.held ∙ came.held;
         none = record {
           no_fault = faults ∙ none.no_fault ∙ came.none.no_fault;
@@ -324,123 +329,108 @@ module _ (compiled : CheckedProgram) (binds : List Bind) where
       left = did.chosen.1
 
       moves : List Move
-      moves = load_moves (file task) ++ writing left.left.text
+      moves = load_moves (file task) ++ writing (telling.each number left.left.text)
 
       names : names_in moves ≡ names_of more
-      names = names_append (load_moves (file task)) (writing left.left.text) ∙ ap (λ (xs : List (List ℕ)). names_in (load_moves (file task)) ++ xs) (unread left.left.text)
+      names = names_append (load_moves (file task)) (writing (telling.each number left.left.text)) ∙ ap (λ (xs : List (List ℕ)). names_in (load_moves (file task)) ++ xs) (unread (telling.each number left.left.text))
           ∙ append-nil (names_in (load_moves (file task))) ∙ load_names (file task) given
 
       none : NoneFailed now mid more
       none = step_none came.state task stores' (Ok text) now mid (λ f e. absurd (cc)) did
 
-      count : length more + (length came.made + 1) ≡ length (came.made ++ more) + 1
+      count : length more + (length came.made + earlier) ≡ length (came.made ++ more) + earlier
       count = omega (arith, length-append came.made more)
 
-      is : (readings : Readings) → Agree readings 1 (came.made ++ more)
-          → meaning_of_tasks compiled (map binding_read binds) readings 1 start tasks
-          ≡ after_moves (came.did ++ moves) (meaning_of_tasks compiled (map binding_read binds) readings (length (came.made ++ more) + 1) left.left.state rest')
+      is : (readings : Readings) → Agree readings earlier (came.made ++ more)
+          → meaning_of_tasks compiled (map binding_read binds) telling readings 0 earlier start tasks
+          ≡ after_moves (came.did ++ moves) (meaning_of_tasks compiled (map binding_read binds) telling readings (suc number) (length (came.made ++ more) + earlier) left.left.state rest')
       is readings agree =
-          let two = agree_twice readings 1 (length came.made + 1) came.made more refl agree in
-          let then = meaning_of_tasks compiled (map binding_read binds) readings (length more + (length came.made + 1)) left.left.state rest' in
-          let step : meaning_of_tasks compiled (map binding_read binds) readings (length came.made + 1) came.state rest ≡ after_moves (load_moves (file task)) (before_text left.left.text then) =
-          ap (meaning_of_tasks compiled (map binding_read binds) readings (length came.made + 1) came.state) split
-          ∙ one_task compiled binds readings (length came.made + 1) came.state task rest' given did.has two.1
-          ∙ ap (λ (a : Result Left RunRefusal). after_moves (load_moves (file task)) (after_task compiled came.state (file task) task (λ following. meaning_of_tasks compiled (map binding_read binds) readings (length more + (length came.made + 1)) following rest') a)) left.is in
+          let two = agree_twice readings earlier (length came.made + earlier) came.made more refl agree in
+          let then = meaning_of_tasks compiled (map binding_read binds) telling readings (suc number) (length more + (length came.made + earlier)) left.left.state rest' in
+          let step : meaning_of_tasks compiled (map binding_read binds) telling readings number (length came.made + earlier) came.state rest ≡ after_moves (load_moves (file task)) (before_text (telling.each number left.left.text) then) =
+          ap (meaning_of_tasks compiled (map binding_read binds) telling readings number (length came.made + earlier) came.state) split
+          ∙ one_task compiled binds telling readings number (length came.made + earlier) came.state task rest' given did.has two.1
+          ∙ ap (λ (a : Result Left RunRefusal). after_moves (load_moves (file task)) (after_task compiled telling number came.state (file task) task (λ following. meaning_of_tasks compiled (map binding_read binds) telling readings (suc number) (length more + (length came.made + earlier)) following rest') a)) left.is in
           came.is readings two.0
-          ∙ ap (λ (m : Meaning). after_moves came.did m) (step ∙ regrouped compiled binds (load_moves (file task)) (writing left.left.text) then)
-          ∙ regrouped compiled binds came.did moves then
-          ∙ ap (λ (n : ℕ). after_moves (came.did ++ moves) (meaning_of_tasks compiled (map binding_read binds) readings n left.left.state rest')) count
+          ∙ ap (λ (m : Meaning). after_moves came.did m) (step ∙ regrouped compiled binds telling (load_moves (file task)) (writing (telling.each number left.left.text)) then)
+          ∙ regrouped compiled binds telling came.did moves then
+          ∙ ap (λ (n : ℕ). after_moves (came.did ++ moves) (meaning_of_tasks compiled (map binding_read binds) telling readings (suc number) n left.left.state rest')) count
 
   -- the rest of the tasks went, so all did
-  pub came_went : (start : FlatState) (tasks rest : List Task) (stores : List StoreWords) (before now after : Outside) (result : Result Done (Stop PutFailed))
-      → (came : Came compiled (map binding_read binds) start tasks rest stores before now)
-      → Went (λ readings. meaning_of_tasks compiled (map binding_read binds) readings (length came.made + 1) came.state rest) (length came.made + 1) now after result
-      → Went (λ readings. meaning_of_tasks compiled (map binding_read binds) readings 1 start tasks) 1 before after result
-  came_went start tasks rest stores before now after result came went =
-      compose _ _ 1 (length came.made + 1) came.made came.did before now after result refl came.is came.names came.grew came.held came.none went
-
-  -- no task is left
-  pub went_all : (start : FlatState) (tasks rest : List Task) (before now : Outside) (session : SessionParts) → rest ≡ [] → Compiles compiled session.compiled
-      → Came compiled (map binding_read binds) start tasks rest session.stores before now
-      → Went (λ readings. meaning_of_tasks compiled (map binding_read binds) readings 1 start tasks) 1 before now (ended_with session (Ok 0))
-  went_all start tasks rest before now session none same came =
-      came_went start tasks rest session.stores before now now (ended_with session (Ok 0)) came
-      (went_still _ (length came.made + 1) now now (ended_with session (Ok 0)) [] [] refl (grew_none now.output now.output (stays_same now.output))
-      (λ readings. subst (λ (m : Meaning). Follows m [] [] (ended_with session (Ok 0))) (sym (is readings)) follows) refl refl refl (λ e. absurd (omega arith)))
-    where
-      is : (readings : Readings) → meaning_of_tasks compiled (map binding_read binds) readings (length came.made + 1) came.state rest ≡ all_done [] came.state
-      is readings = ap (meaning_of_tasks compiled (map binding_read binds) readings (length came.made + 1) came.state) none ∙ tasks_none compiled binds readings (length came.made + 1) came.state
-
-      follows : Follows (all_done [] came.state) [] [] (ended_with session (Ok 0))
-      follows = (record { all = refl; status = refl; last = subst (λ (ls : List Shape). StandForState ls session.stores came.state) (sym same.layouts) came.stand }, refl)
+  pub came_went : (start : FlatState) (tasks : List Task) (number : ℕ) (rest : List Task) (stores : List StoreWords) (before now after : Outside) (result : Result Done (Stop PutFailed))
+      → (came : Came compiled (map binding_read binds) telling earlier start tasks number rest stores before now)
+      → Went (λ readings. meaning_of_tasks compiled (map binding_read binds) telling readings number (length came.made + earlier) came.state rest) (length came.made + earlier) now after result
+      → Went (λ readings. meaning_of_tasks compiled (map binding_read binds) telling readings 0 earlier start tasks) earlier before after result
+  came_went start tasks number rest stores before now after result came went =
+      compose _ _ earlier (length came.made + earlier) came.made came.did before now after result refl came.is came.names came.grew came.held came.none went
 
   -- ---- if a task cuts the run short, or ends it
 
   -- what stands after a task that read what was given
-  abbrev behind : (state : FlatState) (task : Task) (rest : List Task) (given : Reading) (n : ℕ) → Readings → Meaning
-  behind state task rest given n readings =
-      after_task compiled state (file task) task (λ next. meaning_of_tasks compiled (map binding_read binds) readings (length (load_reads (file task) given) + n) next rest) (task_meaning compiled state task given)
+  abbrev behind : (number : ℕ) (state : FlatState) (task : Task) (rest : List Task) (given : Reading) (n : ℕ) → Readings → Meaning
+  behind number state task rest given n readings =
+      after_task compiled telling number state (file task) task (λ next. meaning_of_tasks compiled (map binding_read binds) telling readings (suc number) (length (load_reads (file task) given) + n) next rest) (task_meaning compiled state task given)
 
   -- what stands after a task goes on after its reads
-  went_behind : (n : ℕ) (state : FlatState) (task : Task) (rest rest' : List Task) (stores : List StoreWords) (answer : Result Text (Stop RunRefusal)) (now mid after : Outside) (result : Result Done (Stop PutFailed))
+  went_behind : (number n : ℕ) (state : FlatState) (task : Task) (rest rest' : List Task) (stores : List StoreWords) (answer : Result Text (Stop RunRefusal)) (now mid after : Outside) (result : Result Done (Stop PutFailed))
       → rest ≡ task ∷ rest' → IsNoRead answer → (did : Stepped compiled binds state task stores answer now mid) → StaysWritten now.output mid.output
-      → Went (behind state task rest' did.chosen.0 n) (length (load_reads (file task) did.chosen.0) + n) mid after result
-      → Went (λ readings. meaning_of_tasks compiled (map binding_read binds) readings n state rest) n now after result
-  went_behind n state task rest rest' stores answer now mid after result split no_read did stays went =
-      compose _ (behind state task rest' did.chosen.0 n) n (length (load_reads (file task) did.chosen.0) + n) (load_reads (file task) did.chosen.0) (load_moves (file task)) now mid after result refl
-      (λ readings agree. ap (meaning_of_tasks compiled (map binding_read binds) readings n state) split ∙ one_task compiled binds readings n state task rest' did.chosen.0 did.has agree)
+      → Went (behind number state task rest' did.chosen.0 n) (length (load_reads (file task) did.chosen.0) + n) mid after result
+      → Went (λ readings. meaning_of_tasks compiled (map binding_read binds) telling readings number n state rest) n now after result
+  went_behind number n state task rest rest' stores answer now mid after result split no_read did stays went =
+      compose _ (behind number state task rest' did.chosen.0 n) n (length (load_reads (file task) did.chosen.0) + n) (load_reads (file task) did.chosen.0) (load_moves (file task)) now mid after result refl
+      (λ readings agree. ap (meaning_of_tasks compiled (map binding_read binds) telling readings number n state) split ∙ one_task compiled binds telling readings number n state task rest' did.chosen.0 did.has agree)
       (load_names (file task) did.chosen.0) (step_made state task stores answer now mid did stays)
       did.held (step_none state task stores answer now mid no_read did) went
 
-  behind_ends : (state : FlatState) (task : Task) (rest : List Task) (given : Reading) (n : ℕ) (readings : Readings) → EndsInLine (behind state task rest given n readings)
-  behind_ends state task rest given n readings =
-      after_ends compiled (map binding_read binds) state (file task) task (λ next. meaning_of_tasks compiled (map binding_read binds) readings (length (load_reads (file task) given) + n) next rest) (task_meaning compiled state task given)
-      (λ next. tasks_end compiled (map binding_read binds) readings (length (load_reads (file task) given) + n) next rest)
+  behind_ends : (number : ℕ) (state : FlatState) (task : Task) (rest : List Task) (given : Reading) (n : ℕ) (readings : Readings) → EndsInLine (behind number state task rest given n readings)
+  behind_ends number state task rest given n readings =
+      after_ends compiled (map binding_read binds) telling number state (file task) task (λ next. meaning_of_tasks compiled (map binding_read binds) telling readings (suc number) (length (load_reads (file task) given) + n) next rest) (task_meaning compiled state task given)
+      (λ next. tasks_end compiled (map binding_read binds) telling readings (suc number) (length (load_reads (file task) given) + n) next rest)
 
   -- the put of the task's text failed, or there was no memory for it
-  pub cut_in_send : (start : FlatState) (tasks rest rest' : List Task) (task : Task) (stores stores' : List StoreWords) (text : Text) (before now mid after : Outside) (why : Stop PutFailed)
-      → rest ≡ task ∷ rest' → (came : Came compiled (map binding_read binds) start tasks rest stores before now)
+  pub cut_in_send : (start : FlatState) (tasks : List Task) (number : ℕ) (rest rest' : List Task) (task : Task) (stores stores' : List StoreWords) (text : Text) (before now mid after : Outside) (why : Stop PutFailed)
+      → rest ≡ task ∷ rest' → (came : Came compiled (map binding_read binds) telling earlier start tasks number rest stores before now)
       → Stepped compiled binds came.state task stores' (Ok text) now mid → StaysWritten now.output mid.output
-      → Sends {A = Unit} (Err why) mid.output after.output text.bytes → after.asked ≡ mid.asked → after.reads ≡ mid.reads → after.failed_reads ≡ mid.failed_reads
-      → Went (λ readings. meaning_of_tasks compiled (map binding_read binds) readings 1 start tasks) 1 before after (Err why)
-  cut_in_send start tasks rest rest' task stores stores' text before now mid after why split came did stays sent asked reads faults =
-      came_went start tasks rest stores before now after (Err why) came
-      (went_behind (length came.made + 1) came.state task rest rest' stores' (Ok text) now mid after (Err why) split (λ f e. absurd (cc)) did stays (went why sent))
+      → Sends {A = Unit} (Err why) mid.output after.output (telling.each number text.bytes) → after.asked ≡ mid.asked → after.reads ≡ mid.reads → after.failed_reads ≡ mid.failed_reads
+      → Went (λ readings. meaning_of_tasks compiled (map binding_read binds) telling readings 0 earlier start tasks) earlier before after (Err why)
+  cut_in_send start tasks number rest rest' task stores stores' text before now mid after why split came did stays sent asked reads faults =
+      came_went start tasks number rest stores before now after (Err why) came
+      (went_behind number (length came.made + earlier) came.state task rest rest' stores' (Ok text) now mid after (Err why) split (λ f e. absurd (cc)) did stays (went why sent))
     where
       left : LeavesMeaning compiled.layouts stores' text.bytes (task_meaning compiled came.state task did.chosen.0)
       left = did.chosen.1
 
       n : ℕ
-      n = length came.made + 1
+      n = length came.made + earlier
 
       k : ℕ
       k = length (load_reads (file task) did.chosen.0) + n
 
       then : Readings → Meaning
-      then readings = meaning_of_tasks compiled (map binding_read binds) readings k left.left.state rest'
+      then readings = meaning_of_tasks compiled (map binding_read binds) telling readings (suc number) k left.left.state rest'
 
-      is : (readings : Readings) → behind came.state task rest' did.chosen.0 n readings ≡ before_text left.left.text (then readings)
-      is readings = ap (λ (a : Result Left RunRefusal). after_task compiled came.state (file task) task (λ next. meaning_of_tasks compiled (map binding_read binds) readings k next rest') a) left.is
+      is : (readings : Readings) → behind number came.state task rest' did.chosen.0 n readings ≡ before_text (telling.each number left.left.text) (then readings)
+      is readings = ap (λ (a : Result Left RunRefusal). after_task compiled telling number came.state (file task) task (λ next. meaning_of_tasks compiled (map binding_read binds) telling readings (suc number) k next rest') a) left.is
 
-      went : (w : Stop PutFailed) → Sends {A = Unit} (Err w) mid.output after.output text.bytes → Went (behind came.state task rest' did.chosen.0 n) k mid after (Err w)
-      went stop.Memory nothing = went_memory (behind came.state task rest' did.chosen.0 n) k mid after (behind_ends came.state task rest' did.chosen.0 n) nothing asked reads faults
+      went : (w : Stop PutFailed) → Sends {A = Unit} (Err w) mid.output after.output (telling.each number text.bytes) → Went (behind number came.state task rest' did.chosen.0 n) k mid after (Err w)
+      went stop.Memory nothing = went_memory (behind number came.state task rest' did.chosen.0 n) k mid after (behind_ends number came.state task rest' did.chosen.0 n) nothing asked reads faults
       went (stop.Refused failed) part =
-          went_still (behind came.state task rest' did.chosen.0 n) k mid after (Err (stop.Refused failed)) [] part.part refl (grew_part text.bytes mid.output after.output part)
-          (λ readings. at_text (behind came.state task rest' did.chosen.0 n readings) text.bytes (moves_of (then readings)) mid.output after.output part
-          (ap (λ (m : Meaning). moves_of m) (is readings) ∙ append_assoc (writing left.left.text) (then readings).moves (writing (then readings).line)
-          ∙ ap (λ (t : List ℕ). writing t ++ moves_of (then readings)) (sym left.text_is)))
+          went_still (behind number came.state task rest' did.chosen.0 n) k mid after (Err (stop.Refused failed)) [] part.part refl (grew_part (telling.each number text.bytes) mid.output after.output part)
+          (λ readings. at_text (behind number came.state task rest' did.chosen.0 n readings) (telling.each number text.bytes) (moves_of (then readings)) mid.output after.output part
+          (ap (λ (m : Meaning). moves_of m) (is readings) ∙ append_assoc (writing (telling.each number left.left.text)) (then readings).moves (writing (then readings).line)
+          ∙ ap (λ (t : List ℕ). writing (telling.each number t) ++ moves_of (then readings)) (sym left.text_is)))
           asked reads faults tt
 
   -- there was no memory for the task
-  pub cut_in_step : (start : FlatState) (tasks rest rest' : List Task) (task : Task) (stores stores' : List StoreWords) (before now after : Outside)
-      → rest ≡ task ∷ rest' → (came : Came compiled (map binding_read binds) start tasks rest stores before now)
+  pub cut_in_step : (start : FlatState) (tasks : List Task) (number : ℕ) (rest rest' : List Task) (task : Task) (stores stores' : List StoreWords) (before now after : Outside)
+      → rest ≡ task ∷ rest' → (came : Came compiled (map binding_read binds) telling earlier start tasks number rest stores before now)
       → Stepped compiled binds came.state task stores' (Err stop.Memory) now after → StaysWritten now.output after.output
-      → Went (λ readings. meaning_of_tasks compiled (map binding_read binds) readings 1 start tasks) 1 before after (Err stop.Memory)
-  cut_in_step start tasks rest rest' task stores stores' before now after split came did stays =
-      came_went start tasks rest stores before now after (Err stop.Memory) came
-      (went_behind (length came.made + 1) came.state task rest rest' stores' (Err stop.Memory) now after after (Err stop.Memory) split (λ f e. absurd (cc)) did stays
-      (went_memory (behind came.state task rest' did.chosen.0 (length came.made + 1)) (length (load_reads (file task) did.chosen.0) + (length came.made + 1)) after after
-      (behind_ends came.state task rest' did.chosen.0 (length came.made + 1)) (stays_same after.output) refl refl refl))
+      → Went (λ readings. meaning_of_tasks compiled (map binding_read binds) telling readings 0 earlier start tasks) earlier before after (Err stop.Memory)
+  cut_in_step start tasks number rest rest' task stores stores' before now after split came did stays =
+      came_went start tasks number rest stores before now after (Err stop.Memory) came
+      (went_behind number (length came.made + earlier) came.state task rest rest' stores' (Err stop.Memory) now after after (Err stop.Memory) split (λ f e. absurd (cc)) did stays
+      (went_memory (behind number came.state task rest' did.chosen.0 (length came.made + earlier)) (length (load_reads (file task) did.chosen.0) + (length came.made + earlier)) after after
+      (behind_ends number came.state task rest' did.chosen.0 (length came.made + earlier)) (stays_same after.output) refl refl refl))
 
   sent_line : (session : SessionParts) (answer : Result ℕ (Stop PutFailed)) (old new : Output) (text : List ℕ) → Sends answer old new text → Sends (ended_with session answer) old new text
   sent_line session (Ok status) old new text sent = sent
@@ -468,19 +458,42 @@ module _ (compiled : CheckedProgram) (binds : List Bind) where
   other_status session (Ok status) line is other = λ two. other (sym is ∙ two)
   other_status session (Err why) line is other = tt
 
+  -- no task is left, and what is written then was put
+  pub went_all : (start : FlatState) (tasks : List Task) (number : ℕ) (rest : List Task) (before now after : Outside) (session : SessionParts) (answer : Result ℕ (Stop PutFailed)) → rest ≡ []
+      → Compiles compiled session.compiled → (came : Came compiled (map binding_read binds) telling earlier start tasks number rest session.stores before now)
+      → Sends answer now.output after.output (telling.ending came.state) → IfOk answer (λ status. status ≡ 0) → after.asked ≡ now.asked → after.reads ≡ now.reads → after.failed_reads ≡ now.failed_reads
+      → Went (λ readings. meaning_of_tasks compiled (map binding_read binds) telling readings 0 earlier start tasks) earlier before after (ended_with session answer)
+  went_all start tasks number rest before now after session answer none same came sent status asked reads faults =
+      came_went start tasks number rest session.stores before now after (ended_with session answer) came
+      (went_still _ (length came.made + earlier) now after (ended_with session answer) gone.did gone.part gone.unread gone.grew
+      (λ readings. subst (λ (m : Meaning). Follows m gone.did gone.part (ended_with session answer)) (sym (is readings)) gone.follows)
+      asked reads faults (other_status session answer 0 status (λ e. absurd (omega arith))))
+    where
+      text : List ℕ
+      text = telling.ending came.state
+
+      is : (readings : Readings) → meaning_of_tasks compiled (map binding_read binds) telling readings number (length came.made + earlier) came.state rest ≡ all_done text came.state
+      is readings =
+          ap (meaning_of_tasks compiled (map binding_read binds) telling readings number (length came.made + earlier) came.state) none
+          ∙ tasks_none compiled binds telling readings number (length came.made + earlier) came.state
+
+      gone : Gone (all_done text came.state) now.output after.output (ended_with session answer)
+      gone = gone_text (all_done text came.state) text now.output after.output (ended_with session answer) (append-nil (writing text)) (λ wrong. absurd (wrong refl))
+          (sent_line session answer now.output after.output text sent) (same_status session answer 0 status) (same_last came.state session answer same came.stand)
+
   -- the task was refused, and its line written
-  pub ended_in_task : (start : FlatState) (tasks rest rest' : List Task) (task : Task) (stores : List StoreWords) (session : SessionParts) (before now mid after : Outside) (why : RunRefusal) (answer : Result ℕ (Stop PutFailed))
-      → rest ≡ task ∷ rest' → Compiles compiled session.compiled → (came : Came compiled (map binding_read binds) start tasks rest stores before now)
+  pub ended_in_task : (start : FlatState) (tasks : List Task) (number : ℕ) (rest rest' : List Task) (task : Task) (stores : List StoreWords) (session : SessionParts) (before now mid after : Outside) (why : RunRefusal) (answer : Result ℕ (Stop PutFailed))
+      → rest ≡ task ∷ rest' → Compiles compiled session.compiled → (came : Came compiled (map binding_read binds) telling earlier start tasks number rest stores before now)
       → Stepped compiled binds came.state task session.stores (Err (stop.Refused why)) now mid → session.stores ≡ stores → StaysWritten now.output mid.output
       → Sends answer mid.output after.output (line_text (run_last compiled.names (file_of_task compiled.names (map binding_read binds) task) task why))
       → IfOk answer (λ status. status ≡ (run_last compiled.names (file_of_task compiled.names (map binding_read binds) task) task why).status)
       → after.asked ≡ mid.asked → after.reads ≡ mid.reads → after.failed_reads ≡ mid.failed_reads
-      → Went (λ readings. meaning_of_tasks compiled (map binding_read binds) readings 1 start tasks) 1 before after (ended_with session answer)
-  ended_in_task start tasks rest rest' task stores session before now mid after why answer split same came did stay stays sent status asked reads faults =
-      came_went start tasks rest stores before now after (ended_with session answer) came (by_read (is_read why) refl)
+      → Went (λ readings. meaning_of_tasks compiled (map binding_read binds) telling readings 0 earlier start tasks) earlier before after (ended_with session answer)
+  ended_in_task start tasks number rest rest' task stores session before now mid after why answer split same came did stay stays sent status asked reads faults =
+      came_went start tasks number rest stores before now after (ended_with session answer) came (by_read (is_read why) refl)
     where
       n : ℕ
-      n = length came.made + 1
+      n = length came.made + earlier
 
       last : LastLine
       last = run_last compiled.names (file task) task why
@@ -491,18 +504,18 @@ module _ (compiled : CheckedProgram) (binds : List Bind) where
       gone : Gone (refused_with (Some came.state) last) mid.output after.output (ended_with session answer)
       gone = gone_line came.state last mid.output after.output session answer sent status same stand
 
-      by_read : (test : Bool) → is_read why ≡ test → Went (λ readings. meaning_of_tasks compiled (map binding_read binds) readings n came.state rest) n now after (ended_with session answer)
+      by_read : (test : Bool) → is_read why ≡ test → Went (λ readings. meaning_of_tasks compiled (map binding_read binds) telling readings number n came.state rest) n now after (ended_with session answer)
       by_read false no_read =
-          went_behind n came.state task rest rest' session.stores (Err (stop.Refused why)) now mid after (ended_with session answer) split (no_read_refusal why no_read) did stays
-          (went_still (behind came.state task rest' did.chosen.0 n) (length (load_reads (file task) did.chosen.0) + n) mid after (ended_with session answer) gone.did gone.part gone.unread gone.grew
+          went_behind number n came.state task rest rest' session.stores (Err (stop.Refused why)) now mid after (ended_with session answer) split (no_read_refusal why no_read) did stays
+          (went_still (behind number came.state task rest' did.chosen.0 n) (length (load_reads (file task) did.chosen.0) + n) mid after (ended_with session answer) gone.did gone.part gone.unread gone.grew
           (λ readings. subst (λ (m : Meaning). Follows m gone.did gone.part (ended_with session answer)) (sym (is readings)) gone.follows)
           asked reads faults (other_status session answer last.status status (no_read_status compiled.names (file task) task why no_read)))
         where
-          is : (readings : Readings) → behind came.state task rest' did.chosen.0 n readings ≡ refused_with (Some came.state) last
+          is : (readings : Readings) → behind number came.state task rest' did.chosen.0 n readings ≡ refused_with (Some came.state) last
           is readings =
-              ap (λ (a : Result Left RunRefusal). after_task compiled came.state (file task) task (λ next. meaning_of_tasks compiled (map binding_read binds) readings (length (load_reads (file task) did.chosen.0) + n) next rest') a) did.chosen.1
+              ap (λ (a : Result Left RunRefusal). after_task compiled telling number came.state (file task) task (λ next. meaning_of_tasks compiled (map binding_read binds) telling readings (suc number) (length (load_reads (file task) did.chosen.0) + n) next rest') a) did.chosen.1
       by_read true read = by_why why refl read where
-        by_why : (w : RunRefusal) → why ≡ w → is_read w ≡ true → Went (λ readings. meaning_of_tasks compiled (map binding_read binds) readings n came.state rest) n now after (ended_with session answer)
+        by_why : (w : RunRefusal) → why ≡ w → is_read w ≡ true → Went (λ readings. meaning_of_tasks compiled (map binding_read binds) telling readings number n came.state rest) n now after (ended_with session answer)
         by_why (refusal.Read field) is_it sure = by_file (file task) refl where
           means : task_meaning compiled came.state task did.chosen.0 ≡ Err (refusal.Read field)
           means = did.chosen.1 ∙ ap (λ (w : RunRefusal). let r : Result Left RunRefusal = Err w in r) is_it
@@ -510,7 +523,7 @@ module _ (compiled : CheckedProgram) (binds : List Bind) where
           missing : did.chosen.0 ≡ Missing
           missing = read_refused compiled came.state task did.chosen.0 field means
 
-          by_file : (f : Option (List ℕ)) → file task ≡ f → Went (λ readings. meaning_of_tasks compiled (map binding_read binds) readings n came.state rest) n now after (ended_with session answer)
+          by_file : (f : Option (List ℕ)) → file task ≡ f → Went (λ readings. meaning_of_tasks compiled (map binding_read binds) telling readings number n came.state rest) n now after (ended_with session answer)
           by_file None none = absurd (no_load task did.has none means) where
             no_load : (t : Task) → HasFile compiled.names (map binding_read binds) t → file t ≡ None → task_meaning compiled came.state t did.chosen.0 ≡ Err (refusal.Read field) → ⊥
             no_load (Load at) has nothing e = some_none (file_of_task compiled.names (map binding_read binds) (Load at)) has nothing
@@ -524,20 +537,20 @@ module _ (compiled : CheckedProgram) (binds : List Bind) where
             no_load (Prune layout) has nothing e = absurd (cc)
             no_load (Clear layout) has nothing e = absurd (cc)
           by_file (Some name) some =
-              went_failed (λ readings. meaning_of_tasks compiled (map binding_read binds) readings n came.state rest) (refused_with (Some came.state) last) n name most_grid_bytes now after (ended_with session answer)
+              went_failed (λ readings. meaning_of_tasks compiled (map binding_read binds) telling readings number n came.state rest) (refused_with (Some came.state) last) n name most_grid_bytes now after (ended_with session answer)
               is (gone_before (refused_with (Some came.state) last) now.output mid.output after.output (ended_with session answer) stays gone)
               (asked ∙ did.asked ∙ ap (λ (f : Option (List ℕ)). asked_after f now.asked) some)
               (reads ∙ did.reads ∙ ap (λ (f : Option (List ℕ)). reads_after f now.reads) some)
               (subst (λ (c : ℕ). Rose now.failed_reads c) (sym faults) (subst (λ (w : RunRefusal). StepCause (Err (stop.Refused w)) now.failed_reads mid.failed_reads) is_it did.cause))
               (same_status session answer 2 (subst (λ (w : RunRefusal). IfOk answer (λ s. s ≡ (run_last compiled.names (file task) task w).status)) is_it status))
             where
-              is : (readings : Readings) → readings (suc n) name most_grid_bytes ≡ Missing → meaning_of_tasks compiled (map binding_read binds) readings n came.state rest ≡ asking_for name (refused_with (Some came.state) last)
+              is : (readings : Readings) → readings (suc n) name most_grid_bytes ≡ Missing → meaning_of_tasks compiled (map binding_read binds) telling readings number n came.state rest ≡ asking_for name (refused_with (Some came.state) last)
               is readings failed =
-                  ap (meaning_of_tasks compiled (map binding_read binds) readings n came.state) split
-                  ∙ tasks_step compiled binds readings n came.state task rest'
-                  ∙ ap (λ (f : Option (List ℕ)). task_and_more compiled readings n came.state task (λ following next. meaning_of_tasks compiled (map binding_read binds) readings following next rest') f) some
-                  ∙ ap (λ (r : Reading). asking_for name (after_task compiled came.state (Some name) task (λ next. meaning_of_tasks compiled (map binding_read binds) readings (suc n) next rest') (task_meaning compiled came.state task r))) (failed ∙ sym missing)
-                  ∙ ap (λ (a : Result Left RunRefusal). asking_for name (after_task compiled came.state (Some name) task (λ next. meaning_of_tasks compiled (map binding_read binds) readings (suc n) next rest') a)) did.chosen.1
+                  ap (meaning_of_tasks compiled (map binding_read binds) telling readings number n came.state) split
+                  ∙ tasks_step compiled binds telling readings number n came.state task rest'
+                  ∙ ap (λ (f : Option (List ℕ)). task_and_more compiled telling readings number n came.state task (λ following next. meaning_of_tasks compiled (map binding_read binds) telling readings (suc number) following next rest') f) some
+                  ∙ ap (λ (r : Reading). asking_for name (after_task compiled telling number came.state (Some name) task (λ next. meaning_of_tasks compiled (map binding_read binds) telling readings (suc number) (suc n) next rest') (task_meaning compiled came.state task r))) (failed ∙ sym missing)
+                  ∙ ap (λ (a : Result Left RunRefusal). asking_for name (after_task compiled telling number came.state (Some name) task (λ next. meaning_of_tasks compiled (map binding_read binds) telling readings (suc number) (suc n) next rest') a)) did.chosen.1
                   ∙ ap (λ (f : Option (List ℕ)). asking_for name (refused_with (Some came.state) (run_last compiled.names f task why))) (sym some)
         by_why (refusal.GridBytes field) is_it sure = absurd (cc)
         by_why (refusal.GridRows field) is_it sure = absurd (cc)

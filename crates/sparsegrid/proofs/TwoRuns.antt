@@ -28,6 +28,8 @@ use Rattle.sg_session.specs.Commands.{Left, row_write, bounds_or_none, grid_refu
 use Rattle.sg_session.specs.Independence.{LayoutsDontMatter, left_by}
 use Rattle.sparsegrid.specs.declared.words.Mode.{Mode}
 use Rattle.sparsegrid.specs.declared.words.Mode.TheVariants as mode
+use Rattle.sparsegrid.specs.declared.showing.Showing.TheVariants.{Texts}
+use Rattle.sparsegrid.specs.Telling.{telling_of}
 use Rattle.sparsegrid.specs.Moves.{pieces_in}
 use Rattle.sparsegrid.specs.Words.{Asked, doing, is_gen, good_words}
 use Rattle.sparsegrid.specs.Meaning.{Meaning, moves_of, text_meant, asking_for, readings_in, meaning_of_run, meaning_in, meaning_of_compiled, meaning_of_source, meaning_of_file, meaning_of_generated, meaning_of_asked, meaning_of_words, meaning}
@@ -113,15 +115,16 @@ module _ (law : ParsedIsSpelled) (program : CheckedProgram) (bindings : List Bin
 
 -- the meaning of the run of the program of the named file
 module _ (words : List (List ℕ)) (held : Held) (asked : Asked) (file : List ℕ) (program : CheckedProgram)
-    (words_are : good_words words ≡ Some asked) (runs : asked.mode ≡ mode.Run) (has : get held asked.file ≡ Some file) (checked : compiled_program file ≡ Ok program) where
+    (words_are : good_words words ≡ Some asked) (runs : asked.mode ≡ mode.Run) (bare : asked.from ≡ None) (has : get held asked.file ≡ Some file) (checked : compiled_program file ≡ Ok program) where
   abbrev in_run : Meaning
-  in_run = meaning_of_run program asked.bindings (readings_in held None) (unfolded_tasks program.commands)
+  in_run = meaning_of_run program (telling_of program.names program.layouts Texts) None asked.bindings (readings_in held None) (unfolded_tasks program.commands)
 
   of_source : (fits : Bool) → (meaning_of_source asked (readings_in held None) (if fits then Bytes file else TooMany)).status ≡ 0
       → meaning_of_source asked (readings_in held None) (if fits then Bytes file else TooMany) ≡ in_run
   of_source false status = absurd (cc)
   of_source true status =
-      ap (meaning_of_compiled asked (readings_in held None) file) checked ∙ ap (λ (m : Mode). meaning_in (doing m) program asked.bindings (readings_in held None)) runs
+      ap (meaning_of_compiled asked (readings_in held None) file) checked ∙ ap (λ (m : Mode). meaning_in (doing m) program asked.from asked.bindings (readings_in held None)) runs
+      ∙ ap (λ (from : Option (List ℕ)). meaning_in (doing mode.Run) program from asked.bindings (readings_in held None)) bare
 
   run_meant : (meaning words held None).status ≡ 0 → meaning words held None ≡ asking_for asked.file in_run
   run_meant status =
@@ -143,8 +146,8 @@ module _ (words : List (List ℕ)) (held : Held) (asked : Asked) (file : List �
 
 pub layouts_dont_matter_to_runs : ParsedIsSpelled → MeaningIsOfCommands → LayoutsDontMatter → LayoutsDontMatterToRuns
 layouts_dont_matter_to_runs parsed commands layouts words held held' asked first second differ status status' =
-    let one = run_left words held asked differ.file first differ.words_are differ.runs differ.file_is differ.alike.first_is commands status in
-    let other = run_left words held' asked differ.file' second differ.words_are differ.runs differ.file_is' differ.alike.second_is commands status' in
+    let one = run_left words held asked differ.file first differ.words_are differ.runs differ.opened differ.file_is differ.alike.first_is commands status in
+    let other = run_left words held' asked differ.file' second differ.words_are differ.runs differ.opened differ.file_is' differ.alike.second_is commands status' in
     let same = tasks_same differ.file differ.file' first second differ.alike in
     let tasks : unfolded_tasks first.commands ≡ unfolded_tasks second.commands = ap unfolded_tasks (sym same.commands) in
     let given : (i : ℕ) → told first asked.bindings (readings_in held None) (i + 0) ≡ told_from second.names asked.bindings (readings_in held None) 1 (unfolded_tasks second.commands) i =

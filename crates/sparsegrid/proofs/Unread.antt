@@ -1,5 +1,5 @@
 -- What a generated program means asks for no file.
-use Rattle.std.proofs.Common.{◌≡◌, ℕ, Bool, true, List, [], ◌∷◌, ◌++◌, Option, Some, None, Result, Ok, Err, refl, sym, ap, ◌∙◌, subst}
+use Rattle.std.proofs.Common.{◌≡◌, ℕ, suc, Bool, true, List, [], ◌∷◌, ◌++◌, Option, Some, None, Result, Ok, Err, refl, sym, ap, ◌∙◌, subst}
 use Rattle.std.specs.Prelude.{find, option_and_then, if◌then◌else◌}
 use Rattle.std.proofs.lemmas.List.{append-nil}
 use Rattle.sg_words.specs.declared.memory.Stop.{Stop}
@@ -20,7 +20,9 @@ use Rattle.sg_session.specs.Bindings.{Binding, file_bound, file_of_task}
 use Rattle.sparsegrid.specs.declared.output.PutFailed.{PutFailed}
 use Rattle.sparsegrid.specs.declared.session.Done.{Done}
 use Rattle.sparsegrid.specs.declared.words.Mode.TheVariants as mode
-use Rattle.sparsegrid.specs.Words.{Asked, Doing, performs, generates, looks, writes_code, doing, is_generated, is_gen}
+use Rattle.sparsegrid.specs.Words.{Asked, Doing, performs, generates, looks, writes_code, audits, doing, is_generated, is_gen}
+use Rattle.sparsegrid.specs.declared.showing.Showing.TheVariants.{Texts}
+use Rattle.sparsegrid.specs.Telling.{Telling, telling_of}
 use Rattle.sparsegrid.specs.Moves.{Move, writing, names_in}
 use Rattle.sparsegrid.specs.Generated.{generated_text}
 use Rattle.sparsegrid.specs.Meaning.{Meaning, Readings, asked_of, moves_of, asking_for, meaning_of_source, is_unbound, after_task, task_and_more, meaning_of_tasks, meaning_unless, meaning_of_run, meaning_in, meaning_of_compiled, meaning_of_file, meaning_of_generated, meaning_of_asked}
@@ -43,35 +45,38 @@ no_file names (Stats layout) = refl
 no_file names (Prune layout) = refl
 no_file names (Clear layout) = refl
 
-tasks_ask : (program : CheckedProgram) (readings : Readings) (n : ℕ) (state : FlatState) (tasks : List Task) → asked_of (meaning_of_tasks program [] readings n state tasks) ≡ []
+tasks_ask : (program : CheckedProgram) (telling : Telling) (readings : Readings) (number n : ℕ) (state : FlatState) (tasks : List Task) → asked_of (meaning_of_tasks program [] telling readings number n state tasks) ≡ []
 unfolding meaning_of_tasks
-tasks_ask program readings n state [] = refl
-tasks_ask program readings n state (task ∷ tasks) =
-    ap (λ (file : Option (List ℕ)). asked_of (task_and_more program readings n state task more file)) (no_file program.names task) ∙ by_answer (task_meaning program state task Missing)
-    (λ next. tasks_ask program readings n next tasks)
+tasks_ask program telling readings number n state [] = unread (telling.ending state)
+tasks_ask program telling readings number n state (task ∷ tasks) =
+    ap (λ (file : Option (List ℕ)). asked_of (task_and_more program telling readings number n state task more file)) (no_file program.names task) ∙ by_answer (task_meaning program state task Missing)
+    (λ next. tasks_ask program telling readings (suc number) n next tasks)
   where
     more : ℕ → FlatState → Meaning
-    more after next = meaning_of_tasks program [] readings after next tasks
+    more after next = meaning_of_tasks program [] telling readings (suc number) after next tasks
 
-    by_answer : (answer : Result Left RunRefusal) → ((next : FlatState) → asked_of (more n next) ≡ []) → asked_of (after_task program state None task (more n) answer) ≡ []
-    by_answer (Ok left) rest = names_append (writing left.text) (more n left.state).moves ∙ ap (λ (names : List (List ℕ)). names ++ asked_of (more n left.state)) (unread left.text) ∙ rest left.state
+    by_answer : (answer : Result Left RunRefusal) → ((next : FlatState) → asked_of (more n next) ≡ []) → asked_of (after_task program telling number state None task (more n) answer) ≡ []
+    by_answer (Ok left) rest =
+        names_append (writing (telling.each number left.text)) (more n left.state).moves ∙ ap (λ (names : List (List ℕ)). names ++ asked_of (more n left.state)) (unread (telling.each number left.text))
+        ∙ rest left.state
     by_answer (Err why) rest = refl
 
-run_asks : (program : CheckedProgram) (readings : Readings) (tasks : List Task) → asked_of (meaning_of_run program [] readings tasks) ≡ []
-run_asks program readings tasks = by_find (find (is_unbound program.names []) tasks) where
-  by_find : (o : Option Task) → asked_of (meaning_unless o program [] readings tasks) ≡ []
-  by_find None = tasks_ask program readings 1 (opening program.layouts) tasks
+run_asks : (program : CheckedProgram) (telling : Telling) (readings : Readings) (tasks : List Task) → asked_of (meaning_of_run program telling None [] readings tasks) ≡ []
+run_asks program telling readings tasks = by_find (find (is_unbound program.names []) tasks) where
+  by_find : (o : Option Task) → asked_of (meaning_unless o program telling None [] readings tasks) ≡ []
+  by_find None = tasks_ask program telling readings 0 1 (opening program.layouts) tasks
   by_find (Some task) = refl
 
-gen_asks : (what : Doing) (program : CheckedProgram) (bindings : List Binding) (readings : Readings) → is_generated what ≡ true → asked_of (meaning_in what program bindings readings) ≡ []
-gen_asks performs program bindings readings gen = absurd (cc)
-gen_asks generates program bindings readings gen = run_asks program readings (unfolded_tasks program.commands)
-gen_asks looks program bindings readings gen = absurd (cc)
-gen_asks writes_code program bindings readings gen = absurd (cc)
+gen_asks : (what : Doing) (program : CheckedProgram) (from : Option (List ℕ)) (bindings : List Binding) (readings : Readings) → is_generated what ≡ true → asked_of (meaning_in what program from bindings readings) ≡ []
+gen_asks (performs shown) program from bindings readings gen = absurd (cc)
+gen_asks generates program from bindings readings gen = run_asks program (telling_of program.names program.layouts Texts) readings (unfolded_tasks program.commands)
+gen_asks looks program from bindings readings gen = absurd (cc)
+gen_asks writes_code program from bindings readings gen = absurd (cc)
+gen_asks audits program from bindings readings gen = absurd (cc)
 
 pub compiled_asks : (asked : Asked) → is_gen asked.mode ≡ true → (readings : Readings) (bytes : List ℕ) (answer : Result CheckedProgram Refusal) → asked_of (meaning_of_compiled asked readings bytes answer) ≡ []
 compiled_asks asked gen readings bytes (Err why) = refl
-compiled_asks asked gen readings bytes (Ok program) = gen_asks (doing asked.mode) program asked.bindings readings gen
+compiled_asks asked gen readings bytes (Ok program) = gen_asks (doing asked.mode) program asked.from asked.bindings readings gen
 
 -- the generated program is run
 pub of_generated : (asked : Asked) → is_gen asked.mode ≡ true → (readings : Readings) → meaning_of_asked asked readings ≡ meaning_of_generated asked readings
@@ -128,16 +133,16 @@ generated_went asked bytes before after result gen same went =
 
 -- it means what a file with its text means, but that no file is asked for
 pub generated_is_text : (workers number : ℕ) (file : List ℕ) (readings : Readings) → readings 1 file most_file_bytes ≡ Bytes (generated_text number)
-    → meaning_of_asked (record { workers = workers; mode = mode.Run; file = file; bindings = []; number = 0 }) readings
-    ≡ asking_for file (meaning_of_asked (record { workers = workers; mode = mode.Gen; file = []; bindings = []; number = number }) readings)
+    → meaning_of_asked (record { workers = workers; mode = mode.Run; file = file; from = None; bindings = []; number = 0 }) readings
+    ≡ asking_for file (meaning_of_asked (record { workers = workers; mode = mode.Gen; file = []; from = None; bindings = []; number = number }) readings)
 generated_is_text workers number file readings holds =
     ap (λ (given : Reading). asking_for file (meaning_of_source of_file readings given)) holds ∙ ap (λ (m : Meaning). asking_for file m) (by_answer (compiled_program (generated_text number)))
   where
     of_file : Asked
-    of_file = record { workers = workers; mode = mode.Run; file = file; bindings = []; number = 0 }
+    of_file = record { workers = workers; mode = mode.Run; file = file; from = None; bindings = []; number = 0 }
 
     of_number : Asked
-    of_number = record { workers = workers; mode = mode.Gen; file = []; bindings = []; number = number }
+    of_number = record { workers = workers; mode = mode.Gen; file = []; from = None; bindings = []; number = number }
 
     by_answer : (answer : Result CheckedProgram Refusal) → meaning_of_compiled of_file readings (generated_text number) answer ≡ meaning_of_compiled of_number readings (generated_text number) answer
     by_answer (Err why) = refl

@@ -1,10 +1,18 @@
 -- Worked examples of what words and files mean.
-use Rattle.std.specs.Prelude.{◌≡◌, refl, ℕ, [], ◌∷◌, Option, None, codes}
-use Rattle.sg_outside.specs.Files.{Held, TooMany, Missing}
+use Rattle.std.specs.Prelude.{◌≡◌, refl, ℕ, List, [], ◌∷◌, take, Option, Some, None, Ok, codes}
+use Rattle.std.specs.Fmt.{digits}
+use Rattle.sg_outside.specs.Files.{Held, Reading, Bytes, TooMany, Missing}
+use Rattle.sg_flat.specs.State.{opening}
+use Rattle.sg_snapshot.specs.Examples.{blocks_of, one_block, one_block_bytes}
+use Rattle.sg_session.specs.Compiled.{CheckedProgram}
 use Rattle.sparsegrid.specs.Lines.{words_last}
 use Rattle.sg_flat.specs.declared.state.FlatState.{FlatState}
 use Rattle.sparsegrid.specs.Moves.{ReadsFile, WritesText}
-use Rattle.sparsegrid.specs.Meaning.{Meaning, refused_before_tasks, all_done, before, asking_for, moves_of, text_meant, with_open, meaning, meaning_by}
+use Rattle.sg_session.specs.declared.tasks.Task.TheVariants.{Stats}
+use Rattle.sparsegrid.specs.declared.showing.Showing.{Showing}
+use Rattle.sparsegrid.specs.declared.showing.Showing.TheVariants.{Texts, Image}
+use Rattle.sparsegrid.specs.Telling.{telling_of}
+use Rattle.sparsegrid.specs.Meaning.{Meaning, refused_before_tasks, all_done, before, asking_for, moves_of, text_meant, with_open, meaning, meaning_by, begun, after_task}
 
 -- without words nothing is read
 no_words : (held : Held) (stop : Option ℕ) → meaning [] held stop ≡ refused_before_tasks words_last
@@ -35,3 +43,49 @@ open_if_done state = refl
 
 not_open : (state : FlatState) → moves_of (with_open (codes "p.sg" ∷ []) (codes "code") (all_done [] state)) ≡ []
 not_open state = refl
+
+-- ---- snapshots
+
+-- a program without commands: a line of four blocks of four, with room for so many of them
+abbrev a_line : ℕ → CheckedProgram
+a_line cap = record {
+  names = record { constants = []; layouts = record { name = record { text = codes "A" }; axes = 1 } ∷ []; fields = []; kernels = [] };
+  layouts = blocks_of cap ∷ [];
+  kernels = [];
+  neutral = [];
+  commands = [];
+}
+
+-- its run from the snapshot `s`, of which the read gives this
+abbrev begun_by : ℕ → Reading → Meaning
+begun_by cap given = begun (a_line cap) (Some (codes "s")) (λ number name limit. given) (λ reads state. all_done [] state)
+
+-- a run goes on from the state whose image was read
+begun_with_a_block : begun_by 2 (Bytes one_block_bytes) ≡ record { moves = ReadsFile (codes "s") ∷ []; line = []; status = 0; last = Some one_block }
+begun_with_a_block = refl
+
+begun_with_none : begun_by 2 Missing ≡ record { moves = ReadsFile (codes "s") ∷ []; line = codes "refused: read s\n"; status = 2; last = None }
+begun_with_none = refl
+
+begun_with_too_many : begun_by 2 TooMany ≡ record { moves = ReadsFile (codes "s") ∷ []; line = codes "refused: limit: snapshot bytes\n"; status = 8; last = None }
+begun_with_too_many = refl
+
+-- one byte less
+begun_with_less : begun_by 2 (Bytes (take 43 one_block_bytes)) ≡ record { moves = ReadsFile (codes "s") ∷ []; line = codes "refused: snapshot\n"; status = 6; last = None }
+begun_with_less = refl
+
+-- without room for any block the opening state is left
+begun_without_room : begun_by 0 (Bytes one_block_bytes)
+    ≡ record { moves = ReadsFile (codes "s") ∷ []; line = codes "refused: pool full: A node 1 cap 0\n"; status = 7; last = Some (opening (blocks_of 0 ∷ [])) }
+unfolding digits
+begun_without_room = refl
+
+-- by what is shown a command's text is written, or the image of the last state
+abbrev one_dump : Showing → Meaning
+one_dump what = after_task (a_line 2) (telling_of (a_line 2).names (blocks_of 2 ∷ []) what) 0 one_block None (Stats 0) (λ state. all_done ((telling_of (a_line 2).names (blocks_of 2 ∷ []) what).ending state) state) (Ok (record { state = one_block; text = codes "grid" }))
+
+texts_shown : moves_of (one_dump Texts) ≡ WritesText (codes "grid") ∷ []
+texts_shown = refl
+
+image_shown : moves_of (one_dump Image) ≡ WritesText one_block_bytes ∷ []
+image_shown = refl

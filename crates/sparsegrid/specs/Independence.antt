@@ -24,6 +24,8 @@ use Rattle.sg_session.specs.Commands.{Left}
 use Rattle.sg_session.specs.Independence.{AreSameUpToNodes, RunsNeutral, HaveSameValues, AllLeaveSame, RunsLeaveSame, left_by_program, last_state}
 use Rattle.sg_session.specs.Performed.{SessionParts}
 use Rattle.sparsegrid.specs.declared.words.Mode.TheVariants as mode
+use Rattle.sparsegrid.specs.declared.showing.Showing.TheVariants.{Texts}
+use Rattle.sparsegrid.specs.Telling.{telling_of}
 use Rattle.sparsegrid.specs.Words.{Asked, good_words}
 use Rattle.sparsegrid.specs.Moves.{ReadsFile, WritesText, pieces_of, pieces_in}
 use Rattle.sparsegrid.specs.Meaning.{Meaning, moves_of, text_meant, Readings, readings_in, meaning_of_tasks, meaning_of_run, meaning}
@@ -64,10 +66,10 @@ pub record IsOfCommands (program : CheckedProgram) (bindings : List Binding) (re
   pub leaves : m.status ≡ 0 → (lefts : List Left) × IsWhatIsLeft program bindings readings m lefts
   pub whole : (lefts : List Left) → left_by_program program (told program bindings readings) ≡ Ok lefts → m.status ≡ 0
 
--- the meaning of every run is of the commands of its program
+-- the meaning of every run from the opening state on is of the commands of its program
 abbrev pub MeaningIsOfCommands : Type 0
 MeaningIsOfCommands = (program : CheckedProgram) (bindings : List Binding) (readings : Readings)
-    → IsOfCommands program bindings readings (meaning_of_run program bindings readings (unfolded_tasks program.commands))
+    → IsOfCommands program bindings readings (meaning_of_run program (telling_of program.names program.layouts Texts) None bindings readings (unfolded_tasks program.commands))
 
 -- ---- two runs
 
@@ -75,11 +77,12 @@ MeaningIsOfCommands = (program : CheckedProgram) (bindings : List Binding) (read
 abbrev pub AreSameBut : List ℕ → Held → Held → Type 0
 AreSameBut file held held' = (name : List ℕ) → name ≢ file → get held name ≡ get held' name
 
--- The same good words in mode run, over the same files except for the one that they name. That one has the one program or the other, which differ
+-- The same good words in mode run, without a snapshot, over the same files except for the one that they name. That one has the one program or the other, which differ
 -- in the nodes of their layouts alone. Every kernel that is run is neutral.
 pub record DifferInLayouts (words : List (List ℕ)) (held held' : Held) (asked : Asked) (first second : CheckedProgram) : Type 0 where
   pub words_are : good_words words ≡ Some asked
   pub runs : asked.mode ≡ mode.Run
+  pub opened : asked.from ≡ None
   pub others : AreSameBut asked.file held held'
   pub file : List ℕ
   pub file' : List ℕ
@@ -194,7 +197,7 @@ unfolding rows_of head_at row_in row_at coordinate_at further_part_at number_bef
 left_by_each = refl
 
 -- and so the run means
-meant_by_both : meaning_of_run loads_and_dumps from_f lists_a_seven (unfolded_tasks loads_and_dumps.commands)
+meant_by_both : meaning_of_run loads_and_dumps (telling_of loads_and_dumps.names loads_and_dumps.layouts Texts) None from_f lists_a_seven (unfolded_tasks loads_and_dumps.commands)
     ≡ record { moves = ReadsFile (codes "f") ∷ WritesText (codes "grid 1 4\n0 0\n1 0\n2 7\n3 0\n") ∷ []; line = []; status = 0; last = Some loaded_line }
 unfolding meaning_of_tasks rows_of head_at row_in row_at coordinate_at further_part_at number_before number_at count_at rest_after digits
 meant_by_both = refl

@@ -18,5 +18,5 @@ FaultlessIsWhole = (words : List (List ℕ)) (opened : List ℕ) (before after :
 -- the generated program of a number means what a file with its text means, but that no file is asked for
 abbrev pub GeneratedIsText : Type 0
 GeneratedIsText = (workers number : ℕ) (file : List ℕ) (readings : Readings) → readings 1 file most_file_bytes ≡ Bytes (generated_text number)
-    → meaning_of_asked (record { workers = workers; mode = mode.Run; file = file; bindings = []; number = 0 }) readings
-    ≡ asking_for file (meaning_of_asked (record { workers = workers; mode = mode.Gen; file = []; bindings = []; number = number }) readings)
+    → meaning_of_asked (record { workers = workers; mode = mode.Run; file = file; from = None; bindings = []; number = 0 }) readings
+    ≡ asking_for file (meaning_of_asked (record { workers = workers; mode = mode.Gen; file = []; from = None; bindings = []; number = number }) readings)

@@ -2,8 +2,12 @@ pub mod Texts
 pub mod Words
 pub mod WordExamples
 pub mod Lines
+pub mod Limits
+pub mod Advice
+pub mod Telling
 pub mod Generated
 pub mod Moves
+pub mod Verdicts
 pub mod Meaning
 pub mod Outcome
 pub mod Laws

@@ -27,6 +27,8 @@ use Rattle.sg_session.specs.declared.refusal.RunRefusal.{RunRefusal}
 use Rattle.sg_session.specs.declared.refusal.RunRefusal.TheVariants as run
 use Rattle.sg_session.specs.declared.tasks.Task.{Task}
 use Rattle.sg_session.specs.declared.tasks.Task.TheVariants.{Load, Run, Dump, Image, Stats, Prune, Clear}
+use Rattle.sg_snapshot.specs.declared.fault.SnapFault.{SnapFault}
+use Rattle.sg_snapshot.specs.declared.fault.SnapFault.TheVariants.{NotSnapshot, NotClosed, Full}
 use Rattle.sparsegrid.specs.declared.last_line.LastLine.{LastLine}
 
 -- the last line with this status and this reason
@@ -56,6 +58,10 @@ read_last name = refused_as 2 (codes "read " ++ name)
 -- the file has too many bytes
 abbrev pub file_bytes_last : LastLine
 file_bytes_last = limit_last (codes "file bytes")
+
+-- the journal has too many bytes
+abbrev pub journal_bytes_last : LastLine
+journal_bytes_last = limit_last (codes "journal bytes")
 
 -- ---- refusals of a file
 
@@ -158,6 +164,10 @@ field_text names (Clear layout) = []
 abbrev pub kernel_text : Tables → Option ℕ → List ℕ
 kernel_text names kernel = name_text (option_and_then (kernel_name_of names) kernel)
 
+-- the name of the layout of a number
+abbrev pub layout_text : Tables → ℕ → List ℕ
+layout_text names number = name_text (layout_name_of names number)
+
 -- the bytes of a file's name, if there is one
 abbrev pub file_text : Option (List ℕ) → List ℕ
 file_text None = []
@@ -177,6 +187,18 @@ run_last names file task (run.GridBytes field) = limit_last (codes "grid bytes "
 run_last names file task (run.GridRows field) = limit_last (codes "grid rows " ++ field_text names task)
 run_last names file task (run.Grid field line) = named_as 6 (codes "grid: ") (field_text names task) (codes " line " ++ decimal line)
 run_last names file task (run.Run kernel fault) = fault_last names kernel fault
+
+-- ---- refusals of a snapshot
+
+-- a snapshot has too many bytes
+abbrev pub snapshot_bytes_last : LastLine
+snapshot_bytes_last = limit_last (codes "snapshot bytes")
+
+-- why bytes are no snapshot, in a program with these names: they are that of no state of its layouts, or a node has no room for it
+abbrev pub snapshot_last : Tables → SnapFault → LastLine
+snapshot_last names NotSnapshot = refused_as 6 (codes "snapshot")
+snapshot_last names (NotClosed layout) = refused_as 6 (codes "snapshot")
+snapshot_last names (Full layout node cap) = fault_last names None (PoolFull layout node cap)
 
 -- ---- examples
 
@@ -210,3 +232,7 @@ a_write_outside = refl
 a_full_pool : run_last one_of_each None (Run 0) (run.Run (Some 0) (PoolFull 0 1 3)) ≡ record { status = 7; line = codes "refused: pool full: A node 1 cap 3" }
 unfolding digits
 a_full_pool = refl
+
+a_full_snapshot : snapshot_last one_of_each (Full 0 1 3) ≡ record { status = 7; line = codes "refused: pool full: A node 1 cap 3" }
+unfolding digits
+a_full_snapshot = refl

@@ -8,6 +8,10 @@ use Rattle.sg_grid.specs.Limits.{most_grid_bytes}
 use Rattle.sg_flat.specs.declared.state.FlatState.{FlatState}
 use Rattle.sg_flat.specs.State.{opening}
 use Rattle.sg_names.specs.Tables.{Tables}
+use Rattle.sg_layout.specs.declared.shape.Shape.{Shape}
+use Rattle.sg_snapshot.specs.declared.fault.SnapFault.{SnapFault}
+use Rattle.sg_snapshot.specs.declared.fault.SnapFault.TheVariants.{NotSnapshot, NotClosed, Full}
+use Rattle.sg_snapshot.specs.Restoring.{restored}
 use Rattle.sg_session.specs.declared.refusal.Refusal.{Refusal}
 use Rattle.sg_session.specs.declared.refusal.RunRefusal.{RunRefusal}
 use Rattle.sg_session.specs.declared.tasks.Task.{Task}
@@ -17,11 +21,16 @@ use Rattle.sg_session.specs.Compiling.{spelled_program, compiled_program}
 use Rattle.sg_session.specs.Commands.{Left, task_meaning}
 use Rattle.sg_session.specs.Texts.{check_text}
 use Rattle.sg_session.specs.Bindings.{file_of_field, file_of_task, Binding}
+use Rattle.sg_audit.specs.Auditing.{audited}
 use Rattle.sparsegrid.specs.declared.last_line.LastLine.{LastLine}
-use Rattle.sparsegrid.specs.Words.{Asked, Doing, performs, generates, looks, writes_code, doing, good_words, is_gen}
+use Rattle.sparsegrid.specs.Words.{Asked, Doing, performs, generates, looks, writes_code, audits, doing, good_words, is_gen}
+use Rattle.sparsegrid.specs.declared.showing.Showing.TheVariants.{Texts}
+use Rattle.sparsegrid.specs.Telling.{Telling, telling_of}
+use Rattle.sparsegrid.specs.Limits.{most_snapshot_bytes}
 use Rattle.sparsegrid.specs.Moves.{Move, ReadsFile, writing, names_in, text_in}
 use Rattle.sparsegrid.specs.Generated.{generated_text}
-use Rattle.sparsegrid.specs.Lines.{words_last, no_file_last, read_last, file_bytes_last, refusal_last, run_last, field_text}
+use Rattle.sparsegrid.specs.Verdicts.{most_journal_bytes, journal_file, verdict_text}
+use Rattle.sparsegrid.specs.Lines.{words_last, no_file_last, read_last, file_bytes_last, journal_bytes_last, refusal_last, run_last, field_text, snapshot_last, snapshot_bytes_last}
 
 -- What a run means: the moves that it makes before its last line; that line with its newline, which is empty if all is done; its status; and the
 -- last state, where it leaves one.
@@ -89,42 +98,82 @@ is_unbound names bindings (Clear layout) = false
 
 -- ---- the tasks of a program, one after the other
 
--- after a task at a state: its text and then what follows; or its last line, with the state that was before it
-abbrev pub after_task : CheckedProgram → FlatState → Option (List ℕ) → Task → (FlatState → Meaning) → Result Left RunRefusal → Meaning
-after_task program state file task more (Ok left) = before left.text (more left.state)
-after_task program state file task more (Err why) = refused_with (Some state) (run_last program.names file task why)
+-- after the task of a number at a state: what is written of its text, and then what follows; or its last line, with the state that was before it
+abbrev pub after_task : CheckedProgram → Telling → ℕ → FlatState → Option (List ℕ) → Task → (FlatState → Meaning) → Result Left RunRefusal → Meaning
+after_task program telling number state file task more (Ok left) = before (telling.each number left.text) (more left.state)
+after_task program telling number state file task more (Err why) = refused_with (Some state) (run_last program.names file task why)
 
--- A task and what follows it, with the file that it reads, if any. So many reads were before it; what follows takes the number of reads and the
--- state after it.
-abbrev pub task_and_more : CheckedProgram → Readings → ℕ → FlatState → Task → (ℕ → FlatState → Meaning) → Option (List ℕ) → Meaning
-task_and_more program readings reads state task more None = after_task program state None task (more reads) (task_meaning program state task Missing)
-task_and_more program readings reads state task more (Some name) =
-    asking_for name (after_task program state (Some name) task (more (suc reads)) (task_meaning program state task (readings (suc reads) name most_grid_bytes)))
+-- The task of a number and what follows it, with the file that it reads, if any. So many reads were before it; what follows takes the number of
+-- reads and the state after it.
+abbrev pub task_and_more : CheckedProgram → Telling → Readings → ℕ → ℕ → FlatState → Task → (ℕ → FlatState → Meaning) → Option (List ℕ) → Meaning
+task_and_more program telling readings number reads state task more None =
+    after_task program telling number state None task (more reads) (task_meaning program state task Missing)
+task_and_more program telling readings number reads state task more (Some name) =
+    asking_for name (after_task program telling number state (Some name) task (more (suc reads)) (task_meaning program state task (readings (suc reads) name most_grid_bytes)))
 
--- tasks from a state on, up to the first that is refused; so many reads were before them
-unfoldable pub meaning_of_tasks : CheckedProgram → List Binding → Readings → ℕ → FlatState → List Task → Meaning
-meaning_of_tasks program bindings readings reads state [] = all_done [] state
-meaning_of_tasks program bindings readings reads state (task ∷ tasks) =
-    task_and_more program readings reads state task (λ after next. meaning_of_tasks program bindings readings after next tasks) (file_of_task program.names bindings task)
+-- tasks from a state on, up to the first that is refused; so many tasks and so many reads were before them
+unfoldable pub meaning_of_tasks : CheckedProgram → List Binding → Telling → Readings → ℕ → ℕ → FlatState → List Task → Meaning
+meaning_of_tasks program bindings telling readings number reads state [] = all_done (telling.ending state) state
+meaning_of_tasks program bindings telling readings number reads state (task ∷ tasks) =
+    task_and_more program telling readings number reads state task
+    (λ after next. meaning_of_tasks program bindings telling readings (suc number) after next tasks) (file_of_task program.names bindings task)
+
+-- ---- the state with which tasks begin
+
+-- the state that a refused snapshot leaves: the opening one, if a node has no room, and else none
+abbrev pub left_by_snapshot : List Shape → SnapFault → Option FlatState
+left_by_snapshot shapes NotSnapshot = None
+left_by_snapshot shapes (NotClosed layout) = None
+left_by_snapshot shapes (Full layout node cap) = Some (opening shapes)
+
+-- the state whose image a snapshot is, and what follows it; or why it is none
+abbrev pub after_restoring : CheckedProgram → (FlatState → Meaning) → Result FlatState SnapFault → Meaning
+after_restoring program more (Ok state) = more state
+after_restoring program more (Err fault) = refused_with (left_by_snapshot program.layouts fault) (snapshot_last program.names fault)
+
+-- what the read of the snapshot of this name gave
+abbrev pub after_snapshot : CheckedProgram → List ℕ → (FlatState → Meaning) → Reading → Meaning
+after_snapshot program name more Missing = refused_before_tasks (read_last name)
+after_snapshot program name more TooMany = refused_before_tasks snapshot_bytes_last
+after_snapshot program name more (Bytes bytes) = after_restoring program more (restored program.layouts bytes)
+
+-- What follows begins with the opening state, or with that of a snapshot, which is the second file that is read. It takes how many files were
+-- read, and the state.
+abbrev pub begun : CheckedProgram → Option (List ℕ) → Readings → (ℕ → FlatState → Meaning) → Meaning
+begun program None readings more = more 1 (opening program.layouts)
+begun program (Some name) readings more = asking_for name (after_snapshot program name (more 2) (readings 2 name most_snapshot_bytes))
 
 -- ---- from the words to the tasks
 
 -- no task runs where a load has no file: the first of these is named
-abbrev pub meaning_unless : Option Task → CheckedProgram → List Binding → Readings → List Task → Meaning
-meaning_unless (Some task) program bindings readings tasks = refused_before_tasks (no_file_last (field_text program.names task))
-meaning_unless None program bindings readings tasks = meaning_of_tasks program bindings readings 1 (opening program.layouts) tasks
+abbrev pub meaning_unless : Option Task → CheckedProgram → Telling → Option (List ℕ) → List Binding → Readings → List Task → Meaning
+meaning_unless (Some task) program telling from bindings readings tasks = refused_before_tasks (no_file_last (field_text program.names task))
+meaning_unless None program telling from bindings readings tasks =
+    begun program from readings (λ reads state. meaning_of_tasks program bindings telling readings 0 reads state tasks)
 
--- the tasks of a program from its opening state on; its file was read before
-abbrev pub meaning_of_run : CheckedProgram → List Binding → Readings → List Task → Meaning
-meaning_of_run program bindings readings tasks = meaning_unless (find (is_unbound program.names bindings) tasks) program bindings readings tasks
+-- the tasks of a program from its opening state, or from a snapshot, on; its file was read before
+abbrev pub meaning_of_run : CheckedProgram → Telling → Option (List ℕ) → List Binding → Readings → List Task → Meaning
+meaning_of_run program telling from bindings readings tasks =
+    meaning_unless (find (is_unbound program.names bindings) tasks) program telling from bindings readings tasks
+
+-- what the read of a journal gave: the verdict on it is written
+abbrev pub after_journal : CheckedProgram → List ℕ → Reading → Meaning
+after_journal program name Missing = refused_before_tasks (read_last name)
+after_journal program name TooMany = refused_before_tasks journal_bytes_last
+after_journal program name (Bytes bytes) = all_done (verdict_text (audited program.layouts bytes)) (opening program.layouts)
+
+-- the journal of this name is the second file that is read
+abbrev pub meaning_of_audit : CheckedProgram → Readings → List ℕ → Meaning
+meaning_of_audit program readings name = asking_for name (after_journal program name (readings 2 name most_journal_bytes))
 
 -- What is done with a compiled program. The text of access code is no part of the meaning, since the code's registers may be numbered in any way:
--- it is that of the session which the run leaves. The tasks of a generated program have no files.
-abbrev pub meaning_in : Doing → CheckedProgram → List Binding → Readings → Meaning
-meaning_in performs program bindings readings = meaning_of_run program bindings readings (unfolded_tasks program.commands)
-meaning_in generates program bindings readings = meaning_of_run program [] readings (unfolded_tasks program.commands)
-meaning_in looks program bindings readings = all_done (check_text program.names program.neutral) (opening program.layouts)
-meaning_in writes_code program bindings readings = all_done [] (opening program.layouts)
+-- it is that of the session which the run leaves. The tasks of a generated program have no files, and begin with no snapshot.
+abbrev pub meaning_in : Doing → CheckedProgram → Option (List ℕ) → List Binding → Readings → Meaning
+meaning_in (performs what) program from bindings readings = meaning_of_run program (telling_of program.names program.layouts what) from bindings readings (unfolded_tasks program.commands)
+meaning_in generates program from bindings readings = meaning_of_run program (telling_of program.names program.layouts Texts) None [] readings (unfolded_tasks program.commands)
+meaning_in looks program from bindings readings = all_done (check_text program.names program.neutral) (opening program.layouts)
+meaning_in writes_code program from bindings readings = all_done [] (opening program.layouts)
+meaning_in audits program from bindings readings = meaning_of_audit program readings (journal_file bindings)
 
 -- the items of a program, if there is one
 abbrev pub items_or_none : Result Program Refusal → List Item
@@ -134,7 +183,7 @@ items_or_none (Err refusal) = []
 -- a checked program, or the refusal of these bytes
 abbrev pub meaning_of_compiled : Asked → Readings → List ℕ → Result CheckedProgram Refusal → Meaning
 meaning_of_compiled asked readings bytes (Err refusal) = refused_before_tasks (refusal_last (items_or_none (spelled_program bytes)) refusal)
-meaning_of_compiled asked readings bytes (Ok program) = meaning_in (doing asked.mode) program asked.bindings readings
+meaning_of_compiled asked readings bytes (Ok program) = meaning_in (doing asked.mode) program asked.from asked.bindings readings
 
 -- what the read of the file gave
 abbrev pub meaning_of_source : Asked → Readings → Reading → Meaning
@@ -167,10 +216,11 @@ meaning_by words readings = meaning_of_words (good_words words) readings
 
 -- whether access code is written
 abbrev pub is_code : Doing → Bool
-is_code performs = false
+is_code (performs what) = false
 is_code generates = false
 is_code looks = false
 is_code writes_code = true
+is_code audits = false
 
 -- good words ask for access code; bad ones ask for nothing
 abbrev pub asks_code : Option Asked → Bool

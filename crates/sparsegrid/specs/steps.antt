@@ -1,3 +1,4 @@
 -- What serves proofs alone: no clause of a call that others use names these.
 pub mod Splitting
 pub mod Along
+pub mod Beginning

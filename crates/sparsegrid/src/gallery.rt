@@ -5,6 +5,58 @@ use crate::loading_examples::LoadingExample;
 
 pub(crate) static GALLERY: &[LoadingExample] = &[
     LoadingExample {
+        name: "dragon.sg",
+        source: "// The dragon curve: a strip of paper folded 14 times in half and opened to right angles, drawn on 1,024 by 1,024.
+// Its canvas is the layout of four that `sparsegrid --mode advise dragon.sg` found best: 186,000 words, not 1,048,576.
+const FOLDS = 6;
+const STEPS = 64; // 2 to the power of FOLDS
+const LONG = 4; // points of a step
+const TOP = 724; // where the strip begins
+const LEFT = 596;
+
+layout Levels(row, column) {
+  pointer(row: 32, column: 32) cap 256;
+  pointer(row: 4, column: 4) cap 3072;
+  dense(row: 8, column: 8);
+  field ink: i32;
+}
+layout Whole(row, column) { dense(row: 1024, column: 1024); field ink_whole: i32; }
+layout Blocks(row, column) { pointer(row: 128, column: 128) cap 4096; dense(row: 8, column: 8); field ink_blocks: i32; }
+layout Large(row, column) { pointer(row: 16, column: 16) cap 128; dense(row: 64, column: 64); field ink_large: i32; }
+
+// Where step n begins is read off the bits of n: each doubles the way so far, turned by an eighth, and a bit 1 adds a
+// step. Steps go right, down, left or up, by how often the bits of n have changed. Later steps are darker.
+kernel unfold {
+  for n in 0..STEPS {
+    let row = 0; let column = 0; let changes = 0; let last = 0;
+    for k in 0..FOLDS {
+      let bit = (n >> (FOLDS - 1 - k)) & 1;
+      let across = column - row; row = column + row; column = across;
+      if bit == 1 {
+        let way = changes + last;
+        column = column + (1 - (way & 2)) * (1 - (way & 1));
+        row = row + (1 - (way & 2)) * (way & 1);
+      }
+      changes = changes + (bit ^ last);
+      last = bit;
+    }
+    let right = (1 - (changes & 2)) * (1 - (changes & 1)); let down = (1 - (changes & 2)) * (changes & 1);
+    for t in 0..LONG {
+      ink[TOP + row * LONG + t * down, LEFT + column * LONG + t * right] max= 64 + n * 192 / STEPS;
+    }
+  }
+}
+
+run unfold;
+layout Total(t) { dense(t: 1); field total: i32; }
+kernel sum { for r, c in Levels { total[0] += ink[r, c] * (r * 31 + c); } }
+run sum; dump total;
+",
+        words: &["p.sg"],
+        others: &[],
+        output: "grid 1 1\n0 876010908\n",
+    },
+    LoadingExample {
         name: "filters.sg",
         source: "// A picture is loaded, its noise taken out by a median of five, softened by a window of 3 by 3, and its edges are
 // found after Sobel; dark edges on a pale picture: filters.sg grey=earth.grid

@@ -18,6 +18,9 @@ pub(crate) fn is_gen(mode: Mode) -> bool
         Mode::Check => false,
         Mode::Lower => false,
         Mode::Gen => true,
+        Mode::Save => false,
+        Mode::Audit => false,
+        Mode::Advise => false,
     }
 }
 

@@ -73,6 +73,20 @@ pub fn file_bytes_last(alloc: Global) -> Result<LastLine, Memory>
     refused_as(alloc, 8, b"limit: file bytes")
 }
 
+/// The last line of a run whose snapshot has too many bytes.
+pub fn snapshot_bytes_last(alloc: Global) -> Result<LastLine, Memory>
+    ensures { IfOk result (λ last. last ≡ spec.snapshot_bytes_last) }
+{
+    refused_as(alloc, 8, b"limit: snapshot bytes")
+}
+
+/// The last line of a run whose journal has too many bytes.
+pub fn journal_bytes_last(alloc: Global) -> Result<LastLine, Memory>
+    ensures { IfOk result (λ last. last ≡ spec.journal_bytes_last) }
+{
+    refused_as(alloc, 8, b"limit: journal bytes")
+}
+
 fn lex_last(alloc: Global, fault: LexFault) -> Result<LastLine, Memory>
     ensures { IfOk result (λ last. last ≡ spec.lex_last fault) }
 {

@@ -1,6 +1,8 @@
 //! Sparse grids: a file of layouts, kernels and commands is read and run, and its grids are written.
 #![tactic(auto)]
 
+mod advice;
+mod auditing;
 mod drive;
 #[cfg(test)]
 mod examples;
@@ -21,6 +23,8 @@ mod picture_examples;
 mod refuse;
 mod run_line;
 mod session;
+mod showing;
+mod snapshot;
 mod splitting;
 #[cfg(test)]
 mod tests;
@@ -33,7 +37,8 @@ use std::alloc::{AllocError, Global};
 use std::io::ErrorKind;
 use std::process::ExitCode;
 use std::rt::Env;
-use std::{env, io};
+use std::thread::{Builder, Threads};
+use std::{env, io, rt};
 pub use words::{BadWords, Mode, Words, read_words};
 
 /// The greatest block that the C library's allocator may learn to keep, except for its own words.
@@ -45,26 +50,38 @@ fn keep_freed_blocks(alloc: Global) {
     let _block: Result<Vec<u8>, AllocError> = Vec::with_capacity(alloc, KEPT);
 }
 
-/// Runs the program with the words of the command line, over the files and the output of the system.
-/// A command line that is not UTF-8 has bad words.
+/// How many bytes of stack the thread of a run has, whatever `main` is given. The deepest file takes a tenth of them.
+const STACK: usize = 1 << 20;
+
+/// Runs the program on a thread with a stack of its own. If there can't be one, it runs here.
 fn main(rt: HostRuntime) -> ExitCode {
     keep_freed_blocks(rt.alloc());
-    let words = match command_line(&rt) {
+    let apart = move || -> u8 { run_words(&rt) };
+    match Builder::new().stack_size(STACK).spawn(&rt, apart) {
+        Ok(thread) => ExitCode::from(thread.join(&rt)),
+        Err(_) => ExitCode::from(run_words(&rt)),
+    }
+}
+
+/// Runs the program with the words of the command line, over the files and the output of the system, and gives its status. A command line that is
+/// not UTF-8 has bad words.
+fn run_words<R: Threads + Sync + Env + AllocGlobal + Print + rt::Files>(rt: &R) -> u8 {
+    let words = match command_line(rt) {
         Ok(words) => words,
-        Err(error) if error.kind() == ErrorKind::OutOfMemory => return ExitCode::from(9),
+        Err(error) if error.kind() == ErrorKind::OutOfMemory => return 9,
         Err(_) => Vec::new(rt.alloc()),
     };
-    let mut files = RealFiles::new(&rt);
-    let mut out = RealOut::new(&rt);
+    let mut files = RealFiles::new(rt);
+    let mut out = RealOut::new(rt);
     let done = run(
-        &rt,
+        rt,
         rt.alloc(),
         words.as_slice(),
         &mut files,
         &mut out,
         &FreeGate,
     );
-    ExitCode::from(done.status)
+    done.status
 }
 
 /// The words after the program's name.

@@ -1,23 +1,29 @@
 //! What is done with a compiled program: its commands are performed, or its kernels are looked at.
 
-ghost use Rattle.std.specs.Prelude.{◌≡◌, ◌≤◌, ◌↔◌, map, None, IsSome, IfOk, IfSome, find};
+ghost use Rattle.std.specs.Prelude.{◌≡◌, ◌≤◌, ◌↔◌, ℕ, map, None, IsSome, IfOk, IfSome, find};
 ghost use Rattle.std.specs.List.{AllByRecursion};
 ghost use Rattle.sg_session.specs.Texts as texts_of;
-ghost use Rattle.sg_session.specs.Compiled.{CheckedProgram, Compiles, IsTask, unfolded_tasks};
+ghost use Rattle.sg_session.specs.Compiled.{CheckedProgram, Compiles, IsCompiled, IsTask, unfolded_tasks};
 ghost use Rattle.sg_session.specs.Bindings.{binding_read};
+ghost use Rattle.sg_flat.specs.declared.state.FlatState.{FlatState};
 ghost use Rattle.sg_flat.specs.State.{opening};
 ghost use Rattle.sg_exec.specs.Standing.{StandForState};
-ghost use Rattle.sparsegrid.specs.Meaning.{meaning_of_run, meaning_of_tasks, is_unbound};
+ghost use Rattle.sparsegrid.specs.Words.{asked_by};
+ghost use Rattle.sparsegrid.specs.Meaning.{begun, meaning_of_run, meaning_of_tasks, is_unbound};
+ghost use Rattle.sparsegrid.specs.Telling.{telling_of};
 ghost use Rattle.sparsegrid.specs.Outcome.{output_of, outside_of, HasSession};
 ghost use Rattle.sparsegrid.specs.steps.Along.{Sends, KeepsWritten, Went, SendCause, IsEnd, LeavesOnly, LeavesProgram};
 
 use crate::drive::drive;
 use crate::output::{PutFailed, send};
-use crate::refuse::refuse_unbound;
+use crate::refuse::{refuse_snapshot, refuse_unbound};
 use crate::session::Done;
+use crate::showing::Showing;
+use crate::snapshot::read_stores;
 use crate::unbound::first_unbound;
+use crate::words::Words;
 use sg_outside::{Files, Gate, Sink};
-use sg_session::{Binds, Compiled, Session, Task, check_text};
+use sg_session::{Compiled, Session, Task, check_text};
 use sg_words::{Memory, Stop};
 use std::alloc::Global;
 use std::thread::Threads;
@@ -68,21 +74,22 @@ pub(crate) fn leave_open<S: Sink>(
     }
 }
 
-/// Performs the commands of a program from its opening state on.
+/// Performs the commands of a program from its opening state, or from a snapshot, on, and writes what is shown of them.
 pub(crate) fn perform<R: Threads + Sync, F: Files, S: Sink, G: Gate + Sync>(
     rt: &R,
     alloc: Global,
     compiled: Compiled,
-    binds: &Binds,
+    what: Showing,
+    asked: &Words,
     files: &mut F,
     out: &mut S,
-    workers: u32,
     gate: &G,
 ) -> Result<Done, Stop<PutFailed>>
-    requires some { 1 ≤ workers }
-    requires few { workers ≤ 16 }
+    requires some { 1 ≤ asked.now.workers }
+    requires few { asked.now.workers ≤ 16 }
     ensures went { (program : CheckedProgram) → Compiles program compiled →
-        Went (λ readings. meaning_of_run program (map binding_read binds.now.list) readings (unfolded_tasks program.commands)) 1
+        Went (λ readings. meaning_of_run program (telling_of program.names program.layouts what) (asked_by asked.now).from (map binding_read asked.now.binds.list) readings
+        (unfolded_tasks program.commands)) 1
         (outside_of F.Files S.Sink files.old out.old) (outside_of F.Files S.Sink files.new out.new) result }
     ensures holds { F.holds files.new ≡ F.holds files.old }
     ensures never_falls { F.faults files.old ≤ F.faults files.new }
@@ -91,17 +98,17 @@ pub(crate) fn perform<R: Threads + Sync, F: Files, S: Sink, G: Gate + Sync>(
     ensures program { LeavesProgram compiled result }
 {
     match compiled.tasks(alloc) {
-        Ok(tasks) => match first_unbound(&compiled, binds, tasks.as_slice()) {
+        Ok(tasks) => match first_unbound(&compiled, &asked.binds, tasks.as_slice()) {
             Some(task) => refuse_unbound(alloc, out, &compiled, task),
-            None => perform_tasks(
+            None => perform_bound(
                 rt,
                 alloc,
                 compiled,
                 tasks.as_slice(),
-                binds,
+                what,
+                asked,
                 files,
                 out,
-                workers,
                 gate,
             ),
         },
@@ -109,24 +116,26 @@ pub(crate) fn perform<R: Threads + Sync, F: Files, S: Sink, G: Gate + Sync>(
     }
 }
 
-/// Performs tasks, of which each load has a file, from the opening state of their program on.
-fn perform_tasks<R: Threads + Sync, F: Files, S: Sink, G: Gate + Sync>(
+/// Performs tasks, of which each load has a file.
+fn perform_bound<R: Threads + Sync, F: Files, S: Sink, G: Gate + Sync>(
     rt: &R,
     alloc: Global,
     compiled: Compiled,
     tasks: &[Task],
-    binds: &Binds,
+    what: Showing,
+    asked: &Words,
     files: &mut F,
     out: &mut S,
-    workers: u32,
     gate: &G,
 ) -> Result<Done, Stop<PutFailed>>
-    requires some { 1 ≤ workers }
-    requires few { workers ≤ 16 }
+    requires some { 1 ≤ asked.now.workers }
+    requires few { asked.now.workers ≤ 16 }
+    requires compiled { IsCompiled compiled }
     requires there { AllByRecursion (IsTask compiled) tasks.now }
-    requires bound { find (is_unbound compiled.names (map binding_read binds.now.list)) tasks.now ≡ None }
+    requires bound { find (is_unbound compiled.names (map binding_read asked.now.binds.list)) tasks.now ≡ None }
     ensures went { (program : CheckedProgram) → Compiles program compiled →
-        Went (λ readings. meaning_of_tasks program (map binding_read binds.now.list) readings 1 (opening program.layouts) tasks.now) 1
+        Went (λ readings. begun program (asked_by asked.now).from readings
+        (λ reads state. meaning_of_tasks program (map binding_read asked.now.binds.list) (telling_of program.names program.layouts what) readings 0 reads state tasks.now)) 1
         (outside_of F.Files S.Sink files.old out.old) (outside_of F.Files S.Sink files.new out.new) result }
     ensures holds { F.holds files.new ≡ F.holds files.old }
     ensures never_falls { F.faults files.old ≤ F.faults files.new }
@@ -134,25 +143,65 @@ fn perform_tasks<R: Threads + Sync, F: Files, S: Sink, G: Gate + Sync>(
     ensures end { IfOk result IsEnd }
     ensures program { LeavesProgram compiled result }
 {
-    match Session::open(alloc, compiled) {
-        Ok(opened) => {
-            let mut session = opened;
-            match drive(
-                rt,
-                alloc,
-                &mut session,
-                tasks,
-                binds,
-                files,
-                out,
-                workers,
-                gate,
-            ) {
-                Ok(status) => Ok(done_with(status, session)),
-                Err(why) => Err(why),
+    match &asked.from {
+        None => match Session::open(alloc, compiled) {
+            Ok(session) => perform_tasks(rt, alloc, session, tasks, what, asked, files, out, gate),
+            Err(Memory) => Err(Stop::Memory),
+        },
+        Some(name) => {
+            let name = name.as_str();
+            match read_stores(alloc, name, &compiled.layouts, files) {
+                Ok(stores) => {
+                    let begun = Session { compiled, stores };
+                    perform_tasks(rt, alloc, begun, tasks, what, asked, files, out, gate)
+                }
+                Err(Stop::Refused(why)) => refuse_snapshot(alloc, out, compiled, name, why),
+                Err(Stop::Memory) => Err(Stop::Memory),
             }
         }
-        Err(Memory) => Err(Stop::Memory),
+    }
+}
+
+/// Performs tasks, of which each load has a file, on a session, and writes what is shown of them.
+fn perform_tasks<R: Threads + Sync, F: Files, S: Sink, G: Gate + Sync>(
+    rt: &R,
+    alloc: Global,
+    begun: Session,
+    tasks: &[Task],
+    what: Showing,
+    asked: &Words,
+    files: &mut F,
+    out: &mut S,
+    gate: &G,
+) -> Result<Done, Stop<PutFailed>>
+    requires some { 1 ≤ asked.now.workers }
+    requires few { asked.now.workers ≤ 16 }
+    requires there { AllByRecursion (IsTask begun.compiled) tasks.now }
+    requires bound { find (is_unbound begun.compiled.names (map binding_read asked.now.binds.list)) tasks.now ≡ None }
+    ensures went { (program : CheckedProgram) → Compiles program begun.compiled →
+        (earlier : ℕ) (state : FlatState) → StandForState begun.compiled.layouts begun.stores state →
+        Went (λ readings. meaning_of_tasks program (map binding_read asked.now.binds.list) (telling_of program.names program.layouts what) readings 0 earlier state tasks.now) earlier
+        (outside_of F.Files S.Sink files.old out.old) (outside_of F.Files S.Sink files.new out.new) result }
+    ensures holds { F.holds files.new ≡ F.holds files.old }
+    ensures never_falls { F.faults files.old ≤ F.faults files.new }
+    ensures cause { SendCause result (S.faults out.old) (S.faults out.new) }
+    ensures end { IfOk result IsEnd }
+    ensures program { LeavesProgram begun.compiled result }
+{
+    let mut session = begun;
+    match drive(
+        rt,
+        alloc,
+        &mut session,
+        tasks,
+        what,
+        asked,
+        files,
+        out,
+        gate,
+    ) {
+        Ok(status) => Ok(done_with(status, session)),
+        Err(why) => Err(why),
     }
 }
 

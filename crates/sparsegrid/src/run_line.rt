@@ -6,11 +6,12 @@ ghost use Rattle.sg_session.specs.Compiled.{IsTask, IsCompiled};
 ghost use Rattle.sparsegrid.specs.Lines as spec;
 ghost use Rattle.sg_names.specs.Tables.{kernel_name_of, layout_name_of};
 
-use crate::last_line::{LastLine, joined_as, name_text, named_as, read_last};
+use crate::last_line::{LastLine, joined_as, name_text, named_as, read_last, refused_as};
 use sg_ast::Name;
 use sg_flat::RunFault;
 use sg_grid::push_coordinate;
 use sg_session::{Compiled, RunRefusal, Task};
+use sg_snapshot::SnapFault;
 use sg_words::Memory;
 use std::alloc::Global;
 
@@ -51,7 +52,7 @@ pub fn run_last(
 }
 
 /// The last line of a refused run of a kernel, or of a load if there is none.
-fn fault_last(
+pub fn fault_last(
     alloc: Global,
     compiled: &Compiled,
     kernel: Option<u32>,
@@ -75,6 +76,24 @@ fn fault_last(
             let place = format!(in alloc; " node {node} cap {cap}")?;
             let name = name_text(layout_name(compiled, layout));
             named_as(alloc, 7, b"pool full: ", name, place.as_bytes())
+        }
+    }
+}
+
+/// The last line of a run whose snapshot is that of no state of the layouts, or of one for which there is no room.
+pub fn snapshot_last(
+    alloc: Global,
+    compiled: &Compiled,
+    fault: SnapFault,
+) -> Result<LastLine, Memory>
+    ensures { IfOk result (λ last. last ≡ spec.snapshot_last compiled.now.names fault) }
+{
+    match fault {
+        SnapFault::NotSnapshot => refused_as(alloc, 6, b"snapshot"),
+        SnapFault::NotClosed { layout: _layout } => refused_as(alloc, 6, b"snapshot"),
+        SnapFault::Full { layout, node, cap } => {
+            let full = RunFault::PoolFull { layout, node, cap };
+            fault_last(alloc, compiled, None, full)
         }
     }
 }
@@ -107,6 +126,13 @@ pub fn field_text(compiled: &Compiled, task: Task) -> &[u8]
         Task::Prune { layout: _layout } => &[],
         Task::Clear { layout: _layout } => &[],
     }
+}
+
+/// The name of the layout with this number; empty if there is none.
+pub(crate) fn layout_text(compiled: &Compiled, number: u32) -> &[u8]
+    ensures { result.now ≡ spec.layout_text compiled.now.names number }
+{
+    name_text(layout_name(compiled, number))
 }
 
 /// The name of a kernel that is run.

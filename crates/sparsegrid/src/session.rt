@@ -12,10 +12,12 @@ ghost use Rattle.sparsegrid.specs.Meaning.{is_code, asks_code, meaning, meaning_
 ghost use Rattle.sparsegrid.specs.Outcome.{output_of, outside_of, HasWholeText, IsCutShort, IsEnding, LeavesSession, code_in, open_text, WroteMeaning, WroteStopped, WroteFront, EndsAs, AsksAs, StaysWritten, ReadFaults, PutFaults, ReadCount, StandsForLast, IsOfAsked, IsOfFile};
 ghost use Rattle.sparsegrid.specs.steps.Along.{Went, KeepsWritten, SendCause, IsEnd, LeavesOnly, LeavesProgram, status_of, session_of, PutsCode};
 
+use crate::auditing::audit_bound;
 use crate::generated::{generated_text, is_gen};
 use crate::output::{PutFailed, send};
 use crate::perform::{check, leave_open, perform};
 use crate::refuse::{refuse_long, refuse_read, refuse_source, refuse_words};
+use crate::showing::Showing;
 use crate::words::{BadWords, Mode, Words, read_words};
 use sg_outside::{Files, Gate, Got, Sink};
 use sg_session::{Binds, Compiled, Session, compile, lower_text};
@@ -185,6 +187,9 @@ fn is_lower(mode: Mode) -> bool
         Mode::Check => false,
         Mode::Lower => true,
         Mode::Gen => false,
+        Mode::Save => false,
+        Mode::Audit => false,
+        Mode::Advise => false,
     }
 }
 
@@ -318,7 +323,7 @@ fn run_compiled<R: Threads + Sync, F: Files, S: Sink, G: Gate + Sync>(
     requires some { 1 ≤ asked.now.workers }
     requires few { asked.now.workers ≤ 16 }
     ensures went { (program : CheckedProgram) → Compiles program compiled →
-        Went (meaning_in (doing asked.now.mode) program (map binding_read asked.now.binds.list)) 1
+        Went (meaning_in (doing asked.now.mode) program (asked_by asked.now).from (map binding_read asked.now.binds.list)) 1
         (outside_of F.Files S.Sink files.old out.old) (outside_of F.Files S.Sink files.new out.new) result }
     ensures quiet { is_code (doing asked.now.mode) ≡ true → KeepsWritten result (output_of S.Sink out.old) (output_of S.Sink out.new) }
     ensures holds { F.holds files.new ≡ F.holds files.old }
@@ -328,30 +333,42 @@ fn run_compiled<R: Threads + Sync, F: Files, S: Sink, G: Gate + Sync>(
     ensures program { LeavesProgram compiled result }
 {
     match asked.mode {
-        Mode::Run => perform(
-            rt,
-            alloc,
-            compiled,
-            &asked.binds,
-            files,
-            out,
-            asked.workers,
-            gate,
-        ),
+        Mode::Run => perform(rt, alloc, compiled, Showing::Texts, asked, files, out, gate),
         Mode::Check => check(alloc, compiled, out),
         Mode::Lower => leave_open(alloc, compiled, b"", out),
         Mode::Gen => {
-            let binds = no_binds(alloc);
-            perform(rt, alloc, compiled, &binds, files, out, asked.workers, gate)
+            let bare = without_files(alloc, asked.workers);
+            perform(rt, alloc, compiled, Showing::Texts, &bare, files, out, gate)
         }
+        Mode::Save => perform(rt, alloc, compiled, Showing::Image, asked, files, out, gate),
+        Mode::Audit => audit_bound(alloc, compiled, &asked.binds, files, out),
+        Mode::Advise => perform(
+            rt,
+            alloc,
+            compiled,
+            Showing::Advice,
+            asked,
+            files,
+            out,
+            gate,
+        ),
     }
 }
 
-/// No name is bound to a file.
-fn no_binds(alloc: Global) -> Binds
-    ensures { result.list ≡ [] }
+/// Words that name no file: no name is bound to one, and there is no snapshot.
+fn without_files(alloc: Global, workers: u32) -> Words
+    ensures workers { result.workers ≡ workers }
+    ensures from { result.from ≡ None }
+    ensures binds { result.binds.list ≡ [] }
 {
-    Binds {
-        list: Items::new(alloc),
+    Words {
+        workers,
+        mode: Mode::Run,
+        file: String::new(alloc),
+        from: None,
+        binds: Binds {
+            list: Items::new(alloc),
+        },
+        number: 0,
     }
 }

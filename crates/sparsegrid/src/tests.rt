@@ -1,6 +1,8 @@
 //! Runs of files over memory, beside what they must write.
 
 mod admissions;
+mod advice;
+mod audits;
 mod checks;
 mod commands;
 mod faults;
@@ -19,6 +21,7 @@ mod recycling;
 mod refusals;
 mod runs;
 mod setting;
+mod snapshots;
 mod syntax;
 mod tokens;
 mod trees;

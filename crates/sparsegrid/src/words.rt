@@ -1,7 +1,7 @@
 //! The words of the command line, and what they ask for.
 
 ghost use Rattle.std.specs.List.{list_all};
-ghost use Rattle.std.specs.Prelude.{◌≡◌, ◌∷◌, ◌≤◌, [], IfOk, IfSome, map, option_map, string_bytes};
+ghost use Rattle.std.specs.Prelude.{◌≡◌, ◌∷◌, ◌≤◌, [], IfOk, IfSome, if◌then◌else◌, map, option_map, string_bytes};
 ghost use Rattle.std.specs.Option.{option_copied};
 ghost use Rattle.sg_session.specs.Bindings.{binding_read};
 ghost use Rattle.sparsegrid.specs.Words as spec;
@@ -12,7 +12,7 @@ ghost use Rattle.sparsegrid.specs.steps.Splitting.{asked_in, parts_of_rows};
 
 use crate::generated::is_gen;
 use crate::number::gen_number;
-use crate::splitting::split;
+use crate::splitting::{has_dash_for_from, split};
 use clap::ArgMatches;
 use sg_ast::Name;
 use sg_lexer::is_name;
@@ -20,22 +20,27 @@ use sg_session::{Bind, Binds};
 use sg_words::{Items, Memory, Stop};
 use std::alloc::Global;
 
-/// What is done: the file is run, its kernels are looked at, or their access code is written; or the generated program is run.
+/// What is done: the file is run, its kernels are looked at, or their access code is written; or the generated program is run; or the file is run
+/// and the image of its last state is written, or which layouts need the fewest words for it; or a journal of the file's containers is audited.
 #[derive(Clone, Copy, Debug, PartialEq, Eq)]
 pub enum Mode {
     Run,
     Check,
     Lower,
     Gen,
+    Save,
+    Audit,
+    Advise,
 }
 
-/// What the words ask for: how many workers (1 to 16), the mode, the file, the files that are bound to names, and the number of the
-/// generated program. In mode gen there is no file and none is bound; in the others the number is 0.
+/// What the words ask for: how many workers (1 to 16), the mode, the file, the snapshot that its commands begin with, the files that are bound to
+/// names, and the number of the generated program. In mode gen there is no file and none is bound; in the others the number is 0.
 #[derive(Debug, Drop)]
 pub struct Words {
     pub workers: u32,
     pub mode: Mode,
     pub file: String,
+    pub from: Option<String>,
     pub binds: Binds,
     pub number: u32,
 }
@@ -130,6 +135,12 @@ fn mode_of(value: Option<&str>) -> Option<Mode>
                 Some(Mode::Lower)
             } else if value == "gen" {
                 Some(Mode::Gen)
+            } else if value == "save" {
+                Some(Mode::Save)
+            } else if value == "audit" {
+                Some(Mode::Audit)
+            } else if value == "advise" {
+                Some(Mode::Advise)
             } else {
                 None
             }
@@ -181,23 +192,84 @@ fn binds_of(alloc: Global, words: &[&str]) -> Result<Items<Bind>, Stop<BadWords>
     Ok(binds)
 }
 
+/// Whether the tasks of a mode may begin with a snapshot.
+fn may_begin(mode: Mode) -> bool
+    ensures { result ≡ spec.may_begin (spec.doing mode) }
+{
+    match mode {
+        Mode::Run => true,
+        Mode::Check => false,
+        Mode::Lower => false,
+        Mode::Gen => false,
+        Mode::Save => true,
+        Mode::Audit => false,
+        Mode::Advise => true,
+    }
+}
+
+/// Whether a snapshot may be given so, if one is.
+fn is_good_from(mode: Mode, from: Option<&str>) -> bool
+    ensures { result ≡ spec.is_good_from mode (option_copied from.entry) }
+{
+    match from {
+        None => true,
+        Some(file) => may_begin(mode) && !file.is_empty(),
+    }
+}
+
+/// A text of its own, if there is one.
+fn owned(alloc: Global, text: Option<&str>) -> Result<Option<String>, Memory>
+    ensures { IfOk result (λ owned. option_map string_bytes owned ≡ option_copied text.entry) }
+{
+    match text {
+        None => Ok(None),
+        Some(text) => Ok(Some(String::from_str(alloc, text)?)),
+    }
+}
+
+/// Whether names are bound as a mode needs.
+fn are_binds_for(mode: Mode, binds: &[Bind]) -> bool
+    ensures { result ≡ spec.are_bindings_for (spec.doing mode) (map binding_read binds.now) }
+{
+    match mode {
+        Mode::Run | Mode::Check | Mode::Lower | Mode::Gen | Mode::Save | Mode::Advise => true,
+        Mode::Audit => bind_journal(binds),
+    }
+}
+
+/// Whether just one name is bound, and it is `journal`.
+fn bind_journal(binds: &[Bind]) -> bool
+    ensures { result ≡ spec.bind_journal (map binding_read binds.now) }
+{
+    match binds {
+        [bind] => bind.name.text.as_slice() == b"journal".as_slice(),
+        _ => false,
+    }
+}
+
 fn file_asked(
     alloc: Global,
     workers: u32,
     mode: Mode,
+    from: Option<&str>,
     file: &str,
     words: &[&str],
 ) -> Result<Words, Stop<BadWords>>
-    ensures asked { AnswersOption spec.asked_by result (spec.file_asked workers mode file.now (map (λ word. word.now) words.now)) }
+    ensures asked { AnswersOption spec.asked_by result (spec.file_asked workers mode (option_copied from.entry) file.now (map (λ word. word.now) words.now)) }
     ensures workers { IfOk result (λ asked. asked.workers ≡ workers) }
 {
     let binds = Binds {
         list: binds_of(alloc, words)?,
     };
+    if !are_binds_for(mode, binds.list.as_slice()) {
+        return Err(Stop::Refused(BadWords));
+    }
+    let from = owned(alloc, from)?;
     Ok(Words {
         workers,
         mode,
         file: String::from_str(alloc, file)?,
+        from,
         binds,
         number: 0,
     })
@@ -219,6 +291,7 @@ fn number_asked(
                 workers,
                 mode,
                 file: String::new(alloc),
+                from: None,
                 binds: Binds {
                     list: Items::new(alloc),
                 },
@@ -230,23 +303,44 @@ fn number_asked(
     }
 }
 
+/// What the first positional word, and those after it, ask for.
+fn first_asked(
+    alloc: Global,
+    workers: u32,
+    mode: Mode,
+    from: Option<&str>,
+    first: &str,
+    words: &[&str],
+) -> Result<Words, Stop<BadWords>>
+    ensures asked { AnswersOption spec.asked_by result
+        (if spec.is_gen mode then spec.number_asked workers mode first.now (map (λ word. word.now) words.now)
+        else spec.file_asked workers mode (option_copied from.entry) first.now (map (λ word. word.now) words.now)) }
+    ensures workers { IfOk result (λ asked. asked.workers ≡ workers) }
+{
+    if is_gen(mode) {
+        number_asked(alloc, workers, mode, first, words)
+    } else {
+        file_asked(alloc, workers, mode, from, first, words)
+    }
+}
+
 fn asked_of(
     alloc: Global,
     workers: u32,
     mode: Mode,
+    from: Option<&str>,
     positionals: &[&str],
 ) -> Result<Words, Stop<BadWords>>
-    ensures asked { AnswersOption spec.asked_by result (spec.asked_of workers mode (map (λ word. word.now) positionals.now)) }
+    ensures asked { AnswersOption spec.asked_by result (spec.asked_of workers mode (option_copied from.entry) (map (λ word. word.now) positionals.now)) }
     ensures workers { IfOk result (λ asked. asked.workers ≡ workers) }
 {
     match positionals {
         [] => Err(Stop::Refused(BadWords)),
         [first, words @ ..] => {
-            if is_gen(mode) {
-                number_asked(alloc, workers, mode, first, words)
-            } else {
-                file_asked(alloc, workers, mode, first, words)
+            if is_good_from(mode, from) {
+                return first_asked(alloc, workers, mode, from, first, words);
             }
+            Err(Stop::Refused(BadWords))
         }
     }
 }
@@ -256,10 +350,11 @@ fn parts_asked(
     alloc: Global,
     workers: Option<&str>,
     mode: Option<&str>,
+    from: Option<&str>,
     positionals: &[&str],
 ) -> Result<Words, Stop<BadWords>>
     ensures asked { AnswersOption spec.asked_by result
-        (asked_in (record { workers = option_copied workers.entry; mode = option_copied mode.entry; positionals = map (λ word. word.now) positionals.now })) }
+        (asked_in (record { workers = option_copied workers.entry; mode = option_copied mode.entry; from = option_copied from.entry; positionals = map (λ word. word.now) positionals.now })) }
     ensures some { IfOk result (λ asked. 1 ≤ asked.workers) }
     ensures few { IfOk result (λ asked. asked.workers ≤ 16) }
 {
@@ -272,7 +367,7 @@ fn parts_asked(
     let Some(mode) = mode_of(mode) else {
         return Err(Stop::Refused(BadWords));
     };
-    asked_of(alloc, workers, mode, positionals)
+    asked_of(alloc, workers, mode, from, positionals)
 }
 
 /// What the matches of the command line ask for.
@@ -285,6 +380,7 @@ fn matches_asked(alloc: Global, matches: &ArgMatches) -> Result<Words, Stop<BadW
         alloc,
         matches.get_str("workers"),
         matches.get_str("mode"),
+        matches.get_str("from"),
         matches.get_raw("positionals").unwrap_or(&[]),
     )
 }
@@ -295,6 +391,9 @@ pub fn read_words(alloc: Global, words: &[String]) -> Result<Words, Stop<BadWord
     ensures some { IfOk result (λ asked. 1 ≤ asked.workers) }
     ensures few { IfOk result (λ asked. asked.workers ≤ 16) }
 {
+    if has_dash_for_from(words) {
+        return Err(Stop::Refused(BadWords));
+    }
     match split(alloc, words) {
         Ok(matches) => matches_asked(alloc, &matches),
         Err(stop) => Err(stop),

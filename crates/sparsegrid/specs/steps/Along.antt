@@ -19,6 +19,7 @@ use Rattle.sparsegrid.specs.declared.output.PutFailed.{PutFailed}
 use Rattle.sparsegrid.specs.declared.session.Done.{Done}
 use Rattle.sparsegrid.specs.declared.last_line.LastLine.{LastLine}
 use Rattle.sparsegrid.specs.Moves.{Move, pieces_of, names_in}
+use Rattle.sparsegrid.specs.Telling.{Telling}
 use Rattle.sparsegrid.specs.Meaning.{Meaning, Readings, moves_of, after_moves, meaning_of_tasks}
 use Rattle.sparsegrid.specs.Outcome.{Output, StaysWritten, Outside, Made, IsFront, HasSession, StandsForLast, told_more, code_in}
 
@@ -159,9 +160,10 @@ pub record Went (m : Readings → Meaning) (earlier : ℕ) (before after : Outsi
 
 -- ---- performed tasks
 
--- tasks were performed from a state on up to these that are left: `made` are the reads, `did` are the moves, and the stores stand for the state
--- that is reached
-pub record Came (program : CheckedProgram) (bindings : List Binding) (start : FlatState) (tasks rest : List Task) (stores : List StoreWords) (before now : Outside) : Type 0 where
+-- so many tasks were performed, from a state on and after so many reads, up to these that are left: `made` are the reads, `did` are the moves, and
+-- the stores stand for the state that is reached
+pub record Came (program : CheckedProgram) (bindings : List Binding) (telling : Telling) (earlier : ℕ) (start : FlatState) (tasks : List Task)
+    (number : ℕ) (rest : List Task) (stores : List StoreWords) (before now : Outside) : Type 0 where
   pub made : List ReadMade
   pub did : List Move
   pub state : FlatState
@@ -170,8 +172,9 @@ pub record Came (program : CheckedProgram) (bindings : List Binding) (start : Fl
   pub grew : Made did [] before now
   pub held : now.held ≡ before.held
   pub none : NoneFailed before now made
-  pub is : (readings : Readings) → Agree readings 1 made
-      → meaning_of_tasks program bindings readings 1 start tasks ≡ after_moves did (meaning_of_tasks program bindings readings (length made + 1) state rest)
+  pub is : (readings : Readings) → Agree readings earlier made
+      → meaning_of_tasks program bindings telling readings 0 earlier start tasks
+      ≡ after_moves did (meaning_of_tasks program bindings telling readings number (length made + earlier) state rest)
 
 -- how a run that came to its end ended: not by a failed put or running out of memory, and with a session exactly when its status leaves one
 abbrev pub IsEnd : Done → Type 0

@@ -268,6 +268,17 @@ pub(crate) fn repeated(alloc: Global, piece: &str, count: u32) -> Result<String,
     Ok(text)
 }
 
+/// One file beside `p.sg`.
+pub(crate) fn beside<'a>(
+    alloc: Global,
+    name: &'a str,
+    text: &'a str,
+) -> Result<Vec<(&'a str, &'a str)>, AllocError> {
+    let mut files = Vec::new(alloc);
+    files.push((name, text))?;
+    Ok(files)
+}
+
 /// The program that a text spells, as it is printed, or why it spells none.
 pub(crate) fn program_of(alloc: Global, text: &str) -> Result<String, Fail> {
     if 65_536 < text.len() {

@@ -1,21 +1,33 @@
-use Rattle.std.proofs.Common.{◌+◌, drop, ap, ◌∙◌, refl, subst, sym, arith, map, List, ℕ, Err, Ok}
+use Rattle.std.proofs.Common.{◌+◌, suc, drop, ap, ◌∙◌, refl, subst, sym, arith, map, List, ℕ, Err, Ok}
 use Rattle.std.proofs.lemmas.List.{drop_all}
 use Rattle.sg_words.specs.declared.memory.Stop.TheVariants as stop
 use Rattle.sg_layout.specs.declared.shape.Shape.{Shape}
 use Rattle.sg_exec.specs.Standing.{StandForState}
-use Rattle.sg_session.specs.Compiled.{CompiledProgram, Compiles, IsTask}
+use Rattle.sg_flat.specs.declared.state.FlatState.{FlatState}
+use Rattle.sg_store.specs.StoreWords.{StoreWords}
+use Rattle.sg_names.specs.Tables.{Tables}
+use Rattle.sg_session.specs.declared.binds.Bind.{Bind}
+use Rattle.sg_session.specs.declared.tasks.Task.{Task}
+use Rattle.sg_session.specs.Compiled.{CheckedProgram, CompiledProgram, Compiles, IsTask}
 use Rattle.sg_session.specs.Bindings.{binding_read}
 use Rattle.sg_session.specs.Performed.{SessionParts, HasFile}
-use Rattle.sparsegrid.specs.Outcome.{output_of, outside_of}
-use Rattle.sparsegrid.specs.steps.Along.{PutsText, Sends}
+use Rattle.sparsegrid.specs.Telling.{Telling, telling_of}
+use Rattle.sparsegrid.specs.Outcome.{Outside, output_of, outside_of}
+use Rattle.sparsegrid.specs.steps.Along.{Came, PutsText, Sends}
 use Rattle.sparsegrid.proofs.Bound.{split_at}
 use Rattle.sparsegrid.proofs.Going.{stays_same}
 use Rattle.sparsegrid.proofs.Tasks.{came_start, came_next, went_all, cut_in_send, cut_in_step, ended_in_task, stepped, has_head, tail_of, line_of, line_status_of}
 use Rattle.sparsegrid.proofs.drive.drive.Goals as goal
 
+-- one more task was performed
+counted : (program : CheckedProgram) (binds : List Bind) (telling : Telling) (earlier : ℕ) (start : FlatState) (tasks : List Task) (number : ℕ) (rest : List Task) (stores : List StoreWords) (before now : Outside)
+    → Came program (map binding_read binds) telling earlier start tasks (suc number) rest stores before now → Came program (map binding_read binds) telling earlier start tasks (number + 1) rest stores before now
+counted program binds telling earlier start tasks number rest stores before now came =
+    subst (λ (n : ℕ). Came program (map binding_read binds) telling earlier start tasks n rest stores before now) (omega arith) came
+
 pub loop-task-init : goal.loop-task-init
 loop-task-init g c = record {
-  came = λ program compiles start stand. came_start program c.args.binds.now.list start c.args.tasks.now c.args.session.now.stores _ (subst (λ (ls : List Shape). StandForState ls c.args.session.now.stores start) compiles.layouts stand);
+  came = λ program compiles earlier start stand. came_start program c.args.asked.now.binds.list (telling_of program.names program.layouts c.args.what) earlier start c.args.tasks.now c.args.session.now.stores _ (subst (λ (ls : List Shape). StandForState ls c.args.session.now.stores start) compiles.layouts stand);
   compiled = refl;
   there = c.requires.there;
   bound = c.requires.bound;
@@ -27,20 +39,22 @@ loop-task-init g c = record {
 pub loop-task-preserved : goal.loop-task-preserved
 loop-task-preserved g c =
     let compiled = c.args.session.now.compiled in
-    let binds = c.args.binds.now.list in
+    let binds = c.args.asked.now.binds.list in
     let tasks = c.args.tasks.now in
     let i = c.loop-task.task-index in
     let split = split_at tasks i _ c.loop-task-test.true in
     record {
-      came = λ program compiles start stand. let came = c.loop-task.invariant.came program compiles start stand in
+      came = λ program compiles earlier start stand. let came = c.loop-task.invariant.came program compiles earlier start stand in
           let here = subst (Compiles program) (sym c.loop-task.invariant.compiled) compiles in
-          came_next program binds start tasks (drop i tasks) (drop (i + 1) tasks) _ c.loop-task.session.stores c.step.new.self.stores c.in-Ok.text _ _
+          counted program binds (telling_of program.names program.layouts c.args.what) earlier start tasks i (drop (i + 1) tasks) c.step.new.self.stores _ _
+          (came_next program binds (telling_of program.names program.layouts c.args.what) earlier start tasks i (drop i tasks) (drop (i + 1) tasks) _ c.loop-task.session.stores c.step.new.self.stores c.in-Ok.text _ _
           (outside_of g.F.Files g.S.Sink c.step.new.files c.loop-task.out) _ split came
           (stepped program c.loop-task.session.compiled binds came.state _ c.loop-task.session.stores c.step.new.self.stores (Ok c.in-Ok.text) _ _ here came.stand
           (has_head program compiled binds (drop i tasks) (drop (i + 1) tasks) _ compiles split c.loop-task.invariant.bound)
           c.in-Ok.ensures.told c.in-Ok.ensures.performed c.in-Ok.ensures.asked c.in-Ok.ensures.reads c.in-Ok.ensures.cause c.in-Ok.ensures.holds)
           (stays_same (output_of g.S.Sink c.loop-task.out))
-          (subst (λ (text : List ℕ). PutsText (output_of g.S.Sink c.loop-task.out) (output_of g.S.Sink c.send.new.out) text) c.as_slice.ensures c.in-Ok-send.ensures.sends) refl refl refl refl;
+          (subst (λ (text : List ℕ). PutsText (output_of g.S.Sink c.loop-task.out) (output_of g.S.Sink c.send.new.out) text)
+          (c.told_of.ensures program.names program.layouts i ∙ ap ((telling_of program.names program.layouts c.args.what).each i) c.as_slice.ensures) c.in-Ok-send.ensures.sends) refl refl refl refl);
       compiled = c.step.ensures.compiled ∙ c.loop-task.invariant.compiled;
       there = tail_of (IsTask compiled) (drop i tasks) (drop (i + 1) tasks) _ split c.loop-task.invariant.there;
       bound = tail_of (HasFile compiled.names (map binding_read binds)) (drop i tasks) (drop (i + 1) tasks) _ split c.loop-task.invariant.bound;
@@ -50,30 +64,31 @@ loop-task-preserved g c =
     }
 
 pub returns-in-Err-clause-went : goal.returns-in-Err-clause-went
-returns-in-Err-clause-went g c = λ program compiles start stand.
+returns-in-Err-clause-went g c = λ program compiles earlier start stand.
     let compiled = c.args.session.now.compiled in
-    let binds = c.args.binds.now.list in
+    let binds = c.args.asked.now.binds.list in
     let tasks = c.args.tasks.now in
     let i = c.loop-task.task-index in
     let split = split_at tasks i _ c.loop-task-test.true in
-    let came = c.loop-task.invariant.came program compiles start stand in
+    let came = c.loop-task.invariant.came program compiles earlier start stand in
     let here = subst (Compiles program) (sym c.loop-task.invariant.compiled) compiles in
-    cut_in_send program binds start tasks (drop i tasks) (drop (i + 1) tasks) _ c.loop-task.session.stores c.step.new.self.stores c.in-Ok.text _ _
+    cut_in_send program binds (telling_of program.names program.layouts c.args.what) earlier start tasks i (drop i tasks) (drop (i + 1) tasks) _ c.loop-task.session.stores c.step.new.self.stores c.in-Ok.text _ _
     (outside_of g.F.Files g.S.Sink c.step.new.files c.loop-task.out) _ c.in-Err.why split came
     (stepped program c.loop-task.session.compiled binds came.state _ c.loop-task.session.stores c.step.new.self.stores (Ok c.in-Ok.text) _ _ here came.stand
     (has_head program compiled binds (drop i tasks) (drop (i + 1) tasks) _ compiles split c.loop-task.invariant.bound)
     c.in-Ok.ensures.told c.in-Ok.ensures.performed c.in-Ok.ensures.asked c.in-Ok.ensures.reads c.in-Ok.ensures.cause c.in-Ok.ensures.holds)
     (stays_same (output_of g.S.Sink c.loop-task.out))
-    (subst (λ (text : List ℕ). Sends {A = Unit} (Err c.in-Err.why) (output_of g.S.Sink c.loop-task.out) (output_of g.S.Sink c.send.new.out) text) c.as_slice.ensures c.in-Err.ensures.sends) refl refl refl
+    (subst (λ (text : List ℕ). Sends {A = Unit} (Err c.in-Err.why) (output_of g.S.Sink c.loop-task.out) (output_of g.S.Sink c.send.new.out) text)
+    (c.told_of.ensures program.names program.layouts i ∙ ap ((telling_of program.names program.layouts c.args.what).each i) c.as_slice.ensures) c.in-Err.ensures.sends) refl refl refl
 
 pub returns-in-Err-Refused-clause-went : goal.returns-in-Err-Refused-clause-went
-returns-in-Err-Refused-clause-went g c = λ program compiles start stand.
+returns-in-Err-Refused-clause-went g c = λ program compiles earlier start stand.
     let compiled = c.args.session.now.compiled in
-    let binds = c.args.binds.now.list in
+    let binds = c.args.asked.now.binds.list in
     let tasks = c.args.tasks.now in
     let i = c.loop-task.task-index in
     let split = split_at tasks i _ c.loop-task-test.true in
-    let came = c.loop-task.invariant.came program compiles start stand in
+    let came = c.loop-task.invariant.came program compiles earlier start stand in
     let here = subst (Compiles program) (sym c.loop-task.invariant.compiled) compiles in
     let same = c.step.ensures.compiled ∙ c.loop-task.invariant.compiled in
     let inside = ap (λ (s : SessionParts). s.compiled.names) c.session.view_is ∙ (ap (λ (p : CompiledProgram). p.names) same ∙ compiles.names) in
@@ -82,7 +97,7 @@ returns-in-Err-Refused-clause-went g c = λ program compiles start stand.
     let cause = rw c.in-Err-Refused.field-0-is at c.in-Err-Refused.ensures.cause in
     let sends = rw c.in-Err-Refused.field-0-is at c.refuse_task.ensures.sends in
     let status = rw c.in-Err-Refused.field-0-is at c.refuse_task.ensures.status in
-    ended_in_task program binds start tasks (drop i tasks) (drop (i + 1) tasks) _ c.loop-task.session.stores c.step.new.self _ _
+    ended_in_task program binds (telling_of program.names program.layouts c.args.what) earlier start tasks i (drop i tasks) (drop (i + 1) tasks) _ c.loop-task.session.stores c.step.new.self _ _
     (outside_of g.F.Files g.S.Sink c.step.new.files c.loop-task.out) _ c.in-Err-Refused.refusal c.refuse_task.result split (subst (Compiles program) (sym same) compiles) came
     (stepped program c.loop-task.session.compiled binds came.state _ c.loop-task.session.stores c.step.new.self.stores (Err (stop.Refused c.in-Err-Refused.refusal)) _ _ here came.stand
     (has_head program compiled binds (drop i tasks) (drop (i + 1) tasks) _ compiles split c.loop-task.invariant.bound)
@@ -92,23 +107,30 @@ returns-in-Err-Refused-clause-went g c = λ program compiles start stand.
     (line_status_of program.names c.session.inside.compiled.names binds _ c.in-Err-Refused.refusal c.refuse_task.result inside status) refl refl refl
 
 pub returns-in-Err-Memory-clause-went : goal.returns-in-Err-Memory-clause-went
-returns-in-Err-Memory-clause-went g c = λ program compiles start stand.
+returns-in-Err-Memory-clause-went g c = λ program compiles earlier start stand.
     let compiled = c.args.session.now.compiled in
-    let binds = c.args.binds.now.list in
+    let binds = c.args.asked.now.binds.list in
     let tasks = c.args.tasks.now in
     let i = c.loop-task.task-index in
     let split = split_at tasks i _ c.loop-task-test.true in
-    let came = c.loop-task.invariant.came program compiles start stand in
+    let came = c.loop-task.invariant.came program compiles earlier start stand in
     let here = subst (Compiles program) (sym c.loop-task.invariant.compiled) compiles in
     let told = rw c.in-Err-Memory.field-0-is at c.in-Err-Memory.ensures.told in
     let performed = rw c.in-Err-Memory.field-0-is at c.in-Err-Memory.ensures.performed in
     let cause = rw c.in-Err-Memory.field-0-is at c.in-Err-Memory.ensures.cause in
-    cut_in_step program binds start tasks (drop i tasks) (drop (i + 1) tasks) _ c.loop-task.session.stores c.step.new.self.stores _ _ _ split came
+    cut_in_step program binds (telling_of program.names program.layouts c.args.what) earlier start tasks i (drop i tasks) (drop (i + 1) tasks) _ c.loop-task.session.stores c.step.new.self.stores _ _ _ split came
     (stepped program c.loop-task.session.compiled binds came.state _ c.loop-task.session.stores c.step.new.self.stores (Err stop.Memory) _ _ here came.stand
     (has_head program compiled binds (drop i tasks) (drop (i + 1) tasks) _ compiles split c.loop-task.invariant.bound)
     told performed c.in-Err-Memory.ensures.asked c.in-Err-Memory.ensures.reads cause c.in-Err-Memory.ensures.holds) (stays_same (output_of g.S.Sink c.loop-task.out))
 
 pub returns-clause-went : goal.returns-clause-went
-returns-clause-went g c = λ program compiles start stand.
-    went_all program c.args.binds.now.list start c.args.tasks.now (drop c.loop-task.task-index c.args.tasks.now) _ _ c.loop-task.session
-    (drop_all c.loop-task.task-index c.args.tasks.now (omega arith)) (subst (Compiles program) (sym c.loop-task.invariant.compiled) compiles) (c.loop-task.invariant.came program compiles start stand)
+returns-clause-went g c = λ program compiles earlier start stand.
+    let came = c.loop-task.invariant.came program compiles earlier start stand in
+    let here = subst (Compiles program) (sym c.loop-task.invariant.compiled) compiles in
+    went_all program c.args.asked.now.binds.list (telling_of program.names program.layouts c.args.what) earlier start c.args.tasks.now c.loop-task.task-index (drop c.loop-task.task-index c.args.tasks.now) _
+    (outside_of g.F.Files g.S.Sink c.loop-task.files c.loop-task.out) _ c.loop-task.session c.end.result
+    (drop_all c.loop-task.task-index c.args.tasks.now (omega arith)) here came
+    (subst (λ (shapes : List Shape). Sends c.end.result (output_of g.S.Sink c.loop-task.out) (output_of g.S.Sink c.end.new.out) ((telling_of program.names shapes c.args.what).ending came.state)) here.layouts
+    (subst (λ (names : Tables). Sends c.end.result (output_of g.S.Sink c.loop-task.out) (output_of g.S.Sink c.end.new.out) ((telling_of names c.loop-task.session.compiled.layouts c.args.what).ending came.state)) here.names
+    (c.end.ensures.sends came.state (subst (λ (shapes : List Shape). StandForState shapes c.loop-task.session.stores came.state) (sym here.layouts) came.stand))))
+    c.end.ensures.status refl refl refl

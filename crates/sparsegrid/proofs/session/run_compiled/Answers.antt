@@ -1,4 +1,7 @@
-use Rattle.std.proofs.Common.{[], refl}
+use Rattle.std.proofs.Common.{[], Option, refl, ap, string_bytes}
+use Rattle.std.specs.Prelude.{option_map}
+use Rattle.sparsegrid.specs.declared.showing.Showing.TheVariants.{Texts}
+use Rattle.sparsegrid.specs.Telling.{telling_of}
 use Rattle.sg_session.specs.Texts.{check_text}
 use Rattle.sparsegrid.proofs.Sources.{went_opened, check_named, went_unbound}
 use Rattle.sparsegrid.proofs.session.run_compiled.Goals as goal
@@ -14,4 +17,7 @@ returns-in-Lower-clause-went g c = λ program compiles.
     refl c.leave_open.ensures.sends c.leave_open.ensures.program c.leave_open.ensures.opened c.leave_open.ensures.status refl refl refl)
 
 pub returns-in-Gen-clause-went : goal.returns-in-Gen-clause-went
-returns-in-Gen-clause-went g c = λ program compiles. rw c.in-Gen.is (went_unbound program _ _ _ c.perform-in-Gen.result c.no_binds-binds.ensures (c.perform-in-Gen.ensures.went program compiles))
+returns-in-Gen-clause-went g c = λ program compiles. rw c.in-Gen.is (went_unbound program (telling_of program.names program.layouts Texts) _ _ _ _ c.perform-in-Gen.result (ap (λ (f : Option _). option_map string_bytes f) c.without_files-bare.ensures.from) c.without_files-bare.ensures.binds (c.perform-in-Gen.ensures.went program compiles))
+
+pub returns-in-Audit-clause-went : goal.returns-in-Audit-clause-went
+returns-in-Audit-clause-went g c = λ program compiles. rw c.in-Audit.is (c.audit_bound.ensures.went program compiles)

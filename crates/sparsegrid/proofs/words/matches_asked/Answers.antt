@@ -11,7 +11,7 @@ slice_bounds-unwrap_or-end c = refl
 pub returns-clause-asked : goal.returns-clause-asked
 returns-clause-asked c =
     subst (AnswersOption spec.asked_by c.parts_asked.result)
-    (parts_read (found_of c.args.matches.now) c.get_str.result c.get_str-2.result c.get_raw.result _ c.unwrap_or.result c.get_str.ensures c.get_str-2.ensures c.get_raw.ensures c.unwrap_or.ensures refl)
+    (parts_read (found_of c.args.matches.now) c.get_str.result c.get_str-2.result c.get_str-3.result c.get_raw.result _ c.unwrap_or.result c.get_str.ensures c.get_str-2.ensures c.get_str-3.ensures c.get_raw.ensures c.unwrap_or.ensures refl)
     c.parts_asked.ensures.asked
 
 pub returns-clause-some : goal.returns-clause-some
