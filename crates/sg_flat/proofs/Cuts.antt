@@ -1,5 +1,5 @@
 -- An axis cut into runs of one length, and a box cut into blocks.
-use Rattle.std.proofs.Common.{◌≡◌, ℕ, ◌+◌, ◌*◌, ◌/◌, ◌%◌, ◌<◌, ◌≤◌, pos, sym, ap, ◌∙◌, arith}
+use Rattle.std.proofs.Common.{◌≡◌, ℕ, ◌+◌, ◌*◌, ◌/◌, ◌%◌, ◌<◌, ◌≤◌, pos, sym, ap, ◌∙◌, subst, arith}
 use Rattle.std.proofs.lemmas.Int.{ints}
 use Rattle.std.proofs.lemmas.Nat.{mul-add-lt, div-mul-add, mod-mul-add, div_below, mod_below}
 use Rattle.sg_coord.specs.declared.coord.Coord.{Coord}
@@ -70,6 +70,18 @@ corner_inside all block at cut inside =
       c_low = omega (arith, ints);
       c_high = omega (arith, ints);
     }
+
+-- what has the parts of a corner, by their quotients, is inside
+abbrev coord : ℕ → ℕ → ℕ → ℕ → Coord
+coord n a b c = record { n = n; a = pos a; b = pos b; c = pos c }
+
+pub corner_by_quotients : (all block : Bounds) (at point : Coord) (a b c : ℕ) → IsCut all block → Inside all at → a ≡ count_of at.a / block.a → b ≡ count_of at.b / block.b → c ≡ count_of at.c / block.c → point ≡ record { n = at.n; a = pos (a * block.a); b = pos (b * block.b); c = pos (c * block.c) } → Inside all point
+corner_by_quotients all block at point a b c cut inside a_is b_is c_is is =
+    let whole : point ≡ corner block at = is
+    ∙ ap (λ (x : ℕ). coord at.n (x * block.a) (b * block.b) (c * block.c)) a_is
+    ∙ ap (λ (x : ℕ). coord at.n (count_of at.a / block.a * block.a) (x * block.b) (c * block.c)) b_is
+    ∙ ap (λ (x : ℕ). coord at.n (count_of at.a / block.a * block.a) (count_of at.b / block.b * block.b) (x * block.c)) c_is in
+    subst (λ (x : Coord). Inside all x) (sym whole) (corner_inside all block at cut inside)
 
 pub within_inside : (all block : Bounds) (at : Coord) → IsCut all block → Inside all at → Inside block (within block at)
 within_inside all block at cut inside =

@@ -1,4 +1,4 @@
-ghost use Rattle.std.specs.Prelude.{◌<◌, ◌≤◌, ◌↔◌, All, IsTrue};
+ghost use Rattle.std.specs.Prelude.{◌<◌, ◌≤◌, ◌↔◌, All, Contains, IsTrue};
 ghost use Rattle.std.specs.List.Sorted.{IsStrictlyIncreasing};
 ghost use Rattle.sg_coord.specs.Bounds.{volume};
 ghost use Rattle.sg_coord.specs.Coord.{Inside};
@@ -35,16 +35,18 @@ impl Blocks {
         requires below { All (λ row. row < volume (all_of self.now)) rows.now }
         ensures { IsTrue result ↔ All (HasNeighbours self.now rows.now) rows.now }
     {
-        for row in rows {
-            if !self.has_neighbours(rows, *row) {
+        for (index, row) in rows.iter().enumerate() {
+            let missing = (*row as usize).wrapping_sub(index);
+            if !self.has_neighbours(rows, *row, missing) {
                 return false;
             }
         }
         true
     }
 
-    /// Whether the points before and behind a point in its block are there, as far as it makes them live.
-    fn has_neighbours(&self, rows: &[u32], row: u32) -> bool
+    /// Whether the points before and behind a point in its block are there, as far as it makes them live; soonest where so many rows below
+    /// its own are missing.
+    fn has_neighbours(&self, rows: &[u32], row: u32, missing: usize) -> bool
         requires rising { IsStrictlyIncreasing rows.now }
         requires below { All (λ row. row < volume (all_of self.now)) rows.now }
         requires inside { row < volume (all_of self.now) }
@@ -53,14 +55,14 @@ impl Blocks {
         let at = coord_at(&self.extents, row);
         let place = self.place(at);
         let reach = self.reach(at);
-        if !self.has_before(rows, at, place) {
+        if !self.has_before(rows, missing, at, place) {
             return false;
         }
-        self.has_behind(rows, at, place, reach)
+        self.has_behind(rows, missing, at, place, reach)
     }
 
     /// Whether the point before a place in the block of a coordinate is there, if there is one.
-    fn has_before(&self, rows: &[u32], at: Coord, place: u32) -> bool
+    fn has_before(&self, rows: &[u32], missing: usize, at: Coord, place: u32) -> bool
         requires rising { IsStrictlyIncreasing rows.now }
         requires below { All (λ row. row < volume (all_of self.now)) rows.now }
         requires inside { Inside (all_of self.now) at }
@@ -70,11 +72,11 @@ impl Blocks {
         if place == 0 {
             return true;
         }
-        self.has_place(rows, at, place - 1)
+        self.has_place(rows, missing, at, place - 1)
     }
 
     /// Whether the point behind a place in the block of a coordinate is there, if it is below so many.
-    fn has_behind(&self, rows: &[u32], at: Coord, place: u32, reach: u32) -> bool
+    fn has_behind(&self, rows: &[u32], missing: usize, at: Coord, place: u32, reach: u32) -> bool
         requires rising { IsStrictlyIncreasing rows.now }
         requires below { All (λ row. row < volume (all_of self.now)) rows.now }
         requires inside { Inside (all_of self.now) at }
@@ -86,11 +88,11 @@ impl Blocks {
         if next >= reach {
             return true;
         }
-        self.has_place(rows, at, next)
+        self.has_place(rows, missing, at, next)
     }
 
     /// Whether the point with this place in the block of a coordinate is there.
-    fn has_place(&self, rows: &[u32], at: Coord, place: u32) -> bool
+    fn has_place(&self, rows: &[u32], missing: usize, at: Coord, place: u32) -> bool
         requires rising { IsStrictlyIncreasing rows.now }
         requires below { All (λ row. row < volume (all_of self.now)) rows.now }
         requires inside { Inside (all_of self.now) at }
@@ -99,7 +101,18 @@ impl Blocks {
     {
         // for the laws that it ensures
         numbering(&self.extents);
-        let row = self.row_at(at, place);
-        rows.binary_search(&row).is_ok()
+        is_there(rows, missing, self.row_at(at, place))
     }
+}
+
+/// Whether a row is one of these, which rise. It is looked for first where it stands if so many rows below it are missing.
+fn is_there(rows: &[u32], missing: usize, row: u32) -> bool
+    requires rising { IsStrictlyIncreasing rows.now }
+    ensures { IsTrue result ↔ Contains rows.now row }
+{
+    let near = (row as usize).wrapping_sub(missing);
+    if near < rows.len() && rows[near] == row {
+        return true;
+    }
+    rows.binary_search(&row).is_ok()
 }

@@ -7,7 +7,7 @@ ghost use Rattle.sg_layout.specs.Rules.{is_extent};
 ghost use Rattle.sg_flat.specs.steps.Blocks.{bounds_over, nodes_above, is_whole, corner, within, all_of, each_of, number_in, row_in_blocks, reach_in, point_in};
 
 use crate::blocks::Blocks;
-use sg_coord::{Coord, Extents, coord_at, coord_of, count, row};
+use sg_coord::{Coord, Extents, coord_at, coord_of, count, quotient, remainder, row};
 use sg_layout::{Kind, Layout, NodeShape, extent_in};
 
 impl Blocks {
@@ -40,9 +40,9 @@ impl Blocks {
     {
         coord_of(
             at.n,
-            count(at.a) / self.block.a * self.block.a,
-            count(at.b) / self.block.b * self.block.b,
-            count(at.c) / self.block.c * self.block.c,
+            quotient(count(at.a), self.block.a) * self.block.a,
+            quotient(count(at.b), self.block.b) * self.block.b,
+            quotient(count(at.c), self.block.c) * self.block.c,
         )
     }
 
@@ -54,9 +54,9 @@ impl Blocks {
     {
         coord_of(
             at.n,
-            count(at.a) % self.block.a,
-            count(at.b) % self.block.b,
-            count(at.c) % self.block.c,
+            remainder(count(at.a), self.block.a),
+            remainder(count(at.b), self.block.b),
+            remainder(count(at.c), self.block.c),
         )
     }
 

@@ -13,3 +13,4 @@ pub mod Fillings
 pub mod Writings
 pub mod States
 pub mod Backs
+pub mod Askings

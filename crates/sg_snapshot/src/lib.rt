@@ -1,6 +1,7 @@
 //! Snapshots: the image of a flat state in bytes, and stores made from one.
 #![tactic(auto)]
 
+mod asking;
 pub mod fault;
 mod filling;
 pub mod laws;

@@ -14,16 +14,36 @@ ghost use Rattle.sg_snapshot.specs.Numbers.{number_bytes, bytes_of};
 ghost use Rattle.sg_snapshot.specs.Parts.{part_numbers};
 ghost use Rattle.sg_snapshot.specs.Image.{part_of};
 
+use crate::asking::push_asked;
 use crate::narrow::narrow;
 use sg_coord::{Coord, Extents, inside, row};
-use sg_elements::elements;
+use sg_elements::{active_count, elements};
 use sg_layout::closure_members;
 use sg_store::Store;
 use sg_words::{Items, Memory};
 use std::alloc::Global;
 
-/// Adds the bytes of the part of a store.
+/// Of more points than these less than half are active, as a store has at most 2^22 cells.
+const MOST_ASKED: u32 = 8_388_608;
+
+/// Adds the bytes of the part of a store. Where at least half of its points are active, each is asked for; else the active ones are listed.
 pub(crate) fn push_part(alloc: Global, bytes: &mut Vec<u8>, store: &Store) -> Result<(), Memory>
+    ensures { OnOk result ((flat : FlatLayout) → StandsFor store.now flat →
+        bytes.new.items ≡ bytes.old.items ++ bytes_of (part_numbers (part_of store.now.shape flat))) }
+{
+    let volume = store.layout().extents().volume();
+    if MOST_ASKED < volume {
+        return push_listed(alloc, bytes, store);
+    }
+    let many = active_count(alloc, store)?;
+    if many < (volume / 2) as usize {
+        return push_listed(alloc, bytes, store);
+    }
+    push_asked(alloc, bytes, store, many)
+}
+
+/// The same, by a list of the active coordinates.
+fn push_listed(alloc: Global, bytes: &mut Vec<u8>, store: &Store) -> Result<(), Memory>
     ensures { OnOk result ((flat : FlatLayout) → StandsFor store.now flat →
         bytes.new.items ≡ bytes.old.items ++ bytes_of (part_numbers (part_of store.now.shape flat))) }
 {
@@ -105,7 +125,7 @@ fn push_cell(cells: &mut Vec<u32>, store: &Store, at: Coord) -> Result<(), Memor
 }
 
 /// Adds the bytes of the words that each field has in cells.
-fn push_fields(bytes: &mut Vec<u8>, store: &Store, cells: &[u32]) -> Result<(), Memory>
+pub(crate) fn push_fields(bytes: &mut Vec<u8>, store: &Store, cells: &[u32]) -> Result<(), Memory>
     requires { All (IsReached store.now) cells.now }
     ensures { OnOk result (bytes.new.items ≡ bytes.old.items
         ++ bytes_of (concat (map (λ place. map (word_in store.now place) cells.now) (range_with_len 0 (length store.now.shape.fields))))) }

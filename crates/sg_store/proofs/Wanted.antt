@@ -24,7 +24,7 @@ use Rattle.sg_store.specs.Slots.{is_set, place_below}
 use Rattle.sg_store.specs.Walks.{slot_number_in, is_on}
 use Rattle.sg_store.specs.WellFormed.{IsNode, AreNodes, is_root}
 use Rattle.sg_store.specs.Reaching.{IsOpenThrough}
-use Rattle.sg_store.specs.steps.AtNode.{AtNodeOf, AreNumbers}
+use Rattle.sg_store.specs.steps.AtNode.{AtNodeOf, AreNumbers, HaveSame}
 use Rattle.std.specs.List.{Contains}
 use Rattle.sg_layout.specs.Path.{offsets}
 use Rattle.sg_layout.specs.Live.{is_at_or_below}
@@ -221,8 +221,25 @@ numbers_push store i coords slots at q is some = record {
 }
 
 -- the same, where the coordinate is the next of a list
-pub numbers_next : (store : StoreWords) (i k : ℕ) (wanted : List Coord) (slots now : List ℕ) (d : Coord) (result : Option ℕ) → k < length wanted → result ≡ slot_number_in store.shape.nodes store.nodes 0 (path store.shape (get_or wanted k d) (suc i)) → AreNumbers store i (take k wanted) slots → ((q : ℕ) → result ≡ Some q → now ≡ slots ++ q ∷ []) → (result ≡ None → now ≡ slots) → AreNumbers store i (take (k + 1) wanted) now
+-- a list has the same in it after one more of what it has
+pub has_again : (slots : List ℕ) (k slot d : ℕ) → k < length slots → get_or slots k slot ≡ slot → HaveSame slots (slots ++ slot ∷ [])
+has_again slots k slot d below is number = (
+  λ has. Contains-append_left slots (slot ∷ []) number has,
+  λ has. elim (Contains-push_cases slots slot number has) [
+    | inl old ↦ old
+    | inr same ↦ subst (λ n. Contains slots n) same (k, below, is)
+  ],
+)
+
+-- they are the numbers of a list that has the same in it
+numbers_same : (store : StoreWords) (i : ℕ) (coords : List Coord) (slots now : List ℕ) → AreNumbers store i coords slots → HaveSame now slots → AreNumbers store i coords now
+numbers_same store i coords slots now is same = record {
+  of_wanted = λ number has. is.of_wanted number ((same number).0 has);
+  all = λ at has number e. (same number).1 (is.all at has number e);
+}
+
+pub numbers_next : (store : StoreWords) (i k : ℕ) (wanted : List Coord) (slots now : List ℕ) (d : Coord) (result : Option ℕ) → k < length wanted → result ≡ slot_number_in store.shape.nodes store.nodes 0 (path store.shape (get_or wanted k d) (suc i)) → AreNumbers store i (take k wanted) slots → ((q : ℕ) → result ≡ Some q → HaveSame now (slots ++ q ∷ [])) → (result ≡ None → now ≡ slots) → AreNumbers store i (take (k + 1) wanted) now
 numbers_next store i k wanted slots now d None below is so_far some none =
     subst (λ l. AreNumbers store i l now) (sym (take_more wanted k d below)) (subst (λ l. AreNumbers store i (take k wanted ++ get_or wanted k d ∷ []) l) (sym (none refl)) (numbers_skip store i (take k wanted) slots (get_or wanted k d) so_far (sym is)))
 numbers_next store i k wanted slots now d (Some q) below is so_far some none =
-    subst (λ l. AreNumbers store i l now) (sym (take_more wanted k d below)) (subst (λ l. AreNumbers store i (take k wanted ++ get_or wanted k d ∷ []) l) (sym (some q refl)) (numbers_push store i (take k wanted) slots (get_or wanted k d) q so_far (sym is)))
+    subst (λ l. AreNumbers store i l now) (sym (take_more wanted k d below)) (numbers_same store i (take k wanted ++ get_or wanted k d ∷ []) (slots ++ q ∷ []) now (numbers_push store i (take k wanted) slots (get_or wanted k d) q so_far (sym is)) (some q refl))

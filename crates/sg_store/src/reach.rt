@@ -1,5 +1,6 @@
-ghost use Rattle.std.specs.Prelude.{◌≡◌};
+ghost use Rattle.std.specs.Prelude.{◌≡◌, ◌++◌, ◌∷◌, [], OnOk};
 ghost use Rattle.sg_layout.specs.Axes.{count_of};
+ghost use Rattle.sg_store.specs.steps.AtNode.{HaveSame};
 
 use crate::node::chunk_of;
 use crate::store::Store;
@@ -118,7 +119,8 @@ impl Store {
         }
     }
 
-    /// The numbers that slots of the coordinates have at the node with this index, from 0.
+    /// The numbers that slots of the coordinates have at the node with this index, from 0; where coordinates that follow one another have
+    /// the same, it stands there once.
     fn numbers(&self, alloc: Global, index: usize, wanted: &[Coord]) -> Result<Items<usize>, Memory>
         requires there { index < length self.now.shape.nodes }
         requires inside { All (Inside (bounds_of_shape self.now.shape)) wanted.now }
@@ -127,11 +129,23 @@ impl Store {
         let mut slots = Items::new(alloc);
         for at in wanted {
             if let Some(slot) = self.number_at(index, *at) {
-                slots.push(slot)?;
+                add_slot(&mut slots, slot)?;
             }
         }
         Ok(slots)
     }
+}
+
+/// Adds a slot to others, unless it is the last of them.
+fn add_slot(slots: &mut Items<usize>, slot: usize) -> Result<(), Memory>
+    ensures { OnOk result (HaveSame slots.new (slots.old ++ slot ∷ [])) }
+{
+    let many = slots.len();
+    if many > 0 && slots.as_slice()[many - 1] == slot {
+        return Ok(());
+    }
+    slots.push(slot)?;
+    Ok(())
 }
 
 /// The cap of a node; 0 if it is negative, as no accepted layout's is.

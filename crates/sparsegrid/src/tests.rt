@@ -22,6 +22,7 @@ mod refusals;
 mod runs;
 mod setting;
 mod snapshots;
+mod splits;
 mod syntax;
 mod tokens;
 mod trees;

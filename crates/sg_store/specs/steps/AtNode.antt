@@ -1,5 +1,5 @@
 -- One node of a store among the others.
-use Rattle.std.specs.Prelude.{◌≡◌, ℕ, zero, suc, ◌*◌, Bool, List, [], ◌∷◌, Contains, Some}
+use Rattle.std.specs.Prelude.{◌≡◌, ℕ, zero, suc, ◌*◌, Bool, List, [], ◌∷◌, ◌↔◌, Contains, Some}
 use Rattle.sg_coord.specs.declared.coord.Coord.{Coord}
 use Rattle.sg_layout.specs.declared.shape.NodeShape.{NodeShape}
 use Rattle.sg_layout.specs.Axes.{size_of}
@@ -39,3 +39,7 @@ pub record AreNumbers (store : StoreWords) (index : ℕ) (coords : List Coord) (
   pub all : (at : Coord) → Contains coords at → (number : ℕ) →
       slot_number_in store.shape.nodes store.nodes 0 (path store.shape at (suc index)) ≡ Some number →
       Contains slots number
+
+-- two lists have the same numbers in them
+abbrev pub HaveSame : List ℕ → List ℕ → Type 0
+HaveSame slots others = (number : ℕ) → Contains slots number ↔ Contains others number

@@ -11,7 +11,7 @@ use Rattle.sg_flat.specs.declared.state.FlatLayout.{FlatLayout}
 use Rattle.sg_flat.specs.State.{IsFlatLayout}
 use Rattle.sg_store.specs.WellFormed.{IsReached}
 use Rattle.sg_snapshot.proofs.Writings.{part_is}
-use Rattle.sg_snapshot.proofs.writing.push_part.Goals as goal
+use Rattle.sg_snapshot.proofs.writing.push_listed.Goals as goal
 
 -- the active coordinates are inside
 actives_inside : (shape : Shape) (flat : FlatLayout) (coords : List Coord) → ClosureIsInside shape → IsFlatLayout shape flat → coords ≡ flat.active → All (Inside (bounds_of_shape shape)) coords
