@@ -8,8 +8,8 @@ use Rattle.sg_words.specs.Counts.{one, pairs, firsts, times_in}
 use Rattle.sg_words.specs.RaceMachine.{newcomer, after_split, after_join}
 use Rattle.sg_words.proofs.Uses.{total-append}
 use Rattle.sg_coord.specs.declared.coord.Coord.{Coord}
-use Rattle.sg_hash.specs.declared.ask.Ask.{Ask}
-use Rattle.sg_hash.specs.declared.ask.Ask.TheVariants as ask
+use Rattle.sg_words.specs.declared.asking.Ask.{Ask}
+use Rattle.sg_words.specs.declared.asking.Ask.TheVariants as ask
 use Rattle.sg_words.specs.Stocks.{is_dry}
 use Rattle.sg_hash.specs.Asking.{AnsweredKey, HasPut}
 use Rattle.sg_store.specs.StoreWords.{StoreWords}

@@ -8,10 +8,11 @@ use Rattle.sg_words.specs.declared.race.Worker.{Worker}
 use Rattle.sg_words.specs.Counts.{one, times_in, pairs, firsts}
 use Rattle.sg_words.specs.RaceMachine.{HasOthersBefore, MayPut, place_in_order, after_join}
 use Rattle.sg_words.proofs.Uses.{total-append, pairs-snoc, pair_cases, first_cases, dry-join}
-use Rattle.sg_hash.specs.declared.ask.Ask.{Ask}
-use Rattle.sg_hash.specs.declared.ask.Ask.TheVariants as ask
+use Rattle.sg_words.specs.Asking.{Answered}
+use Rattle.sg_words.specs.declared.asking.Ask.{Ask}
+use Rattle.sg_words.specs.declared.asking.Ask.TheVariants as ask
 use Rattle.sg_words.specs.Stocks.{is_dry, SameTeam}
-use Rattle.sg_hash.specs.Asking.{HasLinkedBesideKeys, HasLinkedItsKeys, Answered, AnsweredBeside, AnsweredKey, HasPut}
+use Rattle.sg_hash.specs.Asking.{HasLinkedBesideKeys, HasLinkedItsKeys, AnsweredBeside, AnsweredKey, HasPut}
 use Rattle.sg_hash.specs.KeySteps.{TellKeys}
 use Rattle.sg_hash.specs.steps.Searching.{SameKeys, Searched, PutAt, SearchFound, HasLookedPast}
 use Rattle.sg_hash.proofs.Turns.{place_comes}

@@ -1,30 +1,24 @@
 //! The calls of a seat: start, ask, split and join. A key is searched from its first place on; the slot beside it is then asked for.
 ghost use Rattle.std.specs.Prelude.{◌≡◌, ℕ, ◌+◌, ◌-◌, ◌^◌, ◌<◌, ◌≤◌, ◌≢◌, true, false, ◌||◌, [], ◌∷◌, length, IfOk, MatchOption, slice_index};
+ghost use Rattle.sg_words.specs.Asking.{Answered};
+ghost use Rattle.sg_words.specs.declared.asking.Ask.TheVariants as ask;
 ghost use Rattle.sg_words.specs.Counts.{pairs};
 ghost use Rattle.sg_words.specs.RaceMachine.{MayPut, newcomer, after_split, other_half, after_join, after_draw, after_key_word, key_word};
 ghost use Rattle.sg_words.specs.steps.RaceSteps.{after_look, after_try};
 ghost use Rattle.sg_words.specs.Stocks.{AreLinks, IsFreshStock, SameTeam, is_dry};
 ghost use Rattle.sg_words.specs.steps.SlotSteps.{Provided};
-ghost use Rattle.sg_hash.specs.Asking.{Answered, AnsweredKey, HasPut};
+ghost use Rattle.sg_hash.specs.Asking.{AnsweredKey, HasPut};
 ghost use Rattle.sg_hash.specs.Seats.{old_keys, old_links, stock_of, worker_of, is_full, IsSeatAt, IsSeatOf};
 ghost use Rattle.sg_hash.specs.Tables.{IsTable};
 ghost use Rattle.sg_hash.specs.KeySteps.{after_look_key, TellKeys};
 ghost use Rattle.sg_hash.specs.steps.Searching.{SameKeys, Searched, PutAt, SearchFound};
-ghost use Rattle.sg_hash.specs.declared.ask.Ask.TheVariants as ask;
 
 use crate::rule::{Draw, Half, Link, Look, LookKey, PutKey, Start};
 use crate::seat::{HashPass, HashSeat};
 use crate::table::{first_place, following};
 use atomic_table::Table;
-use sg_words::{Items, Memory};
+use sg_words::{Ask, Items, Memory};
 use std::alloc::Global;
-
-/// What an ask for a key answers: the number in the slot beside it, or that the stock is used up or every place holds another key.
-#[derive(Clone, Copy, Debug, PartialEq, Eq)]
-pub enum Ask {
-    Node(u32),
-    Dry,
-}
 
 impl HashPass {
     /// A pass over these key words and the slot words beside them, each 0 or one more than a key or a number, that hands out the numbers of
@@ -64,7 +58,7 @@ impl HashPass {
     }
 
     /// The number in the slot beside the key, now and until the pass ends; a key that stands nowhere gets a place, and an empty slot one of
-    /// the stock. No memory, and no waiting.
+    /// the stock. There is none if the stock is used up, or every place holds another key. No memory, and no waiting.
     pub fn ask(&self, seat: &mut HashSeat, key: u32) -> Ask
         requires own { IsSeatOf self.now seat.old }
         ensures own { IsSeatOf self.now seat.new }

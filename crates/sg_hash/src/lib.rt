@@ -8,7 +8,7 @@ pub mod rule;
 pub mod seat;
 pub mod table;
 
-pub use ask::Ask;
 pub use finish::HashLinked;
 pub use seat::{HashPass, HashSeat};
+pub use sg_words::Ask;
 pub use table::{find, place_of, put};

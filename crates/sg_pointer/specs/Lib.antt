@@ -1,4 +1,3 @@
-pub mod Asking
 pub mod PointerLaws
 pub mod PointerRace
 pub mod RangeLaws

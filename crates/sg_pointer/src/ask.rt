@@ -1,26 +1,19 @@
 //! The calls of a seat: start, ask, split and join.
 ghost use Rattle.std.specs.Prelude.{◌≡◌, ℕ, ◌+◌, ◌-◌, ◌^◌, ◌<◌, ◌≤◌, ◌≢◌, true, false, ◌||◌, [], ◌∷◌, length, IfOk, MatchOption, slice_index};
+ghost use Rattle.sg_words.specs.Asking.{Answered};
+ghost use Rattle.sg_words.specs.declared.asking.Ask.TheVariants as ask;
 ghost use Rattle.sg_words.specs.Counts.{pairs};
 ghost use Rattle.sg_words.specs.RaceMachine.{newcomer, after_split, other_half, after_join, after_draw};
 ghost use Rattle.sg_words.specs.steps.RaceSteps.{after_look, after_try};
 ghost use Rattle.sg_words.specs.Stocks.{AreLinks, IsFreshStock, SameTeam, is_dry};
 ghost use Rattle.sg_words.specs.steps.SlotSteps.{Provided};
-ghost use Rattle.sg_pointer.specs.Asking.{Answered};
 ghost use Rattle.sg_pointer.specs.Seats.{old_links, stock_of, worker_of, IsSeatOf};
-ghost use Rattle.sg_pointer.specs.declared.ask.Ask.TheVariants as ask;
 
 use crate::rule::{Draw, Half, Link, Look, Start};
 use crate::seat::{AskSeat, PointerPass};
 use atomic_table::Table;
-use sg_words::{Items, Memory};
+use sg_words::{Ask, Items, Memory};
 use std::alloc::Global;
-
-/// What an ask for a slot answers: the number that the slot holds, or that the stock is used up.
-#[derive(Clone, Copy, Debug, PartialEq, Eq)]
-pub enum Ask {
-    Node(u32),
-    Dry,
-}
 
 impl PointerPass {
     /// A pass over these slot words, each 0 or one more than a number, that hands out the numbers of the stock; and its first seat.
@@ -50,7 +43,8 @@ impl PointerPass {
         Ok((pass, seat))
     }
 
-    /// The number that the slot holds, now and until the pass ends; an empty slot gets one of the stock. No memory, and no waiting.
+    /// The number that the slot holds, now and until the pass ends; an empty slot gets one of the stock. There is none if the stock is used up.
+    /// No memory, and no waiting.
     pub fn ask(&self, seat: &mut AskSeat, slot: usize) -> Ask
         requires own { IsSeatOf self.now seat.old }
         requires inside { slot < length (old_links self.now) }

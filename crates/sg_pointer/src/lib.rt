@@ -7,6 +7,6 @@ pub mod laws;
 pub mod rule;
 pub mod seat;
 
-pub use ask::Ask;
 pub use finish::Linked;
 pub use seat::{AskSeat, PointerPass};
+pub use sg_words::Ask;

@@ -1,4 +1,5 @@
 pub mod Answers
+pub mod Asking
 pub mod Counts
 pub mod Options
 pub mod RaceExamples

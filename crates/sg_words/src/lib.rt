@@ -2,6 +2,7 @@
 #![tactic(auto)]
 
 pub mod arithmetic;
+pub mod asking;
 pub mod laws;
 pub mod links;
 pub mod memory;
@@ -11,6 +12,7 @@ pub mod spreads;
 pub mod text;
 
 pub use arithmetic::{apply, apply_un, fold, mulq, number, rank, unrank, word_of};
+pub use asking::Ask;
 pub use memory::{Memory, Stop};
 pub use operators::{AccOp, BinOp, Ty, UnOp};
 pub use race::Worker;

@@ -1,9 +1,9 @@
 -- What an ask answers.
 use Rattle.std.specs.Prelude.{◌≡◌, ℕ, true, ◌⊎◌, [], ◌∷◌, ◌++◌}
+use Rattle.sg_words.specs.declared.asking.Ask.{Ask}
+use Rattle.sg_words.specs.declared.asking.Ask.TheVariants as ask
 use Rattle.sg_words.specs.declared.race.Worker.{Worker}
 use Rattle.sg_words.specs.Stocks.{is_dry}
-use Rattle.sg_pointer.specs.declared.ask.Ask.{Ask}
-use Rattle.sg_pointer.specs.declared.ask.Ask.TheVariants as ask
 
 -- What a seat knows after an ask for a slot. It has seen the number that is answered in the slot, and made at most this link; or it
 -- found the slot empty, and holds a ticket past the stock
