@@ -7,8 +7,8 @@ use Rattle.sg_words.specs.Words.{folded}
 use Rattle.sg_words.specs.RaceMachine.{Race, after_add}
 use Rattle.sg_accum.specs.declared.begin.Start.{Start}
 use Rattle.sg_accum.specs.AccRace.{cell_of}
-use Rattle.sg_accum.specs.AccLaws.{GivesWord, StartIsEvent, AddIsEvent, LeastIsEvent, MostIsEvent, SplitIsEvent, JoinIsEvent, at}
-use Rattle.sg_accum.proofs.Words.{Follows, follows-add, follows-min, follows-max}
+use Rattle.sg_accum.specs.AccLaws.{GivesWord, StartIsEvent, AddIsEvent, LeastIsEvent, MostIsEvent, SetBitsIsEvent, KeepBitsIsEvent, FlipBitsIsEvent, SplitIsEvent, JoinIsEvent, at}
+use Rattle.sg_accum.proofs.Words.{Follows, follows-add, follows-min, follows-max, follows-or, follows-and, follows-xor}
 
 -- a state of the cells
 race : List ℕ → List Worker → Race
@@ -40,6 +40,18 @@ least_is_event start words views id c x lowers small live inside low =
 pub most_is_event : (start : Start) (words : List ℕ) (views : List Worker) (id c x : ℕ) → MostIsEvent start words views id c x
 most_is_event start words views id c x raises small live inside low =
     gives start words views id c x _ (follows-max start.op start.ty (slice_index words c) x _ raises small refl (low c)) live inside low
+
+pub set_bits_is_event : (start : Start) (words : List ℕ) (views : List Worker) (id c x : ℕ) → SetBitsIsEvent start words views id c x
+set_bits_is_event start words views id c x sets small live inside low =
+    gives start words views id c x _ (follows-or start.op start.ty (slice_index words c) x sets small (low c)) live inside low
+
+pub keep_bits_is_event : (start : Start) (words : List ℕ) (views : List Worker) (id c x : ℕ) → KeepBitsIsEvent start words views id c x
+keep_bits_is_event start words views id c x keeps small live inside low =
+    gives start words views id c x _ (follows-and start.op start.ty (slice_index words c) x keeps (low c)) live inside low
+
+pub flip_bits_is_event : (start : Start) (words : List ℕ) (views : List Worker) (id c x : ℕ) → FlipBitsIsEvent start words views id c x
+flip_bits_is_event start words views id c x flips small live inside low =
+    gives start words views id c x _ (follows-xor start.op start.ty (slice_index words c) x flips small (low c)) live inside low
 
 pub split_is_event : (start : Start) (words : List ℕ) (views : List Worker) (id : ℕ) → SplitIsEvent start words views id
 split_is_event start words views id share = (share, refl)

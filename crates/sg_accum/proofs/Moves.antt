@@ -1,6 +1,6 @@
 -- Each move of a seat keeps the rule: it is one event of the race machine.
 use Rattle.std.proofs.Common.{◌≡◌, ℕ, zero, suc, ◌+◌, ◌%◌, ◌^◌, ◌<◌, ◌≤◌, min, max, true, false, cond, ◌==◌, List, [], ◌∷◌, map, length, set, fold, refl, sym, ap, ◌∙◌, subst, arith}
-use Rattle.std.specs.Prelude.{slice_index}
+use Rattle.std.specs.Prelude.{slice_index, bit_and, bit_or, bit_xor}
 use Rattle.std.specs.List.{filter}
 use Rattle.std.proofs.lemmas.List.{map-set, length-map, get_or-map}
 use mathlib.Core.Option.{some, none, some-injective, some-ne-none}
@@ -14,13 +14,13 @@ use Rattle.sg_words.specs.Words.{rank_of, unrank_of, folded}
 use Rattle.sg_words.specs.Counts.{total}
 use Rattle.sg_words.specs.RaceMachine.{nobody, after_split, other_half, after_join, after_add}
 use Rattle.sg_words.specs.RaceInvariant.{handed_share, fold_in, fold_all, MeetsRaceInvariant}
-use Rattle.sg_words.proofs.Uses.{kept-add, kept-enrol, kept-join, stands, set_other_at, alone}
+use Rattle.sg_words.proofs.Uses.{folded_exchanged, kept-add, kept-enrol, kept-join, stands, set_other_at, alone}
 use Rattle.sg_accum.specs.declared.begin.Start.{Start}
 use Rattle.sg_accum.specs.declared.part.Part.{Part}
 use Rattle.sg_accum.specs.declared.part.PartSeat.{PartSeat}
 use Rattle.sg_accum.specs.AccRace.{cell_of, IsEntry, setting_of, race_of, Racing, gives}
 use Rattle.sg_accum.specs.Folding.{given_to, AreFolded}
-use Rattle.sg_accum.proofs.Words.{exchanged, Follows, follows-add, follows-min, follows-max, all-set}
+use Rattle.sg_accum.proofs.Words.{Follows, follows-add, follows-min, follows-max, follows-or, follows-and, follows-xor, all-set}
 
 abbrev pub Holds : Start → State (Unit {0}) Worker → Type 0
 Holds start s = Racing start s.words s.views
@@ -39,7 +39,7 @@ step-kept start words views id v i m x at live inside follows r =
     let cells : set (map f words) i (folded start.op start.ty (slice_index (map f words) i) x) ≡ map f (set words i m) = ap (λ n. set (map f words) i n) becomes ∙ sym (map-set f words i m) in
     record {
       kept = subst (λ l. MeetsRaceInvariant g (record (race_of start words views) { cells = l; workers = set views id (after_add i x v) })) cells
-          (kept-add g (race_of start words views) id v i x at (stands views id v r.kept.team at live) within (exchanged start.op start.ty) r.kept);
+          (kept-add g (race_of start words views) id v i x at (stands views id v r.kept.team at live) within (folded_exchanged start.op start.ty) r.kept);
       low = all-set (IsEntry start.op) words i m follows.1 r.low;
     }
 
@@ -87,6 +87,19 @@ pub asks-most : (part : Part) (seat : PartSeat) (t : Ty) (cell p x : ℕ) → se
 asks-most part seat t cell p x own inside by fits ranked is =
     asks part seat t cell p x (λ n. max n p) own inside is (λ n low. follows-max part.start.op part.start.ty n x p by fits ranked low)
 
+-- bits are set, kept or flipped by a contribution
+pub asks-or : (part : Part) (seat : PartSeat) (cell x : ℕ) → seat.seat.table_id ≡ part.table.shared.table_id → cell < length part.start.values → part.start.op ≡ acc.Or → x < 2 ^ 32
+    → Asks part seat ty.U32 cell x (λ n. bit_or n x)
+asks-or part seat cell x own inside by fits = asks part seat ty.U32 cell x x (λ n. bit_or n x) own inside refl (λ n. follows-or part.start.op part.start.ty n x by fits)
+
+pub asks-and : (part : Part) (seat : PartSeat) (cell x : ℕ) → seat.seat.table_id ≡ part.table.shared.table_id → cell < length part.start.values → part.start.op ≡ acc.And
+    → Asks part seat ty.U32 cell x (λ n. bit_and n x)
+asks-and part seat cell x own inside by = asks part seat ty.U32 cell x x (λ n. bit_and n x) own inside refl (λ n. follows-and part.start.op part.start.ty n x by)
+
+pub asks-xor : (part : Part) (seat : PartSeat) (cell x : ℕ) → seat.seat.table_id ≡ part.table.shared.table_id → cell < length part.start.values → part.start.op ≡ acc.Xor → x < 2 ^ 32
+    → Asks part seat ty.U32 cell x (λ n. bit_xor n x)
+asks-xor part seat cell x own inside by fits = asks part seat ty.U32 cell x x (λ n. bit_xor n x) own inside refl (λ n. follows-xor part.start.op part.start.ty n x by fits)
+
 pub split-allowed : (start : Start) (id : ℕ) (v : Worker) → 2 ≤ v.share → Splits (Holds start) id v (after_split v) (other_half v)
 split-allowed start id v share s r at =
     record { kept = kept-enrol (setting_of start) (race_of start s.words s.views) id v at (stands s.views id v r.kept.team at (omega arith)) share r.kept; low = r.low }
@@ -96,7 +109,7 @@ join-allowed start id v other w live live' s r at ne at' =
     let there : get_elem? s.views other ≡ some w = sym (set_other_at s.views id other (after_join v w) ne) ∙ at' in
     record {
       kept = kept-join (setting_of start) (race_of start s.words s.views) id other v w ne at there (stands s.views id v r.kept.team at live) (stands s.views other w r.kept.team there live')
-          (exchanged start.op start.ty) r.kept;
+          (folded_exchanged start.op start.ty) r.kept;
       low = r.low;
     }
 

@@ -1,7 +1,8 @@
 -- Words and the cells for which they stand: what each step makes of a word, and what a pass over a closed table reads.
 use Rattle.std.proofs.Common.{◌≡◌, ℕ, zero, suc, ◌+◌, ◌%◌, ◌^◌, ◌<◌, min, max, true, false, List, [], ◌∷◌, ◌++◌, map, length, set, take, refl, sym, ap, ◌∙◌, subst, arith}
-use Rattle.std.specs.Prelude.{slice_index}
+use Rattle.std.specs.Prelude.{slice_index, bit_and, bit_or, bit_xor}
 use Rattle.std.proofs.lemmas.List.{map-append}
+use Rattle.std.proofs.lemmas.Nat.{and_le_l, or_of_32, xor_of_32}
 use mathlib.Core.Option.{some, some-injective, some-ne-none}
 use lib.ListN.{get_elem?}
 use Rattle.sg_words.specs.declared.operators.Ty.{Ty}
@@ -13,37 +14,37 @@ use Rattle.sg_words.proofs.Uses.{at_or}
 use Rattle.sg_accum.specs.AccRace.{cell_of, IsEntry, AreEntries}
 use Rattle.sg_accum.specs.steps.Signs.{is_signed}
 
-pub exchanged : (op : AccOp) (t : Ty) (a x y : ℕ) → folded op t (folded op t a x) y ≡ folded op t (folded op t a y) x
-exchanged acc.Add t a x y = omega arith
-exchanged acc.Min ty.I32 a x y = omega arith
-exchanged acc.Min ty.U32 a x y = omega arith
-exchanged acc.Min ty.Bool a x y = omega arith
-exchanged acc.Max ty.I32 a x y = omega arith
-exchanged acc.Max ty.U32 a x y = omega arith
-exchanged acc.Max ty.Bool a x y = omega arith
-
 -- what a word becomes is what the cell becomes
 abbrev pub Follows : AccOp → Ty → ℕ → ℕ → ℕ → Type 0
 Follows op t n x m = (cell_of op t m ≡ folded op t (cell_of op t n) x) × IsEntry op m
 
 pub follows-add : (op : AccOp) (t : Ty) (n x : ℕ) → op ≡ acc.Add → Follows op t n x ((n + x) % 2 ^ 64)
-follows-add acc.Add t n x e = (omega arith, tt)
-follows-add acc.Min t n x e = absurd (cc)
-follows-add acc.Max t n x e = absurd (cc)
+follows-add op t n x e = subst (λ (o : AccOp). Follows o t n x ((n + x) % 2 ^ 64)) (sym e) (omega arith, tt)
+
+lowered : (t : Ty) (n x p : ℕ) → x < 2 ^ 32 → p ≡ rank_of t x → n < 2 ^ 32 → Follows acc.Min t n x (min n p)
+lowered ty.I32 n x p below is low = (omega arith, omega arith)
+lowered ty.U32 n x p below is low = (omega arith, omega arith)
+lowered ty.Bool n x p below is low = (omega arith, omega arith)
 
 pub follows-min : (op : AccOp) (t : Ty) (n x p : ℕ) → op ≡ acc.Min → x < 2 ^ 32 → p ≡ rank_of t x → IsEntry op n → Follows op t n x (min n p)
-follows-min acc.Add t n x p e below is low = absurd (cc)
-follows-min acc.Min ty.I32 n x p e below is low = (omega arith, omega arith)
-follows-min acc.Min ty.U32 n x p e below is low = (omega arith, omega arith)
-follows-min acc.Min ty.Bool n x p e below is low = (omega arith, omega arith)
-follows-min acc.Max t n x p e below is low = absurd (cc)
+follows-min op t n x p e below is = subst (λ (o : AccOp). IsEntry o n → Follows o t n x (min n p)) (sym e) (lowered t n x p below is)
+
+raised : (t : Ty) (n x p : ℕ) → x < 2 ^ 32 → p ≡ rank_of t x → n < 2 ^ 32 → Follows acc.Max t n x (max n p)
+raised ty.I32 n x p below is low = (omega arith, omega arith)
+raised ty.U32 n x p below is low = (omega arith, omega arith)
+raised ty.Bool n x p below is low = (omega arith, omega arith)
 
 pub follows-max : (op : AccOp) (t : Ty) (n x p : ℕ) → op ≡ acc.Max → x < 2 ^ 32 → p ≡ rank_of t x → IsEntry op n → Follows op t n x (max n p)
-follows-max acc.Add t n x p e below is low = absurd (cc)
-follows-max acc.Min t n x p e below is low = absurd (cc)
-follows-max acc.Max ty.I32 n x p e below is low = (omega arith, omega arith)
-follows-max acc.Max ty.U32 n x p e below is low = (omega arith, omega arith)
-follows-max acc.Max ty.Bool n x p e below is low = (omega arith, omega arith)
+follows-max op t n x p e below is = subst (λ (o : AccOp). IsEntry o n → Follows o t n x (max n p)) (sym e) (raised t n x p below is)
+
+pub follows-or : (op : AccOp) (t : Ty) (n x : ℕ) → op ≡ acc.Or → x < 2 ^ 32 → IsEntry op n → Follows op t n x (bit_or n x)
+follows-or op t n x e below = subst (λ (o : AccOp). IsEntry o n → Follows o t n x (bit_or n x)) (sym e) (λ low. (refl, or_of_32 n x low below))
+
+pub follows-and : (op : AccOp) (t : Ty) (n x : ℕ) → op ≡ acc.And → IsEntry op n → Follows op t n x (bit_and n x)
+follows-and op t n x e = subst (λ (o : AccOp). IsEntry o n → Follows o t n x (bit_and n x)) (sym e) (λ low. (refl, omega (arith, and_le_l n x, low)))
+
+pub follows-xor : (op : AccOp) (t : Ty) (n x : ℕ) → op ≡ acc.Xor → x < 2 ^ 32 → IsEntry op n → Follows op t n x (bit_xor n x)
+follows-xor op t n x e below = subst (λ (o : AccOp). IsEntry o n → Follows o t n x (bit_xor n x)) (sym e) (λ low. (refl, xor_of_32 n x low below))
 
 -- a rank tells its word
 pub ranked-signed : (t : Ty) (x p : ℕ) → true ≡ is_signed t → x < 2 ^ 32 → p ≡ rank_of t x → unrank_of ty.I32 p ≡ x
@@ -68,6 +69,9 @@ pub none-yet : (op : AccOp) → AreEntries op []
 none-yet acc.Add c = tt
 none-yet acc.Min c = omega arith
 none-yet acc.Max c = omega arith
+none-yet acc.Or c = omega arith
+none-yet acc.And c = omega arith
+none-yet acc.Xor c = omega arith
 
 all-snoc : (P : ℕ → Type 0) (words : List ℕ) (m : ℕ) → P m → P 0 → ((c : ℕ) → P (slice_index words c)) → (c : ℕ) → P (slice_index (words ++ m ∷ []) c)
 all-snoc P [] m p z each zero = p

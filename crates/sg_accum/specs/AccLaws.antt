@@ -1,6 +1,6 @@
 -- Laws of a part of a pass: each atomic step of a seat in the table of the part is one event of the race machine over the cells of that
 -- part, whose needs are met.
-use Rattle.std.specs.Prelude.{◌≡◌, ◌≢◌, ℕ, ◌+◌, ◌%◌, ◌^◌, ◌<◌, ◌≤◌, min, max, List, [], ◌∷◌, ◌++◌, map, length, slice_index, slice_set}
+use Rattle.std.specs.Prelude.{◌≡◌, ◌≢◌, ℕ, ◌+◌, ◌%◌, ◌^◌, ◌<◌, ◌≤◌, min, max, bit_and, bit_or, bit_xor, List, [], ◌∷◌, ◌++◌, map, length, slice_index, slice_set}
 use Rattle.sg_words.specs.declared.operators.AccOp.TheVariants as acc
 use Rattle.sg_words.specs.declared.race.Worker.{Worker}
 use Rattle.sg_words.specs.Words.{rank_of}
@@ -37,6 +37,18 @@ LeastIsEvent start words views id c x = start.op ≡ acc.Min → x < 2 ^ 32 → 
 -- if the part keeps the greatest, a contribution of 32 bits is an event that leaves the greater of the word and the contribution's rank
 abbrev pub MostIsEvent : Start → List ℕ → List Worker → (id c x : ℕ) → Type 0
 MostIsEvent start words views id c x = start.op ≡ acc.Max → x < 2 ^ 32 → GivesWord start words views id c x (max (slice_index words c) (rank_of start.ty x))
+
+-- if the part sets bits, a contribution of 32 bits is an event that leaves the bits that are set in the word or the contribution
+abbrev pub SetBitsIsEvent : Start → List ℕ → List Worker → (id c x : ℕ) → Type 0
+SetBitsIsEvent start words views id c x = start.op ≡ acc.Or → x < 2 ^ 32 → GivesWord start words views id c x (bit_or (slice_index words c) x)
+
+-- if the part keeps bits, a contribution of 32 bits is an event that leaves the bits that are set in both the word and the contribution
+abbrev pub KeepBitsIsEvent : Start → List ℕ → List Worker → (id c x : ℕ) → Type 0
+KeepBitsIsEvent start words views id c x = start.op ≡ acc.And → x < 2 ^ 32 → GivesWord start words views id c x (bit_and (slice_index words c) x)
+
+-- if the part flips bits, a contribution of 32 bits is an event that leaves the bits that are set in one of the word and the contribution
+abbrev pub FlipBitsIsEvent : Start → List ℕ → List Worker → (id c x : ℕ) → Type 0
+FlipBitsIsEvent start words views id c x = start.op ≡ acc.Xor → x < 2 ^ 32 → GivesWord start words views id c x (bit_xor (slice_index words c) x)
 
 -- a split enrols a worker, and a join is a join
 abbrev pub SplitIsEvent : Start → List ℕ → List Worker → ℕ → Type 0

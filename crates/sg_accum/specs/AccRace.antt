@@ -11,19 +11,26 @@ use Rattle.sg_words.specs.RaceMachine.{Setting, Race, newcomer, after_add}
 use Rattle.sg_words.specs.RaceInvariant.{MeetsRaceInvariant}
 use Rattle.sg_accum.specs.declared.begin.Start.{Start}
 
--- the cell for which a word stands: a sum grows in 64 bits and is cut to 32, and for least and greatest the word is the cell's rank
+-- the cell for which a word stands: a sum grows in 64 bits and is cut to 32, for least and greatest the word is the cell's rank, and for
+-- operators of bits it is the cell
 abbrev pub cell_of : AccOp → Ty → ℕ → ℕ
 cell_of acc.Add t n = n % 2 ^ 32
 cell_of acc.Min t n = unrank_of t n
 cell_of acc.Max t n = unrank_of t n
+cell_of acc.Or t n = n
+cell_of acc.And t n = n
+cell_of acc.Xor t n = n
 
--- a word that stands for a cell: any of a sum, and a rank else
+-- a word that stands for a cell: any of a sum, and a number of 32 bits else
 abbrev pub IsEntry : AccOp → ℕ → Type 0
 IsEntry acc.Add n = Unit {0}
 IsEntry acc.Min n = n < 2 ^ 32
 IsEntry acc.Max n = n < 2 ^ 32
+IsEntry acc.Or n = n < 2 ^ 32
+IsEntry acc.And n = n < 2 ^ 32
+IsEntry acc.Xor n = n < 2 ^ 32
 
--- each word stands for a cell: for sums any words do, and for least and greatest they are ranks, below 2 ^ 32
+-- each word stands for a cell: for sums any words do, and else those below 2 ^ 32
 abbrev pub AreEntries : AccOp → List ℕ → Type 0
 AreEntries op words = (c : ℕ) → IsEntry op (slice_index words c)
 
@@ -72,3 +79,6 @@ least_of_all = refl
 
 plain_rank : cell_of acc.Max ty.U32 7 ≡ 7
 plain_rank = refl
+
+bits_as_they_are : cell_of acc.Or ty.I32 2147483648 ≡ 2147483648
+bits_as_they_are = refl

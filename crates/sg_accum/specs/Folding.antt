@@ -17,7 +17,8 @@ use Rattle.sg_accum.specs.declared.seat.AccPass.{AccPass}
 abbrev pub old_values : AccPass → List ℕ
 old_values p = concat (part_values p.parts.items)
 
--- whether a pass leaves the sum, in 32 bits, the least or the greatest of a cell's old value and the contributions to it
+-- how a pass joins a cell's old value and the contributions to it: to the sum, in 32 bits, the least, the greatest, or what an operator of
+-- bits makes of them
 abbrev pub operator_of : AccPass → AccOp
 operator_of p = p.op
 

@@ -1,4 +1,4 @@
-//! Racing accumulation: workers add to cells, or lower or raise them, side by side, and no contribution is lost.
+//! Racing accumulation: workers add to cells, lower or raise them, or set, keep or flip their bits, side by side, and no contribution is lost.
 #![tactic(auto)]
 
 pub mod begin;

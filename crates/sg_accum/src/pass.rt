@@ -1,4 +1,4 @@
-//! The calls of a pass: start, add, least, most, split, join and finish.
+//! The calls of a pass: start, those that give a word to a cell, split, join and finish.
 ghost use Rattle.std.specs.Prelude.{◌≡◌, ◌<◌, ◌≤◌, length, IfOk};
 ghost use Rattle.std.specs.List.{concat};
 ghost use Rattle.sg_words.specs.declared.operators.AccOp.TheVariants as acc;
@@ -86,6 +86,45 @@ impl AccPass {
     {
         let place = cell / PART;
         self.parts[place].most(&mut seat.seats[place], cell % PART, word);
+    }
+
+    /// Sets in a cell the bits that are set in a word. No refusal, no memory, and no waiting.
+    #[inline(always)]
+    pub fn set_bits(&self, seat: &mut AccSeat, cell: usize, word: u32)
+        requires own { IsSeatOf self.now seat.old }
+        requires inside { cell < length (old_values self.now) }
+        requires operator { operator_of self.now ≡ acc.Or }
+        ensures own { IsSeatOf self.now seat.new }
+        ensures gave { HasGivenWord cell word seat.old seat.new }
+    {
+        let place = cell / PART;
+        self.parts[place].set_bits(&mut seat.seats[place], cell % PART, word);
+    }
+
+    /// Keeps in a cell the bits that are set in a word, and clears the others. No refusal, no memory, and no waiting.
+    #[inline(always)]
+    pub fn keep_bits(&self, seat: &mut AccSeat, cell: usize, word: u32)
+        requires own { IsSeatOf self.now seat.old }
+        requires inside { cell < length (old_values self.now) }
+        requires operator { operator_of self.now ≡ acc.And }
+        ensures own { IsSeatOf self.now seat.new }
+        ensures gave { HasGivenWord cell word seat.old seat.new }
+    {
+        let place = cell / PART;
+        self.parts[place].keep_bits(&mut seat.seats[place], cell % PART, word);
+    }
+
+    /// Flips in a cell the bits that are set in a word. No refusal, no memory, and no waiting.
+    #[inline(always)]
+    pub fn flip_bits(&self, seat: &mut AccSeat, cell: usize, word: u32)
+        requires own { IsSeatOf self.now seat.old }
+        requires inside { cell < length (old_values self.now) }
+        requires operator { operator_of self.now ≡ acc.Xor }
+        ensures own { IsSeatOf self.now seat.new }
+        ensures gave { HasGivenWord cell word seat.old seat.new }
+    {
+        let place = cell / PART;
+        self.parts[place].flip_bits(&mut seat.seats[place], cell % PART, word);
     }
 
     /// A new seat, which takes half of the share, rounded down. No memory: its room was taken when the pass started.

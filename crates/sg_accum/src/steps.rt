@@ -1,4 +1,4 @@
-//! The calls of a part: begin, add, least, most, split, join and end.
+//! The calls of a part: begin, those that give a word to a cell, split, join and end.
 ghost use Rattle.std.specs.Prelude.{◌≡◌, ◌<◌, ◌≤◌, map, length, IfOk, OnOk};
 ghost use Rattle.std.specs.Mem.Slots.{slots_items, slots_len, IsFull};
 ghost use Rattle.sg_words.specs.declared.operators.AccOp.TheVariants as acc;
@@ -97,6 +97,48 @@ impl Part {
         }
     }
 
+    /// Sets in a cell the bits that are set in a word: one atomic step.
+    #[inline(always)]
+    pub(crate) fn set_bits(&self, seat: &mut PartSeat, cell: usize, word: u32)
+        requires own { seat.old.seat.table_id ≡ self.now.table.shared.table_id }
+        requires inside { cell < length self.now.start.values }
+        requires operator { self.now.start.op ≡ acc.Or }
+        ensures own { seat.new.seat.table_id ≡ seat.old.seat.table_id }
+        ensures gave { seat.new.seat.me.0 ≡ after_add cell word seat.old.seat.me.0 }
+    {
+        self.table
+            .shared
+            .fetch_or::<Plain>(&mut seat.seat, cell, word as u64);
+    }
+
+    /// Keeps in a cell the bits that are set in a word, and clears the others: one atomic step.
+    #[inline(always)]
+    pub(crate) fn keep_bits(&self, seat: &mut PartSeat, cell: usize, word: u32)
+        requires own { seat.old.seat.table_id ≡ self.now.table.shared.table_id }
+        requires inside { cell < length self.now.start.values }
+        requires operator { self.now.start.op ≡ acc.And }
+        ensures own { seat.new.seat.table_id ≡ seat.old.seat.table_id }
+        ensures gave { seat.new.seat.me.0 ≡ after_add cell word seat.old.seat.me.0 }
+    {
+        self.table
+            .shared
+            .fetch_and::<Plain>(&mut seat.seat, cell, word as u64);
+    }
+
+    /// Flips in a cell the bits that are set in a word: one atomic step.
+    #[inline(always)]
+    pub(crate) fn flip_bits(&self, seat: &mut PartSeat, cell: usize, word: u32)
+        requires own { seat.old.seat.table_id ≡ self.now.table.shared.table_id }
+        requires inside { cell < length self.now.start.values }
+        requires operator { self.now.start.op ≡ acc.Xor }
+        ensures own { seat.new.seat.table_id ≡ seat.old.seat.table_id }
+        ensures gave { seat.new.seat.me.0 ≡ after_add cell word seat.old.seat.me.0 }
+    {
+        self.table
+            .shared
+            .fetch_xor::<Plain>(&mut seat.seat, cell, word as u64);
+    }
+
     /// A new seat, which takes half of the share, rounded down.
     pub(crate) fn split(&self, seat: &mut PartSeat) -> PartSeat
         requires own { seat.old.seat.table_id ≡ self.now.table.shared.table_id }
@@ -150,7 +192,7 @@ fn entries(op: AccOp, ty: Ty, values: &[u32], words: &mut Vec<u64>) -> Result<()
     Ok(())
 }
 
-// A cell as a word of the table: a sum is itself, and of least and greatest the rank stands there.
+// A cell as a word of the table: of least and greatest the rank stands there, else the cell itself.
 fn entry(op: AccOp, ty: Ty, value: u32) -> u64
     ensures cell { cell_of op ty result ≡ value }
     ensures low { IsEntry op result }
@@ -159,6 +201,9 @@ fn entry(op: AccOp, ty: Ty, value: u32) -> u64
         AccOp::Add => value as u64,
         AccOp::Min => rank(ty, value),
         AccOp::Max => rank(ty, value),
+        AccOp::Or => value as u64,
+        AccOp::And => value as u64,
+        AccOp::Xor => value as u64,
     }
 }
 
@@ -171,6 +216,9 @@ fn cell(op: AccOp, ty: Ty, word: u64) -> u32
         AccOp::Add => (word % 0x1_0000_0000) as u32,
         AccOp::Min => unrank(ty, word),
         AccOp::Max => unrank(ty, word),
+        AccOp::Or => word as u32,
+        AccOp::And => word as u32,
+        AccOp::Xor => word as u32,
     }
 }
 

@@ -3,46 +3,22 @@ use Rattle.std.proofs.Common.{◌≡◌, ℕ, Bool, true, false, ◌==◌, if◌
 use Rattle.std.specs.Prelude.{find, option_map}
 use Rattle.std.specs.List.{AllByRecursion}
 use Rattle.std.proofs.lemmas.Bool.{and_from, eq-eqb}
-use Rattle.sg_words.specs.declared.operators.AccOp.{AccOp}
-use Rattle.sg_words.specs.declared.operators.AccOp.TheVariants as acc
 use Rattle.sg_words.specs.Words.{word_of}
 use Rattle.sg_coord.specs.declared.coord.Coord.{Coord}
 use Rattle.sg_flat.specs.declared.effects.Way.{Way}
-use Rattle.sg_flat.specs.declared.effects.Way.TheVariants.{Own, Acc}
 use Rattle.sg_flat.specs.declared.effects.Write.{Write}
 use Rattle.sg_types.specs.declared.typed.TypedStmt.{TypedStmt}
 use Rattle.sg_types.specs.Values.{World, Moment, expr_word}
 use Rattle.sg_types.specs.Iterations.{StmtAction, set_var, run_all, range_numbers, action_of, first_moment}
-use Rattle.sg_types.specs.Written.{same_way}
-use Rattle.sg_types.proofs.Uses.{action-Let, action-Assign, action-Write, action-If, action-For}
+use Rattle.sg_types.proofs.Uses.{action-Let, action-Assign, action-Write, action-If, action-For, same_way_is, by_stmts}
 use Rattle.sg_admit.specs.declared.ways.FieldWay.{FieldWay}
 use Rattle.sg_admit.specs.Lines.{Deed, Sets, Writes, Tests, Turns, Opens, Around, Line, nothing_round, within_if, within_loop, stmt_lines, block_lines, kernel_lines}
 use Rattle.sg_admit.specs.Rules.{Facts, facts_of, deed_ways, ways_in, is_of_field, first_way, is_first, keeps_one_way}
 use Rattle.sg_admit.specs.Laws.{KeepsAll, FieldsAreWrittenInOneWay}
-use Rattle.sg_types.proofs.Uses.{by_stmts}
 use Rattle.sg_admit.proofs.StmtWords.{lines-Write, lines-If, lines-For}
 use Rattle.sg_admit.proofs.Follow.{all_front, all_back}
 use Rattle.sg_admit.proofs.FirstFaults.{admitted_is}
 use Rattle.sg_admit.proofs.Wants.{all_mapped, all_both, rules_kept}
-
--- ---- ways
-
-same_acc_is : (x y : AccOp) → same_way (Acc x) (Acc y) ≡ true → x ≡ y
-same_acc_is acc.Add acc.Add h = refl
-same_acc_is acc.Add acc.Min h = absurd (cc)
-same_acc_is acc.Add acc.Max h = absurd (cc)
-same_acc_is acc.Min acc.Add h = absurd (cc)
-same_acc_is acc.Min acc.Min h = refl
-same_acc_is acc.Min acc.Max h = absurd (cc)
-same_acc_is acc.Max acc.Add h = absurd (cc)
-same_acc_is acc.Max acc.Min h = absurd (cc)
-same_acc_is acc.Max acc.Max h = refl
-
-same_way_is : (x y : Way) → same_way x y ≡ true → x ≡ y
-same_way_is Own Own h = refl
-same_way_is Own (Acc y) h = absurd (cc)
-same_way_is (Acc x) Own h = absurd (cc)
-same_way_is (Acc x) (Acc y) h = ap Acc (same_acc_is x y h)
 
 -- ---- a field that a line writes has a first way
 

@@ -82,5 +82,8 @@ fn same_op(x: AccOp, y: AccOp) -> bool
         AccOp::Add => matches!(y, AccOp::Add),
         AccOp::Min => matches!(y, AccOp::Min),
         AccOp::Max => matches!(y, AccOp::Max),
+        AccOp::Or => matches!(y, AccOp::Or),
+        AccOp::And => matches!(y, AccOp::And),
+        AccOp::Xor => matches!(y, AccOp::Xor),
     }
 }

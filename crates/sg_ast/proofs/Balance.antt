@@ -156,6 +156,9 @@ plain-way way.Own n = refl
 plain-way (way.Acc acc.Add) n = refl
 plain-way (way.Acc acc.Min) n = refl
 plain-way (way.Acc acc.Max) n = refl
+plain-way (way.Acc acc.Or) n = refl
+plain-way (way.Acc acc.And) n = refl
+plain-way (way.Acc acc.Xor) n = refl
 
 abbrev pub IsBalancedStmt : Stmt → Type 0
 IsBalancedStmt statement = IsBalanced (stmt_tokens statement)

@@ -173,6 +173,11 @@ is_stmt-choice : is_stmt choice ≡ true
 unfolding is_name is_reserved
 is_stmt-choice = simp (stmt_equations, expr_equations)
 
+-- `x[0] ^= 1;`
+tokens-flipped : stmt_tokens (stmt.Write (name (codes "x")) (number 0 ∷ []) (way.Acc acc.Xor) (number 1))
+    ≡ letters (codes "x") ∷ t.Sign s.OpenBracket ∷ digits 0 ∷ t.Sign s.CloseBracket ∷ t.Sign s.CaretEqual ∷ digits 1 ∷ t.Sign s.Semicolon ∷ []
+tokens-flipped = simp (stmt_equations, expr_equations)
+
 abbrev repeated : Stmt
 repeated = stmt.For (name (codes "k")) (record { lo = number 0; hi = number 2 }) (choice ∷ [])
 

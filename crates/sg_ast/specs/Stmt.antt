@@ -26,12 +26,15 @@ in_braces parts = t.Sign s.OpenBrace ∷ (joined_lists parts ++ t.Sign s.CloseBr
 abbrev pub range_tokens : RangeDecl → List Token
 range_tokens range = tokens_of range.lo ++ t.Sign s.DotDot ∷ tokens_of range.hi
 
--- `=`, `+=`, `min=` or `max=`, of which the last two have two tokens
+-- `=`, `+=`, `|=`, `&=`, `^=`, `min=` or `max=`, of which the last two have two tokens
 abbrev pub way_tokens : WayDecl → List Token
 way_tokens way.Own = t.Sign s.Equal ∷ []
 way_tokens (way.Acc acc.Add) = t.Sign s.PlusEqual ∷ []
 way_tokens (way.Acc acc.Min) = t.Word w.Min ∷ t.Sign s.Equal ∷ []
 way_tokens (way.Acc acc.Max) = t.Word w.Max ∷ t.Sign s.Equal ∷ []
+way_tokens (way.Acc acc.Or) = t.Sign s.OrEqual ∷ []
+way_tokens (way.Acc acc.And) = t.Sign s.AndEqual ∷ []
+way_tokens (way.Acc acc.Xor) = t.Sign s.CaretEqual ∷ []
 
 -- `else` with its block, or nothing
 abbrev pub else_tokens : Option (List (List Token)) → List Token

@@ -31,7 +31,7 @@ pub enum Stmt {
     },
 }
 
-/// How a write joins its value to the cell: `=` sets it, and `+=`, `min=` and `max=` accumulate.
+/// How a write joins its value to the cell: `=` sets it, and `+=`, `min=`, `max=`, `|=`, `&=` and `^=` accumulate.
 #[derive(Clone, Copy, Debug, PartialEq, Eq)]
 pub enum WayDecl {
     Own,

@@ -1,4 +1,4 @@
--- What seats gave, write after write.
+-- What writes give, and what seats gave.
 use Rattle.std.proofs.Common.{◌≡◌, ℕ, zero, suc, ◌+◌, ◌<◌, Bool, true, false, not, ◌&&◌, ◌==◌, cond, inl, inr, List, [], ◌∷◌, ◌++◌, length, take, get_or, Option, Some, None, refl, sym, ap, ◌∙◌, subst, arith, append_assoc, map}
 use Rattle.std.specs.Prelude.{slice_get, slice_set, IfSome, filter}
 use Rattle.std.proofs.lemmas.Bool.{cases_eq, cond-true, cond-false, eqb-true, eq-eqb, and_from}
@@ -7,14 +7,16 @@ use Rattle.std.proofs.lemmas.Option.{same_Some, slice_get_within}
 use Rattle.sg_flat.specs.declared.effects.Way.{Way}
 use Rattle.sg_flat.specs.declared.effects.Way.TheVariants.{Own, Acc}
 use Rattle.sg_accum.specs.declared.seat.AccSeat.{AccSeat}
-use Rattle.sg_accum.specs.Folding.{old_values, given_to, given_of, IsSeatOf, HasGivenWord}
+use Rattle.sg_accum.specs.Folding.{old_values, given_to, given_of, IsSeatOf}
 use Rattle.sg_store.specs.StoreWords.{StoreWords}
 use Rattle.sg_store.specs.WellFormed.{IsReached}
 use Rattle.sg_ir.specs.Runs.{is_own}
 use Rattle.sg_exec.specs.declared.lanes.cell_write.CellWrite.{CellWrite}
+use Rattle.sg_exec.specs.declared.lanes.moment.Moment.{Moment}
 use Rattle.sg_exec.specs.declared.results.shared.Accumulated.{Accumulated}
 use Rattle.sg_exec.specs.steps.Machines.{IsCellOf}
-use Rattle.sg_exec.specs.steps.Racing.{is_into, given_at, given_by, contributions, IsPassOf, AreSeats, HasGiven, HaveGiven}
+use Rattle.sg_exec.specs.steps.Racing.{is_into, given_at, given_by, contributions, joining, all_writes, IsPassOf, AreSeats, HasGiven, HaveGiven}
+use Rattle.sg_exec.proofs.Coming.{come_same, come_on, come_more}
 
 -- ---- items of lists
 
@@ -61,10 +63,10 @@ contributions-append layout place (x ∷ xs) ys =
 pub given_both : (c layout place : ℕ) (xs ys : List CellWrite) → given_to c (contributions layout place (xs ++ ys)) ≡ given_to c (contributions layout place xs) ++ given_to c (contributions layout place ys)
 given_both c layout place xs ys = ap (given_to c) (contributions-append layout place xs ys) ∙ given_to-append c (contributions layout place xs) (contributions layout place ys)
 
-given_own : (layout place : ℕ) (write : CellWrite) → write.way ≡ Own → given_by layout place write ≡ []
+pub given_own : (layout place : ℕ) (write : CellWrite) → write.way ≡ Own → given_by layout place write ≡ []
 given_own layout place write own = ap (λ (way : Way). cond (not (is_own way) && is_into layout place write) (given_at write.cell write.value) []) own
 
-given_nowhere : (layout place : ℕ) (write : CellWrite) → write.cell ≡ None → given_by layout place write ≡ []
+pub given_nowhere : (layout place : ℕ) (write : CellWrite) → write.cell ≡ None → given_by layout place write ≡ []
 given_nowhere layout place write none =
     ap (λ (cell : Option ℕ). cond (not (is_own write.way) && is_into layout place write) (given_at cell write.value) []) none
     ∙ by_test (not (is_own write.way) && is_into layout place write)
@@ -87,12 +89,12 @@ is_into_not layout place write apart = elim (cases_eq write.layout layout) [
     by_not true h = absurd (h refl)
     by_not false h = refl
 
-given_elsewhere : (layout place : ℕ) (write : CellWrite) → (write.layout ≡ layout → write.place ≡ place → ⊥) → given_by layout place write ≡ []
+pub given_elsewhere : (layout place : ℕ) (write : CellWrite) → (write.layout ≡ layout → write.place ≡ place → ⊥) → given_by layout place write ≡ []
 given_elsewhere layout place write apart =
     cond-false (not (is_own write.way) && is_into layout place write) (given_at write.cell write.value) []
     (and_false (not (is_own write.way)) (is_into layout place write) (is_into_not layout place write apart))
 
-given_here : (layout place cell : ℕ) (op : _) (write : CellWrite) → write.way ≡ Acc op → write.layout ≡ layout → write.place ≡ place → write.cell ≡ Some cell
+pub given_here : (layout place cell : ℕ) (op : _) (write : CellWrite) → write.way ≡ Acc op → write.layout ≡ layout → write.place ≡ place → write.cell ≡ Some cell
     → given_by layout place write ≡ (cell, write.value) ∷ []
 given_here layout place cell op write way same there is =
     cond-true (not (is_own write.way) && is_into layout place write) (given_at write.cell write.value) []
@@ -100,19 +102,37 @@ given_here layout place cell op write way same there is =
     (and_from (write.layout == layout) (write.place == place) (eq-eqb write.layout layout same) (eq-eqb write.place place there)))
     ∙ ap (λ (c : Option ℕ). given_at c write.value) is
 
+-- ---- the writes of iterations
+
+all_writes-append : (xs ys : List Moment) → all_writes (xs ++ ys) ≡ all_writes xs ++ all_writes ys
+all_writes-append [] ys = refl
+all_writes-append (x ∷ xs) ys = ap (λ (ws : List CellWrite). x.cells.writes ++ ws) (all_writes-append xs ys) ∙ sym (append_assoc x.cells.writes (all_writes xs) (all_writes ys))
+
+pub writes_more : (moments : List Moment) (k : ℕ) (moment : Moment) → k < length moments → moment ≡ get_or moments k moment → all_writes (take (k + 1) moments) ≡ all_writes (take k moments) ++ moment.cells.writes
+writes_more moments k moment below is =
+    ap all_writes (take_more moments k moment below ∙ ap (λ (m : Moment). take k moments ++ m ∷ []) (sym is))
+    ∙ all_writes-append (take k moments) (moment ∷ [])
+    ∙ ap (λ (ws : List CellWrite). all_writes (take k moments) ++ ws) (append-nil moment.cells.writes)
+
 -- ---- what seats gave
 
 pub has_given_more : (it : Accumulated) (xs ys : List CellWrite) (old mid now : AccSeat) → HasGiven it xs old mid → HasGiven it ys mid now → HasGiven it (xs ++ ys) old now
 has_given_more it xs ys old mid now first second = record {
-  given = λ c. second.given c ∙ ap (λ (g : List ℕ). g ++ given_to c (contributions it.layout it.field ys)) (first.given c)
-      ∙ append_assoc (given_of old c) (given_to c (contributions it.layout it.field xs)) (given_to c (contributions it.layout it.field ys))
-      ∙ ap (λ (g : List ℕ). given_of old c ++ g) (sym (given_both c it.layout it.field xs ys));
+  given = λ c.
+      let gx = given_to c (contributions it.layout it.field xs) in
+      let gy = given_to c (contributions it.layout it.field ys) in
+      come_on (joining it) (given_of now c) (given_of mid c ++ gy) (given_of old c ++ given_to c (contributions it.layout it.field (xs ++ ys))) (second.given c)
+      (come_on (joining it) (given_of mid c ++ gy) ((given_of old c ++ gx) ++ gy) (given_of old c ++ given_to c (contributions it.layout it.field (xs ++ ys)))
+      (come_more (joining it) (given_of mid c) (given_of old c ++ gx) gy (first.given c))
+      (come_same (joining it) ((given_of old c ++ gx) ++ gy) (given_of old c ++ given_to c (contributions it.layout it.field (xs ++ ys)))
+      (append_assoc (given_of old c) gx gy ∙ ap (λ (g : List ℕ). given_of old c ++ g) (sym (given_both c it.layout it.field xs ys)))));
   weight_is = second.weight_is ∙ first.weight_is;
 }
 
 has_given_none : (it : Accumulated) (xs : List CellWrite) (seat : AccSeat) → contributions it.layout it.field xs ≡ [] → HasGiven it xs seat seat
 has_given_none it xs seat none = record {
-  given = λ c. sym (ap (λ (g : List (ℕ × ℕ)). given_of seat c ++ given_to c g) none ∙ append-nil (given_of seat c));
+  given = λ c. come_same (joining it) (given_of seat c) (given_of seat c ++ given_to c (contributions it.layout it.field xs))
+      (sym (ap (λ (g : List (ℕ × ℕ)). given_of seat c ++ given_to c g) none ∙ append-nil (given_of seat c)));
   weight_is = refl;
 }
 
@@ -128,55 +148,6 @@ gave_more accumulated xs ys olds mids nows long first second = λ k it old now i
     let below : k < length accumulated = slice_get_within accumulated k it is in
     let mid = at_below mids k (omega arith) in
     has_given_more it xs ys old mid.0 now (first k it old mid.0 is was mid.1) (second k it mid.0 now is mid.1 at)
-
-nil_after : (layout place : ℕ) (write : CellWrite) → given_by layout place write ≡ [] → contributions layout place (write ∷ []) ≡ []
-nil_after layout place write none = ap (λ (g : List (ℕ × ℕ)). g ++ []) none
-
--- a write that gives nothing to any of the fields
-gave_none : (accumulated : List Accumulated) (write : CellWrite) (seats : List AccSeat)
-    → ((k : ℕ) (it : Accumulated) → slice_get accumulated k ≡ Some it → given_by it.layout it.field write ≡ []) → HaveGiven accumulated (write ∷ []) seats seats
-gave_none accumulated write seats none = λ k it old now is was at.
-    has_given_as it (write ∷ []) old now (nil_after it.layout it.field write (none k it is)) (same_Some _ _ (sym was ∙ at))
-
-pub gave_own : (accumulated : List Accumulated) (write : CellWrite) (seats : List AccSeat) → write.way ≡ Own → HaveGiven accumulated (write ∷ []) seats seats
-gave_own accumulated write seats own = gave_none accumulated write seats (λ k it is. given_own it.layout it.field write own)
-
-pub gave_nowhere : (accumulated : List Accumulated) (write : CellWrite) (seats : List AccSeat) → write.cell ≡ None → HaveGiven accumulated (write ∷ []) seats seats
-gave_nowhere accumulated write seats none = gave_none accumulated write seats (λ k it is. given_nowhere it.layout it.field write none)
-
-pub gave_unknown : (accumulated : List Accumulated) (write : CellWrite) (seats : List AccSeat)
-    → ((k : ℕ) (it : Accumulated) → slice_get accumulated k ≡ Some it → it.layout ≡ write.layout → it.field ≡ write.place → ⊥) → HaveGiven accumulated (write ∷ []) seats seats
-gave_unknown accumulated write seats none =
-    gave_none accumulated write seats (λ k it is. given_elsewhere it.layout it.field write (λ same there. none k it is (sym same) (sym there)))
-
--- a contribution that a seat gave
-pub gave_one : (accumulated : List Accumulated) (write : CellWrite) (olds : List AccSeat) (number cell : ℕ) (op : _) (it : Accumulated) (old now : AccSeat)
-    → ((j k : ℕ) (one other : Accumulated) → slice_get accumulated j ≡ Some one → slice_get accumulated k ≡ Some other → one.layout ≡ other.layout → one.field ≡ other.field → j ≡ k)
-    → slice_get accumulated number ≡ Some it → slice_get olds number ≡ Some old → write.way ≡ Acc op → it.layout ≡ write.layout → it.field ≡ write.place → write.cell ≡ Some cell
-    → HasGivenWord cell write.value old now → HaveGiven accumulated (write ∷ []) olds (slice_set olds number now)
-gave_one accumulated write olds number cell op it old now apart is was way same there at added = λ k other before after is_other was_other after_is.
-    elim (cases_eq k number) [
-      | inl here ↦ (
-          let item : it ≡ other = same_Some _ _ (sym is ∙ sym (ap (slice_get accumulated) here) ∙ is_other) in
-          let seat_was : old ≡ before = same_Some _ _ (sym was ∙ sym (ap (slice_get olds) here) ∙ was_other) in
-          let below : number < length olds = slice_get_within olds number old was in
-          let seat_is : now ≡ after = same_Some _ _ (sym (set_same olds number now below) ∙ sym (ap (slice_get (slice_set olds number now)) here) ∙ after_is) in
-          subst (λ (o : Accumulated). HasGiven o (write ∷ []) before after) item
-          (subst (λ (s : AccSeat). HasGiven it (write ∷ []) s after) seat_was
-          (subst (λ (s : AccSeat). HasGiven it (write ∷ []) old s) seat_is here_gave))
-          )
-      | inr elsewhere ↦ has_given_as other (write ∷ []) before after
-          (nil_after other.layout other.field write (given_elsewhere other.layout other.field write
-          (λ layouts fields. elsewhere (apart k number other it is_other is (sym layouts ∙ sym same) (sym fields ∙ sym there)))))
-          (same_Some _ _ (sym was_other ∙ sym (set_other olds number k now elsewhere) ∙ after_is))
-    ]
-  where
-    here_gave : HasGiven it (write ∷ []) old now
-    here_gave = record {
-      given = λ c. added.given_is c
-          ∙ ap (λ (g : List (ℕ × ℕ)). given_of old c ++ given_to c (g ++ [])) (sym (given_here it.layout it.field cell op write way (sym same) (sym there) at));
-      weight_is = added.handed_stays;
-    }
 
 -- ---- seats stay seats
 
@@ -196,14 +167,6 @@ seats_set accumulated seats number it now are is own = record {
     | inr elsewhere ↦ are.own k other seat is_other (sym (set_other seats number k now elsewhere) ∙ at)
   ];
 }
-
--- ---- the next write
-
-pub gave_next : (accumulated : List Accumulated) (writes : List CellWrite) (k : ℕ) (d : CellWrite) (olds mids nows : List AccSeat) → k < length writes → length mids ≡ length accumulated
-    → HaveGiven accumulated (take k writes) olds mids → HaveGiven accumulated (get_or writes k d ∷ []) mids nows → HaveGiven accumulated (take (k + 1) writes) olds nows
-gave_next accumulated writes k d olds mids nows below long first second =
-    subst (λ (ws : List CellWrite). HaveGiven accumulated ws olds nows) (sym (take_more writes k d below))
-    (gave_more accumulated (take k writes) (get_or writes k d ∷ []) olds mids nows long first second)
 
 -- a write's cell is one of the pass
 pub cell_within : (stores : List StoreWords) (it : Accumulated) (write : CellWrite) (cell : ℕ) → IsPassOf stores it → IfSome write.cell (IsCellOf stores write.layout) → write.cell ≡ Some cell → it.layout ≡ write.layout

@@ -18,9 +18,10 @@ use Rattle.sg_exec.specs.declared.lanes.cell_write.CellWrite.{CellWrite}
 use Rattle.sg_exec.specs.declared.results.shared.Accumulated.{Accumulated}
 use Rattle.sg_exec.specs.declared.results.shared.Owned.{Owned}
 use Rattle.sg_exec.specs.declared.workers.state.Hand.{Hand}
-use Rattle.sg_exec.specs.steps.Racing.{contributions, last_own, between, AreSeats, HaveGiven, HaveShares, HasWorked, HasRun, AreSplit, AreJoined, IsDivided, IsOfBoth}
+use Rattle.sg_exec.specs.steps.Racing.{contributions, joining, last_own, between, AreSeats, HaveGiven, HaveShares, HasWorked, HasRun, AreSplit, AreJoined, IsDivided, IsOfBoth}
 use Rattle.sg_exec.specs.steps.Puts.{kept_writes}
-use Rattle.sg_exec.proofs.Giving.{at_below, given_both}
+use Rattle.sg_exec.proofs.Coming.{come_same, come_on, come_both}
+use Rattle.sg_exec.proofs.Giving.{at_below, given_both, gave_more}
 
 abbrev pub Writes : Type 0
 Writes = List CellWrite
@@ -89,11 +90,16 @@ module _ (accumulated : List Accumulated) (olds nows others lefts rights afters 
         given = λ c.
             let gx = given_to c (contributions it.layout it.field xs) in
             let gy = given_to c (contributions it.layout it.field ys) in
-            j.given_is c
-            ∙ ap (λ (g : List ℕ). g ++ given_of right.0 c) (l.given c ∙ ap (λ (g : List ℕ). g ++ gx) (one.given_stays c))
-            ∙ ap (λ (g : List ℕ). (given_of old c ++ gx) ++ g) (r.given c ∙ ap (λ (g : List ℕ). g ++ gy) (one.other_new.nothing c))
+            let all = given_of old c ++ given_to c (contributions it.layout it.field (xs ++ ys)) in
+            come_on (joining it) (given_of after c) (given_of left.0 c ++ given_of right.0 c) all
+            (come_same (joining it) (given_of after c) (given_of left.0 c ++ given_of right.0 c) (j.given_is c))
+            (come_on (joining it) (given_of left.0 c ++ given_of right.0 c) ((given_of now.0 c ++ gx) ++ (given_of other.0 c ++ gy)) all
+            (come_both (joining it) (given_of left.0 c) (given_of right.0 c) (given_of now.0 c ++ gx) (given_of other.0 c ++ gy) (l.given c) (r.given c))
+            (come_same (joining it) ((given_of now.0 c ++ gx) ++ (given_of other.0 c ++ gy)) all
+            (ap (λ (g : List ℕ). (g ++ gx) ++ (given_of other.0 c ++ gy)) (one.given_stays c)
+            ∙ ap (λ (g : List ℕ). (given_of old c ++ gx) ++ (g ++ gy)) (one.other_new.nothing c)
             ∙ append_assoc (given_of old c) gx gy
-            ∙ ap (λ (g : List ℕ). given_of old c ++ g) (sym (given_both c it.layout it.field xs ys));
+            ∙ ap (λ (g : List ℕ). given_of old c ++ g) (sym (given_both c it.layout it.field xs ys)))));
         weight_is = weight_back (share_of old / 2) (handed_of old) (handed_of now.0) (handed_of left.0) (handed_of right.0) (handed_of after) one.handed_left l.weight_is (r.weight_is ∙ one.other_new.handed_is) j.handed_is;
       }
 
@@ -103,7 +109,7 @@ take_none : {A : Type 0} (n : ℕ) → take {A = A} n [] ≡ []
 take_none zero = refl
 take_none (suc n) = refl
 
-take_split : (a b : ℕ) (xs : List Coord) → take a xs ++ take b (drop a xs) ≡ take (a + b) xs
+pub take_split : (a b : ℕ) (xs : List Coord) → take a xs ++ take b (drop a xs) ≡ take (a + b) xs
 take_split zero b xs = ap (λ (n : ℕ). take n xs) (sym (zero_plus b))
   where
     zero_plus : (n : ℕ) → 0 + n ≡ n
@@ -128,16 +134,15 @@ between-more from mid to points first second =
 pub worked_nothing : (accumulated : List Accumulated) (owned : List Owned) (hand : Hand) → HaveGiven accumulated [] hand.seats.items hand.seats.items → HasWorked accumulated owned [] hand hand
 worked_nothing accumulated owned hand gave = record { gave = gave; puts = sym (append-nil (kept_writes hand.puts)) }
 
-pub worked_next : (accumulated : List Accumulated) (owned : List Owned) (turns : List Writes) (writes : Writes) (old mid now : Hand) → HasWorked accumulated owned turns old mid
-    → HaveGiven accumulated (joined_writes turns ++ writes) old.seats.items now.seats.items → (kept_writes now.puts) ≡ (kept_writes mid.puts) ++ last_own owned writes
-    → HasWorked accumulated owned (turns ++ writes ∷ []) old now
-worked_next accumulated owned turns writes old mid now worked gave puts = record {
-  gave = subst (λ (ws : Writes). HaveGiven accumulated ws old.seats.items now.seats.items)
-      (ap (λ (ws : Writes). joined_writes turns ++ ws) (sym (append-nil writes)) ∙ sym (flat-append (λ (ws : Writes). ws) turns (writes ∷ []))) gave;
-  puts = puts ∙ ap (λ (ps : Writes). ps ++ last_own owned writes) worked.puts
-      ∙ append_assoc (kept_writes old.puts) (flat_map (last_own owned) turns) (last_own owned writes)
-      ∙ ap (λ (ps : Writes). (kept_writes old.puts) ++ ps)
-      (ap (λ (ps : Writes). flat_map (last_own owned) turns ++ ps) (sym (append-nil (last_own owned writes))) ∙ sym (flat-append (last_own owned) turns (writes ∷ [])));
+-- more iterations
+pub worked_more : (accumulated : List Accumulated) (owned : List Owned) (xs ys : List Writes) (old mid now : Hand) → length mid.seats.items ≡ length accumulated → HasWorked accumulated owned xs old mid
+    → HasWorked accumulated owned ys mid now → HasWorked accumulated owned (xs ++ ys) old now
+worked_more accumulated owned xs ys old mid now long first second = record {
+  gave = subst (λ (ws : Writes). HaveGiven accumulated ws old.seats.items now.seats.items) (sym (flat-append (λ (ws : Writes). ws) xs ys))
+      (gave_more accumulated (joined_writes xs) (joined_writes ys) old.seats.items mid.seats.items now.seats.items long first.gave second.gave);
+  puts = second.puts ∙ ap (λ (ps : Writes). ps ++ flat_map (last_own owned) ys) first.puts
+      ∙ append_assoc (kept_writes old.puts) (flat_map (last_own owned) xs) (flat_map (last_own owned) ys)
+      ∙ ap (λ (ps : Writes). (kept_writes old.puts) ++ ps) (sym (flat-append (last_own owned) xs ys));
 }
 
 pub cells_both : (stores : List StoreWords) (xs ys : List Writes) → AreCells stores (joined_writes xs) → AreCells stores (joined_writes ys) → AreCells stores (joined_writes (xs ++ ys))

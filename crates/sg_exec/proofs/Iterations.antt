@@ -3,38 +3,80 @@ use Rattle.std.proofs.Common.{◌≡◌, ℕ, zero, suc, ◌+◌, ◌-◌, ◌*�
 use Rattle.std.specs.Prelude.{◌⊎◌, slice_get, Contains, IfSome}
 use Rattle.std.proofs.lemmas.Option.{slice_get-get_or}
 use Rattle.std.proofs.lemmas.List.{append-nil, take_all, take_more, map-append, get_or-take, get_or-drop, length-take, length-drop}
-use Rattle.std.proofs.lemmas.List.Elements.{Contains-get_or, All-nil}
+use Rattle.std.proofs.lemmas.List.Elements.{Contains-get_or, All-nil, All-append}
+use Rattle.std.specs.List.{flat_map}
 use Rattle.sg_coord.specs.declared.coord.Coord.{Coord}
 use Rattle.sg_coord.specs.Slices.{slice_start}
 use Rattle.sg_flat.specs.declared.state.FlatState.{FlatState}
 use Rattle.sg_store.specs.StoreWords.{StoreWords}
 use Rattle.sg_exec.specs.declared.lanes.cell_write.CellWrite.{CellWrite}
+use Rattle.sg_exec.specs.declared.lanes.moment.Moment.{Moment}
 use Rattle.sg_exec.specs.declared.results.shared.Accumulated.{Accumulated}
 use Rattle.sg_exec.specs.declared.results.shared.Owned.{Owned}
 use Rattle.sg_exec.specs.declared.workers.state.Hand.{Hand}
 use Rattle.sg_exec.specs.steps.Machines.{AreCells, IsCellOf}
-use Rattle.sg_exec.specs.steps.Racing.{last_own, between, HaveGiven, HasRun}
-use Rattle.sg_exec.specs.steps.Puts.{kept_writes}
-use Rattle.sg_exec.proofs.Giving.{gave_nothing, gave_more}
-use Rattle.sg_exec.proofs.Halves.{joined_writes, worked_nothing, worked_next, cells_both}
+use Rattle.sg_exec.specs.steps.Racing.{last_own, between, all_writes, HasWorked, HasRun}
+use Rattle.sg_exec.proofs.Giving.{writes_more, gave_nothing}
+use Rattle.sg_exec.proofs.Halves.{joined_writes, flat-append, take_split, worked_nothing, worked_more, cells_both}
 
 abbrev Writes : Type 0
 Writes = List CellWrite
 
--- with the cells that it wrote into, where what it wrote is what the iteration writes at each state
-pub run_turn : (stores : List StoreWords) (accumulated : List Accumulated) (owned : List Owned) (P : FlatState → Type 0) (f : FlatState → Coord → Writes) (points : List Coord) (i : ℕ) (d : Coord) (writes : Writes) (old mid now : Hand) → i < length points
-    → length mid.seats.items ≡ length accumulated → HasRun stores accumulated owned P (λ s. map (f s) (take i points)) old mid → HaveGiven accumulated writes mid.seats.items now.seats.items
-    → (kept_writes now.puts) ≡ (kept_writes mid.puts) ++ last_own owned writes → AreCells stores writes → ((s : FlatState) → P s → writes ≡ f s (get_or points i d))
-    → HasRun stores accumulated owned P (λ s. map (f s) (take (i + 1) points)) old now
-run_turn stores accumulated owned P f points i d writes old mid now below long run gave puts cells is = record {
-  turns = run.turns ++ writes ∷ [];
-  worked = worked_next accumulated owned run.turns writes old mid now run.worked (gave_more accumulated (joined_writes run.turns) writes old.seats.items mid.seats.items now.seats.items long run.worked.gave gave) puts;
-  cells = cells_both stores run.turns (writes ∷ []) run.cells (subst (λ (ws : Writes). AreCells stores ws) (sym (append-nil writes)) cells);
+-- with the cells that they wrote into, where what they wrote is what the iterations write at each state
+pub run_batch : (stores : List StoreWords) (accumulated : List Accumulated) (owned : List Owned) (P : FlatState → Type 0) (f : FlatState → Coord → Writes) (points : List Coord) (first count : ℕ) (more : List Writes) (old mid now : Hand)
+    → length mid.seats.items ≡ length accumulated → HasRun stores accumulated owned P (λ s. map (f s) (take first points)) old mid → HasWorked accumulated owned more mid now → AreCells stores (joined_writes more)
+    → ((s : FlatState) → P s → more ≡ map (f s) (take count (drop first points))) → HasRun stores accumulated owned P (λ s. map (f s) (take (first + count) points)) old now
+run_batch stores accumulated owned P f points first count more old mid now long run worked cells is = record {
+  turns = run.turns ++ more;
+  worked = worked_more accumulated owned run.turns more old mid now long run.worked worked;
+  cells = cells_both stores run.turns more run.cells cells;
   are = λ s p.
-      ap (λ (ts : List Writes). ts ++ writes ∷ []) (run.are s p)
-      ∙ ap (λ (ws : Writes). map (f s) (take i points) ++ ws ∷ []) (is s p)
-      ∙ sym (ap (map (f s)) (take_more points i d below) ∙ map-append (f s) (take i points) (get_or points i d ∷ []));
+      ap (λ (ts : List Writes). ts ++ more) (run.are s p)
+      ∙ ap (λ (ws : List Writes). map (f s) (take first points) ++ ws) (is s p)
+      ∙ sym (ap (map (f s)) (sym (take_split first count points)) ∙ map-append (f s) (take first points) (take count (drop first points)));
 }
+
+-- ---- what iterations side by side wrote
+
+abbrev pub turns_of : List Moment → List Writes
+turns_of moments = map (λ (moment : Moment). moment.cells.writes) moments
+
+pub writes_joined : (moments : List Moment) → all_writes moments ≡ joined_writes (turns_of moments)
+writes_joined [] = refl
+writes_joined (moment ∷ moments) = ap (λ (ws : Writes). moment.cells.writes ++ ws) (writes_joined moments)
+
+-- the last own writes of each
+abbrev pub owns_of : List Owned → List Moment → Writes
+owns_of owned moments = flat_map (λ (moment : Moment). last_own owned moment.cells.writes) moments
+
+pub owns_are : (owned : List Owned) (moments : List Moment) → owns_of owned moments ≡ flat_map (last_own owned) (turns_of moments)
+owns_are owned [] = refl
+owns_are owned (moment ∷ moments) = ap (λ (ws : Writes). last_own owned moment.cells.writes ++ ws) (owns_are owned moments)
+
+pub owns_more : (owned : List Owned) (moments : List Moment) (k : ℕ) (moment : Moment) → k < length moments → moment ≡ get_or moments k moment
+    → owns_of owned (take (k + 1) moments) ≡ owns_of owned (take k moments) ++ last_own owned moment.cells.writes
+owns_more owned moments k moment below is =
+    ap (owns_of owned) (take_more moments k moment below ∙ ap (λ (m : Moment). take k moments ++ m ∷ []) (sym is))
+    ∙ flat-append (λ (m : Moment). last_own owned m.cells.writes) (take k moments) (moment ∷ [])
+    ∙ ap (λ (ws : Writes). owns_of owned (take k moments) ++ ws) (append-nil (last_own owned moment.cells.writes))
+
+-- one moment more, over the same stores
+pub cells_more : (stores : List StoreWords) (moments : List Moment) (k : ℕ) (moment : Moment) → k < length moments → moment ≡ get_or moments k moment → AreCells stores (all_writes (take k moments)) → AreCells stores moment.cells.writes
+    → AreCells stores (all_writes (take (k + 1) moments))
+cells_more stores moments k moment below is first second =
+    subst (λ (ws : Writes). AreCells stores ws) (sym (writes_more moments k moment below is))
+    (All-append (λ (write : CellWrite). IfSome write.cell (IsCellOf stores write.layout)) (all_writes (take k moments)) moment.cells.writes first second)
+
+-- so many moments make what points make, if each makes what the point at its place does
+pub same_turns : (g : Moment → Writes) (f : Coord → Writes) (count : ℕ) (moments : List Moment) (points : List Coord) → count ≤ length moments → length points ≡ count
+    → ((k : ℕ) (moment : Moment) (at : Coord) → slice_get moments k ≡ Some moment → slice_get points k ≡ Some at → g moment ≡ f at) → map g (take count moments) ≡ map f points
+same_turns g f zero moments [] within long each = refl
+same_turns g f zero moments (at ∷ points) within long each = absurd (omega (arith, long))
+same_turns g f (suc count) [] points within long each = absurd (omega (arith, within))
+same_turns g f (suc count) (moment ∷ moments) [] within long each = absurd (omega (arith, long))
+same_turns g f (suc count) (moment ∷ moments) (at ∷ points) within long each =
+    ap (λ (ws : Writes). ws ∷ map g (take count moments)) (each 0 moment at refl refl)
+    ∙ ap (λ (more : List Writes). f at ∷ more) (same_turns g f count moments points (omega (arith, within)) (omega (arith, long)) (λ k m a here there. each (suc k) m a here there))
 
 pub run_nothing : (stores : List StoreWords) (accumulated : List Accumulated) (owned : List Owned) (P : FlatState → Type 0) (f : FlatState → Coord → Writes) (points : List Coord) (hand : Hand)
     → HasRun stores accumulated owned P (λ s. map (f s) (take 0 points)) hand hand

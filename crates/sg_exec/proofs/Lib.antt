@@ -44,6 +44,8 @@ pub mod Settling
 pub mod Uncapped
 pub mod AllActive
 pub mod Answering
+pub mod Coming
+pub mod Taking
 pub mod Giving
 pub mod SideBySide
 pub mod Starting

@@ -25,9 +25,10 @@ use Rattle.sg_exec.specs.declared.workers.state.Hand.{Hand}
 use Rattle.sg_exec.specs.Standing.{shapes_of}
 use Rattle.sg_exec.specs.steps.Machines.{seen_in, IsCellOf, AreCells, IsAtLoop}
 use Rattle.sg_exec.specs.steps.Landing.{code_write, landing, AreTurnsOf, Lands}
-use Rattle.sg_exec.specs.steps.Racing.{is_into, given_at, given_by, contributions, last_own, AreSeats, HasRun}
+use Rattle.sg_exec.specs.steps.Racing.{is_into, given_at, given_by, contributions, joining, ComeTo, last_own, AreSeats, HasRun}
 use Rattle.sg_exec.specs.steps.Passes.{HaveFields, AreWhole, GaveReached, AreGiven, WritesOneWay, passed}
 use Rattle.sg_exec.specs.steps.Puts.{kept_writes}
+use Rattle.sg_exec.proofs.Coming.{come_same, come_on}
 use Rattle.sg_exec.proofs.Giving.{at_below}
 use Rattle.sg_exec.proofs.LastOwn.{kept_own, last_own_is}
 use Rattle.sg_exec.proofs.StoresLanded.{lands_more}
@@ -84,11 +85,13 @@ module _ (stores : List StoreWords) (uses : List Use) (accumulated : List Accumu
   pass_at : (k : ℕ) (seat : AccSeat) → slice_get after.seats.items k ≡ Some seat → (it : Accumulated) × (slice_get accumulated k ≡ Some it)
   pass_at k seat at = at_below accumulated k (let below = slice_get_within after.seats.items k seat at in let long = seats.long in omega (arith, below, long))
 
-  given_by_seat : (k : ℕ) (it : Accumulated) (seat : AccSeat) → slice_get accumulated k ≡ Some it → slice_get after.seats.items k ≡ Some seat → (c : ℕ) → given_of seat c ≡ given_to c (contributions it.layout it.field writes_given)
+  given_by_seat : (k : ℕ) (it : Accumulated) (seat : AccSeat) → slice_get accumulated k ≡ Some it → slice_get after.seats.items k ≡ Some seat → (c : ℕ) → ComeTo (joining it) (given_of seat c) (given_to c (contributions it.layout it.field writes_given))
   given_by_seat k it seat at also c =
       let was = old_at k seat also in
       let gave = ran.worked.gave k it was.0 seat at was.1 also in
-      gave.given c ∙ ap (λ (g : List ℕ). g ++ given_to c (contributions it.layout it.field writes_given)) ((have.new k was.0 was.1).nothing c)
+      let new = given_to c (contributions it.layout it.field writes_given) in
+      come_on (joining it) (given_of seat c) (given_of was.0 c ++ new) new (gave.given c)
+      (come_same (joining it) (given_of was.0 c ++ new) new (ap (λ (g : List ℕ). g ++ new) ((have.new k was.0 was.1).nothing c)))
 
   pub are_whole : AreWhole after.seats.items
   are_whole = λ k seat also.
@@ -98,7 +101,7 @@ module _ (stores : List StoreWords) (uses : List Use) (accumulated : List Accumu
 
   pub gave_reached : GaveReached stores accumulated after.seats.items
   gave_reached = λ k it seat at also cell some.
-      let one = given_some cell (contributions it.layout it.field writes_given) (λ none. some (given_by_seat k it seat at also cell ∙ none)) in
+      let one = given_some cell (contributions it.layout it.field writes_given) (λ none. some ((given_by_seat k it seat at also cell).none none)) in
       subst (λ (c : ℕ). IsCellOf stores it.layout c) one.1.1 (contributions_reached stores it.layout it.field writes_given ran.cells one.0 one.1.0)
 
   -- ---- at a state, with the turns of the run
@@ -124,8 +127,8 @@ module _ (stores : List StoreWords) (uses : List Use) (accumulated : List Accumu
     pub are_given : AreGiven stores accumulated after.seats.items (flat_map f points)
     are_given = λ k it seat at also. record {
       ways = acc_ways stores uses accumulated old.seats.items owned f points have writes_way is_used own_at k it at;
-      given_is = λ cell. given_by_seat k it seat at also cell
-          ∙ ap (λ (ws : List CellWrite). given_to cell (contributions it.layout it.field ws)) (ap (flat_map (λ (ws : List CellWrite). ws)) turns_are ∙ joined points each);
+      given_is = λ cell. subst (λ (ws : List CellWrite). ComeTo (joining it) (given_of seat cell) (given_to cell (contributions it.layout it.field ws)))
+          (ap (flat_map (λ (ws : List CellWrite). ws)) turns_are ∙ joined points each) (given_by_seat k it seat at also cell);
     }
 
     pub puts_are : (kept_writes old.puts) ≡ [] → (kept_writes after.puts) ≡ map (landing stores) (flat_map (λ (at : Coord). kept_own owned (f at)) points)

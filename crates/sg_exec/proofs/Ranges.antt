@@ -1,8 +1,10 @@
 -- Parts of a list from one number up to below another.
-use Rattle.std.proofs.Common.{◌≡◌, ℕ, ◌+◌, ◌-◌, ◌≤◌, List, [], ◌∷◌, length, take, drop, sym, ap, ◌∙◌, subst, arith}
-use Rattle.std.specs.Prelude.{Contains}
+use Rattle.std.proofs.Common.{◌≡◌, ℕ, zero, suc, ◌+◌, ◌-◌, ◌≤◌, List, [], ◌∷◌, length, take, drop, Some, sym, ap, ◌∙◌, subst, arith}
+use Rattle.std.specs.Prelude.{Contains, slice_get}
 use Rattle.std.proofs.lemmas.List.{take_all, take-take, drop-drop, drop-take, length-take, length-drop, take-append-drop}
-use Rattle.std.proofs.lemmas.List.Elements.{Contains-append_right}
+use Rattle.std.proofs.lemmas.List.Elements.{Contains-append_left, Contains-append_right}
+use Rattle.std.proofs.lemmas.Option.{same_Some}
+use Rattle.sg_words.proofs.Uses.{contains_head, contains_rest}
 use Rattle.sg_coord.specs.declared.coord.Coord.{Coord}
 use Rattle.sg_exec.specs.steps.Racing.{between}
 
@@ -41,6 +43,17 @@ between_right from mid to points above below =
 pub rest_among : (from : ℕ) (points : List Coord) (at : Coord) → Contains (drop from points) at → Contains points at
 rest_among from points at has =
     subst (λ (l : List Coord). Contains l at) (take-append-drop from points) (Contains-append_right (take from points) (drop from points) at has)
+
+-- the front is, too
+pub front_among : (count : ℕ) (points : List Coord) (at : Coord) → Contains (take count points) at → Contains points at
+front_among count points at has =
+    subst (λ (l : List Coord). Contains l at) (take-append-drop count points) (Contains-append_left (take count points) (drop count points) at has)
+
+-- what stands at a number in a list is in it
+pub at_among : (points : List Coord) (k : ℕ) (at : Coord) → slice_get points k ≡ Some at → Contains points at
+at_among [] k at is = absurd (cc)
+at_among (first ∷ points) zero at is = contains_head at first points (same_Some _ _ is)
+at_among (first ∷ points) (suc k) at is = contains_rest at first points (at_among points k at is)
 
 -- the first one, if there is one
 pub between_one : (n all : ℕ) (points : List Coord) → all ≡ length points → n ≤ 1 → n ≤ all → (1 ≤ all → 1 ≤ n) → between 0 n points ≡ take 1 points

@@ -30,7 +30,8 @@ use Rattle.sg_store.specs.Rows.{SetsRow}
 use Rattle.sg_exec.specs.declared.results.shared.Accumulated.{Accumulated}
 use Rattle.sg_exec.specs.Standing.{shapes_of}
 use Rattle.sg_exec.specs.steps.Landing.{landing, landed_layout, HasTree}
-use Rattle.sg_exec.specs.steps.Racing.{contributions, IsPassOf}
+use Rattle.sg_words.specs.Words.{folded}
+use Rattle.sg_exec.specs.steps.Racing.{contributions, joining, ComeTo, IsPassOf}
 use Rattle.sg_exec.proofs.Summed.{IsContribution, cell_landed, summed}
 use Rattle.sg_exec.specs.steps.Passes.{to_field, into_field}
 use Rattle.sg_exec.proofs.SumLanded.{parts_field, sets_row}
@@ -60,7 +61,7 @@ pub record EndedPass (stores : List StoreWords) (it : Accumulated) (copy : Store
   pub tree : HasTree pass.store copy
   pub fresh : (cell : ℕ) → word_in copy it.field cell ≡ word_in pass.store it.field cell
   pub ways : (write : Write) → Contains writes write → write.layout ≡ it.layout → write.place ≡ it.field → write.way ≡ Acc it.op
-  pub given_is : (cell : ℕ) → given cell ≡ given_to cell (contributions it.layout it.field (map (landing stores) writes))
+  pub given_is : (cell : ℕ) → ComeTo (joining it) (given cell) (given_to cell (contributions it.layout it.field (map (landing stores) writes)))
   pub folds : AreFolded (operator_of it.pass) (type_of it.pass) (old_values it.pass) given words
   pub small : (cell : ℕ) → slice_index words cell < 2 ^ 32
 
@@ -107,7 +108,8 @@ module _ (stores : List StoreWords) (it : Accumulated) (copy : StoreWords) (word
       let differ : (x y : Coord) (c : ℕ) → cell_in copy x ≡ Some c → cell_in copy y ≡ Some c → x ≡ y = λ x y c a b. differ_law well x y c a b in
       let field_there : it.field < length copy.shape.fields = slice_get_within copy.shape.fields it.field (type_of it.pass) is_ty in
       summed stores it.layout it.field it.op copy bounds at cell is differ laws.point_of_row (inside at has) (type_of it.pass) (old_values it.pass) words given writes
-      (subst (λ (op : AccOp). AreFolded op (type_of it.pass) (old_values it.pass) given words) ended.pass.operator ended.folds) within_old (ended.given_is cell) (known at cell is differ (inside at has))
+      (subst (λ (op : AccOp). AreFolded op (type_of it.pass) (old_values it.pass) given words) ended.pass.operator ended.folds) within_old
+      (subst (λ (op : AccOp). ComeTo (folded op (type_of it.pass)) (given cell) (given_to cell (contributions it.layout it.field (map (landing stores) writes)))) ended.pass.operator (ended.given_is cell)) (known at cell is differ (inside at has))
       ∙ ap (λ (w : ℕ). landed (type_of it.pass) w (writes_to bounds it.layout it.field (row_of bounds at) writes))
       (ended.pass.words cell ∙ sym (ended.fresh cell) ∙ stands.values at cell is it.field field_there)
 

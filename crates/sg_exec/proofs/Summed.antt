@@ -25,7 +25,7 @@ use Rattle.sg_ir.specs.Runs.{is_own}
 use Rattle.sg_exec.specs.Standing.{shapes_of}
 use Rattle.sg_exec.specs.steps.Machines.{cell_there}
 use Rattle.sg_exec.specs.steps.Landing.{code_write, landing}
-use Rattle.sg_exec.specs.steps.Racing.{given_at, given_by, contributions}
+use Rattle.sg_exec.specs.steps.Racing.{given_at, given_by, contributions, ComeTo}
 use Rattle.sg_exec.proofs.Giving.{given_to-append}
 
 -- ---- the cell of a write
@@ -146,12 +146,12 @@ into_of_to false b r h = absurd (cc)
 module _ (stores : List StoreWords) (layout place : ℕ) (op : AccOp) (store : StoreWords) (bounds : Bounds) (at : Coord) (cell : ℕ) (is_cell : cell_in store at ≡ Some cell)
     (differ : (x y : Coord) (c : ℕ) → cell_in store x ≡ Some c → cell_in store y ≡ Some c → x ≡ y) (point_of_row : PointOfRow) (inside : Inside bounds at) where
   -- the cell's word at the end of the pass is what the flat meaning makes of its word
-  pub summed : (ty : Ty) (old new : List ℕ) (given : ℕ → List ℕ) (writes : List Write) → AreFolded op ty old given new → cell < length old → given cell ≡ given_to cell (contributions layout place (map (landing stores) writes))
+  pub summed : (ty : Ty) (old new : List ℕ) (given : ℕ → List ℕ) (writes : List Write) → AreFolded op ty old given new → cell < length old → ComeTo (folded op ty) (given cell) (given_to cell (contributions layout place (map (landing stores) writes)))
       → ((write : Write) → Contains writes write → ((write.layout == layout) && (write.place == place)) ≡ true → IsContribution stores layout place op store bounds at cell is_cell differ point_of_row inside write)
       → slice_index new cell ≡ landed ty (slice_index old cell) (writes_to bounds layout place (row_of bounds at) writes)
   summed ty old new given writes folds below is known =
       folds.folds cell below
-      ∙ ap (fold (folded op ty) (slice_index old cell)) is
+      ∙ is.words (slice_index old cell)
       ∙ ap (fold (folded op ty) (slice_index old cell)) (all_given stores layout place op store bounds at cell is_cell differ point_of_row inside writes known)
       ∙ fold_landed ty op (slice_index old cell) (writes_to bounds layout place (row_of bounds at) writes)
       (λ w has. let both = from_filter (is_to bounds layout place (row_of bounds at)) writes w has in

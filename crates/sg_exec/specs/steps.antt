@@ -14,6 +14,7 @@ pub mod Limiting
 pub mod Alike
 pub mod Landing
 pub mod Racing
+pub mod Pending
 pub mod Passes
 pub mod Working
 pub mod Made

@@ -125,6 +125,9 @@ inert_way way.Own rest = refl
 inert_way (way.Acc acc.Add) rest = refl
 inert_way (way.Acc acc.Min) rest = refl
 inert_way (way.Acc acc.Max) rest = refl
+inert_way (way.Acc acc.Or) rest = refl
+inert_way (way.Acc acc.And) rest = refl
+inert_way (way.Acc acc.Xor) rest = refl
 
 pub inert_names : (names : List Name) → IsInert (names_tokens names)
 inert_names names = inert-separated (map (λ name. t.Name name ∷ []) names) (each_mapped (λ name. t.Name name ∷ []) (λ name rest. refl) names)

@@ -63,10 +63,12 @@ impl Wants {
         }
     }
 
-    /// `=`, `+=`, `min=` or `max=`.
+    /// `=`, `+=`, `|=`, `&=`, `^=`, `min=` or `max=`.
     pub(crate) fn way(&mut self, token: &Token) -> Result<Step, Memory> {
         match token {
-            Token::Sign(Sign::Equal | Sign::PlusEqual) => Ok(Step::Taken),
+            Token::Sign(
+                Sign::Equal | Sign::PlusEqual | Sign::OrEqual | Sign::AndEqual | Sign::CaretEqual,
+            ) => Ok(Step::Taken),
             Token::Word(Word::Min | Word::Max) => self.open(
                 &[Want::Sign(Sign::Equal)],
                 Step::Taken,

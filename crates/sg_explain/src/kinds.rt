@@ -93,11 +93,11 @@ pub(crate) fn computes(token: &Token) -> bool {
     )
 }
 
-/// Whether a token is one of the signs that stand in no form.
-pub(crate) fn is_unused(token: &Token) -> bool {
+/// Whether a token is the sign of a contribution.
+pub(crate) fn contributes(token: &Token) -> bool {
     matches!(
         token,
-        Token::Sign(Sign::OrEqual | Sign::AndEqual | Sign::CaretEqual)
+        Token::Sign(Sign::PlusEqual | Sign::OrEqual | Sign::AndEqual | Sign::CaretEqual)
     )
 }
 

@@ -1,7 +1,7 @@
 //! What is wrong where reading stops in a statement or at a single token.
 
 use crate::kinds::{
-    begins_command, begins_item, compares, computes, is_sign, is_some_sign, is_unused, is_word,
+    begins_command, begins_item, compares, computes, contributes, is_sign, is_some_sign, is_word,
 };
 use crate::want::Want;
 use sg_ast::{Sign, Token, Word};
@@ -96,7 +96,7 @@ pub(crate) fn statement_advice(at: &Token) -> Advice {
 
 /// What is said behind the name at the front of a statement.
 pub(crate) fn written_advice(at: &Token) -> Advice {
-    if is_sign(at, Sign::PlusEqual) || computes(at) || is_unused(at) {
+    if contributes(at) || computes(at) {
         Advice {
             sentence: "a local is assigned by `=` alone",
             instead: "n = n + 1;",
@@ -118,17 +118,17 @@ pub(crate) fn written_advice(at: &Token) -> Advice {
 pub(crate) fn way_advice(stop: &Stop) -> Advice {
     if is_sign(stop.at, Sign::Minus) && is_some_sign(stop.behind, Sign::Equal) {
         Advice {
-            sentence: "there is no `-=`: a write is `=`, `+=`, `min=` or `max=`",
+            sentence: "there is no `-=`: a write is `=`, `+=`, `|=`, `&=`, `^=`, `min=` or `max=`",
             instead: "x[i] += -1; or, at the iteration's own place, x[i] = x[i] - 1;",
         }
-    } else if computes(stop.at) || is_unused(stop.at) {
+    } else if computes(stop.at) {
         Advice {
-            sentence: "a write is `=`, `+=`, `min=` or `max=`",
-            instead: "at the iteration's own place, x[i] = x[i] | 1;",
+            sentence: "a write is `=`, `+=`, `|=`, `&=`, `^=`, `min=` or `max=`",
+            instead: "at the iteration's own place, x[i] = x[i] * 2;",
         }
     } else {
         Advice {
-            sentence: "a way of writing is wanted here: `=`, `+=`, `min=` or `max=`",
+            sentence: "a way of writing is wanted here: `=`, `+=`, `|=`, `&=`, `^=`, `min=` or `max=`",
             instead: "x[i] = 1;",
         }
     }
@@ -269,7 +269,7 @@ pub(crate) fn missing(want: Want) -> Option<&'static str> {
         Want::Range => Some("a range"),
         Want::Block => Some("a block `{ .. }`"),
         Want::Written => Some("`=`"),
-        Want::Way => Some("`=`, `+=`, `min=` or `max=`"),
+        Want::Way => Some("`=`, `+=`, `|=`, `&=`, `^=`, `min=` or `max=`"),
         Want::Expr | Want::Operand => Some("an expression"),
         Want::MoreIndices => Some("`]`"),
         Want::MoreArguments { left } if left > 0 => Some("an argument"),

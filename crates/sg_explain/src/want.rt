@@ -47,7 +47,7 @@ pub enum Want {
     Else,
     /// What stands behind the name at the front of a statement.
     Written,
-    /// `=`, `+=`, `min=` or `max=`.
+    /// `=`, `+=`, `|=`, `&=`, `^=`, `min=` or `max=`.
     Way,
     Expr,
     /// An expression without an operator between two.

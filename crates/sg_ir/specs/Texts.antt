@@ -55,6 +55,9 @@ abbrev pub acc_text : AccOp → List ℕ
 acc_text acc.Add = codes "add"
 acc_text acc.Min = codes "min"
 acc_text acc.Max = codes "max"
+acc_text acc.Or = codes "or"
+acc_text acc.And = codes "and"
+acc_text acc.Xor = codes "xor"
 
 -- a register and a place, and a number after a space
 abbrev pub reg : ℕ → List ℕ

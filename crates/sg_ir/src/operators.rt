@@ -62,5 +62,8 @@ pub(crate) fn acc_name(op: AccOp) -> &'static str
         AccOp::Add => "add",
         AccOp::Min => "min",
         AccOp::Max => "max",
+        AccOp::Or => "or",
+        AccOp::And => "and",
+        AccOp::Xor => "xor",
     }
 }

@@ -4,8 +4,6 @@ use Rattle.std.specs.Prelude.{find, option_map, Contains}
 use Rattle.std.specs.List.{list_all, list_any, AllByRecursion}
 use Rattle.std.proofs.lemmas.Bool.{and_parts, and_from, both_ways, eqb-true}
 use Rattle.std.proofs.lemmas.Option.{same_Some}
-use Rattle.sg_words.specs.declared.operators.AccOp.{AccOp}
-use Rattle.sg_words.specs.declared.operators.AccOp.TheVariants as acc
 use Rattle.sg_words.proofs.Uses.{contains_none, contains_cases}
 use Rattle.sg_layout.specs.declared.shape.Shape.{Shape}
 use Rattle.sg_flat.specs.declared.effects.Way.{Way}
@@ -15,7 +13,7 @@ use Rattle.sg_types.specs.declared.typed.TypedExpr.{TypedExpr}
 use Rattle.sg_types.specs.Expressions.{equals_some}
 use Rattle.sg_types.specs.WellTyped.{axes_in}
 use Rattle.sg_types.specs.Values.{is_own}
-use Rattle.sg_types.specs.Written.{same_way}
+use Rattle.sg_types.proofs.Uses.{same_way_is}
 use Rattle.sg_admit.specs.declared.ways.FieldWay.{FieldWay}
 use Rattle.sg_admit.specs.Lines as lines
 use Rattle.sg_admit.specs.Lines.{Deed, Line}
@@ -26,25 +24,6 @@ use Rattle.sg_lower.specs.steps.Basis.{Basis, is_owned}
 use Rattle.sg_lower.specs.steps.Using.{expr_uses, all_uses, way_uses, deed_uses, line_uses}
 use Rattle.sg_lower.proofs.UsedReads.{all_append, GoodRead, reads_well, all_read_well}
 use Rattle.sg_lower.proofs.LineWords.{all_mapped}
-
--- ---- ways
-
-same_acc_is : (x y : AccOp) → same_way (Acc x) (Acc y) ≡ true → x ≡ y
-same_acc_is acc.Add acc.Add h = refl
-same_acc_is acc.Add acc.Min h = absurd (cc)
-same_acc_is acc.Add acc.Max h = absurd (cc)
-same_acc_is acc.Min acc.Add h = absurd (cc)
-same_acc_is acc.Min acc.Min h = refl
-same_acc_is acc.Min acc.Max h = absurd (cc)
-same_acc_is acc.Max acc.Add h = absurd (cc)
-same_acc_is acc.Max acc.Min h = absurd (cc)
-same_acc_is acc.Max acc.Max h = refl
-
-same_way_is : (x y : Way) → same_way x y ≡ true → x ≡ y
-same_way_is Own Own h = refl
-same_way_is Own (Acc y) h = absurd (cc)
-same_way_is (Acc x) Own h = absurd (cc)
-same_way_is (Acc x) (Acc y) h = ap Acc (same_acc_is x y h)
 
 -- the first way of a field that is written, where a way keeps to it
 pub first_is : (ways : List FieldWay) (layout place : ℕ) (way : Way) → list_any (is_of_field layout place) ways ≡ true → is_first (first_way ways layout place) way ≡ true → first_way ways layout place ≡ Some way

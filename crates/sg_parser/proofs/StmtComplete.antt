@@ -55,6 +55,9 @@ way_complete way.Own rest = refl
 way_complete (way.Acc acc.Add) rest = refl
 way_complete (way.Acc acc.Min) rest = refl
 way_complete (way.Acc acc.Max) rest = refl
+way_complete (way.Acc acc.Or) rest = refl
+way_complete (way.Acc acc.And) rest = refl
+way_complete (way.Acc acc.Xor) rest = refl
 
 all_fits : (parts : List Expr) → list_all is_expr parts ≡ true → AllByRecursion (Fit 1 max_depth) parts
 all_fits [] h = tt

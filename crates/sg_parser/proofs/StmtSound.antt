@@ -139,6 +139,9 @@ way_sound (t.Sign s.Equal ∷ tokens) a rest h = way_given way.Own a tokens rest
 way_sound (t.Sign s.PlusEqual ∷ tokens) a rest h = way_given (way.Acc acc.Add) a tokens rest h
 way_sound (t.Word w.Min ∷ tokens) a rest h = way_behind (way.Acc acc.Min) a tokens rest w.Min refl h
 way_sound (t.Word w.Max ∷ tokens) a rest h = way_behind (way.Acc acc.Max) a tokens rest w.Max refl h
+way_sound (t.Sign s.OrEqual ∷ tokens) a rest h = way_given (way.Acc acc.Or) a tokens rest h
+way_sound (t.Sign s.AndEqual ∷ tokens) a rest h = way_given (way.Acc acc.And) a tokens rest h
+way_sound (t.Sign s.CaretEqual ∷ tokens) a rest h = way_given (way.Acc acc.Xor) a tokens rest h
 way_sound (_ ∷ tokens) a rest h = absurd (cc)
 
 all_exprs : (parts : List Expr) → AllByRecursion (Fit 1 max_depth) parts → list_all is_expr parts ≡ true

@@ -46,6 +46,9 @@ next_way (t.Sign s.Equal ∷ rest) = Some (way.Own, rest)
 next_way (t.Sign s.PlusEqual ∷ rest) = Some (way.Acc acc.Add, rest)
 next_way (t.Word w.Min ∷ rest) = behind_equal (way.Acc acc.Min) rest
 next_way (t.Word w.Max ∷ rest) = behind_equal (way.Acc acc.Max) rest
+next_way (t.Sign s.OrEqual ∷ rest) = Some (way.Acc acc.Or, rest)
+next_way (t.Sign s.AndEqual ∷ rest) = Some (way.Acc acc.And, rest)
+next_way (t.Sign s.CaretEqual ∷ rest) = Some (way.Acc acc.Xor, rest)
 next_way _ = None
 
 -- `= VALUE ;`

@@ -90,6 +90,9 @@ fn next_way(tokens: &[Spanned]) -> Option<(WayDecl, &[Spanned])>
         Token::Sign(Sign::PlusEqual) => Some((WayDecl::Acc(AccOp::Add), rest)),
         Token::Word(Word::Min) => behind_equal(WayDecl::Acc(AccOp::Min), rest),
         Token::Word(Word::Max) => behind_equal(WayDecl::Acc(AccOp::Max), rest),
+        Token::Sign(Sign::OrEqual) => Some((WayDecl::Acc(AccOp::Or), rest)),
+        Token::Sign(Sign::AndEqual) => Some((WayDecl::Acc(AccOp::And), rest)),
+        Token::Sign(Sign::CaretEqual) => Some((WayDecl::Acc(AccOp::Xor), rest)),
         _ => None,
     }
 }

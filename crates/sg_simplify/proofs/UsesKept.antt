@@ -16,6 +16,9 @@ abbrev same_acc : AccOp → AccOp → Bool
 same_acc acc.Add acc.Add = true
 same_acc acc.Min acc.Min = true
 same_acc acc.Max acc.Max = true
+same_acc acc.Or acc.Or = true
+same_acc acc.And acc.And = true
+same_acc acc.Xor acc.Xor = true
 same_acc _ _ = false
 
 abbrev same_way : Way → Way → Bool
@@ -34,6 +37,9 @@ acc_reflexive : (op : AccOp) → same_acc op op ≡ true
 acc_reflexive acc.Add = refl
 acc_reflexive acc.Min = refl
 acc_reflexive acc.Max = refl
+acc_reflexive acc.Or = refl
+acc_reflexive acc.And = refl
+acc_reflexive acc.Xor = refl
 
 way_reflexive : (way : Way) → same_way way way ≡ true
 way_reflexive Own = refl
@@ -46,14 +52,12 @@ use_reflexive (ReadsOwn layout field) = both _ _ (eq_same layout) (eq_same field
 
 acc_exact : (op other : AccOp) → same_acc op other ≡ true → op ≡ other
 acc_exact acc.Add acc.Add e = refl
-acc_exact acc.Add acc.Min e = absurd (cc)
-acc_exact acc.Add acc.Max e = absurd (cc)
-acc_exact acc.Min acc.Add e = absurd (cc)
 acc_exact acc.Min acc.Min e = refl
-acc_exact acc.Min acc.Max e = absurd (cc)
-acc_exact acc.Max acc.Add e = absurd (cc)
-acc_exact acc.Max acc.Min e = absurd (cc)
 acc_exact acc.Max acc.Max e = refl
+acc_exact acc.Or acc.Or e = refl
+acc_exact acc.And acc.And e = refl
+acc_exact acc.Xor acc.Xor e = refl
+acc_exact _ _ e = absurd (cc)
 
 way_exact : (way other : Way) → same_way way other ≡ true → way ≡ other
 way_exact Own Own e = refl

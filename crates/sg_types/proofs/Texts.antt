@@ -106,10 +106,29 @@ same_acc-same : (op : AccOp) → same_acc op op ≡ true
 same_acc-same acc.Add = refl
 same_acc-same acc.Min = refl
 same_acc-same acc.Max = refl
+same_acc-same acc.Or = refl
+same_acc-same acc.And = refl
+same_acc-same acc.Xor = refl
 
 same_way-same : (way : Way) → same_way way way ≡ true
 same_way-same Own = refl
 same_way-same (Acc op) = same_acc-same op
+
+same_acc_is : (x y : AccOp) → same_acc x y ≡ true → x ≡ y
+same_acc_is acc.Add acc.Add h = refl
+same_acc_is acc.Min acc.Min h = refl
+same_acc_is acc.Max acc.Max h = refl
+same_acc_is acc.Or acc.Or h = refl
+same_acc_is acc.And acc.And h = refl
+same_acc_is acc.Xor acc.Xor h = refl
+same_acc_is _ _ h = absurd (cc)
+
+-- ways that are counted as one are the same
+pub same_way_is : (x y : Way) → same_way x y ≡ true → x ≡ y
+same_way_is Own Own h = refl
+same_way_is Own (Acc y) h = absurd (cc)
+same_way_is (Acc x) Own h = absurd (cc)
+same_way_is (Acc x) (Acc y) h = ap Acc (same_acc_is x y h)
 
 list_any-append : (test : TextWrite → Bool) (xs ys : List TextWrite) → list_any test (xs ++ ys) ≡ (list_any test xs || list_any test ys)
 list_any-append test [] ys = refl

@@ -41,6 +41,9 @@ abbrev pub same_acc : AccOp → AccOp → Bool
 same_acc acc.Add acc.Add = true
 same_acc acc.Min acc.Min = true
 same_acc acc.Max acc.Max = true
+same_acc acc.Or acc.Or = true
+same_acc acc.And acc.And = true
+same_acc acc.Xor acc.Xor = true
 same_acc _ _ = false
 
 -- two ways of writing are one

@@ -6,6 +6,8 @@ use Rattle.std.proofs.lemmas.Bool.Decides.{same_from_decides}
 use Rattle.std.proofs.lemmas.List.{get_or-map, length-map}
 use Rattle.std.proofs.lemmas.List.Elements.{All-head, All-tail, All-filter, All-contains, All-contains_itself, filter_passes, Contains-append_right}
 use Rattle.sg_words.specs.Results.{fault_or}
+-- ---- contributions can be exchanged, and joined to each other first
+pub use Rattle.sg_words.proofs.WordLemmas.{folded_exchanged, folded_grouped}
 -- ---- races, for passes: sums over workers, each event, and what follows from the invariant
 pub use Rattle.sg_words.proofs.RaceTotals.{total-set, total-same, total-more, total-append, total-snoc, total-le, total-add, le-total, part-of, set_other_at, at_or, pair_cases, first_cases, pairs-snoc, firsts-snoc, pairs-le-firsts, pairs-two, firsts-pair}
 pub use Rattle.sg_words.proofs.RaceParts.{stands}

@@ -1,10 +1,11 @@
 -- The laws of words, over any numbers.
-use Rattle.std.specs.Prelude.{◌≡◌, ◌≢◌, ℕ, zero, suc, ◌+◌, ◌-◌, ◌*◌, ◌/◌, ◌%◌, ◌^◌, ◌<◌, ◌≤◌, List, ℤ, pos, negsuc, ◌+ℤ◌, ◌-ℤ◌, ◌*ℤ◌, neg_ℤ, ◌≤ℤ◌, ◌<ℤ◌, unsigned_abs, int_div}
+use Rattle.std.specs.Prelude.{◌≡◌, ◌≢◌, ℕ, zero, suc, ◌+◌, ◌-◌, ◌*◌, ◌/◌, ◌%◌, ◌^◌, ◌<◌, ◌≤◌, bit_and, bit_or, bit_xor, List, ℤ, pos, negsuc, ◌+ℤ◌, ◌-ℤ◌, ◌*ℤ◌, neg_ℤ, ◌≤ℤ◌, ◌<ℤ◌, unsigned_abs, int_div}
 use Rattle.std.proofs.Common.{arith, refl, sym, ap, ap₂, subst, ⊎_elim, ◌∙◌, mul-add, mul_comm, div-mul-le_self}
 use Rattle.std.proofs.lemmas.Bool.{cases_lt}
 use Rattle.std.proofs.lemmas.Bool.Decides.{nat_tests}
 use Rattle.std.proofs.lemmas.Int.{ints, unsigned_abs-mul, rem_below}
 use Rattle.std.proofs.lemmas.Nat.{and_le_l, or_of_32, xor_of_32}
+use Rattle.std.proofs.lemmas.Nat.Bits.{same_from_bits, bit_at_or, bit_at_and, bit_at_xor}
 use Rattle.sg_words.specs.declared.operators.Ty.{Ty}
 use Rattle.sg_words.specs.declared.operators.Ty.TheVariants as ty
 use Rattle.sg_words.specs.declared.operators.BinOp.{BinOp}
@@ -113,6 +114,9 @@ folded_is_word acc.Min ty.Bool a b p q = omega arith
 folded_is_word acc.Max ty.I32 a b p q = omega arith
 folded_is_word acc.Max ty.U32 a b p q = omega arith
 folded_is_word acc.Max ty.Bool a b p q = omega arith
+folded_is_word acc.Or t a b p q = or_of_32 a b p q
+folded_is_word acc.And t a b p q = omega (arith, and_le_l a b)
+folded_is_word acc.Xor t a b p q = xor_of_32 a b p q
 
 pub folded_is_applied : (op : AccOp) (t : Ty) (a b : ℕ) → FoldedIsApplied op t a b
 folded_is_applied acc.Add t a b p q = refl
@@ -122,6 +126,9 @@ folded_is_applied acc.Min ty.Bool a b p q = grind (arith, ints)
 folded_is_applied acc.Max ty.I32 a b p q = grind (arith, ints)
 folded_is_applied acc.Max ty.U32 a b p q = grind (arith, ints)
 folded_is_applied acc.Max ty.Bool a b p q = grind (arith, ints)
+folded_is_applied acc.Or t a b p q = refl
+folded_is_applied acc.And t a b p q = refl
+folded_is_applied acc.Xor t a b p q = refl
 
 -- ---- products
 mod_same : (p q b s : ℕ) → p + b * 2 ^ 32 ≡ q + s * 2 ^ 32 → p % 2 ^ 32 ≡ q % 2 ^ 32
@@ -193,7 +200,7 @@ pub quotient_is_truncated : (t : Ty) (a b : ℕ) → QuotientIsTruncated t a b
 quotient_is_truncated t a b p q h = truncated (number t a) (number t b) (quotient t a b) (int_div-quotient t a b h) (not_zero t b q h)
 
 -- ---- contributions in any order
-folded_exchanged : (op : AccOp) (t : Ty) (b x y : ℕ) → folded op t (folded op t b x) y ≡ folded op t (folded op t b y) x
+pub folded_exchanged : (op : AccOp) (t : Ty) (b x y : ℕ) → folded op t (folded op t b x) y ≡ folded op t (folded op t b y) x
 folded_exchanged acc.Add t b x y = omega arith
 folded_exchanged acc.Min ty.I32 b x y = omega arith
 folded_exchanged acc.Min ty.U32 b x y = omega arith
@@ -201,6 +208,28 @@ folded_exchanged acc.Min ty.Bool b x y = omega arith
 folded_exchanged acc.Max ty.I32 b x y = omega arith
 folded_exchanged acc.Max ty.U32 b x y = omega arith
 folded_exchanged acc.Max ty.Bool b x y = omega arith
+folded_exchanged acc.Or t b x y = same_from_bits (bit_or (bit_or b x) y) (bit_or (bit_or b y) x)
+    (λ i. omega (arith, bit_at_or (bit_or b x) y i, bit_at_or b x i, bit_at_or (bit_or b y) x i, bit_at_or b y i))
+folded_exchanged acc.And t b x y = same_from_bits (bit_and (bit_and b x) y) (bit_and (bit_and b y) x)
+    (λ i. omega (arith, bit_at_and (bit_and b x) y i, bit_at_and b x i, bit_at_and (bit_and b y) x i, bit_at_and b y i))
+folded_exchanged acc.Xor t b x y = same_from_bits (bit_xor (bit_xor b x) y) (bit_xor (bit_xor b y) x)
+    (λ i. omega (arith, bit_at_xor (bit_xor b x) y i, bit_at_xor b x i, bit_at_xor (bit_xor b y) x i, bit_at_xor b y i))
+
+-- a contribution may be joined to the next one first
+pub folded_grouped : (op : AccOp) (t : Ty) (b x y : ℕ) → folded op t b (folded op t x y) ≡ folded op t (folded op t b x) y
+folded_grouped acc.Add t b x y = omega arith
+folded_grouped acc.Min ty.I32 b x y = omega arith
+folded_grouped acc.Min ty.U32 b x y = omega arith
+folded_grouped acc.Min ty.Bool b x y = omega arith
+folded_grouped acc.Max ty.I32 b x y = omega arith
+folded_grouped acc.Max ty.U32 b x y = omega arith
+folded_grouped acc.Max ty.Bool b x y = omega arith
+folded_grouped acc.Or t b x y = same_from_bits (bit_or b (bit_or x y)) (bit_or (bit_or b x) y)
+    (λ i. omega (arith, bit_at_or b (bit_or x y) i, bit_at_or x y i, bit_at_or (bit_or b x) y i, bit_at_or b x i))
+folded_grouped acc.And t b x y = same_from_bits (bit_and b (bit_and x y)) (bit_and (bit_and b x) y)
+    (λ i. omega (arith, bit_at_and b (bit_and x y) i, bit_at_and x y i, bit_at_and (bit_and b x) y i, bit_at_and b x i))
+folded_grouped acc.Xor t b x y = same_from_bits (bit_xor b (bit_xor x y)) (bit_xor (bit_xor b x) y)
+    (λ i. omega (arith, bit_at_xor b (bit_xor x y) i, bit_at_xor x y i, bit_at_xor (bit_xor b x) y i, bit_at_xor b x i))
 
 pub folds_alike : (op : AccOp) (t : Ty) (old : ℕ) (xs ys : List ℕ) → FoldsAlike op t old xs ys
 folds_alike op t old xs ys same = sym (fold-IsPermutation (folded op t) (folded_exchanged op t) old xs ys same)

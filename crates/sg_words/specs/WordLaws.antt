@@ -81,6 +81,9 @@ abbrev pub joining_operator : AccOp → BinOp
 joining_operator acc.Add = bin.Add
 joining_operator acc.Min = bin.Min
 joining_operator acc.Max = bin.Max
+joining_operator acc.Or = bin.Or
+joining_operator acc.And = bin.And
+joining_operator acc.Xor = bin.Xor
 
 -- an accumulation joins two words as its operator does
 abbrev pub FoldedIsApplied : AccOp → Ty → ℕ → ℕ → Type 0

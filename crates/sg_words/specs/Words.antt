@@ -79,11 +79,14 @@ unrank_of ty.I32 k = (k + 2 ^ 31) % 2 ^ 32
 unrank_of ty.U32 k = k
 unrank_of ty.Bool k = k
 
--- an old word a and a contribution b, joined: their sum, or the one of smaller or greater rank
+-- an old word a and a contribution b, joined: their sum, the one of smaller or greater rank, or what an operator of bits gives
 abbrev pub folded : AccOp → Ty → ℕ → ℕ → ℕ
 folded acc.Add t a b = (a + b) % 2 ^ 32
 folded acc.Min t a b = unrank_of t (min (rank_of t a) (rank_of t b))
 folded acc.Max t a b = unrank_of t (max (rank_of t a) (rank_of t b))
+folded acc.Or t a b = applied bin.Or t a b
+folded acc.And t a b = applied bin.And t a b
+folded acc.Xor t a b = applied bin.Xor t a b
 
 -- worked equations
 smallest-by-minus_one : applied bin.Div ty.I32 2147483648 4294967295 ≡ 2147483648
@@ -184,3 +187,12 @@ folded-max-unsigned = refl
 
 folded-add-wraps : folded acc.Add ty.U32 4294967295 2 ≡ 1
 folded-add-wraps = refl
+
+folded-or : folded acc.Or ty.I32 12 10 ≡ 14
+folded-or = refl
+
+folded-and-signed : folded acc.And ty.I32 4294967293 5 ≡ 5
+folded-and-signed = refl
+
+folded-xor-signed : folded acc.Xor ty.I32 4294967295 1 ≡ 4294967294
+folded-xor-signed = refl

@@ -50,7 +50,8 @@ pub fn mulq(a: u32, b: u32, s: u32) -> u32
     word_of(product >> (s % 32))
 }
 
-/// An old word `a` joined with a contribution `b`: their sum, or the smaller or greater in the type's order.
+/// An old word `a` joined with a contribution `b`: their sum, the smaller or greater in the type's order, or the bitwise or, and,
+/// exclusive or.
 pub fn fold(op: AccOp, ty: Ty, a: u32, b: u32) -> u32
     ensures { result ≡ folded op ty a b }
 {
@@ -58,6 +59,9 @@ pub fn fold(op: AccOp, ty: Ty, a: u32, b: u32) -> u32
         AccOp::Add => a.wrapping_add(b),
         AccOp::Min => unrank(ty, rank(ty, a).min(rank(ty, b))),
         AccOp::Max => unrank(ty, rank(ty, a).max(rank(ty, b))),
+        AccOp::Or => a | b,
+        AccOp::And => a & b,
+        AccOp::Xor => a ^ b,
     }
 }
 

@@ -45,4 +45,7 @@ pub enum AccOp {
     Add,
     Min,
     Max,
+    Or,
+    And,
+    Xor,
 }

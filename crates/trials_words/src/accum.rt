@@ -40,6 +40,36 @@ fn the_least_and_the_greatest_are_kept(rt: HostRuntime) -> Result<(), Fail> {
     Ok(())
 }
 
+// A cell of 2^31 + 12, of which bits are set, kept or flipped.
+fn bits_set(alloc: Global, word: u32) -> Result<Vec<u32>, Memory> {
+    let (pass, mut seat) = AccPass::start(alloc, &[2147483660], AccOp::Or, Ty::I32)?;
+    pass.set_bits(&mut seat, 0, word);
+    joined(alloc, pass.finish(alloc, seat)?)
+}
+
+fn bits_kept(alloc: Global, word: u32) -> Result<Vec<u32>, Memory> {
+    let (pass, mut seat) = AccPass::start(alloc, &[2147483660], AccOp::And, Ty::I32)?;
+    pass.keep_bits(&mut seat, 0, word);
+    joined(alloc, pass.finish(alloc, seat)?)
+}
+
+fn bits_flipped(alloc: Global, word: u32) -> Result<Vec<u32>, Memory> {
+    let (pass, mut seat) = AccPass::start(alloc, &[2147483660], AccOp::Xor, Ty::I32)?;
+    pass.flip_bits(&mut seat, 0, word);
+    joined(alloc, pass.finish(alloc, seat)?)
+}
+
+#[test]
+fn bits_are_set_kept_and_flipped(rt: HostRuntime) -> Result<(), Fail> {
+    let set = bits_set(rt.alloc(), 10)?;
+    assert!(rt; set.as_slice() == [2147483662].as_slice());
+    let kept = bits_kept(rt.alloc(), 10)?;
+    assert!(rt; kept.as_slice() == [8].as_slice());
+    let flipped = bits_flipped(rt.alloc(), 2147483658)?;
+    assert!(rt; flipped.as_slice() == [6].as_slice());
+    Ok(())
+}
+
 // Contributions on both sides of a border of parts.
 fn give(pass: &AccPass, seat: &mut AccSeat, word: u32)
     requires own { IsSeatOf pass.now seat.old }

@@ -33,6 +33,9 @@ fn words_are_folded_and_ranked(rt: HostRuntime) {
     assert_eq!(rt; apply_un(UnOp::Neg, 5), 4294967291);
     assert_eq!(rt; fold(AccOp::Min, Ty::I32, 5, 4294967293), 4294967293);
     assert_eq!(rt; fold(AccOp::Max, Ty::U32, 5, 4294967293), 4294967293);
+    assert_eq!(rt; fold(AccOp::Or, Ty::I32, 2147483660, 10), 2147483662);
+    assert_eq!(rt; fold(AccOp::And, Ty::I32, 2147483660, 10), 8);
+    assert_eq!(rt; fold(AccOp::Xor, Ty::I32, 2147483660, 10), 2147483654);
     assert_eq!(rt;
         [rank(Ty::I32, 5), rank(Ty::I32, 4294967293)],
         [2147483653, 2147483645]

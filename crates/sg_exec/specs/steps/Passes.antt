@@ -18,7 +18,7 @@ use Rattle.sg_exec.specs.declared.results.shared.Owned.{Owned}
 use Rattle.sg_exec.specs.declared.results.written_fields.WrittenFields.{WrittenFields}
 use Rattle.sg_exec.specs.steps.Machines.{IsCellOf}
 use Rattle.sg_exec.specs.steps.Landing.{landing}
-use Rattle.sg_exec.specs.steps.Racing.{contributions, IsPassOf, ArePasses, AreSeats}
+use Rattle.sg_exec.specs.steps.Racing.{contributions, joining, ComeTo, IsPassOf, ArePasses, AreSeats}
 
 -- the uses in an instruction
 abbrev pub uses_of : Inst → List Use
@@ -97,12 +97,12 @@ GaveReached stores accumulated seats =
     (k : ℕ) (it : Accumulated) (seat : AccSeat) → slice_get accumulated k ≡ Some it → slice_get seats k ≡ Some seat →
     (cell : ℕ) → given_of seat cell ≢ [] → IsCellOf stores it.layout cell
 
--- all writes to a pass's field are contributions by its operator, and these were given, to each cell in their order
+-- all writes to a pass's field are contributions by its operator, and what was given to each cell comes to these in their order
 pub record IsGiven (stores : List StoreWords) (it : Accumulated) (given : ℕ → List ℕ) (writes : List Write) : Type 0 where
   pub ways : (write : Write) → Contains writes write → write.layout ≡ it.layout → write.place ≡ it.field → write.way ≡ Acc it.op
-  pub given_is : (cell : ℕ) → given cell ≡ given_to cell (contributions it.layout it.field (map (landing stores) writes))
+  pub given_is : (cell : ℕ) → ComeTo (joining it) (given cell) (given_to cell (contributions it.layout it.field (map (landing stores) writes)))
 
--- all writes to each pass's field are contributions by its operator, and these are what its seat has given
+-- all writes to each pass's field are contributions by its operator, and what its seat has given comes to these
 abbrev pub AreGiven : List StoreWords → List Accumulated → List AccSeat → List Write → Type 0
 AreGiven stores accumulated seats writes =
     (k : ℕ) (it : Accumulated) (seat : AccSeat) → slice_get accumulated k ≡ Some it → slice_get seats k ≡ Some seat →

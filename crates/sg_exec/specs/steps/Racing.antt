@@ -1,8 +1,9 @@
 -- What the workers of a run give to the passes into accumulated fields, and what own values they leave.
-use Rattle.std.specs.Prelude.{◌≡◌, ℕ, ◌-◌, ◌≤◌, Bool, not, ◌&&◌, ◌==◌, if◌then◌else◌, List, [], ◌∷◌, ◌++◌, map, take, drop, length, Option, Some, None, Result, Ok, slice_get, slice_index}
+use Rattle.std.specs.Prelude.{◌≡◌, ℕ, ◌-◌, ◌≤◌, Bool, not, ◌&&◌, ◌==◌, if◌then◌else◌, List, [], ◌∷◌, ◌++◌, map, fold, take, drop, length, Option, Some, None, Result, Ok, slice_get, slice_index}
 use Rattle.std.specs.List.{flat_map}
 use Rattle.sg_coord.specs.declared.coord.Coord.{Coord}
 use Rattle.sg_words.specs.declared.memory.Memory.{Memory}
+use Rattle.sg_words.specs.Words.{folded}
 use Rattle.sg_accum.specs.declared.seat.AccSeat.{AccSeat}
 use Rattle.sg_accum.specs.Folding.{old_values, operator_of, type_of, given_to, given_of, share_of, handed_of, IsSeatOf, IsCut, IsMerged}
 use Rattle.sg_flat.specs.declared.state.FlatState.{FlatState}
@@ -11,6 +12,7 @@ use Rattle.sg_store.specs.Rows.{IsFieldFront}
 use Rattle.sg_ir.specs.declared.code.Inst.{Inst}
 use Rattle.sg_ir.specs.Runs.{is_own, iteration}
 use Rattle.sg_exec.specs.declared.lanes.cell_write.CellWrite.{CellWrite}
+use Rattle.sg_exec.specs.declared.lanes.moment.Moment.{Moment}
 use Rattle.sg_exec.specs.declared.results.shared.Accumulated.{Accumulated}
 use Rattle.sg_exec.specs.declared.results.shared.Owned.{Owned}
 use Rattle.sg_exec.specs.declared.workers.state.Hand.{Hand}
@@ -60,12 +62,22 @@ between from to points = take (to - from) (drop from points)
 
 -- ---- passes and seats
 
+-- how the contributions to an accumulated field are joined
+abbrev pub joining : Accumulated → ℕ → ℕ → ℕ
+joining it = folded (operator_of it.pass) (type_of it.pass)
+
+-- some contributions come to the same as others: they make the same of each old word, and where there are none of these, there are none of them
+pub record ComeTo (into : ℕ → ℕ → ℕ) (some others : List ℕ) : Type 0 where
+  pub words : (old : ℕ) → fold into old some ≡ fold into old others
+  pub none : others ≡ [] → some ≡ []
+
 -- a pass into an accumulated field starts with its values in the first cells, with all reached ones among them
 pub record IsPassOf (stores : List StoreWords) (it : Accumulated) : Type 0 where
   pub store : StoreWords
   pub there : slice_get stores it.layout ≡ Some store
   pub field : slice_get store.shape.fields it.field ≡ Some (type_of it.pass)
   pub operator : operator_of it.pass ≡ it.op
+  pub order : type_of it.pass ≡ it.ty
   pub is_front : IsFieldFront store (old_values it.pass)
   pub words : (cell : ℕ) → slice_index (old_values it.pass) cell ≡ word_in store it.field cell
 
@@ -85,10 +97,14 @@ pub record AreSeats (accumulated : List Accumulated) (seats : List AccSeat) : Ty
 abbrev pub HaveShares : ℕ → List AccSeat → Type 0
 HaveShares shares seats = (k : ℕ) (seat : AccSeat) → slice_get seats k ≡ Some seat → shares ≤ share_of seat
 
--- a seat has given a field's contributions among writes, and has as many shares
+-- a seat has given what a field's contributions among writes come to, and has as many shares
 pub record HasGiven (it : Accumulated) (writes : List CellWrite) (old now : AccSeat) : Type 0 where
-  pub given : (c : ℕ) → given_of now c ≡ given_of old c ++ given_to c (contributions it.layout it.field writes)
+  pub given : (c : ℕ) → ComeTo (joining it) (given_of now c) (given_of old c ++ given_to c (contributions it.layout it.field writes))
   pub weight_is : handed_of now ≡ handed_of old
+
+-- the writes of iterations, one after the other
+abbrev pub all_writes : List Moment → List CellWrite
+all_writes moments = flat_map (λ (moment : Moment). moment.cells.writes) moments
 
 -- each seat has
 abbrev pub HaveGiven : List Accumulated → List CellWrite → List AccSeat → List AccSeat → Type 0

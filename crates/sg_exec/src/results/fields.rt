@@ -175,6 +175,7 @@ fn add_pass<R: Threads + Sync>(
         layout,
         field,
         op,
+        ty,
         pass,
     })?;
     fields.seats.push(seat)?;

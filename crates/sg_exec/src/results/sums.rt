@@ -198,6 +198,7 @@ fn finish<R: Threads + Sync>(
         layout,
         field,
         op: _op,
+        ty: _ty,
         pass,
     } = it;
     let words = pass.finish_by_workers(rt, alloc, seat, workers)?;

@@ -12,12 +12,13 @@ ghost use Rattle.sg_accum.specs.declared.seat.AccSeat.{AccSeat};
 ghost use Rattle.sg_exec.specs.steps.Machines.{seen_in, Sees, AreCells};
 ghost use Rattle.sg_exec.specs.steps.Landing.{current};
 ghost use Rattle.sg_exec.specs.steps.Racing.{wrote, between, ArePasses, AreSeats, HaveShares};
+ghost use Rattle.sg_exec.specs.steps.Pending.{NonePending};
 ghost use Rattle.sg_exec.specs.steps.Working.{HasRunAt};
 ghost use Rattle.sg_exec.specs.steps.Puts.{kept_writes};
 
 use crate::lanes::batch::{Batch, SIDE_BY_SIDE, batch_for, iterate_all};
-use crate::results::contributions::{give_all, put_all};
-use crate::results::shared::{Accumulated, Owned};
+use crate::results::contributions::{give_all, give_last, none_pending, put_all};
+use crate::results::shared::{Accumulated, Owned, Pending};
 use crate::workers::points::{Points, row_for};
 use crate::workers::state::{Hand, both, divided, rest_of};
 use sg_coord::{Coord, slice_of};
@@ -264,6 +265,7 @@ fn work<G: Gate>(
     let (from, to) = slice_of(points.len(), all, worker);
     let mut batch = batch_for(alloc, stores, reached)?;
     let mut row = row_for(alloc)?;
+    let mut pending = none_pending(alloc, accumulated)?;
     work_all(
         stores,
         reached,
@@ -277,6 +279,7 @@ fn work<G: Gate>(
         to,
         &mut row,
         &mut batch,
+        &mut pending,
         hand,
     )
 }
@@ -295,11 +298,13 @@ fn work_all<G: Gate>(
     to: usize,
     row: &mut Vec<Coord>,
     batch: &mut Batch,
+    pending: &mut Vec<Option<Pending>>,
     hand: Hand,
 ) -> Result<Hand, Memory>
     requires order { from ≤ to }
     requires within { to ≤ length points.now }
     requires over { IsOver (current reached.now stores.now.list) batch.old }
+    requires none { NonePending accumulated.now pending.old.items }
     requires passes { ArePasses (current reached.now stores.now.list) accumulated.now }
     requires seats { AreSeats accumulated.now hand.seats.items }
     requires cells { AreCells (current reached.now stores.now.list) (kept_writes hand.puts) }
@@ -327,13 +332,15 @@ fn work_all<G: Gate>(
             count,
             row,
             batch,
+            pending,
             &mut hand,
         )?;
     }
     Ok(hand)
 }
 
-/// So many iterations at the worker's points from one number on, side by side. Before each one's contributions the worker passes the gate.
+/// So many iterations at the worker's points from one number on, side by side. Before each one's contributions the worker passes the gate;
+/// the last ones are given at the end.
 fn work_some<G: Gate>(
     stores: &Stores,
     reached: &[Option<Store>],
@@ -348,15 +355,18 @@ fn work_some<G: Gate>(
     count: usize,
     row: &mut Vec<Coord>,
     batch: &mut Batch,
+    pending: &mut Vec<Option<Pending>>,
     hand: &mut Hand,
 ) -> Result<(), Memory>
     requires few { count ≤ 32 }
     requires room { from + first + count ≤ length points.now }
     requires over { IsOver (current reached.now stores.now.list) batch.old }
+    requires none { NonePending accumulated.now pending.old.items }
     requires passes { ArePasses (current reached.now stores.now.list) accumulated.now }
     requires seats { AreSeats accumulated.now hand.old.seats.items }
     requires cells { AreCells (current reached.now stores.now.list) (kept_writes hand.old.puts) }
     ensures over { IsOver (current reached.now stores.now.list) batch.new }
+    ensures none { OnOk result (NonePending accumulated.now pending.new.items) }
     ensures seats { OnOk result (AreSeats accumulated.now hand.new.seats.items) }
     ensures cells { OnOk result (AreCells (current reached.now stores.now.list) (kept_writes hand.new.puts)) }
     ensures ran { OnOk result ((start : Hand) →
@@ -372,8 +382,16 @@ fn work_some<G: Gate>(
         gate.before(Phase::Values, worker, turn);
         let moment = &batch.moments[k];
         let writes = moment.cells.writes();
-        give_all(stores, reached, accumulated, writes, &mut hand.seats);
+        give_all(
+            stores,
+            reached,
+            accumulated,
+            writes,
+            pending,
+            &mut hand.seats,
+        );
         put_all(owned, &moment.cells, &mut hand.puts)?;
     }
+    give_last(stores, reached, accumulated, pending, &mut hand.seats);
     Ok(())
 }

@@ -6,6 +6,11 @@ use std::test::Fail;
 /// Programs, with the status and the text of their run.
 static RUNS: &[(&str, u8, &str)] = &[
     (
+        "layout Numbers(k) { dense(k: 4); field composite: u32; } kernel sieve { for n, m in 2..12, 2..64 { if n * m < 128 { composite[n * m / 32] |= 1u << (n * m); } } } run sieve; dump composite;",
+        0,
+        "grid 1 4\n0 1601558352\n1 3621746143\n2 4260855159\n3 2147342173\n",
+    ),
+    (
         "layout A(i) { dense(i: 16); field x: i32; } kernel k { for i in 5..6 { x[i] = 7; } } run k; dump x;",
         0,
         "grid 1 16\n0 0\n1 0\n2 0\n3 0\n4 0\n5 7\n6 0\n7 0\n8 0\n9 0\n10 0\n11 0\n12 0\n13 0\n14 0\n15 0\n",

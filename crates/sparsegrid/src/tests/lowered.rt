@@ -10,6 +10,11 @@ static CODES: &[(&str, &str)] = &[
         "layout A(i, j) { dense(i: 4, j: 4); field x: i32; } kernel s { for p in 0..4 { x[p, 1] += p * 2; } }",
         "kernel s\nslice\nr0 = var 0\nr1 = const 1\nwant 0 r0 r1\ncode\nr0 = var 0\nr1 = const 2\nr2 = mul i32 r0 r1\nr3 = const 1\nr4 = offset r0 4 r3\np0 = root 0\np1 = child p0 1 r4\nacc add 0 0 p1 r2 r0 r3\n",
     ),
+    // contributions by bits
+    (
+        "layout A(i) { dense(i: 4); field x: i32; field y: i32; field z: u32; } kernel b { for i in A { x[i] |= 1; y[i] &= 1; z[i] ^= 1u; } }",
+        "kernel b\nslice\nr0 = var 0\nwant 0 r0\nwant 0 r0\nwant 0 r0\ncode\nr0 = const 1\nr1 = var 0\np0 = root 0\np1 = child p0 1 r1\nacc or 0 0 p1 r0 r1\nacc and 0 1 p1 r0 r1\nacc xor 0 2 p1 r0 r1\n",
+    ),
     // four reads, each with the one check that its index needs
     (
         "layout A(i, j) { dense(i: 4, j: 4); field x: i32; field y: i32; } kernel k { for i, j in A { y[i, j] = x[i - 1, j] + x[i + 1, j] + x[i, j - 1] + x[i, j + 1]; } } load x; run k; image y 0 12;",

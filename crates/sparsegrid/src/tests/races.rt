@@ -1,4 +1,4 @@
-//! Races for links, keys, bits and lengths: what they leave is the same for any number of workers, however they come.
+//! Races for links, keys, bits, lengths and the bits of cells: what they leave is the same for any number of workers, however they come.
 
 use super::setting::Setting;
 use std::alloc::Global;
@@ -76,6 +76,55 @@ static FEW_PLACES: &[Row] = &[
     ),
 ];
 
+/// Bits that many set, keep or flip in one cell: the old value takes part, and one that is new is 0.
+static BITS: &[Row] = &[
+    (
+        "layout A(i) { dense(i: 1); field x: i32; } kernel k { for p in 0..8 { x[0] |= 1 << p; } } run k; dump x;",
+        0,
+        "grid 1 1\n0 255\n",
+    ),
+    (
+        "layout A(i) { dense(i: 1); field x: i32; } kernel k { for p in 0..7 { x[0] ^= p; } } run k; dump x;",
+        0,
+        "grid 1 1\n0 7\n",
+    ),
+    (
+        "layout A(i) { dense(i: 1); field x: i32; } kernel k { for p in 0..8 { x[0] &= -1; } } run k; dump x;",
+        0,
+        "grid 1 1\n0 0\n",
+    ),
+    (
+        "layout A(i) { pointer(i: 4) cap 1; bitmasked(i: 4); field x: i32; field y: u32; } kernel w { for i in 1..2 { x[i] = -1; y[i] = 3u; } } \
+         kernel k { for p in 0..4096 { x[1] &= ~(1 << (p & 15)); y[1] |= 1u << p; } } run w; run k; dump x; dump y;",
+        0,
+        "grid 1 1\n1 -65536\ngrid 1 1\n1 4294967295\n",
+    ),
+    (
+        "layout A(i) { dense(i: 1); field x: i32; field y: u32; } kernel k { for p in 0..4095 { x[0] ^= p; y[0] ^= u32(p) << 20; } } run k; dump x; dump y;",
+        0,
+        "grid 1 1\n0 4095\ngrid 1 1\n0 4293918720\n",
+    ),
+];
+
+/// As many contributions as a box has points, to one cell, and to 65,537, which are more than a part of a pass.
+static MANY_BITS: &[Row] = &[
+    (
+        "layout A(i) { dense(i: 1); field x: i32; field y: i32; field z: u32; } kernel w { for i in A { y[i] = -1; } } \
+         kernel k { for p in 0..1048576 { x[0] |= p; y[0] &= ~p; z[0] ^= u32(p) * 2654435761u; } } run w; run k; dump x; dump y; dump z;",
+        0,
+        "grid 1 1\n0 1048575\ngrid 1 1\n0 -1048576\ngrid 1 1\n0 2680160256\n",
+    ),
+    (
+        "layout A(i, j) { dense(i: 256, j: 512); field x: u32; field y: u32; field z: u32; } layout T(k) { dense(k: 4); field t: u32; } \
+         kernel w { for p in 0..65537 { y[p / 512, p % 512] |= 4294967295u; } } \
+         kernel k { for p in 0..1048576 { let q = p % 65537; let a = q / 512; let b = q % 512; \
+           x[a, b] |= u32(p); y[a, b] &= u32(p); z[a, b] ^= u32(p) * 2654435761u; } } \
+         kernel s { for i, j in A { t[0] += x[i, j]; t[1] += y[i, j]; t[2] += z[i, j]; } } run w; run k; run s; dump t;",
+        0,
+        "grid 1 4\n0 2154823695\n1 2141126640\n2 3763284216\n3 0\n",
+    ),
+];
+
 /// Blocks whose second run has no room.
 static BLOCKS: &[Row] = &[(
     "layout A(i) { pointer(i: 4) cap 1; dense(i: 4); field x: i32; } kernel one { for i in 0..1 { x[i] = 1; } } \
@@ -125,6 +174,16 @@ fn all_keys_are_raced(rt: HostRuntime) -> Result<(), Fail> {
 #[test]
 fn few_places_are_raced(rt: HostRuntime) -> Result<(), Fail> {
     compare(&rt, rt.alloc(), FEW_PLACES, 100)
+}
+
+#[test]
+fn bits_are_raced(rt: HostRuntime) -> Result<(), Fail> {
+    compare(&rt, rt.alloc(), BITS, 100)
+}
+
+#[test]
+fn many_bits_are_raced(rt: HostRuntime) -> Result<(), Fail> {
+    compare(&rt, rt.alloc(), MANY_BITS, 1)
 }
 
 #[test]

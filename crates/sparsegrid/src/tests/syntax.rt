@@ -5,7 +5,7 @@ use std::alloc::{AllocError, Global};
 use std::test::Fail;
 
 // Texts with the item and the line of their fault.
-static REFUSED: [(&str, u32, u32); 45] = [
+static REFUSED: [(&str, u32, u32); 46] = [
     ("const N = 3", 1, 1),
     ("const N = 3 ; ;", 2, 1),
     ("const N = 3 ;\nconst\nN = 3", 2, 2),
@@ -71,7 +71,8 @@ static REFUSED: [(&str, u32, u32); 45] = [
     ("kernel K { for i in L { else { } } }", 1, 1),
     ("kernel K { for i in L { let F [ i ] = 1 ; } }", 1, 1),
     ("kernel K { for i in L { F [ i ] min += 1 ; } }", 1, 1),
-    ("kernel K { for i in L { F [ i ] |= 1 ; } }", 1, 1),
+    ("kernel K { for i in L { x |= 1 ; } }", 1, 1),
+    ("kernel K { for i in L { F [ i ] & = 1 ; } }", 1, 1),
     ("kernel K { for i in L { x += 1 ; } }", 1, 1),
     ("kernel K { for i in L { F [ ] = 1 ; } }", 1, 1),
     ("kernel K { for i in L { F [ i , ] = 1 ; } }", 1, 1),

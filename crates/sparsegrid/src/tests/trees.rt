@@ -91,7 +91,7 @@ fn expressions_have_their_trees(rt: HostRuntime) -> Result<(), Fail> {
     )
 }
 
-static STATEMENTS: [(&str, &str); 13] = [
+static STATEMENTS: [(&str, &str); 16] = [
     ("", ""),
     ("let x = 1 ;", "Let{name:x, value:1}"),
     ("x = 1 ;", "Assign{name:x, value:1}"),
@@ -110,6 +110,18 @@ static STATEMENTS: [(&str, &str); 13] = [
     (
         "F [ i ] max = 1 ;",
         "Write{field:F, index:[Name(i)], way:Acc(Max), value:1}",
+    ),
+    (
+        "F [ i ] |= 1 ;",
+        "Write{field:F, index:[Name(i)], way:Acc(Or), value:1}",
+    ),
+    (
+        "F [ i ] &= 1 ;",
+        "Write{field:F, index:[Name(i)], way:Acc(And), value:1}",
+    ),
+    (
+        "F [ i ] ^= 1 ;",
+        "Write{field:F, index:[Name(i)], way:Acc(Xor), value:1}",
     ),
     ("if x { }", "If{cond:Name(x), yes:[], no:None}"),
     ("if x { } else { }", "If{cond:Name(x), yes:[], no:Some([])}"),

@@ -63,13 +63,19 @@ pub(super) static SYNTAX: &[(&str, &str, &str, usize)] = &[
         1,
     ),
     (
-        "layout A(i) { dense(i: 4); field x: i32; field y: i32; }\nkernel k { for i in A { x[i] |= 1; } }\nrun k;\n",
+        "layout A(i) { dense(i: 4); field x: i32; field y: i32; }\nkernel k { for i in A { x[i] <<= 1; } }\nrun k;\n",
         "",
         "p.sg:2:30: a write is `=`",
         2,
     ),
     (
         "layout A(i) { dense(i: 4); field x: i32; field y: i32; }\nkernel k { for i in A { let n = 1; n += 1; } }\nrun k;\n",
+        "",
+        "p.sg:2:38: a local is assigned by `=` alone",
+        2,
+    ),
+    (
+        "layout A(i) { dense(i: 4); field x: i32; field y: i32; }\nkernel k { for i in A { let n = 1; n |= 1; } }\nrun k;\n",
         "",
         "p.sg:2:38: a local is assigned by `=` alone",
         2,

@@ -76,7 +76,7 @@ returns g c = λ uses have.
     let store = c.in-Some-get.store.now in
     let field = c.args.field in
     let pass = c.in_ok-pass.pass in
-    let it : Accumulated = record { layout = c.args.layout; field = c.args.field; op = c.args.op; pass = c.in_ok-pass.pass } in
+    let it : Accumulated = record { layout = c.args.layout; field = c.args.field; op = c.args.op; ty = c.in-Some-copied.ty; pass = c.in_ok-pass.pass } in
     let there : slice_get mids c.args.layout ≡ Some store = ap (λ (stores : List StoreWords). slice_get stores c.args.layout) (sym c.of-view.ensures) ∙ sym c.in-Some-get.ensures.value in
     let is_ty : slice_get store.shape.fields field ≡ Some c.in-Some-copied.ty =
     ap (λ (s : Shape). slice_get s.fields field) (sym c.layout.ensures.layout) ∙ ap (λ (s : Shape). slice_get s.fields field) (sym c.shape.ensures.value)
@@ -88,6 +88,7 @@ returns g c = λ uses have.
       there = there;
       field = is_ty ∙ ap (λ (ty : Ty). Some ty) (sym c.in_ok-pass.ensures.order);
       operator = c.in_ok-pass.ensures.operator;
+      order = c.in_ok-pass.ensures.order;
       is_front = subst (λ (list : List ℕ). IsFieldFront store list) (sym values) front;
       words = λ cell. ap (λ (list : List ℕ). slice_index list cell) (values ∙ c.as_slice-values.ensures) ∙ c.in_ok-front.ensures.words cell;
     } in

@@ -13,6 +13,7 @@ loop-number-init g c =
     let stores = current c.args.reached.now c.args.stores.now.list in
     record {
       over = c.requires.over;
+      none = c.requires.none;
       seats = c.requires.seats;
       cells = c.requires.cells;
       ran = run_nothing stores c.args.accumulated.now c.args.owned.now (RunsAt stores c.args.code.now c.args.points.now) (λ state. wrote stores state c.args.code.now) (between c.args.from c.args.to c.args.points.now) c.args.hand;
@@ -29,6 +30,7 @@ loop-number-preserved g c =
     let long : length mine ≡ far = between_long c.args.from c.args.to points c.requires.order c.requires.within in
     record {
       over = c.work_some.ensures.over;
+      none = c.in_ok-work_some.ensures.none;
       seats = c.in_ok-work_some.ensures.seats;
       cells = c.in_ok-work_some.ensures.cells;
       ran =

@@ -1,16 +1,18 @@
-use Rattle.std.proofs.Common.{◌+◌, take, drop}
-use Rattle.sg_exec.specs.declared.workers.state.Hand.{Hand}
+use Rattle.std.proofs.Common.{◌≡◌, ◌++◌, take}
 use Rattle.sg_exec.specs.steps.Machines.{AreCells}
 use Rattle.sg_exec.specs.steps.Landing.{current}
-use Rattle.sg_exec.specs.steps.Racing.{AreSeats}
-use Rattle.sg_exec.specs.steps.Working.{HasRunAt}
+use Rattle.sg_exec.specs.steps.Racing.{all_writes, AreSeats}
+use Rattle.sg_exec.specs.steps.Pending.{ArePending, HaveTaken}
 use Rattle.sg_exec.specs.steps.Puts.{kept_writes}
+use Rattle.sg_exec.proofs.Iterations.{owns_of}
 use Rattle.sg_exec.proofs.workers.race.work_some.Given as goal
 
 abbrev pub invariant-loop-k : goal.invariant-loop-k
 invariant-loop-k g l = record {
+  pending : ArePending l.accumulated l.pending.items;
   seats : AreSeats l.accumulated l.hand.seats.items;
+  taken : HaveTaken l.accumulated (all_writes (take l.k l.batch.moments.items)) l.fn.pending.items l.fn.hand.seats.items l.pending.items l.hand.seats.items;
   cells : AreCells (current l.reached l.stores.list) (kept_writes l.hand.puts);
-  ran : (start : Hand) → HasRunAt (current l.reached l.stores.list) l.code l.points (take l.first (drop l.from l.points)) l.accumulated l.owned start l.fn.hand →
-      HasRunAt (current l.reached l.stores.list) l.code l.points (take (l.first + l.k) (drop l.from l.points)) l.accumulated l.owned start l.hand;
+  wrote : AreCells (current l.reached l.stores.list) (all_writes (take l.k l.batch.moments.items));
+  puts : kept_writes l.hand.puts ≡ kept_writes l.fn.hand.puts ++ owns_of l.owned (take l.k l.batch.moments.items);
 }
