@@ -1,6 +1,6 @@
-//! Quotients and remainders of whole numbers. Extents are powers of two, by which no division is needed.
+//! Quotients and remainders of whole numbers. By a power of two no division is needed; of small words by small numbers neither.
 
-ghost use Rattle.std.specs.Prelude.{◌≡◌, ◌/◌, ◌%◌, ◌<◌, ◌^◌, ℕ, true, bit_and};
+ghost use Rattle.std.specs.Prelude.{◌≡◌, ◌+◌, ◌/◌, ◌%◌, ◌≤◌, ◌<◌, ◌^◌, ℕ, true, bit_and};
 
 /// A word divided by a number, rounded down, and 0 if the number is 0.
 #[inline(always)]
@@ -58,7 +58,27 @@ pub fn wide_remainder(number: usize, size: usize) -> usize
     if size == 0 { number } else { number % size }
 }
 
-/// A divisor and a modulus, by which digits of words are found; by a shift and a mask if both are powers of two, which is asked once.
+/// The greatest divisor and modulus by which digits are found by products.
+const MOST: u32 = 1 << 15;
+
+/// The least word whose digits aren't.
+const TOO_LARGE: u32 = 1 << 16;
+
+/// A small word divided by a small divisor: by a product with 2^31 over the divisor, rounded up, and a shift.
+#[inline(always)]
+fn quotient_by(word: u32, div: u32, over: u32) -> u32
+    requires small { word < 2 ^ 16 }
+    requires some { 1 ≤ div }
+    requires few { div ≤ 2 ^ 15 }
+    requires is { over ≡ 2 ^ 31 / div + 1 }
+    ensures { result ≡ word / div }
+{
+    let _div = div;
+    ((word as u64 * over as u64) >> 31) as u32
+}
+
+/// A divisor and a modulus, by which digits of words are found: by a shift and a mask if both are powers of two; else by two products if both
+/// are from 1 to 2^15 and the word is below 2^16. Which it is, is asked once.
 #[derive(Clone, Copy, Debug, PartialEq, Eq)]
 pub struct Digits {
     pub div: u32,
@@ -66,8 +86,17 @@ pub struct Digits {
     by_shift: bool,
     shift: u32,
     mask: u32,
+    by_product: bool,
+    over_div: u32,
+    over_size: u32,
     ghost small: { shift < 32 },
     ghost shifts: { by_shift ≡ true → (word : ℕ) → bit_and (word / 2 ^ shift) mask ≡ word / div % size },
+    ghost div_some: { by_product ≡ true → 1 ≤ div },
+    ghost div_few: { by_product ≡ true → div ≤ 2 ^ 15 },
+    ghost div_is: { by_product ≡ true → over_div ≡ 2 ^ 31 / div + 1 },
+    ghost size_some: { by_product ≡ true → 1 ≤ size },
+    ghost size_few: { by_product ≡ true → size ≤ 2 ^ 15 },
+    ghost size_is: { by_product ≡ true → over_size ≡ 2 ^ 31 / size + 1 },
 }
 
 impl Digits {
@@ -87,6 +116,21 @@ impl Digits {
                 by_shift: true,
                 shift,
                 mask: size - 1,
+                by_product: false,
+                over_div: 0,
+                over_size: 0,
+            };
+        }
+        if 1 <= div && div <= MOST && 1 <= size && size <= MOST {
+            return Digits {
+                div,
+                size,
+                by_shift: false,
+                shift: 0,
+                mask: 0,
+                by_product: true,
+                over_div: 0x8000_0000 / div + 1,
+                over_size: 0x8000_0000 / size + 1,
             };
         }
         Digits {
@@ -95,6 +139,9 @@ impl Digits {
             by_shift: false,
             shift: 0,
             mask: 0,
+            by_product: false,
+            over_div: 0,
+            over_size: 0,
         }
     }
 
@@ -105,6 +152,10 @@ impl Digits {
     {
         if self.by_shift {
             return (word >> self.shift) & self.mask;
+        }
+        if self.by_product && word < TOO_LARGE {
+            let high = quotient_by(word, self.div, self.over_div);
+            return high - quotient_by(high, self.size, self.over_size) * self.size;
         }
         digit(word, self.div, self.size)
     }

@@ -12,5 +12,5 @@ pub use coord::{Coord, coord_of, count, rises};
 pub use digits::{Digits, digit, quotient, remainder, wide_quotient, wide_remainder};
 pub use extents::Extents;
 pub use laws::{numbering, row_order, slices_partition, strict_order};
-pub use rows::{coord_at, inside, row};
+pub use rows::{coord_after, coord_at, first_coord, inside, row};
 pub use slices::slice_of;

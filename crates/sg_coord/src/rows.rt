@@ -1,8 +1,8 @@
-ghost use Rattle.std.specs.Prelude.{◌≡◌, ◌<◌, ◌↔◌, IsTrue};
+ghost use Rattle.std.specs.Prelude.{◌≡◌, ◌+◌, ◌<◌, ◌↔◌, IsTrue, ℕ};
 ghost use Rattle.sg_coord.specs.Bounds.{bounds_of, volume};
 ghost use Rattle.sg_coord.specs.Coord.{Inside, is_inside, is_on_axis, row_of, point_at};
 
-use crate::coord::{Coord, count};
+use crate::coord::{Coord, coord_of, count};
 use crate::digits::{quotient, remainder};
 use crate::extents::Extents;
 
@@ -47,4 +47,29 @@ pub fn coord_at(extents: &Extents, k: u32) -> Coord
         b: remainder(quotient(k, extents.c), extents.b) as i32,
         c: remainder(k, extents.c) as i32,
     }
+}
+
+/// The first coordinate in row order.
+pub fn first_coord(extents: &Extents) -> Coord
+    ensures { result ≡ point_at (bounds_of extents.now) 0 }
+{
+    coord_of(extents.n, 0, 0, 0)
+}
+
+/// The coordinate after another in row order, found by counting up. After the last one there is none.
+#[inline(always)]
+pub fn coord_after(extents: &Extents, at: Coord) -> Coord
+    requires { Inside (bounds_of extents.now) at }
+    ensures { (k : ℕ) → at ≡ point_at (bounds_of extents.now) k → k + 1 < volume (bounds_of extents.now) → result ≡ point_at (bounds_of extents.now) (k + 1) }
+{
+    let a = count(at.a);
+    let b = count(at.b);
+    let c = count(at.c);
+    if c + 1 < extents.c {
+        return coord_of(at.n, a, b, c + 1);
+    }
+    if b + 1 < extents.b {
+        return coord_of(at.n, a, b + 1, 0);
+    }
+    coord_of(at.n, a + 1, 0, 0)
 }

@@ -8,9 +8,9 @@ ghost use Rattle.sg_store.specs.StandsFor.{StandsFor};
 ghost use Rattle.sg_elements.specs.Active.{CountsActive};
 ghost use Rattle.sg_elements.specs.steps.Levels.{walk_rows};
 
-use crate::dense::every_point;
+use crate::dense::{every_point, next_point};
 use crate::reached::{reached_count, reached_count_by, reached_rows, rows_reached_by};
-use sg_coord::{Coord, Extents, coord_at, numbering};
+use sg_coord::{Coord, Extents, coord_at, first_coord, numbering};
 use sg_layout::{closure_members, dense_is_full, paths_tell};
 use sg_store::Store;
 use sg_store::laws::cells_are_active;
@@ -124,14 +124,46 @@ fn points_in_order(alloc: Global, store: &Store, rows: Vec<u32>) -> Result<Items
     points_of(alloc, &extents, &rows)
 }
 
-/// The points with these row numbers.
+/// The points with these row numbers. Where they follow each other, each next point is found by counting up.
 fn points_of(alloc: Global, extents: &Extents, rows: &[u32]) -> Result<Items<Coord>, Memory>
     requires { All (λ row. row < volume (bounds_of extents.now)) rows.now }
     ensures { IfOk result (λ coords. coords ≡ map (point_at (bounds_of extents.now)) rows.now) }
 {
+    // for the law that it ensures
+    numbering(extents);
     let mut coords = Vec::with_capacity(alloc, rows.len())?;
+    let mut next = Counted {
+        row: 0,
+        at: first_coord(extents),
+    };
     for row in rows {
-        coords.push(coord_at(extents, *row))?;
+        let at = point_of(extents, *row, next);
+        coords.push(at)?;
+        next = Counted {
+            row: *row + 1,
+            at: next_point(extents, *row, at),
+        };
     }
     Ok(Items::from_vec(coords))
+}
+
+/// A row number and the point that has it, if there is one.
+#[derive(Clone, Copy)]
+pub(crate) struct Counted {
+    row: u32,
+    at: Coord,
+}
+
+/// The point with a row number, where another one is known.
+#[inline(always)]
+fn point_of(extents: &Extents, row: u32, known: Counted) -> Coord
+    requires below { row < volume (bounds_of extents.now) }
+    requires known { known.row < volume (bounds_of extents.now) → known.at ≡ point_at (bounds_of extents.now) known.row }
+    ensures { result ≡ point_at (bounds_of extents.now) row }
+{
+    if row == known.row {
+        known.at
+    } else {
+        coord_at(extents, row)
+    }
 }

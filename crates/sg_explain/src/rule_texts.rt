@@ -88,9 +88,9 @@ pub(crate) const COMMANDS: Rule = Rule {
 
 pub(crate) const EXTENT: Rule = Rule {
     line: "layout: A node P rule 1",
-    sentence: "an extent is a power of two from 1 to 32,768",
-    breaks: "dense(i: 100);",
-    instead: "dense(i: 128);",
+    sentence: "an extent is from 1 to 32,768",
+    breaks: "dense(i: 40000);",
+    instead: "dense(i: 32768);",
 };
 
 pub(crate) const ORDER: Rule = Rule {

@@ -1,8 +1,8 @@
--- A number of a type with a text after it, a coordinate, and a whole line: each stage finds what was written, and only that.
-use Rattle.std.proofs.Common.{◌≡◌, ℕ, ◌^◌, ◌<◌, Bool, true, false, nat_le, if◌then◌else◌, List, [], ◌∷◌, ◌++◌, get_or, Option, Some, codes, ℤ, pos, negsuc, refl, sym, ap, ◌∙◌, subst, arith, rules, append_assoc}
+-- A number of a type with a text after it, a coordinate, a length, and a whole line: each stage finds what was written, and only that.
+use Rattle.std.proofs.Common.{◌≡◌, ℕ, ◌^◌, ◌<◌, ◌≤◌, Bool, true, false, nat_le, nat_lt, if◌then◌else◌, List, [], ◌∷◌, ◌++◌, get_or, Option, Some, codes, decimal, ℤ, pos, negsuc, int_le, int_lt, refl, sym, ap, ◌∙◌, subst, arith, rules, append_assoc}
 use Rattle.std.specs.Fmt.{signed_decimal}
 use Rattle.std.specs.Char.{is_ascii_digit}
-use Rattle.std.proofs.lemmas.Bool.{cond-true}
+use Rattle.std.proofs.lemmas.Bool.{and_parts, and_from, cond-true, eq-eqb, eqb-true, leb-true}
 use Rattle.std.proofs.lemmas.Int.{ints}
 use Rattle.std.proofs.lemmas.Option.{cond_some, option_and_then_some, some_pair_parts}
 use Rattle.sg_words.specs.Options.{◌>>=◌, only_if}
@@ -11,9 +11,13 @@ use Rattle.sg_words.specs.declared.operators.Ty.TheVariants as ty
 use Rattle.sg_words.specs.Words.{number, word_of}
 use Rattle.sg_words.specs.WordLaws.{IsOfType, WordHasNumber, NumberHasWord}
 use Rattle.sg_coord.specs.declared.coord.Coord.{Coord}
-use Rattle.sg_grid.specs.declared.grid.GridRow.{GridRow}
-use Rattle.sg_grid.specs.GridText.{coordinate_text, row_text}
-use Rattle.sg_grid.specs.Fronts.{rest_after, number_at, is_of_type, number_before, coordinate_part_at, further_part_at, coordinate_at, row_at}
+use Rattle.sg_coord.specs.Coord.{count_of}
+use Rattle.sg_grid.specs.declared.grid.GridRun.{GridRun}
+use Rattle.sg_grid.specs.declared.grid.Version.{Version}
+use Rattle.sg_grid.specs.declared.grid.Version.TheVariants.{One, Two}
+use Rattle.sg_grid.specs.GridText.{coordinate_text, length_text, line_text}
+use Rattle.sg_grid.specs.Fronts.{rest_after, number_at, is_of_type, number_before, coordinate_part_at, further_part_at, coordinate_at, length_at, line_at}
+use Rattle.sg_grid.specs.Accepted.{is_length}
 use Rattle.sg_grid.proofs.Numerals.{rest_after_found, rest_after_written, size_of, number_found, number_written}
 
 -- ---- a number of a type
@@ -155,48 +159,104 @@ coordinate_fits n bytes at rest e =
       },
     ))))
 
+-- ---- the length of a run
+
+-- a length that a line says is at least 1
+pub length_some : (version : Version) (len : ℕ) → is_length version len ≡ true → 1 ≤ len
+length_some One len e = omega (arith, eqb-true len 1 e)
+length_some Two len e = leb-true 1 len (and_parts (nat_le 1 len) (nat_lt len (2 ^ 31)) e).0
+
+-- what stands after a coordinate and its space
+abbrev behind : Version → ℕ → List ℕ → List ℕ
+behind One len bytes = bytes
+behind Two len bytes = decimal len ++ 32 ∷ bytes
+
+behind_text : (version : Version) (len : ℕ) (bytes : List ℕ) → length_text version len ++ 32 ∷ bytes ≡ 32 ∷ behind version len bytes
+behind_text One len bytes = refl
+behind_text Two len bytes = refl
+
+-- a number from 1 on as a length
+number_length : (bytes : List ℕ) (z : ℤ) (rest : List ℕ) → bytes ≡ signed_decimal z ++ 32 ∷ rest → is_of_type ty.I32 z ≡ true → int_le (pos 1) z ≡ true
+    → (bytes ≡ behind Two (count_of z) rest) × (is_length Two (count_of z) ≡ true)
+number_length bytes (pos k) rest text fits some =
+    (text, and_from (nat_le 1 k) (nat_lt k (2 ^ 31)) some (and_parts (int_le (negsuc 2147483647) (pos k)) (int_lt (pos k) (pos (2 ^ 31))) fits).1)
+number_length bytes (negsuc k) rest text fits some = absurd (cc some)
+
+pub length_found : (version : Version) (bytes : List ℕ) (len : ℕ) (rest : List ℕ) → length_at version bytes ≡ Some (len, rest) → (bytes ≡ behind version len rest) × (is_length version len ≡ true)
+unfolding length_at
+length_found One bytes len rest e =
+    let parts = some_pair_parts 1 len bytes rest e in
+    (parts.1, eq-eqb len 1 (sym parts.0))
+length_found Two bytes len rest e =
+    option_and_then_some (λ (z : ℤ × List ℕ). only_if (int_le (pos 1) z.0) (Some (count_of z.0, z.1))) (number_before ty.I32 (codes " ") bytes) (len, rest) e (λ z first more.
+    let good = cond_some (int_le (pos 1) z.0) (count_of z.0, z.1) (len, rest) more in
+    let parts = some_pair_parts (count_of z.0) len z.1 rest (ap (λ (p : ℕ × List ℕ). let out : Option (ℕ × List ℕ) = Some p in out) good.1) in
+    let number = number_before_found ty.I32 (codes " ") bytes z.0 z.1 first in
+    let P : ℕ → Type 0 = λ k. (bytes ≡ behind Two k rest) × (is_length Two k ≡ true) in
+    subst P parts.0 (number_length bytes z.0 rest (number.0 ∙ ap (λ (list : List ℕ). signed_decimal z.0 ++ 32 ∷ list) parts.1) number.1 good.0))
+
+pub length_written : (version : Version) (len : ℕ) (rest : List ℕ) → is_length version len ≡ true → length_at version (behind version len rest) ≡ Some (len, rest)
+unfolding length_at
+length_written One len rest good = ap (λ (k : ℕ). let out : Option (ℕ × List ℕ) = Some (k, rest) in out) (sym (eqb-true len 1 good))
+length_written Two len rest good =
+    let parts = and_parts (nat_le 1 len) (nat_lt len (2 ^ 31)) good in
+    ap (λ (o : Option (ℤ × List ℕ)). o >>= (λ z. only_if (int_le (pos 1) z.0) (Some (count_of z.0, z.1))))
+    (number_before_written ty.I32 (codes " ") (pos len) rest parts.1 refl)
+    ∙ cond-true _ _ _ parts.0
+
 -- ---- a line
 
-abbrev grid_row : Coord → ℕ → GridRow
-grid_row at word = record { at = at; word = word }
+abbrev run_of : Coord → (len word : ℕ) → GridRun
+run_of at len word = record { at = at; len = len; word = word }
 
-pub row_found : ((t : Ty) (z : ℤ) → NumberHasWord t z) → (n : ℕ) (type : Ty) (bytes : List ℕ) (row : GridRow) (rest : List ℕ) → row_at n type bytes ≡ Some (row, rest)
-    → (bytes ≡ row_text type row ++ rest) × (row.word < 2 ^ 32)
-unfolding row_at
-row_found numbers n type bytes row rest e =
-    option_and_then_some (λ (at : Coord × List ℕ). number_before type (codes "\n") at.1 >>= (λ v. Some (grid_row at.0 (word_of v.0), v.1))) (coordinate_at n bytes) (row, rest) e (λ at first more.
-    option_and_then_some (λ (v : ℤ × List ℕ). let out : Option (GridRow × List ℕ) = Some (grid_row at.0 (word_of v.0), v.1) in out) (number_before type (codes "\n") at.1) (row, rest) more (λ v second last.
-    let parts = some_pair_parts (grid_row at.0 (word_of v.0)) row v.1 rest last in
-    let value = number_before_found type (codes "\n") at.1 v.0 v.1 second in
+pub line_found : ((t : Ty) (z : ℤ) → NumberHasWord t z) → (version : Version) (n : ℕ) (type : Ty) (bytes : List ℕ) (run : GridRun) (rest : List ℕ) → line_at version n type bytes ≡ Some (run, rest)
+    → (bytes ≡ line_text version type run ++ rest) × (run.word < 2 ^ 32) × (is_length version run.len ≡ true)
+unfolding line_at
+line_found numbers version n type bytes run rest e =
+    option_and_then_some (λ (at : Coord × List ℕ). length_at version at.1 >>= (λ len. number_before type (codes "\n") len.1 >>= (λ v. Some (run_of at.0 len.0 (word_of v.0), v.1)))) (coordinate_at n bytes) (run, rest) e (λ at first more.
+    option_and_then_some (λ (len : ℕ × List ℕ). number_before type (codes "\n") len.1 >>= (λ v. Some (run_of at.0 len.0 (word_of v.0), v.1))) (length_at version at.1) (run, rest) more (λ len second more.
+    option_and_then_some (λ (v : ℤ × List ℕ). let out : Option (GridRun × List ℕ) = Some (run_of at.0 len.0 (word_of v.0), v.1) in out) (number_before type (codes "\n") len.1) (run, rest) more (λ v third last.
+    let parts = some_pair_parts (run_of at.0 len.0 (word_of v.0)) run v.1 rest last in
+    let length = length_found version at.1 len.0 len.1 second in
+    let value = number_before_found type (codes "\n") len.1 v.0 v.1 third in
     let word = numbers type v.0 (of_type_fits type v.0 value.1) in
-    let line : bytes ≡ row_text type (grid_row at.0 (word_of v.0)) ++ v.1 =
+    let line : bytes ≡ line_text version type (run_of at.0 len.0 (word_of v.0)) ++ v.1 =
     coordinate_found n bytes at.0 at.1 first
-    ∙ ap (λ (list : List ℕ). coordinate_text at.0 ++ 32 ∷ list) (value.0 ∙ ap (λ (w : ℤ). signed_decimal w ++ 10 ∷ v.1) (sym word.1))
-    ∙ simp append_assoc in (
-      line ∙ ap (λ (r : GridRow). row_text type r ++ v.1) parts.0 ∙ ap (λ (list : List ℕ). row_text type row ++ list) parts.1,
-      let P : GridRow → Type 0 = λ r. r.word < 2 ^ 32 in subst P parts.0 word.0,
-    )))
+    ∙ ap (λ (list : List ℕ). coordinate_text at.0 ++ 32 ∷ list) length.0
+    ∙ ap (λ (list : List ℕ). coordinate_text at.0 ++ list) (sym (behind_text version len.0 len.1))
+    ∙ ap (λ (list : List ℕ). coordinate_text at.0 ++ (length_text version len.0 ++ 32 ∷ list)) (value.0 ∙ ap (λ (w : ℤ). signed_decimal w ++ 10 ∷ v.1) (sym word.1))
+    ∙ simp append_assoc in
+    let P : GridRun → Type 0 = λ r. (r.word < 2 ^ 32) × (is_length version r.len ≡ true) in
+    let has = subst P parts.0 (word.0, length.1) in (
+      line ∙ ap (λ (r : GridRun). line_text version type r ++ v.1) parts.0 ∙ ap (λ (list : List ℕ). line_text version type run ++ list) parts.1,
+      has.0,
+      has.1,
+    ))))
 
-pub row_written : ((t : Ty) (w : ℕ) → WordHasNumber t w) → (type : Ty) (row : GridRow) (rest : List ℕ) → IsWritten row.at → row.word < 2 ^ 32
-    → row_at row.at.n type (row_text type row ++ rest) ≡ Some (row, rest)
-unfolding row_at
-row_written words type row rest parts small =
-    let z = number type row.word in
-    let word = words type row.word small in
-    let n = row.at.n in
-    let tail : List ℕ = signed_decimal z ++ 10 ∷ rest in
-    let line : row_text type row ++ rest ≡ coordinate_text row.at ++ 32 ∷ tail = simp append_assoc in
-    ap (row_at n type) line
-    ∙ ap (λ (o : Option (Coord × List ℕ)). o >>= (λ at. number_before type (codes "\n") at.1 >>= (λ v. Some (grid_row at.0 (word_of v.0), v.1)))) (coordinate_written row.at tail parts)
-    ∙ ap (λ (o : Option (ℤ × List ℕ)). o >>= (λ v. let out : Option (GridRow × List ℕ) = Some (grid_row row.at (word_of v.0), v.1) in out)) (number_before_written type (codes "\n") z rest (fits_of_type type z word.0) refl)
-    ∙ ap (λ (w : ℕ). let out : Option (GridRow × List ℕ) = Some (grid_row row.at w, rest) in out) word.1
+pub line_written : ((t : Ty) (w : ℕ) → WordHasNumber t w) → (version : Version) (type : Ty) (run : GridRun) (rest : List ℕ) → IsWritten run.at → is_length version run.len ≡ true → run.word < 2 ^ 32
+    → line_at version run.at.n type (line_text version type run ++ rest) ≡ Some (run, rest)
+unfolding line_at
+line_written words version type run rest parts good small =
+    let z = number type run.word in
+    let word = words type run.word small in
+    let n = run.at.n in
+    let value : List ℕ = signed_decimal z ++ 10 ∷ rest in
+    let tail : List ℕ = behind version run.len value in
+    let glued : line_text version type run ++ rest ≡ coordinate_text run.at ++ (length_text version run.len ++ 32 ∷ value) = simp append_assoc in
+    let line : line_text version type run ++ rest ≡ coordinate_text run.at ++ 32 ∷ tail = glued ∙ ap (λ (list : List ℕ). coordinate_text run.at ++ list) (behind_text version run.len value) in
+    ap (line_at version n type) line
+    ∙ ap (λ (o : Option (Coord × List ℕ)). o >>= (λ at. length_at version at.1 >>= (λ len. number_before type (codes "\n") len.1 >>= (λ v. Some (run_of at.0 len.0 (word_of v.0), v.1))))) (coordinate_written run.at tail parts)
+    ∙ ap (λ (o : Option (ℕ × List ℕ)). o >>= (λ len. number_before type (codes "\n") len.1 >>= (λ v. let out : Option (GridRun × List ℕ) = Some (run_of run.at len.0 (word_of v.0), v.1) in out))) (length_written version run.len value good)
+    ∙ ap (λ (o : Option (ℤ × List ℕ)). o >>= (λ v. let out : Option (GridRun × List ℕ) = Some (run_of run.at run.len (word_of v.0), v.1) in out)) (number_before_written type (codes "\n") z rest (fits_of_type type z word.0) refl)
+    ∙ ap (λ (w : ℕ). let out : Option (GridRun × List ℕ) = Some (run_of run.at run.len w, rest) in out) word.1
 
--- and so is the coordinate of the line that is found
-pub row_fits : (n : ℕ) (type : Ty) (bytes : List ℕ) (row : GridRow) (rest : List ℕ) → row_at n type bytes ≡ Some (row, rest) → (row.at.n ≡ n) × IsWritten row.at
-unfolding row_at
-row_fits n type bytes row rest e =
-    option_and_then_some (λ (at : Coord × List ℕ). number_before type (codes "\n") at.1 >>= (λ v. Some (grid_row at.0 (word_of v.0), v.1))) (coordinate_at n bytes) (row, rest) e (λ at first more.
-    option_and_then_some (λ (v : ℤ × List ℕ). let out : Option (GridRow × List ℕ) = Some (grid_row at.0 (word_of v.0), v.1) in out) (number_before type (codes "\n") at.1) (row, rest) more (λ v second last.
-    let parts = some_pair_parts (grid_row at.0 (word_of v.0)) row v.1 rest last in
-    let P : GridRow → Type 0 = λ r. (r.at.n ≡ n) × IsWritten r.at in
-    subst P parts.0 (coordinate_fits n bytes at.0 at.1 first)))
+-- and the coordinate of the line that is found is one that is written so
+pub line_fits : (version : Version) (n : ℕ) (type : Ty) (bytes : List ℕ) (run : GridRun) (rest : List ℕ) → line_at version n type bytes ≡ Some (run, rest) → (run.at.n ≡ n) × IsWritten run.at
+unfolding line_at
+line_fits version n type bytes run rest e =
+    option_and_then_some (λ (at : Coord × List ℕ). length_at version at.1 >>= (λ len. number_before type (codes "\n") len.1 >>= (λ v. Some (run_of at.0 len.0 (word_of v.0), v.1)))) (coordinate_at n bytes) (run, rest) e (λ at first more.
+    option_and_then_some (λ (len : ℕ × List ℕ). number_before type (codes "\n") len.1 >>= (λ v. Some (run_of at.0 len.0 (word_of v.0), v.1))) (length_at version at.1) (run, rest) more (λ len second more.
+    option_and_then_some (λ (v : ℤ × List ℕ). let out : Option (GridRun × List ℕ) = Some (run_of at.0 len.0 (word_of v.0), v.1) in out) (number_before type (codes "\n") len.1) (run, rest) more (λ v third last.
+    let parts = some_pair_parts (run_of at.0 len.0 (word_of v.0)) run v.1 rest last in
+    let P : GridRun → Type 0 = λ r. (r.at.n ≡ n) × IsWritten r.at in
+    subst P parts.0 (coordinate_fits n bytes at.0 at.1 first))))

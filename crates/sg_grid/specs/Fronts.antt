@@ -8,8 +8,11 @@ use Rattle.sg_words.specs.Options.{◌>>=◌, only_if}
 use Rattle.sg_words.specs.declared.operators.Ty.{Ty}
 use Rattle.sg_words.specs.declared.operators.Ty.TheVariants as ty
 use Rattle.sg_words.specs.Words.{word_of}
-use Rattle.sg_grid.specs.declared.grid.GridRow.{GridRow}
-use Rattle.sg_grid.specs.GridText.{grid_head}
+use Rattle.sg_coord.specs.Coord.{count_of}
+use Rattle.sg_grid.specs.declared.grid.GridRun.{GridRun}
+use Rattle.sg_grid.specs.declared.grid.Version.{Version}
+use Rattle.sg_grid.specs.declared.grid.Version.TheVariants.{One, Two}
+use Rattle.sg_grid.specs.GridText.{head_text}
 
 -- what a stage finds, with the bytes after it
 abbrev pub AtFront : Type 0 → Type 0
@@ -80,17 +83,23 @@ coordinate_at n bytes = do
   c ← further_part_at 3 n b.1
   Some (record { n = n; a = a.0; b = b.0; c = c.0 }, c.1)
 
--- a whole line: a coordinate and a value of the field's type
-unfoldable pub row_at : ℕ → Ty → List ℕ → AtFront GridRow
-row_at n type bytes = do
-  at ← coordinate_at n bytes
-  value ← number_before type (codes "\n") at.1
-  Some (record { at = at.0; word = word_of value.0 }, value.1)
+-- the length of a line's run: in version 1 it is 1, in version 2 it stands there, with a space after it
+unfoldable pub length_at : Version → List ℕ → AtFront ℕ
+length_at One bytes = Some (1, bytes)
+length_at Two bytes = number_before ty.I32 (codes " ") bytes >>= (λ z. only_if (int_le (pos 1) z.0) (Some (count_of z.0, z.1)))
 
--- the number of rows in the first line
-unfoldable pub head_at : ℕ → List ℕ → AtFront ℕ
-head_at axes bytes = do
-  counted ← rest_after (grid_head axes) bytes
+-- a whole line: a coordinate, the length of a run and a value of the field's type
+unfoldable pub line_at : Version → ℕ → Ty → List ℕ → AtFront GridRun
+line_at version n type bytes = do
+  at ← coordinate_at n bytes
+  len ← length_at version at.1
+  value ← number_before type (codes "\n") len.1
+  Some (record { at = at.0; len = len.0; word = word_of value.0 }, value.1)
+
+-- the number of lines in the first line
+unfoldable pub head_at : Version → ℕ → List ℕ → AtFront ℕ
+head_at version axes bytes = do
+  counted ← rest_after (head_text version axes) bytes
   count ← count_at counted
   rest ← rest_after (codes "\n") count.1
   Some (count.0, rest)

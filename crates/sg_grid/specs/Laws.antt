@@ -1,5 +1,5 @@
 -- Reading and writing are inverse to each other, and a fault is the first.
-use Rattle.std.specs.Prelude.{◌≡◌, ◌↔◌, ℕ, ◌≤◌, List, length, None, Ok, Err}
+use Rattle.std.specs.Prelude.{◌≡◌, ◌↔◌, ◌⊎◌, ℕ, ◌≤◌, List, length, None, Ok, Err}
 use Rattle.sg_coord.specs.Bounds.{Bounds, IsBounds}
 use Rattle.sg_words.specs.declared.operators.Ty.{Ty}
 use Rattle.sg_layout.specs.declared.shape.Shape.{Shape}
@@ -11,13 +11,14 @@ use Rattle.sg_grid.specs.declared.grid.GridFault.{GridFault}
 use Rattle.sg_grid.specs.Limits.{most_grid_bytes, most_grid_rows}
 use Rattle.sg_grid.specs.GridText.{grid_text}
 use Rattle.sg_grid.specs.Reading.{rows_of}
-use Rattle.sg_grid.specs.Accepted.{AreRows, IsGridText}
+use Rattle.sg_grid.specs.Accepted.{AreRows, IsGridText, IsRunText}
 use Rattle.sg_grid.specs.Faults.{IsGridFault}
 use Rattle.sg_grid.specs.Dump.{field_rows, field_type, dump_text}
 
--- exactly the grid texts are read, each with its rows
+-- exactly the grid texts of both versions are read, each with its rows
 abbrev pub AcceptsGridTexts : Bounds → Ty → Type 0
-AcceptsGridTexts bounds type = (rows : List GridRow) (bytes : List ℕ) → (rows_of bounds type bytes ≡ Ok rows) ↔ IsGridText bounds type rows bytes
+AcceptsGridTexts bounds type =
+    (rows : List GridRow) (bytes : List ℕ) → (rows_of bounds type bytes ≡ Ok rows) ↔ (IsGridText bounds type rows bytes ⊎ IsRunText bounds type rows bytes)
 
 -- reading the text of rows gives the rows again
 abbrev pub ReadsWritten : Bounds → Ty → Type 0

@@ -1,4 +1,5 @@
 pub mod Limits
+pub mod Runs
 pub mod GridText
 pub mod Fronts
 pub mod Reading
@@ -6,5 +7,6 @@ pub mod Accepted
 pub mod Faults
 pub mod Laws
 pub mod Examples
+pub mod RunExamples
 pub mod Dump
 pub mod steps

@@ -4,11 +4,14 @@
 pub mod dumping;
 pub mod grid;
 pub mod laws;
+mod lines;
 mod numbers;
 pub mod reading;
+pub mod runs;
 pub mod writing;
 
 pub use dumping::dump;
-pub use grid::{Grid, GridFault, GridRow};
+pub use grid::{Grid, GridFault, GridRow, GridRun};
 pub use reading::read_grid;
+pub use runs::row_of_run;
 pub use writing::{grid_text, push_coordinate};

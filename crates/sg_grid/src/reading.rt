@@ -1,165 +1,138 @@
 //! Reading a grid text, line by line.
 
-ghost use Rattle.std.specs.Prelude.{◌≡◌, ◌<◌, ◌≤◌, ◌^◌, None};
+ghost use Rattle.std.specs.Prelude.{◌≡◌, ◌<◌, ◌≤◌, ◌^◌, IfOk};
+ghost use Rattle.std.specs.List.{All};
 ghost use Rattle.sg_coord.specs.Bounds.{bounds_of};
 ghost use Rattle.sg_words.specs.Answers.{AnswersAs};
-ghost use Rattle.sg_grid.specs.GridText.{grid_head};
+ghost use Rattle.sg_grid.specs.Runs.{rows_of_runs};
+ghost use Rattle.sg_grid.specs.GridText.{head_text};
+ghost use Rattle.sg_grid.specs.declared.grid.Version.TheVariants as version;
 ghost use Rattle.sg_grid.specs.Fronts as front;
 ghost use Rattle.sg_grid.specs.Reading as spec;
-ghost use Rattle.sg_grid.specs.Reading.{rows_of};
-ghost use Rattle.sg_grid.specs.steps.Finding.{Finds, FindsRow};
+ghost use Rattle.sg_grid.specs.Reading.{rows_of, first_start, IsRunInside};
+ghost use Rattle.sg_grid.specs.steps.Finding.{Finds, Leaves};
 
-use crate::grid::{Grid, GridFault, GridRow, MOST_GRID_BYTES, MOST_GRID_ROWS};
-use crate::numbers::{count_at, number_before, rest_after};
-use sg_coord::{Coord, Extents, inside, rises};
-use sg_words::{Items, Stop, Ty, word_of};
+use crate::grid::{Grid, GridFault, LineStart, MOST_GRID_BYTES, MOST_GRID_ROWS, Version};
+use crate::lines::{after_run, run_in};
+use crate::numbers::{count_at, rest_after};
+use sg_coord::Extents;
+use sg_words::{Items, Stop, Ty};
 use std::alloc::Global;
 
-/// The rows of a grid text over the extents, for a field of the type; or its first fault.
-#[tactic(auto, unfolding(crate::specs::Reading::rows_of))]
+/// The runs of a grid text of either version over the extents, for a field of the type; or its first fault.
+#[tactic(auto, unfolding(crate::specs::Reading::rows_of, crate::specs::Reading::runs_of))]
 pub fn read_grid(
     alloc: Global,
     bytes: &[u8],
     extents: &Extents,
     ty: Ty,
 ) -> Result<Grid, Stop<GridFault>>
-    ensures { AnswersAs (λ grid. grid.rows) result (rows_of (bounds_of extents.now) ty bytes.now) }
+    ensures rows { AnswersAs (λ grid. rows_of_runs grid.runs) result (rows_of (bounds_of extents.now) ty bytes.now) }
+    ensures inside { IfOk result (λ grid. All (IsRunInside (bounds_of extents.now)) grid.runs) }
 {
     if bytes.len() > MOST_GRID_BYTES {
         return Err(Stop::Refused(GridFault::TooManyBytes));
     }
-    match head_at(extents.n, bytes) {
-        None => Err(Stop::Refused(GridFault::BadText { line: 1 })),
-        Some((count, lines)) => {
-            if count > MOST_GRID_ROWS {
-                return Err(Stop::Refused(GridFault::TooManyRows));
-            }
-            rows_from(alloc, lines, extents, ty, count as u32)
+    let first = head_at(Version::One, extents.n, bytes);
+    let second = head_at(Version::Two, extents.n, bytes);
+    match (first, second) {
+        (Some((count, lines)), _) => { runs_below(alloc, Version::One, extents, ty, count, lines) }
+        (None, Some((count, lines))) => {
+            runs_below(alloc, Version::Two, extents, ty, count, lines)
         }
+        (None, None) => Err(Stop::Refused(GridFault::BadText { line: 1 })),
     }
 }
 
-/// The number of rows in the first line, and the lines below it.
-#[tactic(auto, unfolding(crate::specs::Fronts::head_at))]
-fn head_at(axes: u32, bytes: &[u8]) -> Option<(u64, &[u8])>
-    requires { axes < 10 }
-    ensures { Finds result (front.head_at axes bytes.now) }
+/// The runs of so many lines, as a first line says.
+fn runs_below(
+    alloc: Global,
+    version: Version,
+    extents: &Extents,
+    ty: Ty,
+    count: u64,
+    lines: &[u8],
+) -> Result<Grid, Stop<GridFault>>
+    ensures runs { AnswersAs (λ grid. grid.runs) result (spec.runs_below version (bounds_of extents.now) ty (count, lines.now)) }
+    ensures inside { IfOk result (λ grid. All (IsRunInside (bounds_of extents.now)) grid.runs) }
 {
-    let counted = rest_after(&head(axes), bytes)?;
+    if count > MOST_GRID_ROWS {
+        return Err(Stop::Refused(GridFault::TooManyRows));
+    }
+    runs_from(alloc, version, extents, ty, count as u32, lines)
+}
+
+/// The number of lines in the first line of a version, and the lines below it.
+#[tactic(auto, unfolding(crate::specs::Fronts::head_at))]
+fn head_at(version: Version, axes: u32, bytes: &[u8]) -> Option<(u64, &[u8])>
+    requires { axes < 10 }
+    ensures { Finds result (front.head_at version axes bytes.now) }
+{
+    let counted = counted_at(version, axes, bytes)?;
     let (count, rest) = count_at(counted)?;
     Some((count, rest_after(b"\n", rest)?))
 }
 
-/// The first line up to the number of rows.
+/// What stands after the first line of a version up to the number of lines.
+fn counted_at(version: Version, axes: u32, bytes: &[u8]) -> Option<&[u8]>
+    requires { axes < 10 }
+    ensures { Leaves result (front.rest_after (head_text version axes) bytes.now) }
+{
+    match version {
+        Version::One => rest_after(&head(axes), bytes),
+        Version::Two => rest_after(&run_head(axes), bytes),
+    }
+}
+
+/// The first line of version 1 up to the number of rows.
 fn head(axes: u32) -> [u8; 7]
     requires { axes < 10 }
-    ensures { result ≡ grid_head axes }
+    ensures { result ≡ head_text version.One axes }
 {
     [b'g', b'r', b'i', b'd', b' ', b'0' + axes as u8, b' ']
 }
 
-/// The rows of `count` lines, which are all that is left.
-fn rows_from(
+/// The first line of version 2 up to the number of runs.
+fn run_head(axes: u32) -> [u8; 8]
+    requires { axes < 10 }
+    ensures { result ≡ head_text version.Two axes }
+{
+    [b'g', b'r', b'i', b'd', b'2', b' ', b'0' + axes as u8, b' ']
+}
+
+/// The runs of `count` lines, which are all that is left.
+fn runs_from(
     alloc: Global,
-    bytes: &[u8],
+    version: Version,
     extents: &Extents,
     ty: Ty,
     count: u32,
+    bytes: &[u8],
 ) -> Result<Grid, Stop<GridFault>>
     requires { count ≤ 2 ^ 20 }
-    ensures { AnswersAs (λ grid. grid.rows) result (spec.rows_from (bounds_of extents.now) ty count 2 None bytes.now) }
+    ensures runs { AnswersAs (λ grid. grid.runs) result (spec.runs_from version (bounds_of extents.now) ty count first_start bytes.now) }
+    ensures inside { IfOk result (λ grid. All (IsRunInside (bounds_of extents.now)) grid.runs) }
 {
-    let mut rows = Items::new(alloc);
-    let mut last = None;
+    let mut runs = Items::new(alloc);
+    let mut start = LineStart {
+        line: 2,
+        rows: 0,
+        last: None,
+    };
     let mut left = bytes;
-    for turn in 0..count {
-        match row_in(extents, ty, turn + 2, last, left) {
-            Ok((row, rest)) => {
-                rows.push(row)?;
-                last = Some(row.at);
+    for _turn in 0..count {
+        match run_in(version, extents, ty, start, left) {
+            Ok((run, rest)) => {
+                runs.push(run)?;
+                start = after_run(start, run);
                 left = rest;
             }
             Err(fault) => return Err(Stop::Refused(fault)),
         }
     }
     if left.is_empty() {
-        Ok(Grid { rows })
+        Ok(Grid { runs })
     } else {
-        Err(Stop::Refused(GridFault::BadText { line: count + 2 }))
-    }
-}
-
-/// The row of a line, after one with the coordinate `last`, and the lines below it; or the line's fault.
-#[tactic(auto, unfolding(crate::specs::Reading::row_in))]
-fn row_in<'a>(
-    extents: &Extents,
-    ty: Ty,
-    line: u32,
-    last: Option<Coord>,
-    bytes: &'a [u8],
-) -> Result<(GridRow, &'a [u8]), GridFault>
-    ensures { FindsRow result (spec.row_in (bounds_of extents.now) ty line last bytes.now) }
-{
-    let Some((row, rest)) = row_at(extents.n, ty, bytes) else {
-        return Err(GridFault::BadText { line });
-    };
-    if !inside(extents, row.at) {
-        return Err(GridFault::Outside { line });
-    }
-    if !follows(last, row.at) {
-        return Err(GridFault::NotRising { line });
-    }
-    Ok((row, rest))
-}
-
-/// Whether a coordinate comes after that of the line before, if there is one.
-fn follows(last: Option<Coord>, at: Coord) -> bool
-    ensures { result ≡ spec.follows last at }
-{
-    match last {
-        Some(last) => rises(last, at),
-        None => true,
-    }
-}
-
-/// The row of a whole line, and the lines below it.
-#[tactic(auto, unfolding(crate::specs::Fronts::row_at))]
-fn row_at(axes: u32, ty: Ty, bytes: &[u8]) -> Option<(GridRow, &[u8])>
-    ensures { Finds result (front.row_at axes ty bytes.now) }
-{
-    let (at, rest) = coordinate_at(axes, bytes)?;
-    let (value, rest) = number_before(ty, b"\n", rest)?;
-    let word = word_of(value);
-    Some((GridRow { at, word }, rest))
-}
-
-/// A coordinate with a space after each part.
-#[tactic(auto, unfolding(crate::specs::Fronts::coordinate_at))]
-fn coordinate_at(axes: u32, bytes: &[u8]) -> Option<(Coord, &[u8])>
-    ensures { Finds result (front.coordinate_at axes bytes.now) }
-{
-    let (a, rest) = coordinate_part_at(bytes)?;
-    let (b, rest) = further_part_at(2, axes, rest)?;
-    let (c, rest) = further_part_at(3, axes, rest)?;
-    Some((Coord { n: axes, a, b, c }, rest))
-}
-
-/// A part of a coordinate with a space after it.
-fn coordinate_part_at(bytes: &[u8]) -> Option<(i32, &[u8])>
-    ensures { Finds result (front.coordinate_part_at bytes.now) }
-{
-    let (part, rest) = number_before(Ty::I32, b" ", bytes)?;
-    Some((part as i32, rest))
-}
-
-/// The part of a further axis, or 0 if there are fewer axes.
-#[tactic(auto, unfolding(crate::specs::Fronts::further_part_at))]
-fn further_part_at(axis: u32, axes: u32, bytes: &[u8]) -> Option<(i32, &[u8])>
-    ensures { Finds result (front.further_part_at axis axes bytes.now) }
-{
-    if axis <= axes {
-        coordinate_part_at(bytes)
-    } else {
-        Some((0, bytes))
+        Err(Stop::Refused(GridFault::BadText { line: start.line }))
     }
 }

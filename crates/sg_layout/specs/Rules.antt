@@ -1,6 +1,6 @@
 -- The rules of layouts, and the fault that is answered.
-use Rattle.std.specs.Prelude.{ℕ, ◌^◌, suc, ℤ, Bool, true, false, not, ◌&&◌, List, [], ◌∷◌, length, if◌then◌else◌, ◌==◌, nat_lt, nat_le, Option, Some, None, Result, Ok, Err}
-use Rattle.std.specs.List.{list_any, list_all, range_with_len}
+use Rattle.std.specs.Prelude.{ℕ, suc, ℤ, Bool, true, false, not, ◌&&◌, List, [], ◌∷◌, length, if◌then◌else◌, ◌==◌, nat_lt, nat_le, Option, Some, None, Result, Ok, Err}
+use Rattle.std.specs.List.{list_any, list_all}
 use Rattle.std.specs.Option.{option_or}
 use Rattle.sg_coord.specs.Bounds.{Bounds, volume}
 use Rattle.sg_coord.specs.Limits.{most_axes, most_extent, most_points}
@@ -18,9 +18,9 @@ use Rattle.sg_layout.specs.declared.layout.LayoutFault.TheVariants.{BadExtent, B
 use Rattle.sg_layout.specs.Axes.{count_of, size_of, bounds_of_shape}
 use Rattle.sg_layout.specs.Closure.{is_dense}
 
--- an extent is a power of two from 1 to 2^15; no other place says that it is a power of two
+-- an extent is a number from 1 to 2^15
 abbrev pub is_extent : ℤ → Bool
-is_extent extent = list_any (λ k. 2 ^ k == count_of extent) (range_with_len 0 16)
+is_extent extent = nat_lt 0 (count_of extent) && nat_le (count_of extent) most_extent
 
 -- rule 1: every extent of a node is one
 abbrev pub has_good_extents : NodeShape → Bool

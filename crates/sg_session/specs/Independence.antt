@@ -18,8 +18,8 @@ use Rattle.sg_admit.specs.declared.admitted.Admitted.{Admitted}
 use Rattle.sg_admit.specs.Neutral.{is_neutral_kernel}
 use Rattle.sg_names.specs.Tables.{no_tables}
 use Rattle.std.specs.Fmt.{digits}
-use Rattle.sg_grid.specs.Fronts.{rest_after, count_at, number_at, number_before, further_part_at, coordinate_at, row_at, head_at}
-use Rattle.sg_grid.specs.Reading.{row_in, rows_of}
+use Rattle.sg_grid.specs.Fronts.{rest_after, count_at, number_at, number_before, further_part_at, coordinate_at, length_at, line_at, head_at}
+use Rattle.sg_grid.specs.Reading.{run_in, runs_of, rows_of}
 use Rattle.sg_outside.specs.Files.{Reading, Bytes}
 use Rattle.sg_session.specs.declared.refusal.RunRefusal.{RunRefusal}
 use Rattle.sg_session.specs.declared.tasks.Task.{Task}
@@ -152,12 +152,12 @@ leaves_line parts words = without_text (record { layouts = record { active = map
 -- the values are the same, and what is active isn't: over one dense node all points always are
 over_the_whole : left_by_program (loads_and_frees whole_line) two_rows
     ≡ Ok (leaves_line (0 ∷ 1 ∷ 2 ∷ 3 ∷ []) ((2, 7) ∷ []) ∷ leaves_line (0 ∷ 1 ∷ 2 ∷ 3 ∷ []) ((2, 7) ∷ []) ∷ leaves_line (0 ∷ 1 ∷ 2 ∷ 3 ∷ []) [] ∷ [])
-unfolding rows_of head_at row_in row_at coordinate_at further_part_at number_before number_at count_at rest_after digits
+unfolding rows_of runs_of head_at run_in line_at length_at coordinate_at further_part_at number_before number_at count_at rest_after digits
 over_the_whole = refl
 
 over_blocks : left_by_program (loads_and_frees line_in_blocks) two_rows
     ≡ Ok (leaves_line (0 ∷ 1 ∷ 2 ∷ 3 ∷ []) ((2, 7) ∷ []) ∷ leaves_line (2 ∷ 3 ∷ []) ((2, 7) ∷ []) ∷ leaves_line [] [] ∷ [])
-unfolding rows_of head_at row_in row_at coordinate_at further_part_at number_before number_at count_at rest_after digits
+unfolding rows_of runs_of head_at run_in line_at length_at coordinate_at further_part_at number_before number_at count_at rest_after digits
 over_blocks = refl
 
 -- the two lines have the same extents

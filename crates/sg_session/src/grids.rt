@@ -1,11 +1,14 @@
 //! Loads of grid texts into stores.
 
-ghost use Rattle.std.specs.Prelude.{◌≡◌, ◌≤◌, false, map, Some, IsSome, OnErr, IfOk};
+ghost use Rattle.std.specs.Prelude.{◌≡◌, ◌≤◌, ◌++◌, false, map, Some, IsSome, OnErr, OnOk, IfOk};
 ghost use Rattle.std.specs.Option.{option_copied};
 ghost use Rattle.sg_flat.specs.declared.state.FlatState.{FlatState};
-ghost use Rattle.std.specs.List.{AllZip};
+ghost use Rattle.std.specs.List.{All, AllZip};
 ghost use Rattle.sg_store.specs.Links.{GrowsLinks};
 ghost use Rattle.sg_exec.specs.Standing.{StandForState};
+ghost use Rattle.sg_coord.specs.Bounds.{bounds_of};
+ghost use Rattle.sg_grid.specs.Reading.{IsRunInside};
+ghost use Rattle.sg_grid.specs.Runs.{run_rows, rows_of_runs};
 ghost use Rattle.sg_outside.specs.Files.{Held, Reading, Bytes};
 ghost use Rattle.sg_session.specs.Compiled.{IsField};
 ghost use Rattle.sg_session.specs.Bindings.{binding_read, file_of_field};
@@ -18,9 +21,10 @@ use crate::binds::{Binds, file_bound};
 use crate::compiled::Compiled;
 use crate::perform::no_text;
 use crate::refusal::RunRefusal;
+use sg_coord::Extents;
 use sg_exec::load_rows;
 use sg_flat::{Way, Write};
-use sg_grid::{GridFault, GridRow, read_grid};
+use sg_grid::{GridFault, GridRun, read_grid, row_of_run};
 use sg_names::FieldAt;
 use sg_outside::{Files, Got};
 use sg_store::Stores;
@@ -120,18 +124,42 @@ fn rows_of(
     ensures { Answers result (field_writes compiled.now.layouts at bytes.now) }
 {
     let layout = &compiled.layouts.list.as_slice()[at.layout as usize];
-    match read_grid(alloc, bytes, &layout.extents(), at.ty) {
-        Ok(grid) => Ok(writes_of(alloc, at, grid.rows.as_slice())?),
+    let extents = layout.extents();
+    match read_grid(alloc, bytes, &extents, at.ty) {
+        Ok(grid) => Ok(writes_of(alloc, at, &extents, grid.runs.as_slice())?),
         Err(why) => Err(why),
     }
 }
 
-/// The write of each row into a field.
-fn writes_of(alloc: Global, at: FieldAt, rows: &[GridRow]) -> Result<Items<Write>, Memory>
-    ensures { IfOk result (λ writes. writes ≡ map (row_write at.layout at.place) rows.now) }
+/// The write of each row of runs into a field.
+fn writes_of(
+    alloc: Global,
+    at: FieldAt,
+    extents: &Extents,
+    runs: &[GridRun],
+) -> Result<Items<Write>, Memory>
+    requires { All (IsRunInside (bounds_of extents.now)) runs.now }
+    ensures { IfOk result (λ writes. writes ≡ map (row_write at.layout at.place) (rows_of_runs runs.now)) }
 {
     let mut writes = Items::new(alloc);
-    for row in rows {
+    for run in runs {
+        push_run(&mut writes, at, extents, *run)?;
+    }
+    Ok(writes)
+}
+
+/// Adds the write of each row of a run into a field.
+fn push_run(
+    writes: &mut Items<Write>,
+    at: FieldAt,
+    extents: &Extents,
+    run: GridRun,
+) -> Result<(), Memory>
+    requires { IsRunInside (bounds_of extents.now) run }
+    ensures { OnOk result (writes.new ≡ writes.old ++ map (row_write at.layout at.place) (run_rows run)) }
+{
+    for k in 0..run.len {
+        let row = row_of_run(extents, run, k);
         writes.push(Write {
             layout: at.layout,
             place: at.place,
@@ -141,7 +169,7 @@ fn writes_of(alloc: Global, at: FieldAt, rows: &[GridRow]) -> Result<Items<Write
             value: row.word,
         })?;
     }
-    Ok(writes)
+    Ok(())
 }
 
 /// Why bytes are no grid of the field with this number.

@@ -1,9 +1,10 @@
 -- No file is both a program and a grid text: a grid text begins with a word that no item begins with.
-use Rattle.std.proofs.Common.{◌≡◌, ℕ, zero, suc, ◌-◌, Bool, true, false, List, [], ◌∷◌, ◌++◌, map, length, Option, Some, None, Result, Ok, Err, refl, sym, ap, ◌∙◌, subst, append_assoc, append-nil, ◌+◌}
-use Rattle.std.specs.Prelude.{codes, nat_eq, if◌then◌else◌, nat_lt}
+use Rattle.std.proofs.Common.{◌≡◌, ◌⊎◌, inl, inr, ℕ, zero, suc, ◌-◌, Bool, true, false, List, [], ◌∷◌, ◌++◌, map, length, Option, Some, None, Result, Ok, Err, refl, sym, ap, ◌∙◌, subst, append_assoc, append-nil, ◌+◌}
+use Rattle.std.specs.Prelude.{codes, nat_eq, if◌then◌else◌, nat_lt, drop}
 use Rattle.std.specs.List.{starts_with}
 use Rattle.std.specs.Fmt.{decimal}
-use Rattle.std.proofs.lemmas.Bool.{eqb-true, and_parts}
+use Rattle.std.proofs.lemmas.Bool.Decides.{Decides-eqb}
+use Rattle.std.proofs.lemmas.Slice.Eq.{starts_is}
 use Rattle.sg_words.specs.Options.{only_if}
 use Rattle.sg_words.specs.Options as options
 use Rattle.sg_words.specs.Results.{◌>>=◌, fault_as}
@@ -32,64 +33,58 @@ use Rattle.sg_parser.specs.Laws.{ParsedIsSpelled}
 use Rattle.sg_parser.specs.declared.program.ParseFault.{ParseFault}
 use Rattle.sg_parser.specs.Parsed.{program_of}
 use Rattle.sg_grid.specs.declared.grid.GridRow.{GridRow}
+use Rattle.sg_grid.specs.declared.grid.GridRun.{GridRun}
+use Rattle.sg_grid.specs.declared.grid.Version.TheVariants.{One, Two}
 use Rattle.sg_grid.specs.declared.grid.GridFault.{GridFault}
 use Rattle.sg_grid.specs.declared.grid.GridFault.TheVariants as grid_fault
 use Rattle.sg_grid.specs.Limits.{most_grid_bytes}
 use Rattle.sg_grid.specs.Fronts.{AtFront, rest_after, head_at}
-use Rattle.sg_grid.specs.Reading.{rows_below, rows_of}
+use Rattle.sg_grid.specs.Runs.{rows_of_runs}
+use Rattle.sg_grid.specs.GridText.{head_text}
+use Rattle.sg_grid.specs.Reading.{runs_below_either, runs_of, rows_of}
+use Rattle.sg_session.proofs.Uses.{bound_ok}
 use Rattle.sg_session.specs.declared.refusal.Refusal.TheVariants as refusal
 use Rattle.sg_session.specs.Compiling.{spelled_program}
 
 -- ---- what a grid text begins with
 
--- `grid ` stands in front
-record Begins (bytes : List ℕ) : Type 0 where
+-- a name and a space stand in front
+record Begins (name bytes : List ℕ) : Type 0 where
   rest : List ℕ
-  is : bytes ≡ 103 ∷ 114 ∷ 105 ∷ 100 ∷ 32 ∷ rest
-
--- a front of one byte more
-byte_first : (b : ℕ) (bytes : List ℕ) (byte : ℕ) (text : List ℕ) → starts_with nat_eq (b ∷ bytes) (byte ∷ text) ≡ true → (b ≡ byte) × (starts_with nat_eq bytes text ≡ true)
-byte_first b bytes byte text h = let both = and_parts (nat_eq byte b) (starts_with nat_eq bytes text) h in (sym (eqb-true byte b both.0), both.1)
-
-no_front : (byte : ℕ) (text : List ℕ) → starts_with nat_eq [] (byte ∷ text) ≡ true → ⊥
-no_front byte text h = cc
-
-front_of : (bytes more : List ℕ) → starts_with nat_eq bytes (103 ∷ 114 ∷ 105 ∷ 100 ∷ 32 ∷ more) ≡ true → Begins bytes
-front_of (a ∷ b ∷ c ∷ d ∷ e ∷ rest) more h =
-    let one = byte_first a (b ∷ c ∷ d ∷ e ∷ rest) 103 (114 ∷ 105 ∷ 100 ∷ 32 ∷ more) h in
-    let two = byte_first b (c ∷ d ∷ e ∷ rest) 114 (105 ∷ 100 ∷ 32 ∷ more) one.1 in
-    let three = byte_first c (d ∷ e ∷ rest) 105 (100 ∷ 32 ∷ more) two.1 in
-    let four = byte_first d (e ∷ rest) 100 (32 ∷ more) three.1 in
-    let five = byte_first e rest 32 more four.1 in
-    record { rest = rest; is = cc }
-front_of [] more h = absurd (no_front 103 (114 ∷ 105 ∷ 100 ∷ 32 ∷ more) h)
-front_of (a ∷ []) more h = absurd (no_front 114 (105 ∷ 100 ∷ 32 ∷ more) (byte_first a [] 103 (114 ∷ 105 ∷ 100 ∷ 32 ∷ more) h).1)
-front_of (a ∷ b ∷ []) more h =
-    absurd (no_front 105 (100 ∷ 32 ∷ more) (byte_first b [] 114 (105 ∷ 100 ∷ 32 ∷ more) (byte_first a (b ∷ []) 103 (114 ∷ 105 ∷ 100 ∷ 32 ∷ more) h).1).1)
-front_of (a ∷ b ∷ c ∷ []) more h =
-    let one = byte_first a (b ∷ c ∷ []) 103 (114 ∷ 105 ∷ 100 ∷ 32 ∷ more) h in
-    let two = byte_first b (c ∷ []) 114 (105 ∷ 100 ∷ 32 ∷ more) one.1 in
-    absurd (no_front 100 (32 ∷ more) (byte_first c [] 105 (100 ∷ 32 ∷ more) two.1).1)
-front_of (a ∷ b ∷ c ∷ d ∷ []) more h =
-    let one = byte_first a (b ∷ c ∷ d ∷ []) 103 (114 ∷ 105 ∷ 100 ∷ 32 ∷ more) h in
-    let two = byte_first b (c ∷ d ∷ []) 114 (105 ∷ 100 ∷ 32 ∷ more) one.1 in
-    let three = byte_first c (d ∷ []) 105 (100 ∷ 32 ∷ more) two.1 in
-    absurd (no_front 32 more (byte_first d [] 100 (32 ∷ more) three.1).1)
+  is : bytes ≡ name ++ 32 ∷ rest
 
 rest_found : (test : Bool) (rest : List ℕ) (next : List ℕ → Option (ℕ × List ℕ)) (x : ℕ × List ℕ) → options.◌>>=◌ (only_if test (Some rest)) next ≡ Some x → test ≡ true
 rest_found true rest next x h = refl
 rest_found false rest next x h = absurd (cc)
 
-grid_begins : (bounds : Bounds) (type : Ty) (bytes : List ℕ) (rows : List GridRow) → rows_of bounds type bytes ≡ Ok rows → Begins bytes
-unfolding rows_of head_at rest_after
-grid_begins bounds type bytes rows h = by_size (nat_lt most_grid_bytes (length bytes)) h where
-  by_head : (head : AtFront ℕ) → head_at bounds.n bytes ≡ head → rows_below bounds type head ≡ Ok rows → Begins bytes
-  by_head None is e = absurd (cc)
-  by_head (Some head) is e = front_of bytes (decimal bounds.n ++ 32 ∷ []) (rest_found _ _ _ head is)
+front_of : (bytes text : List ℕ) → starts_with nat_eq bytes text ≡ true → bytes ≡ text ++ drop (length text) bytes
+front_of bytes text h = (starts_is Decides-eqb bytes text (starts_with nat_eq bytes text) refl).0 h
 
-  by_size : (large : Bool) → ◌≡◌ {A = Result (List GridRow) GridFault} (if large then Err grid_fault.TooManyBytes else rows_below bounds type (head_at bounds.n bytes)) (Ok rows) → Begins bytes
-  by_size true e = absurd (cc)
-  by_size false e = by_head (head_at bounds.n bytes) refl e
+first_begins : (axes : ℕ) (bytes : List ℕ) (head : ℕ × List ℕ) → head_at One axes bytes ≡ Some head → Begins (codes "grid") bytes
+unfolding head_at rest_after
+first_begins axes bytes head is = record { rest = (decimal axes ++ 32 ∷ []) ++ drop (length (head_text One axes)) bytes; is = front_of bytes (head_text One axes) (rest_found _ _ _ head is) }
+
+second_begins : (axes : ℕ) (bytes : List ℕ) (head : ℕ × List ℕ) → head_at Two axes bytes ≡ Some head → Begins (codes "grid2") bytes
+unfolding head_at rest_after
+second_begins axes bytes head is = record { rest = (decimal axes ++ 32 ∷ []) ++ drop (length (head_text Two axes)) bytes; is = front_of bytes (head_text Two axes) (rest_found _ _ _ head is) }
+
+grid_begins : (bounds : Bounds) (type : Ty) (bytes : List ℕ) (rows : List GridRow) → rows_of bounds type bytes ≡ Ok rows → Begins (codes "grid") bytes ⊎ Begins (codes "grid2") bytes
+unfolding rows_of runs_of
+grid_begins bounds type bytes rows h =
+    let read = bound_ok (runs_of bounds type bytes) (λ (runs : List GridRun). Ok (rows_of_runs runs)) rows h in
+    by_size read.x (nat_lt most_grid_bytes (length bytes)) read.is
+  where
+    by_heads : (runs : List GridRun) (first second : AtFront ℕ) → head_at One bounds.n bytes ≡ first → head_at Two bounds.n bytes ≡ second → runs_below_either bounds type first second ≡ Ok runs
+        → Begins (codes "grid") bytes ⊎ Begins (codes "grid2") bytes
+    by_heads runs (Some head) second is _ e = inl (first_begins bounds.n bytes head is)
+    by_heads runs None (Some head) _ is e = inr (second_begins bounds.n bytes head is)
+    by_heads runs None None _ _ e = absurd (cc)
+
+    by_size : (runs : List GridRun) (large : Bool)
+        → ◌≡◌ {A = Result (List GridRun) GridFault} (if large then Err grid_fault.TooManyBytes else runs_below_either bounds type (head_at One bounds.n bytes) (head_at Two bounds.n bytes)) (Ok runs)
+        → Begins (codes "grid") bytes ⊎ Begins (codes "grid2") bytes
+    by_size runs true e = absurd (cc)
+    by_size runs false e = by_heads runs (head_at One bounds.n bytes) (head_at Two bounds.n bytes) refl refl e
 
 -- ---- its first token
 
@@ -114,14 +109,22 @@ tokens_stay zero before done (b ∷ bytes) list e = by_piece (piece (line_after 
   by_piece (Err fault) h rest = absurd (cc)
   by_piece (Ok p) h rest = front_piece before done list p (rest p h)
 
--- the name `grid`
-the_word : Spanned
-the_word = record { token = token.Name (record { text = codes "grid" }); start = 0; end = 4; line = 1 }
+-- a name as a token in front
+named : List ℕ → Spanned
+named text = record { token = token.Name (record { text = text }); start = 0; end = length text; line = 1 }
+
+-- so a first token is a name
+record IsFirst (name rest : List ℕ) : Type 0 where
+  is : token_list (name ++ 32 ∷ rest) ≡ tokens_from 0 name (named name ∷ []) (32 ∷ rest)
 
 -- it is the first token
-first_word : (rest : List ℕ) → token_list (103 ∷ 114 ∷ 105 ∷ 100 ∷ 32 ∷ rest) ≡ tokens_from 0 (codes "grid") (the_word ∷ []) (32 ∷ rest)
-unfolding token_list piece run_token name_token reserved_word the_word
-first_word rest = refl
+first_word : (rest : List ℕ) → IsFirst (codes "grid") rest
+unfolding token_list piece run_token name_token reserved_word named
+first_word rest = record { is = refl }
+
+second_word : (rest : List ℕ) → IsFirst (codes "grid2") rest
+unfolding token_list piece run_token name_token reserved_word named
+second_word rest = record { is = refl }
 
 -- ---- no item begins with it
 
@@ -151,27 +154,28 @@ items_first : (rest : List Token) (name : Name) (items : List Item) → joined_l
 items_first rest name [] e = cc
 items_first rest name (given ∷ items) e = item_first (joined_lists (map item_tokens items)) rest name given e
 
-program_refused : ParsedIsSpelled → (more : List Spanned) (program : Program) → program_of (the_word ∷ more) ≡ Ok program → ⊥
-unfolding the_word
-program_refused law more program e = items_first (kinds more) (record { text = codes "grid" }) program.items (law (the_word ∷ more) program e).tokens_are
+program_refused : ParsedIsSpelled → (name : List ℕ) (more : List Spanned) (program : Program) → program_of (named name ∷ more) ≡ Ok program → ⊥
+unfolding named
+program_refused law name more program e = items_first (kinds more) (record { text = name }) program.items (law (named name ∷ more) program e).tokens_are
 
 -- ---- no file is both
 
-not_spelled : ParsedIsSpelled → (rest : List ℕ) (program : Program) → spelled_program (103 ∷ 114 ∷ 105 ∷ 100 ∷ 32 ∷ rest) ≡ Ok program → ⊥
+not_spelled : ParsedIsSpelled → (name rest : List ℕ) (program : Program) → IsFirst name rest → spelled_program (name ++ 32 ∷ rest) ≡ Ok program → ⊥
 unfolding spelled_program
-not_spelled law rest program e = by_tokens (token_list (103 ∷ 114 ∷ 105 ∷ 100 ∷ 32 ∷ rest)) (first_word rest) e where
-  by_list : (list : List Spanned) → InFront (the_word ∷ []) list → fault_as refusal.Parse (program_of list) ≡ Ok program → ⊥
-  by_list list front h = by_answer (program_of (the_word ∷ front.more)) refl (subst (λ (l : List Spanned). fault_as refusal.Parse (program_of l) ≡ Ok program) front.is h) where
-    by_answer : (answer : Result Program ParseFault) → program_of (the_word ∷ front.more) ≡ answer → fault_as refusal.Parse answer ≡ Ok program → ⊥
-    by_answer (Ok other) is same = program_refused law front.more other is
+not_spelled law name rest program first e = by_tokens (token_list (name ++ 32 ∷ rest)) first.is e where
+  by_list : (list : List Spanned) → InFront (named name ∷ []) list → fault_as refusal.Parse (program_of list) ≡ Ok program → ⊥
+  by_list list front h = by_answer (program_of (named name ∷ front.more)) refl (subst (λ (l : List Spanned). fault_as refusal.Parse (program_of l) ≡ Ok program) front.is h) where
+    by_answer : (answer : Result Program ParseFault) → program_of (named name ∷ front.more) ≡ answer → fault_as refusal.Parse answer ≡ Ok program → ⊥
+    by_answer (Ok other) is same = program_refused law name front.more other is
     by_answer (Err fault) is same = cc
 
-  by_tokens : (answer : Result (List Spanned) LexFault) → answer ≡ tokens_from 0 (codes "grid") (the_word ∷ []) (32 ∷ rest)
+  by_tokens : (answer : Result (List Spanned) LexFault) → answer ≡ tokens_from 0 name (named name ∷ []) (32 ∷ rest)
       → fault_as refusal.Lex (answer >>= (λ list. Ok (record { list = list }))) >>= (λ (found : Tokens). fault_as refusal.Parse (program_of found.list)) ≡ Ok program → ⊥
   by_tokens (Err fault) is h = cc
-  by_tokens (Ok list) is h = by_list list (tokens_stay 0 (codes "grid") (the_word ∷ []) (32 ∷ rest) list (sym is)) h
+  by_tokens (Ok list) is h = by_list list (tokens_stay 0 name (named name ∷ []) (32 ∷ rest) list (sym is)) h
 
 pub no_grid : ParsedIsSpelled → (file : List ℕ) (program : Program) (bounds : Bounds) (type : Ty) (rows : List GridRow) → spelled_program file ≡ Ok program → rows_of bounds type file ≡ Ok rows → ⊥
-no_grid law file program bounds type rows spelled read =
-    let begins = grid_begins bounds type file rows read in
-    not_spelled law begins.rest program (subst (λ (bytes : List ℕ). spelled_program bytes ≡ Ok program) begins.is spelled)
+no_grid law file program bounds type rows spelled read = elim (grid_begins bounds type file rows read) [
+  | inl begins ↦ not_spelled law (codes "grid") begins.rest program (first_word begins.rest) (subst (λ (bytes : List ℕ). spelled_program bytes ≡ Ok program) begins.is spelled)
+  | inr begins ↦ not_spelled law (codes "grid2") begins.rest program (second_word begins.rest) (subst (λ (bytes : List ℕ). spelled_program bytes ≡ Ok program) begins.is spelled)
+]

@@ -10,9 +10,9 @@ use Rattle.sg_layout.specs.declared.shape.Shape.{Shape}
 use Rattle.sg_outside.specs.Files.{Held, Reading, Bytes, Missing}
 use Rattle.sg_outside.specs.Sink.{followed_by}
 use Rattle.sg_exec.specs.Standing.{StandForState}
-use Rattle.sg_grid.specs.Fronts.{rest_after, count_at, number_at, number_before, further_part_at, coordinate_at, row_at, head_at}
+use Rattle.sg_grid.specs.Fronts.{rest_after, count_at, number_at, number_before, further_part_at, coordinate_at, length_at, line_at, head_at}
 use Rattle.sg_grid.specs.Limits.{most_grid_bytes}
-use Rattle.sg_grid.specs.Reading.{row_in, rows_of}
+use Rattle.sg_grid.specs.Reading.{run_in, runs_of, rows_of}
 use Rattle.sg_flat.specs.declared.state.FlatState.{FlatState}
 use Rattle.sg_names.specs.Tables.{Tables}
 use Rattle.sg_session.specs.declared.tasks.Task.{Task}
@@ -193,11 +193,11 @@ loaded_line = record { layouts = record { active = map on_line (0 ∷ 1 ∷ 2 �
 -- the load leaves no text, and the dump that of the grid
 left_by_each : left_by_program loads_and_dumps (told loads_and_dumps from_f lists_a_seven)
     ≡ Ok (record { state = loaded_line; text = [] } ∷ record { state = loaded_line; text = codes "grid 1 4\n0 0\n1 0\n2 7\n3 0\n" } ∷ [])
-unfolding rows_of head_at row_in row_at coordinate_at further_part_at number_before number_at count_at rest_after digits
+unfolding rows_of runs_of head_at run_in line_at length_at coordinate_at further_part_at number_before number_at count_at rest_after digits
 left_by_each = refl
 
 -- and so the run means
 meant_by_both : meaning_of_run loads_and_dumps (telling_of loads_and_dumps.names loads_and_dumps.layouts Texts) None from_f lists_a_seven (unfolded_tasks loads_and_dumps.commands)
     ≡ record { moves = ReadsFile (codes "f") ∷ WritesText (codes "grid 1 4\n0 0\n1 0\n2 7\n3 0\n") ∷ []; line = []; status = 0; last = Some loaded_line }
-unfolding meaning_of_tasks rows_of head_at row_in row_at coordinate_at further_part_at number_before number_at count_at rest_after digits
+unfolding meaning_of_tasks rows_of runs_of head_at run_in line_at length_at coordinate_at further_part_at number_before number_at count_at rest_after digits
 meant_by_both = refl

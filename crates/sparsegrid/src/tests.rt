@@ -5,6 +5,7 @@ mod advice;
 mod audits;
 mod checks;
 mod commands;
+mod extents;
 mod faults;
 mod generated;
 mod kernels;

@@ -1,9 +1,14 @@
 //! Dumps, images, counts and grid texts.
 
+ghost use Rattle.std.specs.Prelude.{IsTrue};
+ghost use Rattle.sg_coord.specs.Bounds.{bounds_of};
+ghost use Rattle.sg_grid.specs.Reading.{is_run_inside};
+
 use crate::fixtures::{Node, at, coords_of, put, reach, store_of};
 use sg_coord::Extents;
+use sg_grid::runs::is_run_inside;
 use sg_grid::writing::push_row;
-use sg_grid::{GridRow, dump, grid_text, push_coordinate, read_grid};
+use sg_grid::{GridRow, GridRun, dump, grid_text, push_coordinate, read_grid, row_of_run};
 use sg_image::{image, stats, stats_by_workers};
 use sg_layout::Kind::{Dense, Pointer};
 use sg_store::Store;
@@ -89,13 +94,35 @@ fn plane() -> Extents {
 fn again(alloc: Global, bytes: &[u8]) -> Result<String, Fail> {
     match read_grid(alloc, bytes, &plane(), Ty::I32) {
         Ok(grid) => {
-            let mut text = grid_text(alloc, 2, Ty::I32, grid.rows.as_slice())?;
-            push_rows(&mut text, grid.rows.as_slice())?;
+            let rows = rows_of(alloc, grid.runs.as_slice())?;
+            let mut text = grid_text(alloc, 2, Ty::I32, &rows)?;
+            push_rows(&mut text, &rows)?;
             Ok(text)
         }
         Err(Stop::Refused(fault)) => Ok(format!(in alloc; "{fault:?}")?),
         Err(Stop::Memory) => Err(Fail::from(Memory)),
     }
+}
+
+/// The rows of runs that are inside.
+fn rows_of(alloc: Global, runs: &[GridRun]) -> Result<Vec<GridRow>, AllocError> {
+    let extents = plane();
+    let mut rows = Vec::new(alloc);
+    for run in runs {
+        if is_run_inside(&extents, *run) {
+            push_run(&mut rows, &extents, *run)?;
+        }
+    }
+    Ok(rows)
+}
+
+fn push_run(rows: &mut Vec<GridRow>, extents: &Extents, run: GridRun) -> Result<(), AllocError>
+    requires { IsTrue (is_run_inside (bounds_of extents.now) run) }
+{
+    for k in 0..run.len {
+        rows.push(row_of_run(extents, run, k))?;
+    }
+    Ok(())
 }
 
 fn push_rows(text: &mut String, rows: &[GridRow]) -> Result<(), AllocError> {
@@ -113,6 +140,37 @@ fn grid_texts_are_read_and_written(rt: HostRuntime) -> Result<(), Fail> {
         text.as_str(),
         "grid 2 2\n1 7 -2\n3 0 5\n1 7 4294967294\n1 73 0 5\n3 0"
     );
+    let text = again(rt.alloc(), b"grid2 2 2\n1 6 2 -2\n3 0 1 5\n")?;
+    assert_eq!(rt;
+        text.as_str(),
+        "grid 2 3\n1 6 -2\n1 7 -2\n3 0 5\n1 6 4294967294\n1 61 7 4294967294\n1 73 0 5\n3 0"
+    );
+    Ok(())
+}
+
+/// A line of runs is tested for its form, then for where its rows are, then for its order.
+#[test]
+fn lines_of_runs_are_tested_in_order(rt: HostRuntime) -> Result<(), Fail> {
+    for (text, want) in [
+        ("grid2 2 1\n1 6 3 5\n", "Outside { line: 2 }"),
+        ("grid2 2 1\n1 6 3 x\n", "BadText { line: 2 }"),
+        ("grid2 2 1\n1 6 0 5\n", "BadText { line: 2 }"),
+        ("grid2 2 1\n1 6 2147483647 5\n", "Outside { line: 2 }"),
+        (
+            "grid2 2 1\n2147483647 2147483647 2147483647 5\n",
+            "Outside { line: 2 }",
+        ),
+        ("grid2 2 1\n1 6 2147483648 5\n", "BadText { line: 2 }"),
+        ("grid2 2 2\n1 2 3 5\n1 4 1 5\n", "NotRising { line: 3 }"),
+        ("grid2 2 2\n1 2 3 5\n1 4 9 5\n", "Outside { line: 3 }"),
+        ("grid2 2 1\n1 6 1 5\n7", "BadText { line: 3 }"),
+        ("grid2 2 1048577\n", "TooManyRows"),
+        ("grid 2 1\n1 6 1 5\n", "BadText { line: 2 }"),
+        ("grid2 2 1\n1 6 5\n", "BadText { line: 2 }"),
+    ] {
+        let answer = again(rt.alloc(), text.as_bytes())?;
+        assert_eq!(rt; answer.as_str(), want);
+    }
     Ok(())
 }
 

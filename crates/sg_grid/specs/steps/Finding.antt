@@ -1,7 +1,7 @@
 -- What a stage of the code finds at the front of a slice, against the stage of the definition.
 use Rattle.std.specs.Prelude.{◌≡◌, ℕ, List, ◌++◌, Option, Some, None, Result, Ok, Err}
 use denote.Ref.{Bor}
-use Rattle.sg_grid.specs.declared.grid.GridRow.{GridRow}
+use Rattle.sg_grid.specs.declared.grid.GridRun.{GridRun}
 use Rattle.sg_grid.specs.declared.grid.GridFault.{GridFault}
 
 -- the same is found, and the same is left
@@ -14,12 +14,12 @@ abbrev pub Leaves : Option (Bor (List ℕ)) → Option (List ℕ) → Type 0
 Leaves None meaning = meaning ≡ None
 Leaves (Some rest) meaning = meaning ≡ Some rest.now
 
--- a line gives the same row, and the same is left, or the same fault
-abbrev pub FindsRow : Result (GridRow × Bor (List ℕ)) GridFault → Result (GridRow × List ℕ) GridFault → Type 0
-FindsRow (Ok found) meaning = meaning ≡ Ok (found.0, found.1.now)
-FindsRow (Err f) meaning = meaning ≡ Err f
+-- a line gives the same run, and the same is left, or the same fault
+abbrev pub FindsRun : Result (GridRun × Bor (List ℕ)) GridFault → Result (GridRun × List ℕ) GridFault → Type 0
+FindsRun (Ok found) meaning = meaning ≡ Ok (found.0, found.1.now)
+FindsRun (Err f) meaning = meaning ≡ Err f
 
--- more rows after these, if there is no fault
-abbrev pub with_rows : List GridRow → Result (List GridRow) GridFault → Result (List GridRow) GridFault
-with_rows rows (Ok more) = Ok (rows ++ more)
-with_rows rows (Err f) = Err f
+-- more runs after these, if there is no fault
+abbrev pub with_runs : List GridRun → Result (List GridRun) GridFault → Result (List GridRun) GridFault
+with_runs runs (Ok more) = Ok (runs ++ more)
+with_runs runs (Err f) = Err f

@@ -33,7 +33,7 @@ abbrev pub led : List Shape → ℕ → List NodeShape → List ℕ → Option P
 led shapes number [] words place = place
 led shapes number (node ∷ later) words place = led shapes (suc number) later words (down shapes number (node_offset node later words) place)
 
--- extents of nodes are powers of two, and no product of those of an axis is past the greatest
+-- extents of nodes are at least 1, and no product of those of an axis is past the greatest
 pub record AreWalkable (nodes : List NodeShape) : Type 0 where
   pub good : IsTrue (list_all has_good_extents nodes)
   pub small : (axis : ℕ) → 1 ≤ axis → axis ≤ 3 → extent_over nodes axis ≤ 2 ^ 15

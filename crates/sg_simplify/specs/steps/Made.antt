@@ -83,7 +83,7 @@ onward given from rest to pass next = simplified given rest pass (with_name from
 abbrev pub check_in : (axis extent index place : ℕ) → (ℕ → Making) → Making
 check_in axis extent index place go pass next = check_at (is_within extent (span_in next index)) (step.Check place axis extent index) place go pass next
 
--- extents of nodes are powers of two, and no product of those of an axis is past the greatest
+-- extents of nodes are at least 1, and no product of those of an axis is past the greatest
 pub record AreWide (nodes : List NodeShape) : Type 0 where
   pub good : IsTrue (list_all has_good_extents nodes)
   pub small : (axis : ℕ) → 1 ≤ axis → extent_over nodes axis ≤ 2 ^ 15

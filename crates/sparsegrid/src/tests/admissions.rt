@@ -5,7 +5,7 @@ use std::test::Fail;
 
 static LAYOUTS: &[(&str, u8, &str)] = &[
     (
-        "layout A(i) { dense(i: 3); field x: i32; }",
+        "layout A(i) { dense(i: 0); field x: i32; }",
         5,
         "refused: layout: A node 1 rule 1\n",
     ),
@@ -41,7 +41,7 @@ static LAYOUTS: &[(&str, u8, &str)] = &[
     ),
     // the first layout, and layouts before types
     (
-        "layout A(i) { dense(i: 4); field x: i32; } layout B(i) { dense(i: 3); field y: i32; } layout C(i) { pointer(i: 4) cap 0; field z: i32; } \
+        "layout A(i) { dense(i: 4); field x: i32; } layout B(i) { dense(i: 32769); field y: i32; } layout C(i) { pointer(i: 4) cap 0; field z: i32; } \
          kernel k { for i in A { x[i] = true; } }",
         5,
         "refused: layout: B node 1 rule 1\n",

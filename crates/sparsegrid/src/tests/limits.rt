@@ -218,6 +218,16 @@ static SIZES: &[(&str, u8, &str)] = &[
     ),
     ("layout A(i) { dense(i: 32768); field x: i32; }", 0, ""),
     (
+        "layout A(i) { dense(i: 32769); field x: i32; }",
+        5,
+        "refused: layout: A node 1 rule 1\n",
+    ),
+    (
+        "layout A(i) { dense(i: 181); dense(i: 182); field x: i32; }",
+        8,
+        "refused: limit: layout A\n",
+    ),
+    (
         "layout A(i) { dense(i: 32768); dense(i: 2); field x: i32; }",
         8,
         "refused: limit: layout A\n",

@@ -34,6 +34,28 @@ static GRIDS: &[(&[(&str, &str)], u8, &str)] = &[
         7,
         "refused: pool full: B node 1 cap 2\n",
     ),
+    (&[("g", "grid2 1 0\n")], 0, ""),
+    (
+        &[("g", "grid2 1 1\n14 3 1\n")],
+        6,
+        "refused: grid: x line 2\n",
+    ),
+    (
+        &[("g", "grid2 1 1\n0 0 1\n")],
+        6,
+        "refused: grid: x line 2\n",
+    ),
+    (
+        &[("g", "grid2 1 2\n0 3 5\n2 1 1\n")],
+        6,
+        "refused: grid: x line 3\n",
+    ),
+    (&[("g", "grid2 1 1\n0 8 5\n")], 0, ""),
+    (
+        &[("g", "grid2 1 1\n0 9 5\n")],
+        7,
+        "refused: pool full: B node 1 cap 2\n",
+    ),
 ];
 
 #[test]
@@ -56,7 +78,15 @@ static OTHERS: &[(&str, &str)] = &[
     ("px.grid", "grid 1 4\n0 5\n1 300\n2 5\n3 17\n"),
     ("py.grid", "grid 1 4\n0 8\n1 40\n2 8\n3 17\n"),
     ("m.grid", "grid 1 4\n0 2\n1 3\n2 5\n3 7\n"),
+    ("runs", "grid2 1 2\n0 3 5\n8 1 -2\n"),
+    ("rows", "grid2 2 3\n0 30 2 1\n0 33 1 2\n1 0 32 3\n"),
 ];
+
+const FOUR_BLOCKS: &str =
+    "layout A(i) { pointer(i: 4) cap 4; dense(i: 4); field x: i32; } load x; dump x;";
+
+const STRIPES: &str =
+    "layout A(i, j) { pointer(i: 2, j: 2) cap 4; bitmasked(j: 32); field x: i32; } load x; stats A;";
 
 const TWO: &str =
     "layout A(i) { dense(i: 4); field x: i32; } layout C(i) { bitmasked(i: 4); field y: i32; field z: i32; } \
@@ -76,6 +106,20 @@ static READS: &[(&str, &[&str], &[u64], u8, &str)] = &[
         &[],
         0,
         "grid 1 4\n0 1\n1 -7\n2 5\n3 0\ngrid 1 1\n1 -7\n",
+    ),
+    (
+        FOUR_BLOCKS,
+        &["p.sg", "x=runs"],
+        &[],
+        0,
+        "grid 1 8\n0 5\n1 5\n2 5\n3 0\n8 -2\n9 0\n10 0\n11 0\n",
+    ),
+    (
+        STRIPES,
+        &["p.sg", "x=rows"],
+        &[],
+        0,
+        "stats A active 35 node 1 live 3\n",
     ),
     (
         TWO,

@@ -10,7 +10,7 @@ static OTHERS: &[(&str, u8, &str)] = &[
         "refused: pool full: A node 1 cap 1\n",
     ),
     (
-        "layout A(i) { dense(i: 6); field x: i32; }",
+        "layout A(i) { dense(i: 0); field x: i32; }",
         5,
         "refused: layout: A node 1 rule 1\n",
     ),

@@ -9,7 +9,7 @@ pub(super) static FIRST: &[(&str, &str, u32, u32, u32)] = &[
         5,
     ),
     (
-        "layout A(i) { dense(i: 6); field x: i32; }",
+        "layout A(i) { dense(i: 0); field x: i32; }",
         "refused: layout: A node 1 rule 1",
         1,
         15,

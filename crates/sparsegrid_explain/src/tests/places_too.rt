@@ -163,7 +163,7 @@ pub(super) static SECOND: &[(&str, &str, u32, u32, u32)] = &[
         14,
     ),
     (
-        "layout A(i) { dense(i: 3); field x: i32; }",
+        "layout A(i) { dense(i: 0); field x: i32; }",
         "refused: layout: A node 1 rule 1",
         1,
         15,

@@ -3,9 +3,9 @@
 /// Layouts, types and commands that break a rule.
 pub(super) static RULES: &[(&str, &str, &str, usize)] = &[
     (
-        "layout A(i) { dense(i: 6); field x: i32; }\n",
+        "layout A(i) { dense(i: 0); field x: i32; }\n",
         "",
-        "p.sg:1:15: an extent is a power of two",
+        "p.sg:1:15: an extent is from 1 to 32,768",
         11,
     ),
     (

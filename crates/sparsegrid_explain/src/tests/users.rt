@@ -23,11 +23,11 @@ pub(super) static MISTAKES: &[(&str, &str, u32, u32, u32)] = &[
         2,
     ),
     (
-        "layout Pic(y, x) { dense(y: 100, x: 100); field a: i32; }\nkernel spot { for y, x in Pic { a[y, x] = 1; } }\nrun spot;\n",
+        "layout Pic(y, x) { dense(y: 100, x: 40000); field a: i32; }\nkernel spot { for y, x in Pic { a[y, x] = 1; } }\nrun spot;\n",
         "refused: layout: Pic node 1 rule 1",
         1,
         20,
-        21,
+        23,
     ),
     (
         "layout L(i) { dense(i: 16); field a: i32; }\nkernel k { for i in L { a[i] = a[i] * 0.5; } }\nrun k;\n",
