@@ -13,3 +13,4 @@ pub mod LayoutFrees
 pub mod Following
 pub mod Stepped
 pub mod Built
+pub mod Fronts

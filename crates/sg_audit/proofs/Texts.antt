@@ -40,26 +40,36 @@ digits_in_line (x ∷ xs) all =
 number_in_line : (n : ℕ) → n < 2 ^ 32 → list_all is_in_line (behind_space n) ≡ true
 number_in_line n small = digits_in_line (decimal n) (decimal_digits n small)
 
+-- the text of a line, without its newline
+pub record HasBody (line : Line) : Type 0 where
+  pub body : List ℕ
+  pub in_line : list_all is_in_line body ≡ true
+  pub text : line_text line ≡ body ++ 10 ∷ []
+
+pub line_body : (line : Line) → IsInRange line → HasBody line
+line_body (Take l) small =
+    record {
+      body = codes "take" ++ (behind_space l.layout ++ (behind_space l.node ++ (behind_space l.number ++ (behind_space l.parent ++ behind_space l.slot))));
+      in_line = all_append (behind_space l.layout) _ (number_in_line l.layout small.0)
+          (all_append (behind_space l.node) _ (number_in_line l.node small.1)
+          (all_append (behind_space l.number) _ (number_in_line l.number small.2)
+          (all_append (behind_space l.parent) _ (number_in_line l.parent small.3) (number_in_line l.slot small.4))));
+      text = simp append_assoc;
+    }
+line_body (Free layout node number) small =
+    record {
+      body = codes "free" ++ (behind_space layout ++ (behind_space node ++ behind_space number));
+      in_line = all_append (behind_space layout) _ (number_in_line layout small.0)
+          (all_append (behind_space node) _ (number_in_line node small.1) (number_in_line number small.2));
+      text = simp append_assoc;
+    }
+
 -- the text of a line is the first one of the bytes that begin with it
 pub line_first : (line : Line) (more : List ℕ) → IsInRange line → texts_of (line_text line ++ more) ≡ line_text line ∷ texts_of more
-line_first (Take l) more small =
-    let front : List ℕ = codes "take" ++ (behind_space l.layout ++ (behind_space l.node ++ (behind_space l.number ++ (behind_space l.parent ++ behind_space l.slot)))) in
-    let text : line_text (Take l) ≡ front ++ 10 ∷ [] = simp append_assoc in
-    let whole : line_text (Take l) ++ more ≡ front ++ 10 ∷ more = simp append_assoc in
-    let all : list_all is_in_line front ≡ true =
-    all_append (behind_space l.layout) _ (number_in_line l.layout small.0)
-    (all_append (behind_space l.node) _ (number_in_line l.node small.1)
-    (all_append (behind_space l.number) _ (number_in_line l.number small.2)
-    (all_append (behind_space l.parent) _ (number_in_line l.parent small.3) (number_in_line l.slot small.4)))) in
-    ap texts_of whole ∙ texts_front front more all ∙ ap (λ (t : List ℕ). t ∷ texts_of more) (sym text)
-line_first (Free layout node number) more small =
-    let front : List ℕ = codes "free" ++ (behind_space layout ++ (behind_space node ++ behind_space number)) in
-    let text : line_text (Free layout node number) ≡ front ++ 10 ∷ [] = simp append_assoc in
-    let whole : line_text (Free layout node number) ++ more ≡ front ++ 10 ∷ more = simp append_assoc in
-    let all : list_all is_in_line front ≡ true =
-    all_append (behind_space layout) _ (number_in_line layout small.0)
-    (all_append (behind_space node) _ (number_in_line node small.1) (number_in_line number small.2)) in
-    ap texts_of whole ∙ texts_front front more all ∙ ap (λ (t : List ℕ). t ∷ texts_of more) (sym text)
+line_first line more small =
+    let own = line_body line small in
+    ap (λ (text : List ℕ). texts_of (text ++ more)) own.text ∙ ap texts_of (append_assoc own.body (10 ∷ []) more) ∙ texts_front own.body more own.in_line
+    ∙ ap (λ (text : List ℕ). text ∷ texts_of more) (sym own.text)
 
 pub end_first : (more : List ℕ) → texts_of (end_line ++ more) ≡ end_line ∷ texts_of more
 end_first more = refl

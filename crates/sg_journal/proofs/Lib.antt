@@ -6,6 +6,10 @@ pub mod StoresPlaced
 pub mod PlacedOnce
 pub mod PlacingLoops
 pub mod RoomLoops
+pub mod InRange
 pub mod LayoutChanges
 pub mod ChangeOrder
 pub mod PlacingChanges
+pub mod Needed
+pub mod Opening
+pub mod Changing

@@ -135,13 +135,13 @@ min_over a b n le = elim (cases_lt n a) [
 ]
 
 -- at the end of the shorter one there are no more
+pub no_more : (olds news : Placing) (end : ℕ) → (length olds ≤ end) ⊎ (length news ≤ end) → changes_from end (drop end olds) (drop end news) ≡ []
+no_more olds news end (inl past) = ap (λ (l : Placing). changes_from end l (drop end news)) (drop_all end olds past)
+no_more olds news end (inr past) = ap (λ (l : Placing). changes_from end (drop end olds) l) (drop_all end news past) ∙ no_changes end (drop end olds)
+
 pub changes_end : (olds news : Placing) (end : ℕ) (text whole : List ℕ) → (length olds ≤ end) ⊎ (length news ≤ end) → text ++ lines_text (changes_from end (drop end olds) (drop end news)) ≡ whole → text ≡ whole
 changes_end olds news end text whole over invariant =
-    sym (append-nil text) ∙ ap (λ (l : List Line). text ++ lines_text l) (sym (none over)) ∙ invariant
-  where
-    none : (length olds ≤ end) ⊎ (length news ≤ end) → changes_from end (drop end olds) (drop end news) ≡ []
-    none (inl past) = ap (λ (l : Placing). changes_from end l (drop end news)) (drop_all end olds past)
-    none (inr past) = ap (λ (l : Placing). changes_from end (drop end olds) l) (drop_all end news past) ∙ no_changes end (drop end olds)
+    sym (append-nil text) ∙ ap (λ (l : List Line). text ++ lines_text l) (sym (no_more olds news end over)) ∙ invariant
 
 -- ---- chunks
 

@@ -61,7 +61,7 @@ map_at [] layout store at = absurd (none-some store at)
 map_at (first ∷ stores) zero store at = ap (λ (s : StoreWords). Some s.shape) (same_Some first store at)
 map_at (first ∷ stores) (suc layout) store at = map_at stores layout store at
 
-well_at : (stores : List StoreWords) (layout : ℕ) (store : StoreWords) → All IsWellFormed stores → slice_get stores layout ≡ Some store → IsWellFormed store
+pub well_at : (stores : List StoreWords) (layout : ℕ) (store : StoreWords) → All IsWellFormed stores → slice_get stores layout ≡ Some store → IsWellFormed store
 well_at [] layout store all at = absurd (none-some store at)
 well_at (first ∷ stores) zero store all at = subst IsWellFormed (same_Some first store at) (All-head IsWellFormed first stores all)
 well_at (first ∷ stores) (suc layout) store all at = well_at stores layout store (All-tail IsWellFormed first stores all) at
@@ -71,7 +71,7 @@ room_there stores layout index store at = ap (λ (o : Option Shape). room_in o (
 
 -- ---- nodes with a cap
 
-capped_of : (kind : Kind) (node : NodeShape) (kept : NodeWords) (slot number : ℕ) → held_at kind node kept slot ≡ Some number → kind_has_cap kind ≡ true
+pub capped_of : (kind : Kind) (node : NodeShape) (kept : NodeWords) (slot number : ℕ) → held_at kind node kept slot ≡ Some number → kind_has_cap kind ≡ true
 capped_of Dense node kept slot number holds = absurd (none-some number holds)
 capped_of Bitmasked node kept slot number holds = absurd (none-some number holds)
 capped_of Pointer node kept slot number holds = refl
@@ -180,7 +180,7 @@ live_on b live start (x ∷ xs) least are =
     let next : x.number - start ≡ suc (x.number - suc start) = omega (arith, least.0) in
     (ap (λ n. slice_index_or (b ∷ live) n false) (sym next) ∙ are.0, live_on b live start xs least.1 are.1)
 
-few_live : (live : List Bool) (start : ℕ) (xs : List LinkAt) → AreRising xs → AreAtLeast start xs → AreLive live start xs → length xs ≤ count_by (λ (b : Bool). b) live
+pub few_live : (live : List Bool) (start : ℕ) (xs : List LinkAt) → AreRising xs → AreAtLeast start xs → AreLive live start xs → length xs ≤ count_by (λ (b : Bool). b) live
 few_live live start [] rising least are = omega arith
 few_live [] start (x ∷ xs) rising least are = absurd (false≢true are.0)
 few_live (b ∷ live) start (x ∷ xs) rising least are = elim (cases_eq x.number start) [
@@ -203,7 +203,7 @@ few_live (b ∷ live) start (x ∷ xs) rising least are = elim (cases_eq x.numbe
     more c = let on : count_by (λ (c : Bool). c) (c ∷ live) ≡ cond c 1 0 + count_by (λ (c : Bool). c) live = sum_by-cons (λ (c : Bool). cond c 1 0) c live in omega (arith, on)
 
 -- the live numbers of links
-live_of : (store : StoreWords) (index : ℕ) (kept : NodeWords) → slice_get store.nodes index ≡ Some kept → (links : List LinkAt) → ((x : LinkAt) → Contains links x → IsLiveAt store index x.number) → AreLive kept.pool.live 0 links
+pub live_of : (store : StoreWords) (index : ℕ) (kept : NodeWords) → slice_get store.nodes index ≡ Some kept → (links : List LinkAt) → ((x : LinkAt) → Contains links x → IsLiveAt store index x.number) → AreLive kept.pool.live 0 links
 live_of store index kept at [] all = tt
 live_of store index kept at (x ∷ xs) all =
     let own = all x (zero, omega arith, refl) in
@@ -213,7 +213,7 @@ live_of store index kept at (x ∷ xs) all =
       live_of store index kept at xs (λ y has. all y (suc has.0, omega (arith, has.1), has.2)),
     )
 
-from_zero : (links : List LinkAt) → AreAtLeast 0 links
+pub from_zero : (links : List LinkAt) → AreAtLeast 0 links
 from_zero [] = tt
 from_zero (x ∷ xs) = (omega arith, from_zero xs)
 

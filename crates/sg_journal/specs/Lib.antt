@@ -5,4 +5,5 @@ pub mod Placing
 pub mod Changes
 pub mod LineLaws
 pub mod PlacingLaws
+pub mod Needs
 pub mod steps

@@ -1,9 +1,9 @@
 //! What has changed between two states of stores, as lines of a journal.
 
-ghost use Rattle.std.specs.Prelude.{◌≡◌, ◌≤◌, ◌++◌, nat_lt, IfOk, OnErr, OnOk, length, map};
+ghost use Rattle.std.specs.Prelude.{◌≡◌, ◌≤◌, ◌++◌, nat_lt, All, IfOk, OnErr, OnOk, length, map};
 ghost use Rattle.std.specs.List.{prefix_len};
 ghost use Rattle.sg_journal.specs.Changes.{HasChanges, changes, frees_upto, lacking, takes_upto};
-ghost use Rattle.sg_journal.specs.Lines.{line_text, lines_text};
+ghost use Rattle.sg_journal.specs.Lines.{line_text, lines_text, IsInRange};
 ghost use Rattle.sg_journal.specs.Placing.{AreRising, links_in};
 ghost use Rattle.sg_journal.specs.steps.Lacking.{begins_with, drop_below, line_for, text_if};
 
@@ -33,6 +33,7 @@ pub fn changes_between(
     into: &mut Vec<u8>,
 ) -> Result<(), Memory>
     ensures lines { OnOk result (into.new.items ≡ into.old.items ++ lines_text (changes from.now.layouts to.now.layouts)) }
+    ensures range { OnOk result (All IsInRange (changes from.now.layouts to.now.layouts)) }
     ensures stays { OnErr result (into.new.items ≡ into.old.items) }
 {
     let lines = change_lines(alloc, from, to)?;
@@ -42,7 +43,8 @@ pub fn changes_between(
 
 /// The lines of the changes.
 fn change_lines(alloc: Global, from: &Placed, to: &Placed) -> Result<Vec<u8>, Memory>
-    ensures { IfOk result (λ lines. lines.items ≡ lines_text (changes from.now.layouts to.now.layouts)) }
+    ensures text { IfOk result (λ lines. lines.items ≡ lines_text (changes from.now.layouts to.now.layouts)) }
+    ensures range { OnOk result (All IsInRange (changes from.now.layouts to.now.layouts)) }
 {
     let olds = from.layouts.as_slice();
     let news = to.layouts.as_slice();
@@ -73,7 +75,8 @@ fn push_frees(
     old: &[NodeLinks],
     new: &[NodeLinks],
 ) -> Result<(), Memory>
-    ensures { OnOk result (lines.new.items ≡ lines.old.items ++ lines_text (frees_upto layout old.now new.now (length old.now))) }
+    ensures text { OnOk result (lines.new.items ≡ lines.old.items ++ lines_text (frees_upto layout old.now new.now (length old.now))) }
+    ensures range { OnOk result (All IsInRange (frees_upto layout old.now new.now (length old.now))) }
 {
     let count = count(old.len())?;
     for done in 0..count {
@@ -92,7 +95,8 @@ fn push_takes(
     old: &[NodeLinks],
     new: &[NodeLinks],
 ) -> Result<(), Memory>
-    ensures { OnOk result (lines.new.items ≡ lines.old.items ++ lines_text (takes_upto layout old.now new.now (length new.now))) }
+    ensures text { OnOk result (lines.new.items ≡ lines.old.items ++ lines_text (takes_upto layout old.now new.now (length new.now))) }
+    ensures range { OnOk result (All IsInRange (takes_upto layout old.now new.now (length new.now))) }
 {
     for index in 0..count(new.len())? {
         let come = links_in(new, index);
@@ -124,8 +128,9 @@ fn push_lacking(
 ) -> Result<(), AllocError>
     requires links { AreRising links.now }
     requires others { AreRising others.now }
-    ensures { OnOk result (lines.new.items
+    ensures text { OnOk result (lines.new.items
         ≡ lines.old.items ++ lines_text (map (line_for taken layout node) (lacking others.now links.now))) }
+    ensures range { OnOk result (All IsInRange (map (line_for taken layout node) (lacking others.now links.now))) }
 {
     let mut left = others;
     for link in links {
@@ -176,7 +181,8 @@ fn begins_with(links: &[LinkAt], link: LinkAt) -> bool
 
 /// The line of a link that was taken or freed.
 fn line_for(taken: bool, layout: u32, node: u32, link: LinkAt) -> Line
-    ensures { result ≡ line_for taken layout node link }
+    ensures line { result ≡ line_for taken layout node link }
+    ensures range { IsInRange result }
 {
     if taken {
         Line::Take(Link {
