@@ -1,6 +1,6 @@
 -- What a run does with a snapshot, or without one, is what its meaning says.
-use Rattle.std.proofs.Common.{◌≡◌, ◌≢◌, ℕ, ◌+◌, inr, Bool, true, false, List, [], ◌∷◌, map, length, Option, Some, None, Result, Ok, Err, IfOk, refl, sym, ap, ◌∙◌, subst, arith}
-use Rattle.std.specs.Prelude.{IsSome}
+use Rattle.std.proofs.Common.{◌≡◌, ◌≢◌, ℕ, inr, Bool, true, false, List, [], Option, Some, None, Result, Ok, Err, IfOk, refl, sym, ap, ◌∙◌, subst, arith}
+use Rattle.std.specs.Prelude.{All, IsSome}
 use Rattle.std.specs.Option.{IfSome}
 use Rattle.std.specs.Result.{IsOkAnd}
 use Rattle.sg_words.specs.declared.memory.Stop.{Stop}
@@ -17,23 +17,29 @@ use Rattle.sg_snapshot.specs.declared.fault.SnapFault.{SnapFault}
 use Rattle.sg_snapshot.specs.declared.fault.SnapFault.TheVariants.{NotSnapshot, NotClosed, Full}
 use Rattle.sg_snapshot.specs.Restoring.{restored}
 use Rattle.sg_snapshot.specs.Restored.{StandForRestored}
+use Rattle.sg_store.specs.WellFormed.{IsWellFormed}
+use Rattle.sg_journal.specs.Placing.{nothing_placed}
+use Rattle.sg_journal.specs.PlacingLaws.{NothingIsHeld}
+use Rattle.sg_journal.specs.Needs.{OpeningIsPlaced}
 use Rattle.sg_session.specs.Performed.{SessionParts, HasState, IsOpened}
 use Rattle.sg_session.specs.Compiled.{CheckedProgram, CompiledProgram, Compiles}
 use Rattle.sparsegrid.specs.declared.output.PutFailed.{PutFailed}
 use Rattle.sparsegrid.specs.declared.session.Done.{Done}
 use Rattle.sparsegrid.specs.declared.snapshot.NoSnapshot.{NoSnapshot}
 use Rattle.sparsegrid.specs.declared.snapshot.NoSnapshot.TheVariants as no
-use Rattle.sparsegrid.specs.declared.last_line.LastLine.{LastLine}
 use Rattle.sparsegrid.specs.Limits.{most_snapshot_bytes}
-use Rattle.sparsegrid.specs.Lines.{read_last, snapshot_last, snapshot_bytes_last}
-use Rattle.sparsegrid.specs.Moves.{ReadsFile}
+use Rattle.sparsegrid.specs.Lines.{snapshot_last}
+use Rattle.sparsegrid.specs.Parts.{HoldsStores}
 use Rattle.sparsegrid.specs.Meaning.{Meaning, Readings, refused_with, asking_for, after_restoring, after_snapshot, begun}
 use Rattle.sparsegrid.specs.Outcome.{Output, Outside, StaysWritten, StandsForLast}
-use Rattle.sparsegrid.specs.steps.Along.{Sends, LeavesOnly, LeavesProgram, IsEnd, NoneFailed, ReadMade, Went, line_text}
+use Rattle.sparsegrid.specs.steps.Along.{Sends, LeavesOnly, LeavesProgram, IsEnd, line_text}
+use Rattle.sparsegrid.specs.steps.Leading.{Kept, HoldsNothing}
 use Rattle.sparsegrid.specs.steps.Beginning.{WasRead, is_read, lacks_room, SnapshotCause, no_snapshot_last, no_snapshot_leaves}
 use Rattle.sparsegrid.proofs.Writing.{made_read}
-use Rattle.sparsegrid.proofs.Going.{EndsInLine, Gone, gone_text, gone_before, stays_same, went_memory, went_gone, went_failed, compose}
-use Rattle.sparsegrid.proofs.Sources.{from_opened, went_same, not_two, snapshot_ends, without_session}
+use Rattle.sparsegrid.proofs.Going.{EndsInLine, Gone, gone_text, gone_before, stays_same, went_gone}
+use Rattle.sparsegrid.proofs.Opened.{from_opened}
+use Rattle.sparsegrid.proofs.Kept.{kept_same, kept_memory, kept_line, kept_failed, kept_asking}
+use Rattle.sparsegrid.proofs.Sources.{not_two, snapshot_ends, without_session}
 use Rattle.sparsegrid.proofs.Tasks.{refused_ends}
 
 -- ---- the statuses
@@ -68,15 +74,15 @@ fault_not_two names (Full layout node cap) = λ two. absurd (omega (arith, two))
 -- ---- from the read of a snapshot on
 
 -- without a snapshot it is the opening state
-pub begun_opened : (program : CheckedProgram) (from : Option (List ℕ)) (compiled : CompiledProgram) (opened : SessionParts) (more : Readings → ℕ → FlatState → Meaning)
+pub begun_opened : (b : Bool) (program : CheckedProgram) (from : Option (List ℕ)) (compiled : CompiledProgram) (opened : SessionParts) (more : Readings → ℕ → FlatState → Meaning)
     (before after : Outside) (result : Result Done (Stop PutFailed)) → from ≡ None → Compiles program compiled → IsOpened compiled opened
-    → (Compiles program opened.compiled → (state : FlatState) → StandForState opened.compiled.layouts opened.stores state → Went (λ readings. more readings 1 state) 1 before after result)
-    → Went (λ readings. begun program from readings (more readings)) 1 before after result
-begun_opened program from compiled opened more before after result bare compiles is went =
-    subst (λ (f : Option (List ℕ)). Went (λ readings. begun program f readings (more readings)) 1 before after result) (sym bare)
-    (from_opened program compiled opened (λ state readings. more readings 1 state) 1 before after result compiles is.compiled is.opening went)
+    → (Compiles program opened.compiled → (state : FlatState) → StandForState opened.compiled.layouts opened.stores state → Kept b (λ readings. more readings 1 state) 1 before after result)
+    → Kept b (λ readings. begun program from readings (more readings)) 1 before after result
+begun_opened b program from compiled opened more before after result bare compiles is kept =
+    subst (λ (f : Option (List ℕ)). Kept b (λ readings. begun program f readings (more readings)) 1 before after result) (sym bare)
+    (from_opened b program compiled opened (λ state readings. more readings 1 state) 1 before after result compiles is.compiled is.opening kept)
 
-module _ (program : CheckedProgram) (from : Option (List ℕ)) (name : List ℕ) (is_from : from ≡ Some name) (more : Readings → ℕ → FlatState → Meaning) where
+module _ (b : Bool) (program : CheckedProgram) (from : Option (List ℕ)) (name : List ℕ) (is_from : from ≡ Some name) (more : Readings → ℕ → FlatState → Meaning) where
   abbrev from_snapshot : Readings → Meaning
   from_snapshot readings = begun program from readings (more readings)
 
@@ -87,34 +93,34 @@ module _ (program : CheckedProgram) (from : Option (List ℕ)) (name : List ℕ)
   module _ (result : Result Stores (Stop NoSnapshot)) (before mid after : Outside) (was : WasRead program.layouts before.held name result)
       (asked : mid.asked ≡ asked_too before.asked name) (reads : mid.reads ≡ one_more before.reads) (held : mid.held ≡ before.held) (stays : StaysWritten before.output mid.output)
       (answer : Result Done (Stop PutFailed)) where
-    snapshot_gave : is_read result ≡ false → mid.failed_reads ≡ before.failed_reads → Went (behind was.given) 2 mid after answer → Went from_snapshot 1 before after answer
-    snapshot_gave no_read faults went =
-        compose from_snapshot (behind was.given) 1 2 (record { name = name; limit = most_snapshot_bytes; given = was.given } ∷ []) (ReadsFile name ∷ []) before mid after answer (omega arith)
+    snapshot_gave : is_read result ≡ false → mid.failed_reads ≡ before.failed_reads → Kept b (behind was.given) 2 mid after answer → Kept b from_snapshot 1 before after answer
+    snapshot_gave no_read faults kept =
+        kept_asking b from_snapshot (behind was.given) 1 2 (record { name = name; limit = most_snapshot_bytes; given = was.given }) before mid after answer (omega arith)
         (λ readings agree. ap (λ (f : Option (List ℕ)). begun program f readings (more readings)) is_from ∙ ap (λ (r : Reading). asking_for name (after_snapshot program name (more readings 2) r)) agree.0)
-        refl (made_read name before mid stays asked reads) held
-        (record { no_fault = faults; told = λ files told. (was.told no_read files told, tt) }) went
+        (made_read name before mid stays asked reads) held
+        (record { no_fault = faults; told = λ files told. (was.told no_read files told, tt) }) kept
 
   pub begun_with : (stores : Stores) (before mid after : Outside) (was : WasRead program.layouts before.held name (Ok stores))
       → mid.asked ≡ asked_too before.asked name → mid.reads ≡ one_more before.reads → mid.held ≡ before.held → StaysWritten before.output mid.output → mid.failed_reads ≡ before.failed_reads
-      → (answer : Result Done (Stop PutFailed)) → ((state : FlatState) → StandForState program.layouts stores.list state → Went (λ readings. more readings 2 state) 2 mid after answer)
-      → Went from_snapshot 1 before after answer
+      → (answer : Result Done (Stop PutFailed)) → ((state : FlatState) → StandForState program.layouts stores.list state → Kept b (λ readings. more readings 2 state) 2 mid after answer)
+      → Kept b from_snapshot 1 before after answer
   begun_with stores before mid after was asked reads held stays faults answer went =
       snapshot_gave (Ok stores) before mid after was asked reads held stays answer refl faults
       (by_restored (restored program.layouts was.made.0) refl was.made.2)
     where
-      by_restored : (r : Result FlatState SnapFault) → restored program.layouts was.made.0 ≡ r → IsOkAnd r (StandForState program.layouts stores.list) → Went (behind was.given) 2 mid after answer
+      by_restored : (r : Result FlatState SnapFault) → restored program.layouts was.made.0 ≡ r → IsOkAnd r (StandForState program.layouts stores.list) → Kept b (behind was.given) 2 mid after answer
       by_restored (Err fault) is stand = absurd stand
       by_restored (Ok state) is stand =
-          went_same (behind was.given) (λ readings. more readings 2 state) 2 mid after answer
+          kept_same b (behind was.given) (λ readings. more readings 2 state) 2 mid after answer
           (λ readings. ap (after_snapshot program name (more readings 2)) was.made.1 ∙ ap (after_restoring program (more readings 2)) is) (went state stand)
 
   -- there was no memory
   pub begun_memory : (before after : Outside) (was : WasRead program.layouts before.held name (Err stop.Memory))
       → after.asked ≡ asked_too before.asked name → after.reads ≡ one_more before.reads → after.held ≡ before.held → StaysWritten before.output after.output → after.failed_reads ≡ before.failed_reads
-      → ((readings : Readings) (state : FlatState) → EndsInLine (more readings 2 state)) → Went from_snapshot 1 before after (Err stop.Memory)
+      → ((readings : Readings) (state : FlatState) → EndsInLine (more readings 2 state)) → Kept b from_snapshot 1 before after (Err stop.Memory)
   begun_memory before after was asked reads held stays faults ends =
       snapshot_gave (Err stop.Memory) before after after was asked reads held stays (Err stop.Memory) refl faults
-      (went_memory (behind was.given) 2 after after (λ readings. snapshot_ends program name (more readings 2) was.given (ends readings)) (stays_same after.output) refl refl refl)
+      (kept_memory b (behind was.given) 2 after after (λ readings. snapshot_ends program name (more readings 2) was.given (ends readings)) (stays_same after.output) refl refl refl)
 
   -- what a refused snapshot means
   abbrev refused_by : NoSnapshot → Meaning
@@ -125,31 +131,32 @@ module _ (program : CheckedProgram) (from : Option (List ℕ)) (name : List ℕ)
       → SnapshotCause (is_read (Err (stop.Refused why))) before.failed_reads mid.failed_reads
       → after.asked ≡ mid.asked → after.reads ≡ mid.reads → after.failed_reads ≡ mid.failed_reads
       → (answer : Result Done (Stop PutFailed)) → Sends answer mid.output after.output (line_text (no_snapshot_last program.names name why))
-      → IfOk answer (λ done. done.status ≡ (no_snapshot_last program.names name why).status) → LeavesOnly (StandsForLast (no_snapshot_leaves program.layouts why)) answer
-      → Went from_snapshot 1 before after answer
-  begun_refused why before mid after was asked reads held stays cause still_asked still_reads still_faults answer sent status last = by_why why was cause refl where
+      → IfOk answer (λ done. done.status ≡ (no_snapshot_last program.names name why).status) → LeavesOnly (StandsForLast (no_snapshot_leaves program.layouts why)) answer → HoldsNothing answer
+      → Kept b from_snapshot 1 before after answer
+  begun_refused why before mid after was asked reads held stays cause still_asked still_reads still_faults answer sent status last holds = by_why why was cause refl where
     gone : Gone (refused_by why) mid.output after.output answer
     gone = gone_text (refused_by why) (line_text (no_snapshot_last program.names name why)) mid.output after.output answer refl (refused_ends (no_snapshot_leaves program.layouts why) (no_snapshot_last program.names name why)) sent status last
 
-    refused : (w : NoSnapshot) → why ≡ w → (no_snapshot_last program.names name w).status ≢ 2 → Went (λ readings. refused_by w) 2 mid after answer
+    refused : (w : NoSnapshot) → why ≡ w → (no_snapshot_last program.names name w).status ≢ 2 → Kept b (λ readings. refused_by w) 2 mid after answer
     refused w is other =
-        went_gone (refused_by w) 2 mid after answer (subst (λ (x : NoSnapshot). Gone (refused_by x) mid.output after.output answer) is gone) still_asked still_reads still_faults
-        (not_two answer (no_snapshot_last program.names name w).status other (subst (λ (x : NoSnapshot). IfOk answer (λ done. done.status ≡ (no_snapshot_last program.names name x).status)) is status))
+        kept_line b (no_snapshot_leaves program.layouts w) (no_snapshot_last program.names name w) 2 mid after answer holds
+        (went_gone (refused_by w) 2 mid after answer (subst (λ (x : NoSnapshot). Gone (refused_by x) mid.output after.output answer) is gone) still_asked still_reads still_faults
+        (not_two answer (no_snapshot_last program.names name w).status other (subst (λ (x : NoSnapshot). IfOk answer (λ done. done.status ≡ (no_snapshot_last program.names name x).status)) is status)))
 
     by_why : (w : NoSnapshot) (it : WasRead program.layouts before.held name (Err (stop.Refused w))) → SnapshotCause (is_read (Err (stop.Refused w))) before.failed_reads mid.failed_reads → why ≡ w
-        → Went from_snapshot 1 before after answer
+        → Kept b from_snapshot 1 before after answer
     by_why no.Read it rose is =
-        went_failed from_snapshot (refused_by no.Read) 1 name most_snapshot_bytes before after answer
+        kept_failed b from_snapshot (no_snapshot_leaves program.layouts no.Read) (no_snapshot_last program.names name no.Read) 1 name most_snapshot_bytes before after answer
         (λ readings missing. ap (λ (f : Option (List ℕ)). begun program f readings (more readings)) is_from ∙ ap (λ (r : Reading). asking_for name (after_snapshot program name (more readings 2) r)) missing)
-        (gone_before (refused_by no.Read) before.output mid.output after.output answer stays (subst (λ (w : NoSnapshot). Gone (refused_by w) mid.output after.output answer) is gone))
+        (gone_before (refused_by no.Read) before.output mid.output after.output answer stays (subst (λ (w : NoSnapshot). Gone (refused_by w) mid.output after.output answer) is gone)) holds
         (still_asked ∙ asked) (still_reads ∙ reads) (subst (λ (count : ℕ). Rose before.failed_reads count) (sym still_faults) rose)
         (subst (λ (w : NoSnapshot). IfOk answer (λ done. done.status ≡ (no_snapshot_last program.names name w).status)) is status)
     by_why no.TooLong it same is =
         snapshot_gave (Err (stop.Refused no.TooLong)) before mid after it asked reads held stays answer refl same
-        (went_same (behind it.given) (λ readings. refused_by no.TooLong) 2 mid after answer (λ readings. ap (after_snapshot program name (more readings 2)) it.made) (refused no.TooLong is (λ two. absurd (omega (arith, two)))))
+        (kept_same b (behind it.given) (λ readings. refused_by no.TooLong) 2 mid after answer (λ readings. ap (after_snapshot program name (more readings 2)) it.made) (refused no.TooLong is (λ two. absurd (omega (arith, two)))))
     by_why (no.Fault fault) it same is =
         snapshot_gave (Err (stop.Refused (no.Fault fault))) before mid after it asked reads held stays answer refl same
-        (went_same (behind it.given) (λ readings. refused_by (no.Fault fault)) 2 mid after answer
+        (kept_same b (behind it.given) (λ readings. refused_by (no.Fault fault)) 2 mid after answer
         (λ readings. ap (after_snapshot program name (more readings 2)) it.made.1 ∙ ap (after_restoring program (more readings 2)) it.made.2) (refused (no.Fault fault) is (fault_not_two program.names fault)))
 
 -- the stores that were made stand for some state
@@ -252,3 +259,14 @@ full_last compiled why result full opened = with_opened compiled (StandsForLast 
 
 pub full_program : (compiled : CompiledProgram) (result : Result Done (Stop PutFailed)) → LeavesOnly (IsOpened compiled) result → LeavesProgram compiled result
 full_program compiled result opened = with_opened compiled (λ session. session.compiled ≡ compiled) result (λ session is. is.compiled) opened
+
+-- nothing is held in the stores of an opened session
+pub full_nothing : OpeningIsPlaced → NothingIsHeld → (compiled : CompiledProgram) (session : SessionParts) → All IsWellFormed session.stores → IsOpened compiled session
+    → HoldsStores session.compiled.layouts [] session.stores
+full_nothing placed held compiled session wells is = subst (λ (p : CompiledProgram). HoldsStores p.layouts [] session.stores) (sym is.compiled) (record {
+  held = [];
+  after = refl;
+  placing = nothing_placed compiled.layouts;
+  placed = placed compiled.layouts session.stores wells is.opening;
+  members = held compiled.layouts;
+})

@@ -12,25 +12,25 @@ use Rattle.sparsegrid.specs.declared.output.PutFailed.{PutFailed}
 use Rattle.sparsegrid.specs.declared.session.Done.{Done}
 use Rattle.sparsegrid.specs.Words.{Asked, good_words, is_gen}
 use Rattle.sparsegrid.specs.Moves.{Move, names_in}
-use Rattle.sparsegrid.specs.Meaning.{Meaning, Readings, asked_of, moves_of, meaning, meaning_by, meaning_of_words, meaning_of_asked, readings_in}
-use Rattle.sparsegrid.specs.Outcome.{Outside, HasWholeText, IsCutShort, IsEnding, HasSession, Made, Wrote, IsFront, WentAFront, ReadFaults, PutFaults, CountOf, ReadCount, StandsForLast, counted_more}
-use Rattle.sparsegrid.specs.steps.Along.{SendCause, status_of, session_of, ReadMade, names_of, Follows, NoneFailed, LastFailed, ReadsEnd, Went, IsEnd}
+use Rattle.sparsegrid.specs.Meaning.{Meaning, Readings, asked_of, meaning_by, meaning_of_words, readings_in}
+use Rattle.sparsegrid.specs.Outcome.{Outside, HasWholeText, IsEnding, HasSession, Made, Wrote, WentAFront, ReadFaults, PutFaults, CountOf, ReadCount, StandsForLast, counted_more}
+use Rattle.sparsegrid.specs.steps.Along.{SendCause, status_of, session_of, ReadMade, names_of, Agree, Follows, NoneFailed, LastFailed, ReadsEnd, Went, IsEnd}
 use Rattle.sparsegrid.proofs.Sources.{of_file}
 use Rattle.sparsegrid.proofs.Unread.{generated_asks, no_names, names_meant}
 use Rattle.sparsegrid.proofs.Readings.{count_low, count_rose, agree_told, agree_stopped, readings_of, agree_own}
 
-module _ (words : List (List ℕ)) (before after : Outside) (result : Result Done (Stop PutFailed)) (went : Went (meaning_by words) 0 before after result) (end : IfOk result IsEnd) where
+module _ (m : Readings → Meaning) (before after : Outside) (result : Result Done (Stop PutFailed)) (went : Went m 0 before after result) (end : IfOk result IsEnd) where
   -- ---- by how a run ended
 
-  wrote_as : (m : Meaning) (r : Result Done (Stop PutFailed)) → Follows m went.did went.part r → IsEnding (status_of r) → Wrote m before after (status_of r)
-  wrote_as m (Ok done) f ending =
+  wrote_as : (whole : Meaning) (r : Result Done (Stop PutFailed)) → Follows whole went.did went.part r → IsEnding (status_of r) → Wrote whole before after (status_of r)
+  wrote_as whole (Ok done) f ending =
       record { made = subst (λ (moves : List Move). Made moves [] before after) f.0.all (subst (λ (part : List ℕ). Made went.did part before after) f.1 went.grew); status = f.0.status }
-  wrote_as m (Err (stop.Refused failed)) f ending = absurd (ending.0 refl)
-  wrote_as m (Err stop.Memory) f ending = absurd (ending.1 refl)
+  wrote_as whole (Err (stop.Refused failed)) f ending = absurd (ending.0 refl)
+  wrote_as whole (Err stop.Memory) f ending = absurd (ending.1 refl)
 
   -- the moves that were made are a front, whatever the status
-  front_as : (m : Meaning) (r : Result Done (Stop PutFailed)) → IfOk r IsEnd → Follows m went.did went.part r → WentAFront m before after (status_of r)
-  front_as m (Ok done) e f =
+  front_as : (whole : Meaning) (r : Result Done (Stop PutFailed)) → IfOk r IsEnd → Follows whole went.did went.part r → WentAFront whole before after (status_of r)
+  front_as whole (Ok done) e f =
       record {
         done = went.did;
         part = went.part;
@@ -43,7 +43,7 @@ module _ (words : List (List ℕ)) (before after : Outside) (result : Result Don
         };
         made = went.grew;
       }
-  front_as m (Err why) e f = record { done = went.did; part = went.part; front = f; made = went.grew }
+  front_as whole (Err why) e f = record { done = went.did; part = went.part; front = f; made = went.grew }
 
   no_two : (r : Result Done (Stop PutFailed)) → IfOk r (λ done. done.status ≢ 2) → status_of r ≢ 2
   no_two (Ok done) other = other
@@ -60,73 +60,98 @@ module _ (words : List (List ℕ)) (before after : Outside) (result : Result Don
 
   -- ---- the readings
 
-  followed_none : (held : Held) → before.held ≡ Some held → NoneFailed before after went.made → Follows (meaning words held None) went.did went.part result
-  followed_none held told none = went.follows (readings_in held None) (agree_told held 0 went.made (none.told held told))
+  agree_none : (held : Held) → before.held ≡ Some held → NoneFailed before after went.made → Agree (readings_in held None) 0 went.made
+  agree_none held told none = agree_told held 0 went.made (none.told held told)
 
-  followed_stopped : (held : Held) → before.held ≡ Some held → (failed : LastFailed before after went.made) → after.reads < last_count
-      → Follows (meaning words held (Some (after.reads - before.reads))) went.did went.part result
-  followed_stopped held told failed low =
+  agree_stop : (held : Held) → before.held ≡ Some held → LastFailed before after went.made → after.reads < last_count → Agree (readings_in held (Some (after.reads - before.reads))) 0 went.made
+  agree_stop held told failed low =
       let reads : after.reads ≡ counted_more before.reads (names_of went.made) = went.grew.reads ∙ ap (counted_more before.reads) went.names in
       let count : counted_more before.reads (names_of went.made) ≡ before.reads + length (names_of went.made) = count_low before.reads (names_of went.made) (rw (sym reads) low) in
       let long : length (names_of went.made) ≡ length went.made = length-map went.made (λ (read : ReadMade). read.name) in
       let made : length went.made ≡ length (failed.earlier ++ failed.last ∷ []) = ap length failed.is in
       let at : after.reads - before.reads ≡ suc (length failed.earlier + 0) = omega (arith, reads, length-append failed.earlier (failed.last ∷ [])) in
-      went.follows (readings_in held (Some (after.reads - before.reads)))
-      (rw failed.is (agree_stopped held (after.reads - before.reads) 0 failed.earlier failed.last at (failed.told held told) failed.missing))
+      rw failed.is (agree_stopped held (after.reads - before.reads) 0 failed.earlier failed.last at (failed.told held told) failed.missing)
+
+  -- with which readings that the files tell the reads agree
+  pub agree_whole : HasWholeText (status_of result) → (held : Held) → before.held ≡ Some held → Agree (readings_in held None) 0 went.made
+  agree_whole is held told = by_ends went.ends where
+    by_ends : ReadsEnd before after went.made result → Agree (readings_in held None) 0 went.made
+    by_ends (inl well) = agree_none held told well.0
+    by_ends (inr failed) = absurd (two_whole result failed.1 is)
+
+  pub agree_two : status_of result ≡ 2 → after.reads < last_count → (held : Held) → before.held ≡ Some held → Agree (readings_in held (Some (after.reads - before.reads))) 0 went.made
+  agree_two two low held told = by_ends went.ends where
+    by_ends : ReadsEnd before after went.made result → Agree (readings_in held (Some (after.reads - before.reads))) 0 went.made
+    by_ends (inl well) = absurd (no_two result well.1 two)
+    by_ends (inr failed) = agree_stop held told failed.0 low
+
+  pub agree_front : (held : Held) → before.held ≡ Some held → Agree (readings_in held None) 0 went.made
+      ⊎ (Rose before.failed_reads after.failed_reads × (after.reads < last_count → Agree (readings_in held (Some (after.reads - before.reads))) 0 went.made))
+  agree_front held told = by_ends went.ends where
+    by_ends : ReadsEnd before after went.made result → Agree (readings_in held None) 0 went.made
+        ⊎ (Rose before.failed_reads after.failed_reads × (after.reads < last_count → Agree (readings_in held (Some (after.reads - before.reads))) 0 went.made))
+    by_ends (inl well) = inl (agree_none held told well.0)
+    by_ends (inr failed) = inr (failed.0.fault, λ low. agree_stop held told failed.0 low)
 
   -- ---- the clauses
 
-  pub whole : HasWholeText (status_of result) → (held : Held) → before.held ≡ Some held → Wrote (meaning words held None) before after (status_of result)
-  whole is held told = by_ends went.ends where
-    by_ends : ReadsEnd before after went.made result → Wrote (meaning words held None) before after (status_of result)
-    by_ends (inl well) = wrote_as (meaning words held None) result (followed_none held told well.0) (ending_whole (status_of result) is)
-    by_ends (inr failed) = absurd (two_whole result failed.1 is)
+  pub whole : HasWholeText (status_of result) → (held : Held) → before.held ≡ Some held → Wrote (m (readings_in held None)) before after (status_of result)
+  whole is held told = wrote_as (m (readings_in held None)) result (went.follows (readings_in held None) (agree_whole is held told)) (ending_whole (status_of result) is)
 
-  pub stopped : status_of result ≡ 2 → after.reads < last_count → (held : Held) → before.held ≡ Some held → Wrote (meaning words held (Some (after.reads - before.reads))) before after (status_of result)
-  stopped two low held told = by_ends went.ends where
-    by_ends : ReadsEnd before after went.made result → Wrote (meaning words held (Some (after.reads - before.reads))) before after (status_of result)
-    by_ends (inl well) = absurd (no_two result well.1 two)
-    by_ends (inr failed) =
-        wrote_as (meaning words held (Some (after.reads - before.reads))) result (followed_stopped held told failed.0 low) ((λ three. absurd (omega arith)), (λ nine. absurd (omega arith)))
+  pub stopped : status_of result ≡ 2 → after.reads < last_count → (held : Held) → before.held ≡ Some held → Wrote (m (readings_in held (Some (after.reads - before.reads)))) before after (status_of result)
+  stopped two low held told =
+      wrote_as (m (readings_in held (Some (after.reads - before.reads)))) result (went.follows (readings_in held (Some (after.reads - before.reads))) (agree_two two low held told))
+      ((λ three. absurd (omega (arith, two, three))), (λ nine. absurd (omega (arith, two, nine))))
 
-  pub front : (held : Held) → before.held ≡ Some held → WentAFront (meaning words held None) before after (status_of result)
-      ⊎ (Rose before.failed_reads after.failed_reads × (after.reads < last_count → WentAFront (meaning words held (Some (after.reads - before.reads))) before after (status_of result)))
-  front held told = by_ends went.ends where
-    by_ends : ReadsEnd before after went.made result → WentAFront (meaning words held None) before after (status_of result)
-        ⊎ (Rose before.failed_reads after.failed_reads × (after.reads < last_count → WentAFront (meaning words held (Some (after.reads - before.reads))) before after (status_of result)))
-    by_ends (inl well) = inl (front_as (meaning words held None) result end (followed_none held told well.0))
-    by_ends (inr failed) = inr (failed.0.fault, λ low. front_as (meaning words held (Some (after.reads - before.reads))) result end (followed_stopped held told failed.0 low))
+  -- the moves that were made are a front of what it means with readings that agree
+  pub front_with : (readings : Readings) → Agree readings 0 went.made → WentAFront (m readings) before after (status_of result)
+  front_with readings agree = front_as (m readings) result end (went.follows readings agree)
 
-  own : Follows (meaning_by words (readings_of 0 went.made)) went.did went.part result
+  pub front : (held : Held) → before.held ≡ Some held → WentAFront (m (readings_in held None)) before after (status_of result)
+      ⊎ (Rose before.failed_reads after.failed_reads × (after.reads < last_count → WentAFront (m (readings_in held (Some (after.reads - before.reads)))) before after (status_of result)))
+  front held told = by_agree (agree_front held told) where
+    by_agree : Agree (readings_in held None) 0 went.made
+        ⊎ (Rose before.failed_reads after.failed_reads × (after.reads < last_count → Agree (readings_in held (Some (after.reads - before.reads))) 0 went.made))
+        → WentAFront (m (readings_in held None)) before after (status_of result)
+        ⊎ (Rose before.failed_reads after.failed_reads × (after.reads < last_count → WentAFront (m (readings_in held (Some (after.reads - before.reads)))) before after (status_of result)))
+    by_agree (inl agree) = inl (front_with (readings_in held None) agree)
+    by_agree (inr failed) = inr (failed.0, λ low. front_with (readings_in held (Some (after.reads - before.reads))) (failed.1 low))
+
+  own : Follows (m (readings_of 0 went.made)) went.did went.part result
   own = went.follows (readings_of 0 went.made) (agree_own 0 went.made)
 
-  pub ended : IsEnding (status_of result) → (readings : Readings) × Wrote (meaning_by words readings) before after (status_of result)
-  ended ending = (readings_of 0 went.made, wrote_as (meaning_by words (readings_of 0 went.made)) result own ending)
+  pub wrote_own : IsEnding (status_of result) → Wrote (m (readings_of 0 went.made)) before after (status_of result)
+  wrote_own ending = wrote_as (m (readings_of 0 went.made)) result own ending
 
-  pub asked : (readings : Readings) × WentAFront (meaning_by words readings) before after (status_of result)
-  asked = (readings_of 0 went.made, front_as (meaning_by words (readings_of 0 went.made)) result end own)
+  pub ended : IsEnding (status_of result) → (readings : Readings) × Wrote (m readings) before after (status_of result)
+  ended ending = (readings_of 0 went.made, wrote_own ending)
+
+  pub asked : (readings : Readings) × WentAFront (m readings) before after (status_of result)
+  asked = (readings_of 0 went.made, front_as (m (readings_of 0 went.made)) result end own)
 
   -- no move that was made is a read
-  unread : (m : Meaning) (r : Result Done (Stop PutFailed)) → asked_of m ≡ [] → Follows m went.did went.part r → after.reads ≡ before.reads
-  unread m r none f = went.grew.reads ∙ ap (counted_more before.reads) (no_names m went.did went.part r none f)
+  unread : (whole : Meaning) (r : Result Done (Stop PutFailed)) → asked_of whole ≡ [] → Follows whole went.did went.part r → after.reads ≡ before.reads
+  unread whole r none f = went.grew.reads ∙ ap (counted_more before.reads) (no_names whole went.did went.part r none f)
 
-  pub reads : ReadCount (good_words words) before after (status_of result)
-  reads = by_words (good_words words) result own where
-    by_words : (o : Option Asked) (r : Result Done (Stop PutFailed)) → Follows (meaning_of_words o (readings_of 0 went.made)) went.did went.part r → ReadCount o before after (status_of r)
-    by_words None r f = unread (meaning_of_words None (readings_of 0 went.made)) r refl f
-    by_words (Some wanted) r f = by_mode (is_gen wanted.mode) refl where
-      by_file : (a : Result Done (Stop PutFailed)) → is_gen wanted.mode ≡ false → Follows (meaning_of_asked wanted (readings_of 0 went.made)) went.did went.part a
+  pub reads : (words : List (List ℕ)) → ((readings : Readings) → asked_of (m readings) ≡ asked_of (meaning_by words readings)) → ReadCount (good_words words) before after (status_of result)
+  reads words same = by_words (good_words words) (same (readings_of 0 went.made)) result own where
+    by_words : (o : Option Asked) → asked_of (m (readings_of 0 went.made)) ≡ asked_of (meaning_of_words o (readings_of 0 went.made)) → (r : Result Done (Stop PutFailed))
+        → Follows (m (readings_of 0 went.made)) went.did went.part r → ReadCount o before after (status_of r)
+    by_words None is r f = unread (m (readings_of 0 went.made)) r is f
+    by_words (Some wanted) is r f = by_mode (is_gen wanted.mode) refl where
+      by_file : (a : Result Done (Stop PutFailed)) → is_gen wanted.mode ≡ false → Follows (m (readings_of 0 went.made)) went.did went.part a
           → IsEnding (status_of a) → Rose before.reads after.reads
       by_file (Ok done) file g ending =
-          rose (sym (ap (λ (m : Meaning). asked_of m) (of_file wanted file (readings_of 0 went.made))) ∙ sym (names_meant (meaning_of_asked wanted (readings_of 0 went.made))) ∙ ap (λ (moves : List Move). names_in moves) (sym g.0.all))
+          rose (sym (ap (λ (whole : Meaning). asked_of whole) (of_file wanted file (readings_of 0 went.made))) ∙ sym is ∙ sym (names_meant (m (readings_of 0 went.made)))
+          ∙ ap (λ (moves : List Move). names_in moves) (sym g.0.all))
         where
           rose : {rest : List (List ℕ)} → wanted.file ∷ rest ≡ names_in went.did → Rose before.reads after.reads
-          rose {rest} is = subst (λ (c : ℕ). Rose before.reads c) (sym (went.grew.reads ∙ ap (counted_more before.reads) (sym is))) (count_rose before.reads wanted.file rest)
+          rose {rest} is_first = subst (λ (c : ℕ). Rose before.reads c) (sym (went.grew.reads ∙ ap (counted_more before.reads) (sym is_first))) (count_rose before.reads wanted.file rest)
       by_file (Err (stop.Refused failed)) file g ending = absurd (ending.0 refl)
       by_file (Err stop.Memory) file g ending = absurd (ending.1 refl)
 
       by_mode : (b : Bool) → is_gen wanted.mode ≡ b → CountOf b before after (status_of r)
-      by_mode true gen = unread (meaning_of_asked wanted (readings_of 0 went.made)) r (generated_asks wanted gen (readings_of 0 went.made)) f
+      by_mode true gen = unread (m (readings_of 0 went.made)) r (is ∙ generated_asks wanted gen (readings_of 0 went.made)) f
       by_mode false file = by_file r file f
 
   pub read_faults : before.failed_reads ≤ after.failed_reads → ReadFaults before after (status_of result)
@@ -155,8 +180,8 @@ module _ (words : List (List ℕ)) (before after : Outside) (result : Result Don
       no_end (inl h) = absurd (omega arith)
       no_end (inr h) = absurd (omega arith)
 
-  pub last : IfSome (session_of result) (λ kept. (held : Held) → before.held ≡ Some held → StandsForLast (meaning words held None).last kept)
-  last = by_result result end went.ends (λ held told none. followed_none held told none) where
+  pub last : IfSome (session_of result) (λ kept. (held : Held) → before.held ≡ Some held → StandsForLast (m (readings_in held None)).last kept)
+  last = by_result result end went.ends (λ held told none. went.follows (readings_in held None) (agree_none held told none)) where
     by_session : (o : Option SessionParts) (status : ℕ) → (IsSome o ↔ HasSession status) → status ≡ 2 → (P : SessionParts → Type 0) → IfSome o P
     by_session None status e two P = tt
     by_session (Some kept) status e two P = absurd (no (e.0 refl)) where
@@ -164,13 +189,13 @@ module _ (words : List (List ℕ)) (before after : Outside) (result : Result Don
       no (inl zero) = absurd (omega arith)
       no (inr seven) = absurd (omega arith)
 
-    well_last : (o : Option SessionParts) → ((held : Held) → before.held ≡ Some held → IfSome o (StandsForLast (meaning words held None).last)) → IfSome o (λ kept. (held : Held) → before.held ≡ Some held → StandsForLast (meaning words held None).last kept)
+    well_last : (o : Option SessionParts) → ((held : Held) → before.held ≡ Some held → IfSome o (StandsForLast (m (readings_in held None)).last)) → IfSome o (λ kept. (held : Held) → before.held ≡ Some held → StandsForLast (m (readings_in held None)).last kept)
     well_last None h = tt
     well_last (Some kept) h = λ held told. h held told
 
     by_result : (r : Result Done (Stop PutFailed)) → IfOk r IsEnd → ReadsEnd before after went.made r
-        → ((held : Held) → before.held ≡ Some held → NoneFailed before after went.made → Follows (meaning words held None) went.did went.part r)
-        → IfSome (session_of r) (λ kept. (held : Held) → before.held ≡ Some held → StandsForLast (meaning words held None).last kept)
+        → ((held : Held) → before.held ≡ Some held → NoneFailed before after went.made → Follows (m (readings_in held None)) went.did went.part r)
+        → IfSome (session_of r) (λ kept. (held : Held) → before.held ≡ Some held → StandsForLast (m (readings_in held None)).last kept)
     by_result (Ok done) e (inl well) f = well_last done.session (λ held told. (f held told well.0).0.last)
-    by_result (Ok done) e (inr failed) f = by_session done.session done.status e.2 failed.1 (λ kept. (held : Held) → before.held ≡ Some held → StandsForLast (meaning words held None).last kept)
+    by_result (Ok done) e (inr failed) f = by_session done.session done.status e.2 failed.1 (λ kept. (held : Held) → before.held ≡ Some held → StandsForLast (m (readings_in held None)).last kept)
     by_result (Err why) e ends f = tt

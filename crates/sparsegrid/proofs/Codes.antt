@@ -1,25 +1,20 @@
 -- From what a run did before the text of access code, and what putting that text did, to the clauses that say it.
-use Rattle.std.proofs.Common.{◌≡◌, ◌≢◌, ℕ, ◌-◌, ◌<◌, ◌≤◌, ◌==◌, ◌⊎◌, inl, inr, Bool, true, false, ◌&&◌, List, [], ◌++◌, Option, Some, None, Result, Ok, Err, IfOk, refl, sym, ap, ◌∙◌, subst, append_assoc, arith}
+use Rattle.std.proofs.Common.{◌≡◌, ℕ, ◌-◌, ◌<◌, ◌≤◌, ◌==◌, ◌⊎◌, inl, inr, Bool, true, false, ◌&&◌, List, [], Option, Some, None, Result, Ok, Err, IfOk, refl, sym, ap, ◌∙◌, subst, arith}
 use Rattle.std.specs.Prelude.{IsSome, ◌↔◌, if◌then◌else◌}
 use Rattle.std.specs.Option.{IfSome}
-use Rattle.std.proofs.lemmas.Bool.Decides.{nat_tests}
-use Rattle.std.proofs.lemmas.List.{append-nil}
 use Rattle.sg_words.specs.declared.memory.Stop.{Stop}
 use Rattle.sg_words.specs.declared.memory.Stop.TheVariants as stop
 use Rattle.sg_outside.specs.Counts.{Rose, last_count}
 use Rattle.sg_outside.specs.Files.{Held}
-use Rattle.sg_outside.specs.Sink.{followed_by}
 use Rattle.sg_session.specs.Performed.{SessionParts}
 use Rattle.sparsegrid.specs.declared.output.PutFailed.{PutFailed}
 use Rattle.sparsegrid.specs.declared.session.Done.{Done}
 use Rattle.sparsegrid.specs.Words.{Asked, good_words, is_gen}
-use Rattle.sparsegrid.specs.Moves.{Move, WritesText, writing, names_in, pieces_in, text_in}
-use Rattle.sparsegrid.specs.Meaning.{Meaning, Readings, moves_of, meaning, meaning_by, readings_in, asks_code, saying, with_open}
-use Rattle.sparsegrid.specs.Outcome.{Output, Outside, HasWholeText, IsCutShort, IsEnding, HasSession, LeavesSession, code_in, open_text, StaysWritten, Grew, Made, Wrote, WroteMeaning, WroteStopped, IsFront, WentAFront, WroteFront, EndsAs, AsksAs, ReadFaults, PutFaults, CountOf, ReadCount, StandsForLast, told_more}
+use Rattle.sparsegrid.specs.Meaning.{Meaning, Readings, meaning, meaning_by, readings_in, asks_code, with_open}
+use Rattle.sparsegrid.specs.Outcome.{Output, Outside, HasWholeText, IsCutShort, IsEnding, HasSession, LeavesSession, code_in, open_text, StaysWritten, Wrote, WroteMeaning, WroteStopped, WentAFront, WroteFront, EndsAs, AsksAs, ReadFaults, PutFaults, CountOf, ReadCount, StandsForLast}
 use Rattle.sparsegrid.specs.steps.Along.{PutsText, PutsPart, KeepsWritten, SendCause, status_of, session_of, Went, IsEnd, IsDue, code_left, PutsCode}
-use Rattle.sparsegrid.proofs.Writing.{followed_by-nil, told_none, unread, writing_some, puts_none, stays_twice, grew_text, grew_part, made_twice, made_unread}
-use Rattle.sparsegrid.proofs.Going.{longer}
-use Rattle.sparsegrid.proofs.Lowered.{WritesNothing, words_silent}
+use Rattle.sparsegrid.proofs.Writing.{puts_none, stays_twice}
+use Rattle.sparsegrid.proofs.Lowered.{words_silent}
 use Rattle.sparsegrid.proofs.Clauses as clauses
 use Rattle.sparsegrid.proofs.Open.{written_more, wrote_more, front_none, front_lost, front_out, front_whole, silent_stays}
 
@@ -67,7 +62,7 @@ module _ (words : List (List ℕ)) (before mid : Outside) (result : Result Done 
   due_asks due = sym (same_end (due_ending due)) ∙ due.asked
 
   due_wrote : IsDue lower done → (held : Held) → before.held ≡ Some held → Wrote (meaning words held None) before mid 0
-  due_wrote due held told = subst (λ (n : ℕ). Wrote (meaning words held None) before mid n) (sym status ∙ due.all_done) (clauses.whole words before mid result went is_end (due_whole due) held told)
+  due_wrote due held told = subst (λ (n : ℕ). Wrote (meaning words held None) before mid n) (sym status ∙ due.all_done) (clauses.whole (meaning_by words) before mid result went is_end (due_whole due) held told)
 
   silent : (readings : Readings) → asks_code (good_words words) ≡ true → (meaning_by words readings).status ≡ 0 → (meaning_by words readings).line ≡ []
   silent readings wanted zero = (words_silent words readings wanted zero).no_line
@@ -92,7 +87,7 @@ module _ (words : List (List ℕ)) (before mid : Outside) (result : Result Done 
     by_puts (inl so) = subst (λ (d : Done). Wrote (with_open words (open_text words d.session) (meaning words held None)) before after d.status) (sym so.0)
         (let ok : HasWholeText done.status = subst (λ (d : Done). HasWholeText d.status) so.0 is in
         wrote_more lower words done (meaning words held None) (silent (readings_in held None)) before mid output failed (same_end (ok.1, ok.2)) so.1
-        (subst (λ (n : ℕ). Wrote (meaning words held None) before mid n) (sym status) (clauses.whole words before mid result went is_end (subst HasWholeText status ok) held told)))
+        (subst (λ (n : ℕ). Wrote (meaning words held None) before mid n) (sym status) (clauses.whole (meaning_by words) before mid result went is_end (subst HasWholeText status ok) held told)))
     by_puts (inr (inl lost)) = absurd (is.1 (ap (λ (d : Done). d.status) lost.1))
     by_puts (inr (inr out)) = absurd (is.2 (ap (λ (d : Done). d.status) out.1))
 
@@ -106,7 +101,7 @@ module _ (words : List (List ℕ)) (before mid : Outside) (result : Result Done 
         (let is_two : done.status ≡ 2 = sym (ap (λ (d : Done). d.status) so.0) ∙ two in
         wrote_more lower words done m (silent (readings_in held (Some (mid.reads - before.reads)))) before mid output failed
         (same_end ((λ three. absurd (omega (arith, is_two, three))), (λ nine. absurd (omega (arith, is_two, nine))))) so.1
-        (subst (λ (n : ℕ). Wrote m before mid n) (sym status) (clauses.stopped words before mid result went is_end (sym status ∙ is_two) low held told)))
+        (subst (λ (n : ℕ). Wrote m before mid n) (sym status) (clauses.stopped (meaning_by words) before mid result went is_end (sym status ∙ is_two) low held told)))
     by_puts (inr (inl lost)) = let is_three : end.status ≡ 3 = ap (λ (d : Done). d.status) lost.1 in absurd (omega (arith, is_three, two))
     by_puts (inr (inr out)) = let is_nine : end.status ≡ 9 = ap (λ (d : Done). d.status) out.1 in absurd (omega (arith, is_nine, two))
 
@@ -129,17 +124,17 @@ module _ (words : List (List ℕ)) (before mid : Outside) (result : Result Done 
         (by_front done.status (none_put none so.1)
         (subst (λ (n : ℕ). WentAFront (meaning words held None) before mid n
         ⊎ (Rose before.failed_reads mid.failed_reads × (mid.reads < last_count → WentAFront (meaning words held (Some (mid.reads - before.reads))) before mid n))) (sym status)
-        (clauses.front words before mid result went is_end held told))))
+        (clauses.front (meaning_by words) before mid result went is_end held told))))
     by_puts (inr (inl lost)) = subst (λ (d : Done). Fronts held (open_text words d.session) d.status) (sym lost.1)
         (inl (front_lost lower words done (meaning words held None) (silent (readings_in held None)) before mid output failed (due_asks lost.0)
         (subst (λ (text : List ℕ). PutsPart mid.output output text) (due_code lost.0) lost.2) (due_wrote lost.0 held told)))
     by_puts (inr (inr out)) = subst (λ (d : Done). Fronts held (open_text words d.session) d.status) (sym out.1)
-        (inl (front_out words before mid output failed (meaning words held None) out.2 (due_wrote out.0 held told)))
+        (inl (front_out words before mid output failed (meaning words held None) (silent (readings_in held None) (due_asks out.0) (sym (due_wrote out.0 held told).status)) out.2 (due_wrote out.0 held told)))
 
   -- what a run that is done but for its code means where its reads give some readings
   due_ended : IsDue lower done → (readings : Readings) × Wrote (meaning_by words readings) before mid 0
   due_ended due =
-      let found = clauses.ended words before mid result went is_end (subst IsEnding status (due_ending due)) in
+      let found = clauses.ended (meaning_by words) before mid result went is_end (subst IsEnding status (due_ending due)) in
       (found.0, subst (λ (n : ℕ). Wrote (meaning_by words found.0) before mid n) (sym status ∙ due.all_done) found.1)
 
   -- in mode lower nothing was written where memory ran out
@@ -164,7 +159,7 @@ module _ (words : List (List ℕ)) (before mid : Outside) (result : Result Done 
     by_puts : Puts → EndsAs words (open_text words end.session) before after end.status
     by_puts (inl so) = subst (λ (d : Done). EndsAs words (open_text words d.session) before after d.status) (sym so.0)
         (let ok : IsEnding done.status = subst (λ (d : Done). IsEnding d.status) so.0 ending in
-        let found = clauses.ended words before mid result went is_end (subst IsEnding status ok) in
+        let found = clauses.ended (meaning_by words) before mid result went is_end (subst IsEnding status ok) in
         (found.0, wrote_more lower words done (meaning_by words found.0) (silent found.0) before mid output failed (same_end ok) so.1 (subst (λ (n : ℕ). Wrote (meaning_by words found.0) before mid n) (sym status) found.1)))
     by_puts (inr (inl lost)) = absurd (ending.0 (ap (λ (d : Done). d.status) lost.1))
     by_puts (inr (inr out)) = absurd (ending.1 (ap (λ (d : Done). d.status) out.1))
@@ -189,7 +184,7 @@ module _ (words : List (List ℕ)) (before mid : Outside) (result : Result Done 
 
     by_puts : Puts → AsksAs words (open_text words end.session) before after end.status
     by_puts (inl so) =
-        by_result result is_end (ap (λ (d : Done). d.status) so.0 ∙ status) (ap (λ (d : Done). d.session) so.0 ∙ kept) (still so.0 so.1 result is_end kept) (clauses.asked words before mid result went is_end)
+        by_result result is_end (ap (λ (d : Done). d.status) so.0 ∙ status) (ap (λ (d : Done). d.session) so.0 ∙ kept) (still so.0 so.1 result is_end kept) (clauses.asked (meaning_by words) before mid result went is_end)
     by_puts (inr (inl lost)) = subst (λ (d : Done). AsksAs words (open_text words d.session) before after d.status) (sym lost.1)
         (let found = due_ended lost.0 in (
           found.0,
@@ -198,7 +193,7 @@ module _ (words : List (List ℕ)) (before mid : Outside) (result : Result Done 
         ))
     by_puts (inr (inr out)) = subst (λ (d : Done). AsksAs words (open_text words d.session) before after d.status) (sym out.1)
         (let found = due_ended out.0 in
-        (found.0, front_out words before mid output failed (meaning_by words found.0) out.2 found.1))
+        (found.0, front_out words before mid output failed (meaning_by words found.0) (silent found.0 (due_asks out.0) (sym found.1.status)) out.2 found.1))
 
   pub reads : ReadCount (good_words words) before after end.status
   reads = by_puts puts where
@@ -210,7 +205,7 @@ module _ (words : List (List ℕ)) (before mid : Outside) (result : Result Done 
       by_mode false rose = λ ending. rose (onward ending)
 
     first : ReadCount (good_words words) before mid (status_of result)
-    first = clauses.reads words before mid result went is_end
+    first = clauses.reads (meaning_by words) before mid result went is_end words (λ readings. refl)
 
     by_puts : Puts → ReadCount (good_words words) before after end.status
     by_puts (inl so) = by_words (good_words words) (status_of result) end.status (subst (λ (n : ℕ). IsEnding end.status → IsEnding n) (ap (λ (d : Done). d.status) so.0 ∙ status) (λ e. e)) first
@@ -220,7 +215,7 @@ module _ (words : List (List ℕ)) (before mid : Outside) (result : Result Done 
   pub read_faults : before.failed_reads ≤ mid.failed_reads → ReadFaults before after end.status
   read_faults never = by_puts puts where
     first : ReadFaults before mid (status_of result)
-    first = clauses.read_faults words before mid result went is_end never
+    first = clauses.read_faults (meaning_by words) before mid result went is_end never
 
     by_puts : Puts → ReadFaults before after end.status
     by_puts (inl so) =
@@ -232,7 +227,7 @@ module _ (words : List (List ℕ)) (before mid : Outside) (result : Result Done 
   pub put_faults : SendCause result before.failed_puts mid.failed_puts → PutFaults before after end.status
   put_faults cause = by_puts puts where
     first : PutFaults before mid (status_of result)
-    first = clauses.put_faults words before mid result went is_end cause
+    first = clauses.put_faults (meaning_by words) before mid result went is_end cause
 
     still : IsDue lower done → mid.failed_puts ≡ before.failed_puts
     still due = first.stay (λ three. absurd (omega (arith, status, due.all_done, three)))
@@ -265,7 +260,7 @@ module _ (words : List (List ℕ)) (before mid : Outside) (result : Result Done 
   pub session : LeavesSession words end.status end.session
   session = by_puts puts where
     first : IsSome done.session ↔ HasSession done.status
-    first = subst (λ (o : Option SessionParts). IsSome o ↔ HasSession done.status) (sym kept) (subst (λ (n : ℕ). IsSome (session_of result) ↔ HasSession n) (sym status) (clauses.session words before mid result went is_end))
+    first = subst (λ (o : Option SessionParts). IsSome o ↔ HasSession done.status) (sym kept) (subst (λ (n : ℕ). IsSome (session_of result) ↔ HasSession n) (sym status) (clauses.session (meaning_by words) before mid result went is_end))
 
     by_puts : Puts → LeavesSession words end.status end.session
     by_puts (inl so) = subst (λ (d : Done). LeavesSession words d.status d.session) (sym so.0) (record { kept = first.1; only = λ some. inl (first.0 some) })
@@ -279,4 +274,4 @@ module _ (words : List (List ℕ)) (before mid : Outside) (result : Result Done 
       no_nine (inr h) = absurd (omega (arith, h))
 
   pub last : IfSome end.session (λ left. (held : Held) → before.held ≡ Some held → StandsForLast (meaning words held None).last left)
-  last = left_at_end (λ left. (held : Held) → before.held ≡ Some held → StandsForLast (meaning words held None).last left) (clauses.last words before mid result went is_end)
+  last = left_at_end (λ left. (held : Held) → before.held ≡ Some held → StandsForLast (meaning words held None).last left) (clauses.last (meaning_by words) before mid result went is_end)

@@ -1,5 +1,5 @@
 -- Parts of a run one after the other, as their meanings have it.
-use Rattle.std.proofs.Common.{◌≡◌, ◌≢◌, ℕ, suc, ◌+◌, ◌⊎◌, inl, inr, List, [], ◌∷◌, ◌++◌, length, Option, Result, Ok, Err, IfOk, refl, sym, ap, ◌∙◌, subst, append_assoc, arith}
+use Rattle.std.proofs.Common.{◌≡◌, ◌≢◌, ℕ, suc, ◌+◌, inl, inr, List, [], ◌∷◌, ◌++◌, length, Option, Result, Ok, Err, IfOk, refl, sym, ap, ◌∙◌, subst, append_assoc, arith}
 use Rattle.std.specs.Option.{IfSome}
 use Rattle.std.proofs.lemmas.List.{append-nil}
 use Rattle.sg_words.specs.declared.memory.Stop.{Stop}
@@ -9,11 +9,11 @@ use Rattle.sg_outside.specs.Files.{Missing, asked_too}
 use Rattle.sg_outside.specs.Sink.{followed_by}
 use Rattle.sparsegrid.specs.declared.output.PutFailed.{PutFailed}
 use Rattle.sparsegrid.specs.declared.session.Done.{Done}
-use Rattle.sparsegrid.specs.Moves.{Move, ReadsFile, WritesText, writing, names_in, pieces_in, text_in}
-use Rattle.sparsegrid.specs.Meaning.{Meaning, Readings, moves_of, after_moves, asking_for, before as before_text}
+use Rattle.sparsegrid.specs.Moves.{Move, ReadsFile, WritesText, writing, names_in, pieces_in, text_in, reached_in}
+use Rattle.sparsegrid.specs.Meaning.{Meaning, Readings, moves_of, after_moves, asking_for}
 use Rattle.sparsegrid.specs.Outcome.{Output, Outside, StaysWritten, Grew, Made, IsFront, StandsForLast, told_more, counted_more}
 use Rattle.sparsegrid.specs.steps.Along.{PutsPart, Sends, Follows, ReadMade, names_of, Agree, NoneFailed, ReadsEnd, Went}
-use Rattle.sparsegrid.proofs.Writing.{names_append, text_whole, unread, writing_some, grew_none, grew_text, grew_part, made_twice, made_unread}
+use Rattle.sparsegrid.proofs.Writing.{names_append, none_reached, text_whole, unread, writing_some, grew_none, grew_text, grew_part, made_twice, made_unread}
 use Rattle.sparsegrid.proofs.Readings.{names_twice, told_twice, agree_twice}
 
 -- a meaning whose status isn't 0 has a last line
@@ -33,7 +33,7 @@ at_start m ends = record {
   whole = refl;
   failed = λ three. absurd (omega arith);
   other = λ other. refl;
-  less = λ nine other none. longer (text_in m.moves) m.line (ends other) (sym (text_whole m) ∙ none);
+  less = λ nine some none. longer (text_in m.moves) m.line some (sym (text_whole m) ∙ none);
 }
 
 -- the put of its first text failed
@@ -61,7 +61,7 @@ after_front moves m did part answer front =
       less = front.less;
     }
 
-follows_after : (moves : List Move) (m : Meaning) (did : List Move) (part : List ℕ) (result : Result Done (Stop PutFailed)) → Follows m did part result → Follows (after_moves moves m) (moves ++ did) part result
+pub follows_after : (moves : List Move) (m : Meaning) (did : List Move) (part : List ℕ) (result : Result Done (Stop PutFailed)) → Follows m did part result → Follows (after_moves moves m) (moves ++ did) part result
 follows_after moves m did part (Ok done) follows = (
   record {
     all = ap (λ (more : List Move). moves ++ more) follows.0.all ∙ sym (append_assoc moves m.moves (writing m.line));
@@ -79,6 +79,7 @@ pub record Gone (m : Meaning) (old new : Output) (result : Result Done (Stop Put
   pub did : List Move
   pub part : List ℕ
   pub unread : names_in did ≡ []
+  pub still : reached_in did ≡ []
   pub grew : Grew did part old new
   pub follows : Follows m did part result
 
@@ -86,11 +87,11 @@ pub record Gone (m : Meaning) (old new : Output) (result : Result Done (Stop Put
 pub gone_text : (m : Meaning) (text : List ℕ) (old new : Output) (result : Result Done (Stop PutFailed)) → moves_of m ≡ writing text → EndsInLine m → Sends result old new text
     → IfOk result (λ done. done.status ≡ m.status) → IfOk result (λ done. IfSome done.session (StandsForLast m.last)) → Gone m old new result
 gone_text m text old new (Ok done) is ends sent status last =
-    record { did = writing text; part = []; unread = unread text; grew = grew_text text old new sent; follows = (record { all = sym is; status = status; last = last }, refl) }
+    record { did = writing text; part = []; unread = unread text; still = none_reached text; grew = grew_text text old new sent; follows = (record { all = sym is; status = status; last = last }, refl) }
 gone_text m text old new (Err (stop.Refused failed)) is ends sent status last =
-    record { did = []; part = sent.part; unread = refl; grew = grew_part text old new sent; follows = at_text m text [] old new sent (is ∙ sym (append-nil (writing text))) }
+    record { did = []; part = sent.part; unread = refl; still = refl; grew = grew_part text old new sent; follows = at_text m text [] old new sent (is ∙ sym (append-nil (writing text))) }
 gone_text m text old new (Err stop.Memory) is ends sent status last =
-    record { did = []; part = []; unread = refl; grew = grew_none old new sent; follows = at_start m ends }
+    record { did = []; part = []; unread = refl; still = refl; grew = grew_none old new sent; follows = at_start m ends }
 
 -- before it the output stayed as it was
 pub gone_before : (m : Meaning) (old mid new : Output) (result : Result Done (Stop PutFailed)) → StaysWritten old mid → Gone m mid new result → Gone m old new result
@@ -99,6 +100,7 @@ gone_before m old mid new result stays gone =
       did = gone.did;
       part = gone.part;
       unread = gone.unread;
+      still = gone.still;
       grew = record {
         written = gone.grew.written ∙ ap (λ (told : Option (List ℕ)). followed_by told (text_in gone.did ++ gone.part)) stays.written;
         pieces = gone.grew.pieces ∙ ap (λ (told : Option (List (List ℕ))). told_more told (pieces_in gone.did)) stays.pieces;
@@ -106,7 +108,7 @@ gone_before m old mid new result stays gone =
       follows = gone.follows;
     }
 
-pub went_still : (m : Readings → Meaning) (n : ℕ) (before after : Outside) (result : Result Done (Stop PutFailed)) (did : List Move) (part : List ℕ)
+unfoldable pub went_still : (m : Readings → Meaning) (n : ℕ) (before after : Outside) (result : Result Done (Stop PutFailed)) (did : List Move) (part : List ℕ)
     → names_in did ≡ [] → Grew did part before.output after.output → ((readings : Readings) → Follows (m readings) did part result)
     → after.asked ≡ before.asked → after.reads ≡ before.reads → after.failed_reads ≡ before.failed_reads → IfOk result (λ done. done.status ≢ 2) → Went m n before after result
 went_still m n before after result did part none grew follows asked reads faults status =
@@ -138,7 +140,7 @@ went_gone m n before after result gone asked reads faults status =
 
 -- ---- a part after another
 
-pub compose : (m rest : Readings → Meaning) (n k : ℕ) (made : List ReadMade) (did : List Move) (before mid after : Outside) (result : Result Done (Stop PutFailed))
+unfoldable pub compose : (m rest : Readings → Meaning) (n k : ℕ) (made : List ReadMade) (did : List Move) (before mid after : Outside) (result : Result Done (Stop PutFailed))
     → k ≡ length made + n → ((readings : Readings) → Agree readings n made → m readings ≡ after_moves did (rest readings))
     → names_in did ≡ names_of made → Made did [] before mid → mid.held ≡ before.held → NoneFailed before mid made → Went rest k mid after result → Went m n before after result
 compose m rest n k made did before mid after result at is names grew held none went =
@@ -174,7 +176,7 @@ compose m rest n k made did before mid after result at is names grew held none w
         )
 
 -- the first read failed, and its line was written
-pub went_failed : (m : Readings → Meaning) (line : Meaning) (n : ℕ) (name : List ℕ) (limit : ℕ) (before after : Outside) (result : Result Done (Stop PutFailed))
+unfoldable pub went_failed : (m : Readings → Meaning) (line : Meaning) (n : ℕ) (name : List ℕ) (limit : ℕ) (before after : Outside) (result : Result Done (Stop PutFailed))
     → ((readings : Readings) → readings (suc n) name limit ≡ Missing → m readings ≡ asking_for name line) → Gone line before.output after.output result
     → after.asked ≡ asked_too before.asked name → after.reads ≡ one_more before.reads → Rose before.failed_reads after.failed_reads → IfOk result (λ done. done.status ≡ 2)
     → Went m n before after result

@@ -21,10 +21,10 @@ use Rattle.sg_session.specs.Independence.{left_by, left_by_program, last_after}
 use Rattle.sparsegrid.specs.Lines.{fault_last, run_last}
 use Rattle.sparsegrid.specs.declared.showing.Showing.TheVariants.{Texts}
 use Rattle.sparsegrid.specs.Telling.{Telling, telling_of}
-use Rattle.sparsegrid.specs.Moves.{Move, pieces_of, writing, pieces_in, text_in}
-use Rattle.sparsegrid.specs.Meaning.{Meaning, moves_of, text_meant, before as before_text, Readings, is_unbound, after_task, task_and_more, meaning_of_tasks, meaning_unless, meaning_of_run}
+use Rattle.sparsegrid.specs.Moves.{Move, Reached, pieces_of, writing, reaching, pieces_in, text_in}
+use Rattle.sparsegrid.specs.Meaning.{Meaning, moves_of, text_meant, after_moves, Readings, is_unbound, at_state, after_task, task_and_more, meaning_of_tasks, meaning_unless, meaning_of_run}
 use Rattle.sparsegrid.specs.Independence.{reading_behind, reads_with, told_from, told, IsWhatIsLeft, MeaningIsOfCommands}
-use Rattle.sparsegrid.proofs.Writing.{pieces_append, text_append, text_written, pieces_written}
+use Rattle.sparsegrid.proofs.Writing.{pieces_append, text_append, text_reaching, pieces_reaching}
 use Rattle.sg_session.proofs.Uses.{bound_ok}
 
 -- a refused command has a status other than 0
@@ -39,15 +39,15 @@ run_status names file task (refusal.GridRows field) e = cc
 run_status names file task (refusal.Grid field line) e = cc
 run_status names file task (refusal.Run kernel fault) e = fault_status names kernel fault e
 
--- a text before what else a run means
-pieces_before : (text : List ℕ) (m : Meaning) → pieces_in (moves_of (before_text text m)) ≡ pieces_of text ++ pieces_in (moves_of m)
-pieces_before text m =
-    ap (λ (moves : List Move). pieces_in moves) (append_assoc (writing text) m.moves (writing m.line)) ∙ pieces_append (writing text) (moves_of m)
-    ∙ ap (λ (pieces : List (List ℕ)). pieces ++ pieces_in (moves_of m)) (pieces_written text)
+-- a text, and a state that is reached, before what else a run means
+pieces_before : (text : List ℕ) (at : Reached) (m : Meaning) → pieces_in (moves_of (after_moves (reaching text at) m)) ≡ pieces_of text ++ pieces_in (moves_of m)
+pieces_before text at m =
+    ap (λ (moves : List Move). pieces_in moves) (append_assoc (reaching text at) m.moves (writing m.line)) ∙ pieces_append (reaching text at) (moves_of m)
+    ∙ ap (λ (pieces : List (List ℕ)). pieces ++ pieces_in (moves_of m)) (pieces_reaching text at)
 
-text_before : (text : List ℕ) (m : Meaning) → text_meant (before_text text m) ≡ text ++ text_meant m
-text_before text m =
-    ap (λ (said : List ℕ). said ++ m.line) (text_append (writing text) m.moves ∙ ap (λ (t : List ℕ). t ++ text_in m.moves) (text_written text)) ∙ append_assoc text (text_in m.moves) m.line
+text_before : (text : List ℕ) (at : Reached) (m : Meaning) → text_meant (after_moves (reaching text at) m) ≡ text ++ text_meant m
+text_before text at m =
+    ap (λ (said : List ℕ). said ++ m.line) (text_append (reaching text at) m.moves ∙ ap (λ (t : List ℕ). t ++ text_in m.moves) (text_reaching text at)) ∙ append_assoc text (text_in m.moves) m.line
 
 module _ (program : CheckedProgram) (bindings : List Binding) (readings : Readings) (given : ℕ → Reading) where
   abbrev telling : Telling
@@ -71,8 +71,8 @@ module _ (program : CheckedProgram) (bindings : List Binding) (readings : Readin
         lefts = left ∷ rest_left.lefts;
         left = ap (λ (r : Result Left RunRefusal). r >>= (λ left. left_by program given (suc place) tasks left.state >>= (λ more. Ok (left ∷ more)))) is
             ∙ ap (λ (r : Result (List Left) RunRefusal). r >>= (λ more. Ok (left ∷ more))) rest_left.left;
-        pieces = pieces_before left.text (more left.state) ∙ ap (λ (pieces : List (List ℕ)). pieces_of left.text ++ pieces) rest_left.pieces;
-        text = text_before left.text (more left.state) ∙ ap (λ (text : List ℕ). left.text ++ text) rest_left.text;
+        pieces = pieces_before left.text (at_state program left.state) (more left.state) ∙ ap (λ (pieces : List (List ℕ)). pieces_of left.text ++ pieces) rest_left.pieces;
+        text = text_before left.text (at_state program left.state) (more left.state) ∙ ap (λ (text : List ℕ). left.text ++ text) rest_left.text;
         last = rest_left.last;
       }
 

@@ -1,26 +1,19 @@
 -- What a meaning leaves open: the text of access code, and what a run did of the meaning with that text.
-use Rattle.std.proofs.Common.{◌≡◌, ◌≢◌, ℕ, ◌-◌, ◌<◌, ◌≤◌, ◌==◌, ◌⊎◌, inl, inr, Bool, true, false, ◌&&◌, List, [], ◌∷◌, ◌++◌, Option, Some, None, Result, Ok, Err, IfOk, refl, sym, ap, ◌∙◌, subst, append_assoc, arith}
-use Rattle.std.specs.Prelude.{IsSome, ◌↔◌, if◌then◌else◌}
-use Rattle.std.specs.Option.{IfSome}
+use Rattle.std.proofs.Common.{◌≡◌, ◌≢◌, ℕ, ◌-◌, ◌==◌, Bool, true, false, ◌&&◌, List, [], ◌∷◌, ◌++◌, Option, None, refl, sym, ap, ◌∙◌, subst, arith}
+use Rattle.std.specs.Prelude.{if◌then◌else◌}
 use Rattle.std.proofs.lemmas.Bool.Decides.{nat_tests}
 use Rattle.std.proofs.lemmas.List.{append-nil}
-use Rattle.sg_words.specs.declared.memory.Stop.{Stop}
-use Rattle.sg_words.specs.declared.memory.Stop.TheVariants as stop
-use Rattle.sg_outside.specs.Counts.{Rose, last_count}
-use Rattle.sg_outside.specs.Files.{Held}
 use Rattle.sg_outside.specs.Sink.{followed_by}
 use Rattle.sg_session.specs.Performed.{SessionParts}
-use Rattle.sparsegrid.specs.declared.output.PutFailed.{PutFailed}
 use Rattle.sparsegrid.specs.declared.session.Done.{Done}
-use Rattle.sparsegrid.specs.Words.{Asked, good_words, is_gen}
+use Rattle.sparsegrid.specs.Words.{good_words}
 use Rattle.sparsegrid.specs.Moves.{Move, WritesText, writing, names_in, pieces_in, text_in}
-use Rattle.sparsegrid.specs.Meaning.{Meaning, Readings, moves_of, meaning, meaning_by, readings_in, asks_code, saying, with_open}
-use Rattle.sparsegrid.specs.Outcome.{Output, Outside, HasWholeText, IsCutShort, IsEnding, HasSession, LeavesSession, code_in, open_text, StaysWritten, Grew, Made, Wrote, WroteMeaning, WroteStopped, IsFront, WentAFront, WroteFront, EndsAs, AsksAs, ReadFaults, PutFaults, CountOf, ReadCount, StandsForLast, told_more}
-use Rattle.sparsegrid.specs.steps.Along.{PutsText, PutsPart, KeepsWritten, SendCause, status_of, session_of, Went, IsEnd, IsDue, code_left, PutsCode}
-use Rattle.sparsegrid.proofs.Writing.{followed_by-nil, told_none, unread, writing_some, puts_none, stays_twice, grew_text, grew_part, made_twice, made_unread}
+use Rattle.sparsegrid.specs.Meaning.{Meaning, moves_of, asks_code, saying, with_open}
+use Rattle.sparsegrid.specs.Outcome.{Output, Outside, IsEnding, code_in, open_text, StaysWritten, Grew, Made, Wrote, WentAFront, told_more}
+use Rattle.sparsegrid.specs.steps.Along.{PutsText, PutsPart, code_left}
+use Rattle.sparsegrid.proofs.Writing.{followed_by-nil, told_none, unread, writing_some, grew_text, grew_part, made_twice, made_unread}
 use Rattle.sparsegrid.proofs.Going.{longer}
-use Rattle.sparsegrid.proofs.Lowered.{WritesNothing, words_silent}
-use Rattle.sparsegrid.proofs.Clauses as clauses
+use Rattle.sparsegrid.proofs.Lowered.{WritesNothing}
 
 -- ---- what a meaning leaves open
 
@@ -29,6 +22,13 @@ pub status_is : (words : List (List ℕ)) (opened : List ℕ) (m : Meaning) → 
 status_is words opened m = by_test (asks_code (good_words words) && (m.status == 0))
   where
     by_test : (b : Bool) → (if b then saying opened m else m).status ≡ m.status
+    by_test true = refl
+    by_test false = refl
+
+pub line_is : (words : List (List ℕ)) (opened : List ℕ) (m : Meaning) → (with_open words opened m).line ≡ m.line
+line_is words opened m = by_test (asks_code (good_words words) && (m.status == 0))
+  where
+    by_test : (b : Bool) → (if b then saying opened m else m).line ≡ m.line
     by_test true = refl
     by_test false = refl
 
@@ -84,7 +84,7 @@ front_none words before mid output failed m answer stays went =
         whole = none_left words m ∙ went.front.whole;
         failed = went.front.failed;
         other = went.front.other;
-        less = λ nine other. went.front.less nine (λ zero. other (status_is words (open_text words None) m ∙ zero));
+        less = λ nine some. went.front.less nine (λ none. some (line_is words (open_text words None) m ∙ none));
       };
       made = record {
         output = record {
@@ -158,9 +158,9 @@ module _ (lower : Bool) (words : List (List ℕ)) (done : Done) (m : Meaning) (s
       some none = longer put.part put.missing put.less (sym put.whole ∙ none)
 
 -- all is done, but for the code, for which there was no memory
-pub front_out : (words : List (List ℕ)) (before mid : Outside) (output : Output) (failed : ℕ) (m : Meaning) → StaysWritten mid.output output → Wrote m before mid 0
+pub front_out : (words : List (List ℕ)) (before mid : Outside) (output : Output) (failed : ℕ) (m : Meaning) → m.line ≡ [] → StaysWritten mid.output output → Wrote m before mid 0
     → WentAFront (with_open words (open_text words None) m) before (written_more mid output failed) 9
-front_out words before mid output failed m stays wrote =
+front_out words before mid output failed m no_line stays wrote =
     front_none words before mid output failed m 9 stays
     (record {
       done = moves_of m;
@@ -170,7 +170,7 @@ front_out words before mid output failed m stays wrote =
         whole = sym (append-nil (moves_of m));
         failed = λ three. absurd (omega arith);
         other = λ other. refl;
-        less = λ nine other. absurd (other (sym wrote.status));
+        less = λ nine some. absurd (some no_line);
       };
       made = wrote.made;
     })

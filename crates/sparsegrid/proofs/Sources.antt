@@ -1,13 +1,11 @@
 -- What a run does with what the read of its file gave, and with what the file is compiled to.
-use Rattle.std.proofs.Common.{◌≡◌, ◌≢◌, ◌⊎◌, inl, inr, ℕ, Bool, true, false, List, [], ◌∷◌, Option, Some, None, Result, Ok, Err, IfOk, refl, sym, ap, ◌∙◌, subst, arith}
-use Rattle.std.specs.Prelude.{find, map, IsSome, if◌then◌else◌}
+use Rattle.std.proofs.Common.{◌≡◌, ◌≢◌, ◌⊎◌, inl, inr, ℕ, Bool, true, false, List, [], Option, Some, None, Result, Ok, Err, IfOk, refl, sym, ap, ◌∙◌, subst, arith}
+use Rattle.std.specs.Prelude.{find, IsSome, if◌then◌else◌}
 use Rattle.std.specs.Option.{IfSome}
 use Rattle.std.proofs.lemmas.List.{append-nil}
 use Rattle.std.specs.Result.{IsOkAnd}
 use Rattle.sg_words.specs.declared.memory.Stop.{Stop}
-use Rattle.sg_words.specs.declared.memory.Stop.TheVariants as stop
-use Rattle.sg_outside.specs.Counts.{Rose, one_more}
-use Rattle.sg_outside.specs.Files.{Held, Reading, Bytes, TooMany, Missing, reading, asked_too}
+use Rattle.sg_outside.specs.Files.{Reading, Bytes, TooMany, Missing}
 use Rattle.sg_lexer.specs.Limits.{most_file_bytes}
 use Rattle.sg_flat.specs.declared.state.FlatState.{FlatState}
 use Rattle.sg_flat.specs.State.{opening}
@@ -31,23 +29,21 @@ use Rattle.sg_session.specs.Compiling.{spelled_program, compiled_program}
 use Rattle.sparsegrid.specs.declared.last_line.LastLine.{LastLine}
 use Rattle.sparsegrid.specs.declared.output.PutFailed.{PutFailed}
 use Rattle.sparsegrid.specs.declared.session.Done.{Done}
-use Rattle.sg_session.specs.declared.binds.Bind.{Bind}
-use Rattle.sg_session.specs.Bindings.{Binding, binding_read}
+use Rattle.sg_session.specs.Bindings.{Binding}
 use Rattle.sparsegrid.specs.Words.{Asked, Doing, performs, generates, looks, writes_code, audits, doing, good_words, is_gen}
 use Rattle.sg_snapshot.specs.declared.fault.SnapFault.{SnapFault}
 use Rattle.sg_snapshot.specs.Restoring.{restored}
 use Rattle.sparsegrid.specs.declared.showing.Showing.TheVariants.{Texts}
 use Rattle.sparsegrid.specs.Limits.{most_snapshot_bytes}
 use Rattle.sparsegrid.specs.Telling.{Telling, telling_of}
-use Rattle.sparsegrid.specs.Moves.{Move, ReadsFile, writing}
+use Rattle.sparsegrid.specs.Moves.{writing}
 use Rattle.sparsegrid.specs.Verdicts.{most_journal_bytes, journal_file}
 use Rattle.sparsegrid.specs.Generated.{generated_text}
 use Rattle.sparsegrid.specs.Lines.{read_last, file_bytes_last, journal_bytes_last, no_file_last, refusal_last, field_text, snapshot_bytes_last, snapshot_last, words_last}
-use Rattle.sparsegrid.specs.Meaning.{Meaning, Readings, refused_before_tasks, all_done, asking_for, is_unbound, left_by_snapshot, after_restoring, after_snapshot, begun, meaning_of_tasks, meaning_unless, meaning_of_run, meaning_in, after_journal, items_or_none, meaning_of_compiled, meaning_of_source, meaning_of_file, meaning_of_generated, meaning_of_asked, meaning_of_words, meaning_by}
-use Rattle.sparsegrid.specs.Outcome.{Output, Outside, StaysWritten, Made, HasSession, StandsForLast}
-use Rattle.sparsegrid.specs.steps.Along.{Sends, CameToEnd, Follows, Went, line_text, ReadsEnd, ended_with, IsEnd, LeavesOnly, LeavesProgram}
-use Rattle.sparsegrid.proofs.Writing.{made_read}
-use Rattle.sparsegrid.proofs.Going.{EndsInLine, Gone, gone_text, stays_same, went_memory, went_gone, went_failed, compose}
+use Rattle.sparsegrid.specs.Meaning.{Meaning, Readings, refused_before_tasks, all_done, is_unbound, left_by_snapshot, after_restoring, after_snapshot, begun, meaning_from, meaning_unless, meaning_of_run, meaning_in, after_journal, items_or_none, meaning_of_compiled, meaning_of_source, meaning_of_file, meaning_of_generated, meaning_of_asked, meaning_of_words, meaning_by}
+use Rattle.sparsegrid.specs.Outcome.{Output, Outside, HasSession, StandsForLast}
+use Rattle.sparsegrid.specs.steps.Along.{Sends, Follows, Went, line_text, ReadsEnd, ended_with, IsEnd, LeavesOnly, LeavesProgram}
+use Rattle.sparsegrid.proofs.Going.{EndsInLine, Gone, gone_text, went_gone}
 use Rattle.sparsegrid.proofs.Tasks.{refused_ends, tasks_end}
 
 -- ---- a meaning whose status isn't 0 ends in a line
@@ -71,7 +67,7 @@ pub run_ends : (compiled : CheckedProgram) (telling : Telling) (from : Option (L
 run_ends compiled telling from bindings readings tasks = by_find (find (is_unbound compiled.names bindings) tasks) where
   by_find : (o : Option Task) → EndsInLine (meaning_unless o compiled telling from bindings readings tasks)
   by_find None =
-      begun_ends compiled from readings (λ reads state. meaning_of_tasks compiled bindings telling readings 0 reads state tasks)
+      begun_ends compiled from readings (λ reads state. meaning_from compiled bindings telling readings reads state tasks)
       (λ reads state. tasks_end compiled bindings telling readings 0 reads state tasks)
   by_find (Some task) = refused_ends None (no_file_last (field_text compiled.names task))
 
@@ -91,7 +87,7 @@ pub compiled_ends : (asked : Asked) (readings : Readings) (bytes : List ℕ) (an
 compiled_ends asked readings bytes (Err why) = refused_ends None (refusal_last (items_or_none (spelled_program bytes)) why)
 compiled_ends asked readings bytes (Ok compiled) = in_ends (doing asked.mode) compiled asked.from asked.bindings readings
 
-source_ends : (asked : Asked) (readings : Readings) (given : Reading) → EndsInLine (meaning_of_source asked readings given)
+pub source_ends : (asked : Asked) (readings : Readings) (given : Reading) → EndsInLine (meaning_of_source asked readings given)
 source_ends asked readings Missing = refused_ends None (read_last asked.file)
 source_ends asked readings TooMany = refused_ends None file_bytes_last
 source_ends asked readings (Bytes bytes) = compiled_ends asked readings bytes (compiled_program bytes)
@@ -139,50 +135,10 @@ went_refused last n before after result sent status none other asked reads fault
 pub of_file : (asked : Asked) → is_gen asked.mode ≡ false → (readings : Readings) → meaning_of_asked asked readings ≡ meaning_of_file asked readings
 of_file asked file readings = ap (λ (b : Bool). if b then meaning_of_generated asked readings else meaning_of_file asked readings) file
 
--- the read of the file of this name gave this, and what it means was done
-pub read_gave : (asked : Asked) → is_gen asked.mode ≡ false → (name : List ℕ) (given : Reading) (before mid after : Outside) (result : Result Done (Stop PutFailed)) → name ≡ asked.file
-    → ((held : Held) → before.held ≡ Some held → reading held name most_file_bytes ≡ given)
-    → mid.asked ≡ asked_too before.asked name → mid.reads ≡ one_more before.reads → mid.failed_reads ≡ before.failed_reads → mid.held ≡ before.held → StaysWritten before.output mid.output
-    → Went (λ readings. meaning_of_source asked readings given) 1 mid after result → Went (meaning_of_asked asked) 0 before after result
-read_gave asked file name given before mid after result same told names reads faults held stays went =
-    compose (meaning_of_asked asked) (λ readings. meaning_of_source asked readings given) 0 1 (record { name = asked.file; limit = most_file_bytes; given = given } ∷ []) (ReadsFile asked.file ∷ []) before mid after result (omega arith)
-    (λ readings agree. of_file asked file readings ∙ ap (λ (r : Reading). asking_for asked.file (meaning_of_source asked readings r)) agree.0)
-    refl (made_read asked.file before mid stays (names ∙ ap (asked_too before.asked) same) reads) held
-    (record { no_fault = faults; told = λ h e. (sym (ap (λ (n : List ℕ). reading h n most_file_bytes) (sym same) ∙ told h e), tt) }) went
-
--- the read failed
-pub read_failed : (asked : Asked) → is_gen asked.mode ≡ false → (name : List ℕ) (before after : Outside) (result : Result Done (Stop PutFailed)) → name ≡ asked.file
-    → after.asked ≡ asked_too before.asked name → after.reads ≡ one_more before.reads → Rose before.failed_reads after.failed_reads
-    → Sends result before.output after.output (line_text (read_last name)) → IfOk result (λ done. done.status ≡ 2) → IfOk result (λ done. done.session ≡ None)
-    → Went (meaning_of_asked asked) 0 before after result
-read_failed asked file name before after result same names reads rose sent status none =
-    went_failed (meaning_of_asked asked) (refused_before_tasks (read_last asked.file)) 0 asked.file most_file_bytes before after result
-    (λ readings missing. of_file asked file readings ∙ ap (λ (r : Reading). asking_for asked.file (meaning_of_source asked readings r)) missing)
-    (gone_refused (read_last asked.file) before.output after.output result (subst (λ (n : List ℕ). Sends result before.output after.output (line_text (read_last n))) same sent) status none)
-    (names ∙ ap (asked_too before.asked) same) reads rose status
-
--- there was no memory for what was read
-pub read_memory : (asked : Asked) → is_gen asked.mode ≡ false → (name : List ℕ) (before after : Outside) → name ≡ asked.file
-    → after.asked ≡ asked_too before.asked name → after.reads ≡ one_more before.reads → after.failed_reads ≡ before.failed_reads → after.held ≡ before.held → StaysWritten before.output after.output
-    → Went (meaning_of_asked asked) 0 before after (Err stop.Memory)
-read_memory asked file name before after same names reads faults held stays =
-    read_gave asked file name (given before.held) before after after (Err stop.Memory) same (told before.held) names reads faults held stays
-    (went_memory (λ readings. meaning_of_source asked readings (given before.held)) 1 after after (λ readings. source_ends asked readings (given before.held)) (stays_same after.output) refl refl refl)
-  where
-    given : Option Held → Reading
-    given None = Missing
-    given (Some held) = reading held name most_file_bytes
-
-    told : (o : Option Held) (h : Held) → o ≡ Some h → reading h name most_file_bytes ≡ given o
-    told None h e = absurd (cc)
-    told (Some held) h e = ap (λ (f : Held). reading f name most_file_bytes) (sym (same_held held h e)) where
-      same_held : (a b : Held) → Some a ≡ Some b → a ≡ b
-      same_held a b s = cc
-
 -- ---- parts that read nothing
 
 -- the same meaning in other words
-pub went_same : (m other : Readings → Meaning) (n : ℕ) (before after : Outside) (result : Result Done (Stop PutFailed)) → ((readings : Readings) → m readings ≡ other readings)
+unfoldable pub went_same : (m other : Readings → Meaning) (n : ℕ) (before after : Outside) (result : Result Done (Stop PutFailed)) → ((readings : Readings) → m readings ≡ other readings)
     → Went other n before after result → Went m n before after result
 went_same m other n before after result same went =
     record {
@@ -256,12 +212,12 @@ refused_end (Ok done) items why is none = by_status (file_statuses items why) wh
 -- ---- the tasks of a session
 
 -- what is kept of a session stands for the last state
-kept_last : (m : Meaning) (session : SessionParts) (o : Option SessionParts) → IfSome o (λ kept. kept ≡ session) → StandsForLast m.last session → IfSome o (StandsForLast m.last)
+pub kept_last : (m : Meaning) (session : SessionParts) (o : Option SessionParts) → IfSome o (λ kept. kept ≡ session) → StandsForLast m.last session → IfSome o (StandsForLast m.last)
 kept_last m session None k stand = tt
 kept_last m session (Some other) k stand = subst (λ (s : SessionParts). StandsForLast m.last s) (sym k) stand
 
 -- a run of tasks ends as they do
-pub went_kept : (m : Readings → Meaning) (n : ℕ) (before after : Outside) (session : SessionParts) (status : ℕ) (done : Done)
+unfoldable pub went_kept : (m : Readings → Meaning) (n : ℕ) (before after : Outside) (session : SessionParts) (status : ℕ) (done : Done)
     → done.status ≡ status → IfSome done.session (λ kept. kept ≡ session) → Went m n before after (ended_with session (Ok status)) → Went m n before after (Ok done)
 went_kept m n before after session status done same kept went =
     record {
@@ -284,16 +240,6 @@ pub run_unbound : (compiled : CheckedProgram) (telling : Telling) (from : Option
     → meaning_of_run compiled telling from bindings readings tasks ≡ meaning_unless o compiled telling from bindings readings tasks
 run_unbound compiled telling from bindings readings tasks o is = ap (λ (f : Option Task). meaning_unless f compiled telling from bindings readings tasks) (sym is)
 
--- what tasks do from the opening state of a session is what they do from that of its program
-pub from_opened : (program : CheckedProgram) (compiled : CompiledProgram) (opened : SessionParts) (m : FlatState → Readings → Meaning) (n : ℕ) (before after : Outside) (result : Result Done (Stop PutFailed))
-    → Compiles program compiled → opened.compiled ≡ compiled → StandForState compiled.layouts opened.stores (opening compiled.layouts)
-    → (Compiles program opened.compiled → (state : FlatState) → StandForState opened.compiled.layouts opened.stores state → Went (m state) n before after result)
-    → Went (m (opening program.layouts)) n before after result
-from_opened program compiled opened m n before after result compiles same stand went =
-    went (subst (Compiles program) (sym same) compiles) (opening program.layouts)
-    (subst (λ (ls : List Shape). StandForState opened.compiled.layouts opened.stores (opening ls)) compiles.layouts
-    (subst (λ (c : CompiledProgram). StandForState c.layouts opened.stores (opening compiled.layouts)) (sym same) stand))
-
 -- which task is the first without a file, in the words of the program that is compiled
 pub same_first : (program : CheckedProgram) (compiled : CompiledProgram) (bindings : List Binding) (tasks : List Task) (o : Option Task) → Compiles program compiled → tasks ≡ unfolded_tasks compiled.commands
     → o ≡ find (is_unbound compiled.names bindings) tasks → o ≡ find (is_unbound program.names bindings) (unfolded_tasks program.commands)
@@ -305,13 +251,6 @@ same_first program compiled bindings tasks o compiles are found =
 pub line_named : (program : CheckedProgram) (compiled : CompiledProgram) (task : Task) (old new : Output) (result : Result Done (Stop PutFailed)) → Compiles program compiled
     → Sends result old new (line_text (no_file_last (field_text compiled.names task))) → Sends result old new (line_text (no_file_last (field_text program.names task)))
 line_named program compiled task old new result compiles sent = subst (λ (t : Tables). Sends result old new (line_text (no_file_last (field_text t task)))) compiles.names sent
-
--- what is done with a compiled program is what its file means
-pub compiled_went : (asked : Asked) (bytes : List ℕ) (answer : Result CheckedProgram Refusal) (compiled : CompiledProgram) (before after : Outside) (result : Result Done (Stop PutFailed))
-    → IsOkAnd answer (λ program. Compiles program compiled) → ((program : CheckedProgram) → Compiles program compiled → Went (meaning_in (doing asked.mode) program asked.from asked.bindings) 1 before after result)
-    → Went (λ readings. meaning_of_compiled asked readings bytes answer) 1 before after result
-compiled_went asked bytes (Ok program) compiled before after result compiles went = went program compiles
-compiled_went asked bytes (Err why) compiled before after result compiles went = absurd compiles
 
 -- a session that is left of this program is what its file is compiled to
 pub compiled_left : (answer : Result CheckedProgram Refusal) (compiled : CompiledProgram) (result : Result Done (Stop PutFailed)) → IsOkAnd answer (λ program. Compiles program compiled)
@@ -351,11 +290,3 @@ went_opened program compiled text other n before after result compiles same sent
     (gone_text (all_done other (opening program.layouts)) other before.output after.output result (append-nil (writing other)) (λ wrong. absurd (wrong refl))
     (subst (λ (t : List ℕ). Sends result before.output after.output t) same sent) status (opened_last program compiled result compiles left stand))
     asked reads faults (not_two result 0 (λ e. absurd (omega arith)) status)
-
--- if no name is bound, and no snapshot is given
-pub went_unbound : (program : CheckedProgram) (telling : Telling) (from : Option (List ℕ)) (binds : List Bind) (before after : Outside) (result : Result Done (Stop PutFailed)) → from ≡ None → binds ≡ []
-    → Went (λ readings. meaning_of_run program telling from (map binding_read binds) readings (unfolded_tasks program.commands)) 1 before after result
-    → Went (λ readings. meaning_of_run program telling None [] readings (unfolded_tasks program.commands)) 1 before after result
-went_unbound program telling from binds before after result bare none went =
-    subst (λ (f : Option (List ℕ)). Went (λ readings. meaning_of_run program telling f [] readings (unfolded_tasks program.commands)) 1 before after result) bare
-    (subst (λ (bs : List Bind). Went (λ readings. meaning_of_run program telling from (map binding_read bs) readings (unfolded_tasks program.commands)) 1 before after result) none went)

@@ -8,8 +8,8 @@ use Rattle.std.specs.List.{AllByRecursion}
 use Rattle.sg_words.specs.declared.memory.Stop.{Stop}
 use Rattle.sg_words.specs.declared.memory.Stop.TheVariants as stop
 use Rattle.sg_words.specs.declared.text.Text.{Text}
-use Rattle.sg_outside.specs.Counts.{Rose}
-use Rattle.sg_outside.specs.Files.{Held, Reading, Bytes, TooMany, Missing, reading}
+use Rattle.sg_outside.specs.Counts.{Rose, one_more}
+use Rattle.sg_outside.specs.Files.{Held, Reading, Bytes, TooMany, Missing, reading, asked_too}
 use Rattle.sg_layout.specs.declared.shape.Shape.{Shape}
 use Rattle.sg_flat.specs.declared.state.FlatState.{FlatState}
 use Rattle.sg_flat.specs.declared.effects.Write.{Write}
@@ -38,14 +38,14 @@ use Rattle.sparsegrid.specs.declared.output.PutFailed.{PutFailed}
 use Rattle.sparsegrid.specs.declared.session.Done.{Done}
 use Rattle.sparsegrid.specs.declared.last_line.LastLine.{LastLine}
 use Rattle.sparsegrid.specs.Lines.{run_last}
-use Rattle.sparsegrid.specs.Moves.{Move, ReadsFile, writing, names_in}
+use Rattle.sparsegrid.specs.Moves.{Move, ReadsFile, Reaches, Reached, writing, reaching, names_in, reached_in}
 use Rattle.sparsegrid.specs.Telling.{Telling}
-use Rattle.sparsegrid.specs.Meaning.{Meaning, Readings, moves_of, after_moves, refused_with, all_done, asking_for, before as before_text, after_task, task_and_more, meaning_of_tasks}
-use Rattle.sparsegrid.specs.Outcome.{Output, Outside, StaysWritten, Made, StandsForLast}
-use Rattle.sparsegrid.specs.steps.Along.{PutsText, PutsPart, Sends, line_text, ended_with, Follows, ReadMade, names_of, Agree, AreTold, load_reads, NoneFailed, Went, Came}
-use Rattle.sparsegrid.proofs.Writing.{unread, names_append, grew_none, grew_text, grew_part, made_twice, made_none, made_unread, made_read}
+use Rattle.sparsegrid.specs.Meaning.{Meaning, Readings, moves_of, after_moves, refused_with, done_with, asking_for, at_state, after_task, task_and_more, meaning_of_tasks}
+use Rattle.sparsegrid.specs.Outcome.{Output, Outside, StaysWritten, Grew, Made, StandsForLast}
+use Rattle.sparsegrid.specs.steps.Along.{PutsText, Sends, line_text, ended_with, Follows, ReadMade, names_of, Agree, AreTold, load_reads, NoneFailed, Went, Came}
+use Rattle.sparsegrid.proofs.Writing.{unread_reaching, reached_append, names_append, grew_reaching, grew_part, made_twice, made_none, made_unread, made_read}
 use Rattle.sparsegrid.proofs.Readings.{names_twice, told_twice, agree_twice}
-use Rattle.sparsegrid.proofs.Going.{EndsInLine, longer, at_text, Gone, gone_text, gone_before, stays_same, went_still, went_memory, went_gone, went_failed, compose}
+use Rattle.sparsegrid.proofs.Going.{EndsInLine, longer, at_text, Gone, gone_text, gone_before, stays_same, went_still, went_memory, went_failed, compose}
 
 -- ---- a refused meaning ends in its line
 
@@ -78,13 +78,17 @@ module _ (compiled : CheckedProgram) (bindings : List Binding) (telling : Tellin
         after_ends number state (Some name) task (more (suc n)) (task_meaning compiled state task (readings (suc n) name most_grid_bytes)) (rest (suc n))
 
 -- the moves by which a task reads its file, where it has one
-abbrev load_moves : Option (List ℕ) → List Move
+abbrev pub load_moves : Option (List ℕ) → List Move
 load_moves None = []
 load_moves (Some name) = ReadsFile name ∷ []
 
 load_names : (file : Option (List ℕ)) (given : Reading) → names_in (load_moves file) ≡ names_of (load_reads file given)
 load_names None given = refl
 load_names (Some name) given = refl
+
+pub load_still : (file : Option (List ℕ)) → reached_in (load_moves file) ≡ []
+load_still None = refl
+load_still (Some name) = refl
 
 module _ (compiled : CheckedProgram) (binds : List Bind) (telling : Telling) where
   tasks_step : (readings : Readings) (number n : ℕ) (state : FlatState) (task : Task) (tasks : List Task)
@@ -94,7 +98,7 @@ module _ (compiled : CheckedProgram) (binds : List Bind) (telling : Telling) whe
   unfolding meaning_of_tasks
   tasks_step readings number n state task tasks = refl
 
-  tasks_none : (readings : Readings) (number n : ℕ) (state : FlatState) → meaning_of_tasks compiled (map binding_read binds) telling readings number n state [] ≡ all_done (telling.ending state) state
+  tasks_none : (readings : Readings) (number n : ℕ) (state : FlatState) → meaning_of_tasks compiled (map binding_read binds) telling readings number n state [] ≡ done_with telling state
   unfolding meaning_of_tasks
   tasks_none readings number n state = refl
 
@@ -257,6 +261,37 @@ pub record Stepped (compiled : CheckedProgram) (binds : List Bind) (state : Flat
   pub cause : StepCause result now.failed_reads next.failed_reads
   pub held : next.held ≡ now.held
 
+-- these reads and moves were made
+pub record DoneSo (made : List ReadMade) (moves : List Move) (before next : Outside) : Type 0 where
+  pub names : names_in moves ≡ names_of made
+  pub grew : Made moves [] before next
+  pub held : next.held ≡ before.held
+  pub none : NoneFailed before next made
+
+-- a part of a run went, and came to these states
+pub record WentTo (m : Readings → Meaning) (n : ℕ) (before after : Outside) (result : Result Done (Stop PutFailed)) (reached : List Reached) : Type 0 where
+  pub went : Went m n before after result
+  pub reached_is : reached_in went.did ≡ reached
+
+still_to : (m : Readings → Meaning) (n : ℕ) (before after : Outside) (result : Result Done (Stop PutFailed)) (did : List Move) (part : List ℕ) → reached_in did ≡ []
+    → names_in did ≡ [] → Grew did part before.output after.output → ((readings : Readings) → Follows (m readings) did part result)
+    → after.asked ≡ before.asked → after.reads ≡ before.reads → after.failed_reads ≡ before.failed_reads → IfOk result (λ done. done.status ≢ 2) → WentTo m n before after result []
+unfolding went_still
+still_to m n before after result did part still none grew follows asked reads faults status = record {
+  went = went_still m n before after result did part none grew follows asked reads faults status;
+  reached_is = still;
+}
+
+failed_to : (m : Readings → Meaning) (line : Meaning) (n : ℕ) (name : List ℕ) (limit : ℕ) (before after : Outside) (result : Result Done (Stop PutFailed))
+    → ((readings : Readings) → readings (suc n) name limit ≡ Missing → m readings ≡ asking_for name line) → Gone line before.output after.output result
+    → after.asked ≡ asked_too before.asked name → after.reads ≡ one_more before.reads → Rose before.failed_reads after.failed_reads → IfOk result (λ done. done.status ≡ 2)
+    → WentTo m n before after result []
+unfolding went_failed
+failed_to m line n name limit before after result is gone asked reads rose status = record {
+  went = went_failed m line n name limit before after result is gone asked reads rose status;
+  reached_is = gone.still;
+}
+
 module _ (compiled : CheckedProgram) (binds : List Bind) (telling : Telling) (earlier : ℕ) where
   abbrev file : Task → Option (List ℕ)
   file task = file_of_task compiled.names (map binding_read binds) task
@@ -293,68 +328,95 @@ module _ (compiled : CheckedProgram) (binds : List Bind) (telling : Telling) (ea
       none_made : earlier ≡ 0 + earlier
       none_made = omega arith
 
-  -- one more task was performed, and its text was written: `mid` is the outside between these
+  -- the moves of a task of which this text was written, and its reads
+  abbrev task_moves : (state : FlatState) (task : Task) (stores : List StoreWords) (text : Text) (now mid : Outside) → Stepped compiled binds state task stores (Ok text) now mid → List ℕ → List Move
+  task_moves state task stores text now mid did said = load_moves (file task) ++ reaching said (at_state compiled did.chosen.1.left.state)
+
+  abbrev task_reads : (state : FlatState) (task : Task) (stores : List StoreWords) (text : Text) (now mid : Outside) → Stepped compiled binds state task stores (Ok text) now mid → List ReadMade
+  task_reads state task stores text now mid did = load_reads (file task) did.chosen.0
+
+  -- what was made and done with one more task: `mid` is the outside before its text was written
+  pub done_next : (made : List ReadMade) (moves : List Move) (state : FlatState) (task : Task) (stores : List StoreWords) (text : Text) (said : List ℕ) (before now mid next : Outside)
+      → names_in moves ≡ names_of made → Made moves [] before now → now.held ≡ before.held → NoneFailed before now made
+      → (did : Stepped compiled binds state task stores (Ok text) now mid) → StaysWritten now.output mid.output
+      → PutsText mid.output next.output said → next.asked ≡ mid.asked → next.reads ≡ mid.reads → next.failed_reads ≡ mid.failed_reads → next.held ≡ mid.held
+      → DoneSo (made ++ task_reads state task stores text now mid did) (moves ++ task_moves state task stores text now mid did said) before next
+  done_next made moves state task stores text said before now mid next names grew kept none did stays sent asked reads faults held =
+      record {
+        names = names_append moves own ∙ ap (λ (xs : List (List ℕ)). xs ++ names_in own) names ∙ ap (λ (xs : List (List ℕ)). names_of made ++ xs) own_names ∙ sym (names_twice made more);
+        grew = made_twice moves own [] before now next grew
+            (made_twice (load_moves (file task)) (reaching said at) [] now mid next (step_made state task stores (Ok text) now mid did stays)
+            (made_unread (reaching said at) [] mid next (unread_reaching said at) (grew_reaching said at mid.output next.output sent) asked reads));
+        held = held ∙ did.held ∙ kept;
+        none = record {
+          no_fault = faults ∙ own_none.no_fault ∙ none.no_fault;
+          told = λ h e. told_twice h made more (none.told h e) (own_none.told h (kept ∙ e));
+        };
+      }
+    where
+      at : Reached
+      at = at_state compiled did.chosen.1.left.state
+
+      more : List ReadMade
+      more = load_reads (file task) did.chosen.0
+
+      own : List Move
+      own = load_moves (file task) ++ reaching said at
+
+      own_names : names_in own ≡ names_of more
+      own_names = names_append (load_moves (file task)) (reaching said at) ∙ ap (λ (xs : List (List ℕ)). names_in (load_moves (file task)) ++ xs) (unread_reaching said at)
+          ∙ append-nil (names_in (load_moves (file task))) ∙ load_names (file task) did.chosen.0
+
+      own_none : NoneFailed now mid more
+      own_none = step_none state task stores (Ok text) now mid (λ f e. absurd (cc)) did
+
+  -- what tasks mean after one more of them, where this is what is written of it
+  pub means_next : (start : FlatState) (tasks : List Task) (number : ℕ) (rest rest' : List Task) (task : Task) (made : List ReadMade) (moves : List Move) (state : FlatState) (stores : List StoreWords) (text : Text) (said : List ℕ)
+      (now mid : Outside) → rest ≡ task ∷ rest' → (did : Stepped compiled binds state task stores (Ok text) now mid) → telling.each number did.chosen.1.left.text ≡ said
+      → ((readings : Readings) → Agree readings earlier made → meaning_of_tasks compiled (map binding_read binds) telling readings 0 earlier start tasks
+      ≡ after_moves moves (meaning_of_tasks compiled (map binding_read binds) telling readings number (length made + earlier) state rest))
+      → (readings : Readings) → Agree readings earlier (made ++ task_reads state task stores text now mid did) → meaning_of_tasks compiled (map binding_read binds) telling readings 0 earlier start tasks
+      ≡ after_moves (moves ++ task_moves state task stores text now mid did said)
+      (meaning_of_tasks compiled (map binding_read binds) telling readings (suc number) (length (made ++ task_reads state task stores text now mid did) + earlier) did.chosen.1.left.state rest')
+  means_next start tasks number rest rest' task made moves state stores text said now mid split did same is readings agree =
+      let left = did.chosen.1 in
+      let more = load_reads (file task) did.chosen.0 in
+      let own = load_moves (file task) ++ reaching said (at_state compiled left.left.state) in
+      let two = agree_twice readings earlier (length made + earlier) made more refl agree in
+      let count : length more + (length made + earlier) ≡ length (made ++ more) + earlier = omega (arith, length-append made more) in
+      let then = meaning_of_tasks compiled (map binding_read binds) telling readings (suc number) (length more + (length made + earlier)) left.left.state rest' in
+      let step : meaning_of_tasks compiled (map binding_read binds) telling readings number (length made + earlier) state rest ≡ after_moves (load_moves (file task)) (after_moves (reaching said (at_state compiled left.left.state)) then) =
+      ap (meaning_of_tasks compiled (map binding_read binds) telling readings number (length made + earlier) state) split
+      ∙ one_task compiled binds telling readings number (length made + earlier) state task rest' did.chosen.0 did.has two.1
+      ∙ ap (λ (a : Result Left RunRefusal). after_moves (load_moves (file task)) (after_task compiled telling number state (file task) task (λ following. meaning_of_tasks compiled (map binding_read binds) telling readings (suc number) (length more + (length made + earlier)) following rest') a)) left.is
+      ∙ ap (λ (t : List ℕ). after_moves (load_moves (file task)) (after_moves (reaching t (at_state compiled left.left.state)) then)) same in
+      is readings two.0
+      ∙ ap (λ (m : Meaning). after_moves moves m) (step ∙ regrouped compiled binds telling (load_moves (file task)) (reaching said (at_state compiled left.left.state)) then)
+      ∙ regrouped compiled binds telling moves own then
+      ∙ ap (λ (n : ℕ). after_moves (moves ++ own) (meaning_of_tasks compiled (map binding_read binds) telling readings (suc number) n left.left.state rest')) count
+
+  -- one more task was performed, and its text was written
   pub came_next : (start : FlatState) (tasks : List Task) (number : ℕ) (rest rest' : List Task) (task : Task) (stores stores' : List StoreWords) (text : Text) (before now mid next : Outside)
       → rest ≡ task ∷ rest' → (came : Came compiled (map binding_read binds) telling earlier start tasks number rest stores before now)
       → Stepped compiled binds came.state task stores' (Ok text) now mid → StaysWritten now.output mid.output
       → PutsText mid.output next.output (telling.each number text.bytes) → next.asked ≡ mid.asked → next.reads ≡ mid.reads → next.failed_reads ≡ mid.failed_reads → next.held ≡ mid.held
       → Came compiled (map binding_read binds) telling earlier start tasks (suc number) rest' stores' before next
   came_next start tasks number rest rest' task stores stores' text before now mid next split came did stays sent asked reads faults held =
+      let left = did.chosen.1 in
+      let said = telling.each number left.left.text in
+      let so = done_next came.made came.did came.state task stores' text said before now mid next came.names came.grew came.held came.none did stays
+      (subst (λ (t : List ℕ). PutsText mid.output next.output (telling.each number t)) left.text_is sent) asked reads faults held in
       record {
-        made = came.made ++ more;
-        did = came.did ++ moves;
+        made = came.made ++ load_reads (file task) did.chosen.0;
+        did = came.did ++ (load_moves (file task) ++ reaching said (at_state compiled left.left.state));
         state = left.left.state;
         stand = left.stand;
-        names = names_append came.did moves ∙ ap (λ (xs : List (List ℕ)). xs ++ names_in moves) came.names ∙ ap (λ (xs : List (List ℕ)). names_of came.made ++ xs) names
-            ∙ sym (names_twice came.made more);
-        grew = made_twice came.did moves [] before now next came.grew
-            (made_twice (load_moves (file task)) (writing (telling.each number left.left.text)) [] now mid next (step_made came.state task stores' (Ok text) now mid did stays)
-            (made_unread (writing (telling.each number left.left.text)) [] mid next (unread (telling.each number left.left.text))
-            (grew_text (telling.each number left.left.text) mid.output next.output (subst (λ (t : List ℕ). PutsText mid.output next.output (telling.each number t)) left.text_is sent)) asked reads));
-        held = held ∙ did.held ∙ came.held;
-        none = record {
-          no_fault = faults ∙ none.no_fault ∙ came.none.no_fault;
-          told = λ h e. told_twice h came.made more (came.none.told h e) (none.told h (came.held ∙ e));
-        };
-        is = is;
+        names = so.names;
+        grew = so.grew;
+        held = so.held;
+        none = so.none;
+        is = means_next start tasks number rest rest' task came.made came.did came.state stores' text said now mid split did refl came.is;
       }
-    where
-      given : Reading
-      given = did.chosen.0
-
-      more : List ReadMade
-      more = load_reads (file task) given
-
-      left : LeavesMeaning compiled.layouts stores' text.bytes (task_meaning compiled came.state task given)
-      left = did.chosen.1
-
-      moves : List Move
-      moves = load_moves (file task) ++ writing (telling.each number left.left.text)
-
-      names : names_in moves ≡ names_of more
-      names = names_append (load_moves (file task)) (writing (telling.each number left.left.text)) ∙ ap (λ (xs : List (List ℕ)). names_in (load_moves (file task)) ++ xs) (unread (telling.each number left.left.text))
-          ∙ append-nil (names_in (load_moves (file task))) ∙ load_names (file task) given
-
-      none : NoneFailed now mid more
-      none = step_none came.state task stores' (Ok text) now mid (λ f e. absurd (cc)) did
-
-      count : length more + (length came.made + earlier) ≡ length (came.made ++ more) + earlier
-      count = omega (arith, length-append came.made more)
-
-      is : (readings : Readings) → Agree readings earlier (came.made ++ more)
-          → meaning_of_tasks compiled (map binding_read binds) telling readings 0 earlier start tasks
-          ≡ after_moves (came.did ++ moves) (meaning_of_tasks compiled (map binding_read binds) telling readings (suc number) (length (came.made ++ more) + earlier) left.left.state rest')
-      is readings agree =
-          let two = agree_twice readings earlier (length came.made + earlier) came.made more refl agree in
-          let then = meaning_of_tasks compiled (map binding_read binds) telling readings (suc number) (length more + (length came.made + earlier)) left.left.state rest' in
-          let step : meaning_of_tasks compiled (map binding_read binds) telling readings number (length came.made + earlier) came.state rest ≡ after_moves (load_moves (file task)) (before_text (telling.each number left.left.text) then) =
-          ap (meaning_of_tasks compiled (map binding_read binds) telling readings number (length came.made + earlier) came.state) split
-          ∙ one_task compiled binds telling readings number (length came.made + earlier) came.state task rest' given did.has two.1
-          ∙ ap (λ (a : Result Left RunRefusal). after_moves (load_moves (file task)) (after_task compiled telling number came.state (file task) task (λ following. meaning_of_tasks compiled (map binding_read binds) telling readings (suc number) (length more + (length came.made + earlier)) following rest') a)) left.is in
-          came.is readings two.0
-          ∙ ap (λ (m : Meaning). after_moves came.did m) (step ∙ regrouped compiled binds telling (load_moves (file task)) (writing (telling.each number left.left.text)) then)
-          ∙ regrouped compiled binds telling came.did moves then
-          ∙ ap (λ (n : ℕ). after_moves (came.did ++ moves) (meaning_of_tasks compiled (map binding_read binds) telling readings (suc number) n left.left.state rest')) count
 
   -- the rest of the tasks went, so all did
   pub came_went : (start : FlatState) (tasks : List Task) (number : ℕ) (rest : List Task) (stores : List StoreWords) (before now after : Outside) (result : Result Done (Stop PutFailed))
@@ -363,6 +425,16 @@ module _ (compiled : CheckedProgram) (binds : List Bind) (telling : Telling) (ea
       → Went (λ readings. meaning_of_tasks compiled (map binding_read binds) telling readings 0 earlier start tasks) earlier before after result
   came_went start tasks number rest stores before now after result came went =
       compose _ _ earlier (length came.made + earlier) came.made came.did before now after result refl came.is came.names came.grew came.held came.none went
+
+  pub came_to : (start : FlatState) (tasks : List Task) (number : ℕ) (rest : List Task) (stores : List StoreWords) (before now after : Outside) (result : Result Done (Stop PutFailed))
+      → (came : Came compiled (map binding_read binds) telling earlier start tasks number rest stores before now)
+      → WentTo (λ readings. meaning_of_tasks compiled (map binding_read binds) telling readings number (length came.made + earlier) came.state rest) (length came.made + earlier) now after result []
+      → WentTo (λ readings. meaning_of_tasks compiled (map binding_read binds) telling readings 0 earlier start tasks) earlier before after result (reached_in came.did)
+  unfolding came_went compose
+  came_to start tasks number rest stores before now after result came to = record {
+    went = came_went start tasks number rest stores before now after result came to.went;
+    reached_is = reached_append came.did to.went.did ∙ ap (λ (more : List Reached). reached_in came.did ++ more) to.reached_is ∙ append-nil (reached_in came.did);
+  }
 
   -- ---- if a task cuts the run short, or ends it
 
@@ -381,6 +453,16 @@ module _ (compiled : CheckedProgram) (binds : List Bind) (telling : Telling) (ea
       (λ readings agree. ap (meaning_of_tasks compiled (map binding_read binds) telling readings number n state) split ∙ one_task compiled binds telling readings number n state task rest' did.chosen.0 did.has agree)
       (load_names (file task) did.chosen.0) (step_made state task stores answer now mid did stays)
       did.held (step_none state task stores answer now mid no_read did) went
+
+  behind_to : (number n : ℕ) (state : FlatState) (task : Task) (rest rest' : List Task) (stores : List StoreWords) (answer : Result Text (Stop RunRefusal)) (now mid after : Outside) (result : Result Done (Stop PutFailed))
+      → (split : rest ≡ task ∷ rest') (no_read : IsNoRead answer) (did : Stepped compiled binds state task stores answer now mid) (stays : StaysWritten now.output mid.output)
+      → WentTo (behind number state task rest' did.chosen.0 n) (length (load_reads (file task) did.chosen.0) + n) mid after result []
+      → WentTo (λ readings. meaning_of_tasks compiled (map binding_read binds) telling readings number n state rest) n now after result []
+  unfolding went_behind compose
+  behind_to number n state task rest rest' stores answer now mid after result split no_read did stays to = record {
+    went = went_behind number n state task rest rest' stores answer now mid after result split no_read did stays to.went;
+    reached_is = reached_append (load_moves (file task)) to.went.did ∙ ap (λ (more : List Reached). more ++ reached_in to.went.did) (load_still (file task)) ∙ to.reached_is;
+  }
 
   behind_ends : (number : ℕ) (state : FlatState) (task : Task) (rest : List Task) (given : Reading) (n : ℕ) (readings : Readings) → EndsInLine (behind number state task rest given n readings)
   behind_ends number state task rest given n readings =
@@ -409,16 +491,17 @@ module _ (compiled : CheckedProgram) (binds : List Bind) (telling : Telling) (ea
       then : Readings → Meaning
       then readings = meaning_of_tasks compiled (map binding_read binds) telling readings (suc number) k left.left.state rest'
 
-      is : (readings : Readings) → behind number came.state task rest' did.chosen.0 n readings ≡ before_text (telling.each number left.left.text) (then readings)
+      is : (readings : Readings) → behind number came.state task rest' did.chosen.0 n readings ≡ after_moves (reaching (telling.each number left.left.text) (at_state compiled left.left.state)) (then readings)
       is readings = ap (λ (a : Result Left RunRefusal). after_task compiled telling number came.state (file task) task (λ next. meaning_of_tasks compiled (map binding_read binds) telling readings (suc number) k next rest') a) left.is
 
       went : (w : Stop PutFailed) → Sends {A = Unit} (Err w) mid.output after.output (telling.each number text.bytes) → Went (behind number came.state task rest' did.chosen.0 n) k mid after (Err w)
       went stop.Memory nothing = went_memory (behind number came.state task rest' did.chosen.0 n) k mid after (behind_ends number came.state task rest' did.chosen.0 n) nothing asked reads faults
       went (stop.Refused failed) part =
           went_still (behind number came.state task rest' did.chosen.0 n) k mid after (Err (stop.Refused failed)) [] part.part refl (grew_part (telling.each number text.bytes) mid.output after.output part)
-          (λ readings. at_text (behind number came.state task rest' did.chosen.0 n readings) (telling.each number text.bytes) (moves_of (then readings)) mid.output after.output part
-          (ap (λ (m : Meaning). moves_of m) (is readings) ∙ append_assoc (writing (telling.each number left.left.text)) (then readings).moves (writing (then readings).line)
-          ∙ ap (λ (t : List ℕ). writing (telling.each number t) ++ moves_of (then readings)) (sym left.text_is)))
+          (λ readings. at_text (behind number came.state task rest' did.chosen.0 n readings) (telling.each number text.bytes) (Reaches (at_state compiled left.left.state) ∷ moves_of (then readings)) mid.output after.output part
+          (ap (λ (m : Meaning). moves_of m) (is readings) ∙ append_assoc (reaching (telling.each number left.left.text) (at_state compiled left.left.state)) (then readings).moves (writing (then readings).line)
+          ∙ append_assoc (writing (telling.each number left.left.text)) (Reaches (at_state compiled left.left.state) ∷ []) (moves_of (then readings))
+          ∙ ap (λ (t : List ℕ). writing (telling.each number t) ++ Reaches (at_state compiled left.left.state) ∷ moves_of (then readings)) (sym left.text_is)))
           asked reads faults tt
 
   -- there was no memory for the task
@@ -458,27 +541,25 @@ module _ (compiled : CheckedProgram) (binds : List Bind) (telling : Telling) (ea
   other_status session (Ok status) line is other = λ two. other (sym is ∙ two)
   other_status session (Err why) line is other = tt
 
-  -- no task is left, and what is written then was put
-  pub went_all : (start : FlatState) (tasks : List Task) (number : ℕ) (rest : List Task) (before now after : Outside) (session : SessionParts) (answer : Result ℕ (Stop PutFailed)) → rest ≡ []
+  -- no task is left, and the one text that is written then was put
+  pub went_all : (start : FlatState) (tasks : List Task) (number : ℕ) (rest : List Task) (before now after : Outside) (session : SessionParts) (answer : Result ℕ (Stop PutFailed)) (text : List ℕ) → rest ≡ []
       → Compiles compiled session.compiled → (came : Came compiled (map binding_read binds) telling earlier start tasks number rest session.stores before now)
-      → Sends answer now.output after.output (telling.ending came.state) → IfOk answer (λ status. status ≡ 0) → after.asked ≡ now.asked → after.reads ≡ now.reads → after.failed_reads ≡ now.failed_reads
-      → Went (λ readings. meaning_of_tasks compiled (map binding_read binds) telling readings 0 earlier start tasks) earlier before after (ended_with session answer)
-  went_all start tasks number rest before now after session answer none same came sent status asked reads faults =
-      came_went start tasks number rest session.stores before now after (ended_with session answer) came
-      (went_still _ (length came.made + earlier) now after (ended_with session answer) gone.did gone.part gone.unread gone.grew
+      → moves_of (done_with telling came.state) ≡ writing text → Sends answer now.output after.output text → IfOk answer (λ status. status ≡ 0)
+      → after.asked ≡ now.asked → after.reads ≡ now.reads → after.failed_reads ≡ now.failed_reads
+      → WentTo (λ readings. meaning_of_tasks compiled (map binding_read binds) telling readings 0 earlier start tasks) earlier before after (ended_with session answer) (reached_in came.did)
+  went_all start tasks number rest before now after session answer text none same came one sent status asked reads faults =
+      came_to start tasks number rest session.stores before now after (ended_with session answer) came
+      (still_to _ (length came.made + earlier) now after (ended_with session answer) gone.did gone.part gone.still gone.unread gone.grew
       (λ readings. subst (λ (m : Meaning). Follows m gone.did gone.part (ended_with session answer)) (sym (is readings)) gone.follows)
       asked reads faults (other_status session answer 0 status (λ e. absurd (omega arith))))
     where
-      text : List ℕ
-      text = telling.ending came.state
-
-      is : (readings : Readings) → meaning_of_tasks compiled (map binding_read binds) telling readings number (length came.made + earlier) came.state rest ≡ all_done text came.state
+      is : (readings : Readings) → meaning_of_tasks compiled (map binding_read binds) telling readings number (length came.made + earlier) came.state rest ≡ done_with telling came.state
       is readings =
           ap (meaning_of_tasks compiled (map binding_read binds) telling readings number (length came.made + earlier) came.state) none
           ∙ tasks_none compiled binds telling readings number (length came.made + earlier) came.state
 
-      gone : Gone (all_done text came.state) now.output after.output (ended_with session answer)
-      gone = gone_text (all_done text came.state) text now.output after.output (ended_with session answer) (append-nil (writing text)) (λ wrong. absurd (wrong refl))
+      gone : Gone (done_with telling came.state) now.output after.output (ended_with session answer)
+      gone = gone_text (done_with telling came.state) text now.output after.output (ended_with session answer) one (λ wrong. absurd (wrong refl))
           (sent_line session answer now.output after.output text sent) (same_status session answer 0 status) (same_last came.state session answer same came.stand)
 
   -- the task was refused, and its line written
@@ -488,9 +569,9 @@ module _ (compiled : CheckedProgram) (binds : List Bind) (telling : Telling) (ea
       → Sends answer mid.output after.output (line_text (run_last compiled.names (file_of_task compiled.names (map binding_read binds) task) task why))
       → IfOk answer (λ status. status ≡ (run_last compiled.names (file_of_task compiled.names (map binding_read binds) task) task why).status)
       → after.asked ≡ mid.asked → after.reads ≡ mid.reads → after.failed_reads ≡ mid.failed_reads
-      → Went (λ readings. meaning_of_tasks compiled (map binding_read binds) telling readings 0 earlier start tasks) earlier before after (ended_with session answer)
+      → WentTo (λ readings. meaning_of_tasks compiled (map binding_read binds) telling readings 0 earlier start tasks) earlier before after (ended_with session answer) (reached_in came.did)
   ended_in_task start tasks number rest rest' task stores session before now mid after why answer split same came did stay stays sent status asked reads faults =
-      came_went start tasks number rest stores before now after (ended_with session answer) came (by_read (is_read why) refl)
+      came_to start tasks number rest stores before now after (ended_with session answer) came (by_read (is_read why) refl)
     where
       n : ℕ
       n = length came.made + earlier
@@ -504,10 +585,10 @@ module _ (compiled : CheckedProgram) (binds : List Bind) (telling : Telling) (ea
       gone : Gone (refused_with (Some came.state) last) mid.output after.output (ended_with session answer)
       gone = gone_line came.state last mid.output after.output session answer sent status same stand
 
-      by_read : (test : Bool) → is_read why ≡ test → Went (λ readings. meaning_of_tasks compiled (map binding_read binds) telling readings number n came.state rest) n now after (ended_with session answer)
+      by_read : (test : Bool) → is_read why ≡ test → WentTo (λ readings. meaning_of_tasks compiled (map binding_read binds) telling readings number n came.state rest) n now after (ended_with session answer) []
       by_read false no_read =
-          went_behind number n came.state task rest rest' session.stores (Err (stop.Refused why)) now mid after (ended_with session answer) split (no_read_refusal why no_read) did stays
-          (went_still (behind number came.state task rest' did.chosen.0 n) (length (load_reads (file task) did.chosen.0) + n) mid after (ended_with session answer) gone.did gone.part gone.unread gone.grew
+          behind_to number n came.state task rest rest' session.stores (Err (stop.Refused why)) now mid after (ended_with session answer) split (no_read_refusal why no_read) did stays
+          (still_to (behind number came.state task rest' did.chosen.0 n) (length (load_reads (file task) did.chosen.0) + n) mid after (ended_with session answer) gone.did gone.part gone.still gone.unread gone.grew
           (λ readings. subst (λ (m : Meaning). Follows m gone.did gone.part (ended_with session answer)) (sym (is readings)) gone.follows)
           asked reads faults (other_status session answer last.status status (no_read_status compiled.names (file task) task why no_read)))
         where
@@ -515,7 +596,7 @@ module _ (compiled : CheckedProgram) (binds : List Bind) (telling : Telling) (ea
           is readings =
               ap (λ (a : Result Left RunRefusal). after_task compiled telling number came.state (file task) task (λ next. meaning_of_tasks compiled (map binding_read binds) telling readings (suc number) (length (load_reads (file task) did.chosen.0) + n) next rest') a) did.chosen.1
       by_read true read = by_why why refl read where
-        by_why : (w : RunRefusal) → why ≡ w → is_read w ≡ true → Went (λ readings. meaning_of_tasks compiled (map binding_read binds) telling readings number n came.state rest) n now after (ended_with session answer)
+        by_why : (w : RunRefusal) → why ≡ w → is_read w ≡ true → WentTo (λ readings. meaning_of_tasks compiled (map binding_read binds) telling readings number n came.state rest) n now after (ended_with session answer) []
         by_why (refusal.Read field) is_it sure = by_file (file task) refl where
           means : task_meaning compiled came.state task did.chosen.0 ≡ Err (refusal.Read field)
           means = did.chosen.1 ∙ ap (λ (w : RunRefusal). let r : Result Left RunRefusal = Err w in r) is_it
@@ -523,7 +604,7 @@ module _ (compiled : CheckedProgram) (binds : List Bind) (telling : Telling) (ea
           missing : did.chosen.0 ≡ Missing
           missing = read_refused compiled came.state task did.chosen.0 field means
 
-          by_file : (f : Option (List ℕ)) → file task ≡ f → Went (λ readings. meaning_of_tasks compiled (map binding_read binds) telling readings number n came.state rest) n now after (ended_with session answer)
+          by_file : (f : Option (List ℕ)) → file task ≡ f → WentTo (λ readings. meaning_of_tasks compiled (map binding_read binds) telling readings number n came.state rest) n now after (ended_with session answer) []
           by_file None none = absurd (no_load task did.has none means) where
             no_load : (t : Task) → HasFile compiled.names (map binding_read binds) t → file t ≡ None → task_meaning compiled came.state t did.chosen.0 ≡ Err (refusal.Read field) → ⊥
             no_load (Load at) has nothing e = some_none (file_of_task compiled.names (map binding_read binds) (Load at)) has nothing
@@ -537,7 +618,7 @@ module _ (compiled : CheckedProgram) (binds : List Bind) (telling : Telling) (ea
             no_load (Prune layout) has nothing e = absurd (cc)
             no_load (Clear layout) has nothing e = absurd (cc)
           by_file (Some name) some =
-              went_failed (λ readings. meaning_of_tasks compiled (map binding_read binds) telling readings number n came.state rest) (refused_with (Some came.state) last) n name most_grid_bytes now after (ended_with session answer)
+              failed_to (λ readings. meaning_of_tasks compiled (map binding_read binds) telling readings number n came.state rest) (refused_with (Some came.state) last) n name most_grid_bytes now after (ended_with session answer)
               is (gone_before (refused_with (Some came.state) last) now.output mid.output after.output (ended_with session answer) stays gone)
               (asked ∙ did.asked ∙ ap (λ (f : Option (List ℕ)). asked_after f now.asked) some)
               (reads ∙ did.reads ∙ ap (λ (f : Option (List ℕ)). reads_after f now.reads) some)

@@ -1,5 +1,5 @@
 -- What a generated program means asks for no file.
-use Rattle.std.proofs.Common.{◌≡◌, ℕ, suc, Bool, true, List, [], ◌∷◌, ◌++◌, Option, Some, None, Result, Ok, Err, refl, sym, ap, ◌∙◌, subst}
+use Rattle.std.proofs.Common.{◌≡◌, ℕ, suc, Bool, true, false, List, [], ◌∷◌, ◌++◌, Option, Some, None, Result, Ok, Err, refl, sym, ap, ◌∙◌, subst}
 use Rattle.std.specs.Prelude.{find, option_and_then, if◌then◌else◌}
 use Rattle.std.proofs.lemmas.List.{append-nil}
 use Rattle.sg_words.specs.declared.memory.Stop.{Stop}
@@ -23,12 +23,12 @@ use Rattle.sparsegrid.specs.declared.words.Mode.TheVariants as mode
 use Rattle.sparsegrid.specs.Words.{Asked, Doing, performs, generates, looks, writes_code, audits, doing, is_generated, is_gen}
 use Rattle.sparsegrid.specs.declared.showing.Showing.TheVariants.{Texts}
 use Rattle.sparsegrid.specs.Telling.{Telling, telling_of}
-use Rattle.sparsegrid.specs.Moves.{Move, writing, names_in}
+use Rattle.sparsegrid.specs.Moves.{Move, writing, reaching, names_in}
 use Rattle.sparsegrid.specs.Generated.{generated_text}
-use Rattle.sparsegrid.specs.Meaning.{Meaning, Readings, asked_of, moves_of, asking_for, meaning_of_source, is_unbound, after_task, task_and_more, meaning_of_tasks, meaning_unless, meaning_of_run, meaning_in, meaning_of_compiled, meaning_of_file, meaning_of_generated, meaning_of_asked}
+use Rattle.sparsegrid.specs.Meaning.{Meaning, Readings, is_journal, asked_of, moves_of, asking_for, meaning_of_source, is_unbound, at_state, after_task, task_and_more, meaning_of_tasks, meaning_unless, meaning_of_run, meaning_in, meaning_of_compiled, meaning_of_file, meaning_of_generated, meaning_of_asked}
 use Rattle.sparsegrid.specs.Outcome.{Outside, IsFront}
 use Rattle.sparsegrid.specs.steps.Along.{ReadMade, names_of, Agree, Follows, ReadsEnd, Went}
-use Rattle.sparsegrid.proofs.Writing.{names_append, unread}
+use Rattle.sparsegrid.proofs.Writing.{names_append, unread, unread_reaching}
 use Rattle.sparsegrid.proofs.Readings.{readings_of, agree_own}
 use Rattle.sparsegrid.proofs.Sources.{went_same}
 
@@ -57,7 +57,7 @@ tasks_ask program telling readings number n state (task ∷ tasks) =
 
     by_answer : (answer : Result Left RunRefusal) → ((next : FlatState) → asked_of (more n next) ≡ []) → asked_of (after_task program telling number state None task (more n) answer) ≡ []
     by_answer (Ok left) rest =
-        names_append (writing (telling.each number left.text)) (more n left.state).moves ∙ ap (λ (names : List (List ℕ)). names ++ asked_of (more n left.state)) (unread (telling.each number left.text))
+        names_append (reaching (telling.each number left.text) (at_state program left.state)) (more n left.state).moves ∙ ap (λ (names : List (List ℕ)). names ++ asked_of (more n left.state)) (unread_reaching (telling.each number left.text) (at_state program left.state))
         ∙ rest left.state
     by_answer (Err why) rest = refl
 
@@ -122,6 +122,14 @@ went_unread m n k before after result none went =
       follows = λ readings agree. went.follows readings (subst (λ (ms : List ReadMade). Agree readings n ms) (sym made) tt);
       ends = subst (λ (ms : List ReadMade). ReadsEnd before after ms result) made went.ends;
     }
+
+-- the generated program is run without a journal
+pub no_journal : (what : Doing) → is_generated what ≡ true → is_journal what ≡ false
+no_journal (performs shown) gen = absurd (cc)
+no_journal generates gen = refl
+no_journal looks gen = absurd (cc)
+no_journal writes_code gen = absurd (cc)
+no_journal audits gen = absurd (cc)
 
 -- the generated program was run
 pub generated_went : (asked : Asked) (bytes : List ℕ) (before after : Outside) (result : Result Done (Stop PutFailed)) → is_gen asked.mode ≡ true → bytes ≡ generated_text asked.number

@@ -4,7 +4,7 @@ use Rattle.std.proofs.lemmas.List.{append-nil, take-append-drop, length-drop}
 use Rattle.sg_outside.specs.Counts.{one_more}
 use Rattle.sg_outside.specs.Sink.{followed_by, piece_too}
 use Rattle.sg_outside.specs.Files.{asked_too}
-use Rattle.sparsegrid.specs.Moves.{Move, ReadsFile, WritesText, pieces_of, writing, names_in, pieces_in, text_in}
+use Rattle.sparsegrid.specs.Moves.{Move, ReadsFile, WritesText, Reaches, Reached, pieces_of, writing, reaching, names_in, pieces_in, text_in, reached_in}
 use Rattle.sparsegrid.specs.Meaning.{Meaning, moves_of, text_meant}
 use Rattle.sparsegrid.specs.Outcome.{Output, Outside, StaysWritten, Grew, Made, told_more, counted_more}
 use Rattle.sparsegrid.specs.steps.Along.{PutsText, PutsPart}
@@ -37,16 +37,25 @@ pub names_append : (xs ys : List Move) → names_in (xs ++ ys) ≡ names_in xs +
 names_append [] ys = refl
 names_append (ReadsFile name ∷ xs) ys = ap (λ (names : List (List ℕ)). name ∷ names) (names_append xs ys)
 names_append (WritesText text ∷ xs) ys = names_append xs ys
+names_append (Reaches at ∷ xs) ys = names_append xs ys
 
 pub pieces_append : (xs ys : List Move) → pieces_in (xs ++ ys) ≡ pieces_in xs ++ pieces_in ys
 pieces_append [] ys = refl
 pieces_append (ReadsFile name ∷ xs) ys = pieces_append xs ys
 pieces_append (WritesText text ∷ xs) ys = ap (λ (pieces : List (List ℕ)). text ∷ pieces) (pieces_append xs ys)
+pieces_append (Reaches at ∷ xs) ys = pieces_append xs ys
 
 pub text_append : (xs ys : List Move) → text_in (xs ++ ys) ≡ text_in xs ++ text_in ys
 text_append [] ys = refl
 text_append (ReadsFile name ∷ xs) ys = text_append xs ys
 text_append (WritesText text ∷ xs) ys = ap (λ (more : List ℕ). text ++ more) (text_append xs ys) ∙ sym (append_assoc text (text_in xs) (text_in ys))
+text_append (Reaches at ∷ xs) ys = text_append xs ys
+
+pub reached_append : (xs ys : List Move) → reached_in (xs ++ ys) ≡ reached_in xs ++ reached_in ys
+reached_append [] ys = refl
+reached_append (ReadsFile name ∷ xs) ys = reached_append xs ys
+reached_append (WritesText text ∷ xs) ys = reached_append xs ys
+reached_append (Reaches at ∷ xs) ys = ap (λ (more : List Reached). at ∷ more) (reached_append xs ys)
 
 -- ---- one text
 
@@ -64,6 +73,27 @@ pieces_written (byte ∷ bytes) = refl
 pub unread : (text : List ℕ) → names_in (writing text) ≡ []
 unread [] = refl
 unread (byte ∷ bytes) = refl
+
+-- no state is reached by a text
+pub none_reached : (text : List ℕ) → reached_in (writing text) ≡ []
+none_reached [] = refl
+none_reached (byte ∷ bytes) = refl
+
+pub unread_reaching : (text : List ℕ) (at : Reached) → names_in (reaching text at) ≡ []
+unread_reaching [] at = refl
+unread_reaching (byte ∷ bytes) at = refl
+
+pub reached : (text : List ℕ) (at : Reached) → reached_in (reaching text at) ≡ at ∷ []
+reached [] at = refl
+reached (byte ∷ bytes) at = refl
+
+pub text_reaching : (text : List ℕ) (at : Reached) → text_in (reaching text at) ≡ text
+text_reaching [] at = refl
+text_reaching (byte ∷ bytes) at = append-nil (byte ∷ bytes)
+
+pub pieces_reaching : (text : List ℕ) (at : Reached) → pieces_in (reaching text at) ≡ pieces_of text
+pieces_reaching [] at = refl
+pieces_reaching (byte ∷ bytes) at = refl
 
 pub writing_some : (text : List ℕ) → text ≢ [] → writing text ≡ WritesText text ∷ []
 writing_some [] some = absurd (some refl)
@@ -111,6 +141,13 @@ grew_text text old new put =
     record {
       written = put.written ∙ ap (followed_by old.written) (sym (append-nil (text_in (writing text)) ∙ text_written text));
       pieces = put.pieces ∙ ap (told_more old.pieces) (sym (pieces_written text));
+    }
+
+pub grew_reaching : (text : List ℕ) (at : Reached) (old new : Output) → PutsText old new text → Grew (reaching text at) [] old new
+grew_reaching text at old new put =
+    record {
+      written = put.written ∙ ap (followed_by old.written) (sym (append-nil (text_in (reaching text at)) ∙ text_reaching text at));
+      pieces = put.pieces ∙ ap (told_more old.pieces) (sym (pieces_reaching text at));
     }
 
 pub grew_part : (text : List ℕ) (old new : Output) (put : PutsPart old new text) → Grew [] put.part old new

@@ -1,5 +1,5 @@
 -- Worked examples of what words and files mean.
-use Rattle.std.specs.Prelude.{◌≡◌, refl, ℕ, List, [], ◌∷◌, take, Option, Some, None, Ok, codes}
+use Rattle.std.specs.Prelude.{◌≡◌, refl, ℕ, [], ◌∷◌, take, Option, Some, None, Ok, codes}
 use Rattle.std.specs.Fmt.{digits}
 use Rattle.sg_outside.specs.Files.{Held, Reading, Bytes, TooMany, Missing}
 use Rattle.sg_flat.specs.State.{opening}
@@ -7,12 +7,12 @@ use Rattle.sg_snapshot.specs.Examples.{blocks_of, one_block, one_block_bytes}
 use Rattle.sg_session.specs.Compiled.{CheckedProgram}
 use Rattle.sparsegrid.specs.Lines.{words_last}
 use Rattle.sg_flat.specs.declared.state.FlatState.{FlatState}
-use Rattle.sparsegrid.specs.Moves.{ReadsFile, WritesText}
+use Rattle.sparsegrid.specs.Moves.{ReadsFile, WritesText, Reaches}
 use Rattle.sg_session.specs.declared.tasks.Task.TheVariants.{Stats}
 use Rattle.sparsegrid.specs.declared.showing.Showing.{Showing}
-use Rattle.sparsegrid.specs.declared.showing.Showing.TheVariants.{Texts, Image}
+use Rattle.sparsegrid.specs.declared.showing.Showing.TheVariants.{Texts, Image, Changes}
 use Rattle.sparsegrid.specs.Telling.{telling_of}
-use Rattle.sparsegrid.specs.Meaning.{Meaning, refused_before_tasks, all_done, before, asking_for, moves_of, text_meant, with_open, meaning, meaning_by, begun, after_task}
+use Rattle.sparsegrid.specs.Meaning.{Meaning, refused_before_tasks, all_done, before, asking_for, moves_of, text_meant, with_open, meaning, meaning_by, begun, done_with, at_state, after_task}
 
 -- without words nothing is read
 no_words : (held : Held) (stop : Option ℕ) → meaning [] held stop ≡ refused_before_tasks words_last
@@ -80,12 +80,15 @@ begun_without_room : begun_by 0 (Bytes one_block_bytes)
 unfolding digits
 begun_without_room = refl
 
--- by what is shown a command's text is written, or the image of the last state
+-- by what is shown a command's text is written, or the image of the last state, or the end of a journal
 abbrev one_dump : Showing → Meaning
-one_dump what = after_task (a_line 2) (telling_of (a_line 2).names (blocks_of 2 ∷ []) what) 0 one_block None (Stats 0) (λ state. all_done ((telling_of (a_line 2).names (blocks_of 2 ∷ []) what).ending state) state) (Ok (record { state = one_block; text = codes "grid" }))
+one_dump what = after_task (a_line 2) (telling_of (a_line 2).names (blocks_of 2 ∷ []) what) 0 one_block None (Stats 0) (λ state. done_with (telling_of (a_line 2).names (blocks_of 2 ∷ []) what) state) (Ok (record { state = one_block; text = codes "grid" }))
 
-texts_shown : moves_of (one_dump Texts) ≡ WritesText (codes "grid") ∷ []
+texts_shown : moves_of (one_dump Texts) ≡ WritesText (codes "grid") ∷ Reaches (at_state (a_line 2) one_block) ∷ []
 texts_shown = refl
 
-image_shown : moves_of (one_dump Image) ≡ WritesText one_block_bytes ∷ []
+image_shown : moves_of (one_dump Image) ≡ Reaches (at_state (a_line 2) one_block) ∷ WritesText one_block_bytes ∷ []
 image_shown = refl
+
+end_shown : moves_of (one_dump Changes) ≡ Reaches (at_state (a_line 2) one_block) ∷ WritesText (codes "end\n") ∷ []
+end_shown = refl

@@ -14,6 +14,7 @@ use Rattle.sg_grid.specs.Fronts.{rest_after, count_at, number_at, number_before,
 use Rattle.sg_grid.specs.Limits.{most_grid_bytes}
 use Rattle.sg_grid.specs.Reading.{run_in, runs_of, rows_of}
 use Rattle.sg_flat.specs.declared.state.FlatState.{FlatState}
+use Rattle.sg_flat.specs.State.{opening}
 use Rattle.sg_names.specs.Tables.{Tables}
 use Rattle.sg_session.specs.declared.tasks.Task.{Task}
 use Rattle.sg_session.specs.declared.tasks.Task.TheVariants.{Load, Dump, Prune}
@@ -27,8 +28,8 @@ use Rattle.sparsegrid.specs.declared.words.Mode.TheVariants as mode
 use Rattle.sparsegrid.specs.declared.showing.Showing.TheVariants.{Texts}
 use Rattle.sparsegrid.specs.Telling.{telling_of}
 use Rattle.sparsegrid.specs.Words.{Asked, good_words}
-use Rattle.sparsegrid.specs.Moves.{ReadsFile, WritesText, pieces_of, pieces_in}
-use Rattle.sparsegrid.specs.Meaning.{Meaning, moves_of, text_meant, Readings, readings_in, meaning_of_tasks, meaning_of_run, meaning}
+use Rattle.sparsegrid.specs.Moves.{ReadsFile, WritesText, Reaches, pieces_of, pieces_in}
+use Rattle.sparsegrid.specs.Meaning.{Meaning, moves_of, text_meant, Readings, readings_in, at_state, meaning_of_tasks, meaning_of_run, meaning}
 use Rattle.sparsegrid.specs.Outcome.{Outside, WroteMeaning, open_text, StandsForLast, IsOfFile}
 
 -- ---- what the commands of a run leave
@@ -198,6 +199,12 @@ left_by_each = refl
 
 -- and so the run means
 meant_by_both : meaning_of_run loads_and_dumps (telling_of loads_and_dumps.names loads_and_dumps.layouts Texts) None from_f lists_a_seven (unfolded_tasks loads_and_dumps.commands)
-    ≡ record { moves = ReadsFile (codes "f") ∷ WritesText (codes "grid 1 4\n0 0\n1 0\n2 7\n3 0\n") ∷ []; line = []; status = 0; last = Some loaded_line }
+    ≡ record {
+      moves = Reaches (at_state loads_and_dumps (opening (whole_line ∷ []))) ∷ ReadsFile (codes "f") ∷ Reaches (at_state loads_and_dumps loaded_line)
+          ∷ WritesText (codes "grid 1 4\n0 0\n1 0\n2 7\n3 0\n") ∷ Reaches (at_state loads_and_dumps loaded_line) ∷ [];
+      line = [];
+      status = 0;
+      last = Some loaded_line;
+    }
 unfolding meaning_of_tasks rows_of runs_of head_at run_in line_at length_at coordinate_at further_part_at number_before number_at count_at rest_after digits
 meant_by_both = refl

@@ -5,7 +5,8 @@ use Rattle.sg_outside.specs.Files.{Bytes}
 use Rattle.sg_lexer.specs.Limits.{most_file_bytes}
 use Rattle.sparsegrid.specs.declared.words.Mode.TheVariants as mode
 use Rattle.sparsegrid.specs.Generated.{generated_text}
-use Rattle.sparsegrid.specs.Meaning.{Readings, asking_for, meaning_of_asked}
+use Rattle.sparsegrid.specs.Words.{Asked}
+use Rattle.sparsegrid.specs.Meaning.{Meaning, Readings, asking_for, meaning_of_asked}
 use Rattle.sparsegrid.specs.Outcome.{Outside, HasWholeText, WroteMeaning, ReadFaults, PutFaults}
 
 -- if neither count of faults rose and memory didn't run out, a run wrote the whole of what it means
@@ -20,3 +21,14 @@ abbrev pub GeneratedIsText : Type 0
 GeneratedIsText = (workers number : ℕ) (file : List ℕ) (readings : Readings) → readings 1 file most_file_bytes ≡ Bytes (generated_text number)
     → meaning_of_asked (record { workers = workers; mode = mode.Run; file = file; from = None; bindings = []; number = 0 }) readings
     ≡ asking_for file (meaning_of_asked (record { workers = workers; mode = mode.Gen; file = []; from = None; bindings = []; number = number }) readings)
+
+-- two meanings end alike: their statuses are the same, and their last states, and where not all is done their last lines
+pub record EndAlike (m other : Meaning) : Type 0 where
+  pub status : m.status ≡ other.status
+  pub last : m.last ≡ other.last
+  pub line : m.status ≢ 0 → m.line ≡ other.line
+
+-- a run in mode journal ends as the same one in mode run
+abbrev pub JournalEndsAsRun : Type 0
+JournalEndsAsRun = (asked : Asked) (readings : Readings) → asked.mode ≡ mode.Journal
+    → EndAlike (meaning_of_asked asked readings) (meaning_of_asked (record { workers = asked.workers; mode = mode.Run; file = asked.file; from = asked.from; bindings = asked.bindings; number = asked.number }) readings)

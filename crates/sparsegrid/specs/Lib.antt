@@ -7,9 +7,11 @@ pub mod Advice
 pub mod Telling
 pub mod Generated
 pub mod Moves
+pub mod Parts
 pub mod Verdicts
 pub mod Meaning
 pub mod Outcome
+pub mod Journaling
 pub mod Laws
 pub mod Independence
 pub mod steps

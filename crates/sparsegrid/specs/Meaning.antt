@@ -25,15 +25,15 @@ use Rattle.sg_audit.specs.Auditing.{audited}
 use Rattle.sparsegrid.specs.declared.last_line.LastLine.{LastLine}
 use Rattle.sparsegrid.specs.Words.{Asked, Doing, performs, generates, looks, writes_code, audits, doing, good_words, is_gen}
 use Rattle.sparsegrid.specs.declared.showing.Showing.TheVariants.{Texts}
-use Rattle.sparsegrid.specs.Telling.{Telling, telling_of}
+use Rattle.sparsegrid.specs.Telling.{Telling, telling_of, shows_journal}
 use Rattle.sparsegrid.specs.Limits.{most_snapshot_bytes}
-use Rattle.sparsegrid.specs.Moves.{Move, ReadsFile, writing, names_in, text_in}
+use Rattle.sparsegrid.specs.Moves.{Move, ReadsFile, Reaches, Reached, writing, reaching, names_in, text_in}
 use Rattle.sparsegrid.specs.Generated.{generated_text}
 use Rattle.sparsegrid.specs.Verdicts.{most_journal_bytes, journal_file, verdict_text}
 use Rattle.sparsegrid.specs.Lines.{words_last, no_file_last, read_last, file_bytes_last, journal_bytes_last, refusal_last, run_last, field_text, snapshot_last, snapshot_bytes_last}
 
--- What a run means: the moves that it makes before its last line; that line with its newline, which is empty if all is done; its status; and the
--- last state, where it leaves one.
+-- What a run means: the moves that it makes before its last line; that line with its newline, which is empty if all is done, but for the end of a
+-- journal; its status; and the last state, where it leaves one.
 pub record Meaning : Type 0 where
   pub moves : List Move
   pub line : List ℕ
@@ -98,9 +98,17 @@ is_unbound names bindings (Clear layout) = false
 
 -- ---- the tasks of a program, one after the other
 
+-- all commands are done at a state: what is written then, and the last line
+abbrev pub done_with : Telling → FlatState → Meaning
+done_with telling state = record { moves = writing (telling.ending state); line = telling.closing; status = 0; last = Some state }
+
+-- a state of a program's commands
+abbrev pub at_state : CheckedProgram → FlatState → Reached
+at_state program state = record { shapes = program.layouts; state = state }
+
 -- after the task of a number at a state: what is written of its text, and then what follows; or its last line, with the state that was before it
 abbrev pub after_task : CheckedProgram → Telling → ℕ → FlatState → Option (List ℕ) → Task → (FlatState → Meaning) → Result Left RunRefusal → Meaning
-after_task program telling number state file task more (Ok left) = before (telling.each number left.text) (more left.state)
+after_task program telling number state file task more (Ok left) = after_moves (reaching (telling.each number left.text) (at_state program left.state)) (more left.state)
 after_task program telling number state file task more (Err why) = refused_with (Some state) (run_last program.names file task why)
 
 -- The task of a number and what follows it, with the file that it reads, if any. So many reads were before it; what follows takes the number of
@@ -113,10 +121,15 @@ task_and_more program telling readings number reads state task more (Some name) 
 
 -- tasks from a state on, up to the first that is refused; so many tasks and so many reads were before them
 unfoldable pub meaning_of_tasks : CheckedProgram → List Binding → Telling → Readings → ℕ → ℕ → FlatState → List Task → Meaning
-meaning_of_tasks program bindings telling readings number reads state [] = all_done (telling.ending state) state
+meaning_of_tasks program bindings telling readings number reads state [] = done_with telling state
 meaning_of_tasks program bindings telling readings number reads state (task ∷ tasks) =
     task_and_more program telling readings number reads state task
     (λ after next. meaning_of_tasks program bindings telling readings (suc number) after next tasks) (file_of_task program.names bindings task)
+
+-- all tasks from the state with which they begin, where so many reads were before them
+abbrev pub meaning_from : CheckedProgram → List Binding → Telling → Readings → ℕ → FlatState → List Task → Meaning
+meaning_from program bindings telling readings reads state tasks =
+    after_moves (Reaches (at_state program state) ∷ []) (meaning_of_tasks program bindings telling readings 0 reads state tasks)
 
 -- ---- the state with which tasks begin
 
@@ -149,7 +162,7 @@ begun program (Some name) readings more = asking_for name (after_snapshot progra
 abbrev pub meaning_unless : Option Task → CheckedProgram → Telling → Option (List ℕ) → List Binding → Readings → List Task → Meaning
 meaning_unless (Some task) program telling from bindings readings tasks = refused_before_tasks (no_file_last (field_text program.names task))
 meaning_unless None program telling from bindings readings tasks =
-    begun program from readings (λ reads state. meaning_of_tasks program bindings telling readings 0 reads state tasks)
+    begun program from readings (λ reads state. meaning_from program bindings telling readings reads state tasks)
 
 -- the tasks of a program from its opening state, or from a snapshot, on; its file was read before
 abbrev pub meaning_of_run : CheckedProgram → Telling → Option (List ℕ) → List Binding → Readings → List Task → Meaning
@@ -213,6 +226,19 @@ abbrev pub meaning_by : List (List ℕ) → Readings → Meaning
 meaning_by words readings = meaning_of_words (good_words words) readings
 
 -- ---- what a meaning leaves open
+
+-- whether a journal is written
+abbrev pub is_journal : Doing → Bool
+is_journal (performs what) = shows_journal what
+is_journal generates = false
+is_journal looks = false
+is_journal writes_code = false
+is_journal audits = false
+
+-- good words ask for a journal; bad ones ask for nothing
+abbrev pub asks_journal : Option Asked → Bool
+asks_journal None = false
+asks_journal (Some asked) = is_journal (doing asked.mode)
 
 -- whether access code is written
 abbrev pub is_code : Doing → Bool

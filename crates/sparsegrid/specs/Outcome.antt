@@ -148,7 +148,7 @@ pub record IsFront (m : Meaning) (done : List Move) (part : List ℕ) (answer : 
   pub whole : moves_of m ≡ done ++ left
   pub failed : answer ≡ 3 → BeginsNext part left
   pub other : answer ≢ 3 → part ≡ []
-  pub less : answer ≡ 9 → m.status ≢ 0 → text_in left ≢ []
+  pub less : answer ≡ 9 → m.line ≢ [] → text_in left ≢ []
 
 -- a front of the moves of a meaning was made
 pub record WentAFront (m : Meaning) (before after : Outside) (answer : ℕ) : Type 0 where

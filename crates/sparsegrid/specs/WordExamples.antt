@@ -52,6 +52,9 @@ saved = refl
 advised : good_words (codes "--mode=advise" ∷ codes "p.sg" ∷ codes "--from=s" ∷ []) ≡ Some (record { workers = 4; mode = mode.Advise; file = codes "p.sg"; from = Some (codes "s"); bindings = []; number = 0 })
 advised = refl
 
+journaled : good_words (codes "--mode" ∷ codes "journal" ∷ codes "p.sg" ∷ codes "--from=s" ∷ []) ≡ Some (record { workers = 4; mode = mode.Journal; file = codes "p.sg"; from = Some (codes "s"); bindings = []; number = 0 })
+journaled = refl
+
 an-audit : good_words (codes "--mode=audit" ∷ codes "p.sg" ∷ codes "journal=j" ∷ []) ≡ Some (record {
   workers = 4;
   mode = mode.Audit;
@@ -80,7 +83,7 @@ bad = [] ∷ (codes "-" ∷ []) ∷ ([] ∷ []) ∷ (codes "--" ∷ []) ∷ (cod
     ∷ (codes "--from=s" ∷ codes "--mode=lower" ∷ codes "p.sg" ∷ []) ∷ (codes "--mode" ∷ codes "--from" ∷ codes "-" ∷ codes "p.sg" ∷ [])
     ∷ (codes "--mode=audit" ∷ codes "p.sg" ∷ []) ∷ (codes "--mode=audit" ∷ codes "p.sg" ∷ codes "x=a" ∷ [])
     ∷ (codes "--mode=audit" ∷ codes "p.sg" ∷ codes "journal=a" ∷ codes "x=b" ∷ [])
-    ∷ (codes "--from=s" ∷ codes "--mode=audit" ∷ codes "p.sg" ∷ codes "journal=a" ∷ []) ∷ []
+    ∷ (codes "--from=s" ∷ codes "--mode=audit" ∷ codes "p.sg" ∷ codes "journal=a" ∷ []) ∷ (codes "--mode=journals" ∷ codes "p.sg" ∷ []) ∷ []
 
 bad-words : map good_words bad ≡ map (λ _. None) bad
 unfolding is_name is_reserved

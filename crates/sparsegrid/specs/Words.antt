@@ -125,10 +125,10 @@ workers_of (Some value) = number_beside worker_numbers value
 -- the mode, which is to run without the option
 abbrev pub mode_of : Option (List ℕ) → Option Mode
 mode_of None = Some mode.Run
-mode_of (Some value) = if bytes_eq value (codes "run") then Some mode.Run else (if bytes_eq value (codes "check") then Some mode.Check else (if bytes_eq value (codes "lower") then Some mode.Lower else (if bytes_eq value (codes "gen") then Some mode.Gen else (if bytes_eq value (codes "save") then Some mode.Save else (if bytes_eq value (codes "audit") then Some mode.Audit else (if bytes_eq value (codes "advise") then Some mode.Advise else None))))))
+mode_of (Some value) = if bytes_eq value (codes "run") then Some mode.Run else (if bytes_eq value (codes "check") then Some mode.Check else (if bytes_eq value (codes "lower") then Some mode.Lower else (if bytes_eq value (codes "gen") then Some mode.Gen else (if bytes_eq value (codes "save") then Some mode.Save else (if bytes_eq value (codes "audit") then Some mode.Audit else (if bytes_eq value (codes "advise") then Some mode.Advise else (if bytes_eq value (codes "journal") then Some mode.Journal else None)))))))
 
 -- what is done with a program: its tasks are performed, and a mode shows something of that; those of the generated one are; its kernels are
--- looked at; their access code is written; or a journal of its containers is audited
+-- looked at; their access code is written; a journal of its containers is audited; or one is written while its tasks are performed
 pub data Doing : Type 0 where
   performs : Showing → Doing
   generates : Doing
@@ -145,6 +145,7 @@ doing mode.Gen = generates
 doing mode.Save = performs showing.Image
 doing mode.Audit = audits
 doing mode.Advise = performs showing.Advice
+doing mode.Journal = performs showing.Changes
 
 -- whether the program is the generated one
 abbrev pub is_generated : Doing → Bool

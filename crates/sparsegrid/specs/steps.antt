@@ -1,4 +1,5 @@
 -- What serves proofs alone: no clause of a call that others use names these.
 pub mod Splitting
 pub mod Along
+pub mod Leading
 pub mod Beginning

@@ -1,6 +1,6 @@
 //! The tasks of a program, performed one after the other.
 
-ghost use Rattle.std.specs.Prelude.{◌≡◌, ◌≢◌, ◌≤◌, ℕ, List, map, None, IfOk};
+ghost use Rattle.std.specs.Prelude.{◌≡◌, ◌≢◌, ◌≤◌, ℕ, List, map, None, IfOk, false};
 ghost use Rattle.sg_layout.specs.declared.shape.Shape.{Shape};
 ghost use Rattle.sg_names.specs.Tables.{Tables};
 ghost use Rattle.std.specs.List.{AllByRecursion};
@@ -13,7 +13,7 @@ ghost use Rattle.sparsegrid.specs.Lines.{run_last};
 ghost use Rattle.sparsegrid.specs.Meaning.{meaning_of_tasks};
 ghost use Rattle.sparsegrid.specs.Outcome.{outside_of, output_of};
 ghost use Rattle.sparsegrid.specs.steps.Along.{Sends, SendCause, Went, line_text, ended_with};
-ghost use Rattle.sparsegrid.specs.Telling.{telling_of};
+ghost use Rattle.sparsegrid.specs.Telling.{telling_of, shows_journal};
 
 use crate::advice::advice_text;
 use crate::output::{PutFailed, send, send_last};
@@ -43,6 +43,7 @@ pub fn drive<R: Threads + Sync, F: Files, S: Sink, G: Gate + Sync>(
 ) -> Result<u8, Stop<PutFailed>>
     requires some { 1 ≤ asked.now.workers }
     requires few { asked.now.workers ≤ 16 }
+    requires shown { shows_journal what ≡ false }
     requires there { AllByRecursion (IsTask session.old.compiled) tasks.now }
     requires bound { AllByRecursion (HasFile session.old.compiled.names (map binding_read asked.now.binds.list)) tasks.now }
     ensures went { (program : CheckedProgram) → Compiles program session.old.compiled →
@@ -78,6 +79,7 @@ fn told_of(what: Showing, text: &[u8]) -> &[u8]
         Showing::Texts => text,
         Showing::Image => &[],
         Showing::Advice => &[],
+        Showing::Changes => &[],
     }
 }
 
@@ -127,11 +129,14 @@ fn ending<R: Threads + Sync, G: Gate + Sync>(
         }),
         Showing::Image => save(alloc, &session.stores, &session.compiled.layouts),
         Showing::Advice => advice_text(rt, alloc, session, workers, gate),
+        Showing::Changes => Ok(Text {
+            bytes: Items::new(alloc),
+        }),
     }
 }
 
 /// Writes the last line of a refused task, and gives its status.
-fn refuse_task<S: Sink>(
+pub(crate) fn refuse_task<S: Sink>(
     alloc: Global,
     out: &mut S,
     compiled: &Compiled,

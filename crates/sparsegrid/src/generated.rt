@@ -21,6 +21,7 @@ pub(crate) fn is_gen(mode: Mode) -> bool
         Mode::Save => false,
         Mode::Audit => false,
         Mode::Advise => false,
+        Mode::Journal => false,
     }
 }
 

@@ -1,7 +1,7 @@
 //! What follows from the clauses and the meaning of a run, each as the contract of a function that does nothing.
 
 ghost use Rattle.sparsegrid.specs.Independence.{LayoutsDontMatterToCalls, LayoutsDontMatterToRuns, MeaningIsOfCommands};
-ghost use Rattle.sparsegrid.specs.Laws.{FaultlessIsWhole, GeneratedIsText};
+ghost use Rattle.sparsegrid.specs.Laws.{FaultlessIsWhole, GeneratedIsText, JournalEndsAsRun};
 ghost use Rattle.sparsegrid.specs.WorkedRun.{WorkedRun};
 
 use sg_parser::laws::parsed_is_spelled;
@@ -16,6 +16,12 @@ pub fn faultless_is_whole()
 #[tactic(auto, using(crate::proofs::Unread::generated_is_text))]
 pub fn generated_is_text()
     ensures { GeneratedIsText }
+{}
+
+/// A run in mode journal has the status and the last state of the same run in mode run, and its last line where not all is done.
+#[tactic(auto, using(crate::proofs::EndsAlike::journal_ends_as_run))]
+pub fn journal_ends_as_run()
+    ensures { JournalEndsAsRun }
 {}
 
 /// Where nothing is refused, the commands of a run are performed one after the other, and the run means what they leave.

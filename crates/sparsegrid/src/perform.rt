@@ -1,20 +1,23 @@
 //! What is done with a compiled program: its commands are performed, or its kernels are looked at.
 
-ghost use Rattle.std.specs.Prelude.{◌≡◌, ◌≤◌, ◌↔◌, ℕ, map, None, IsSome, IfOk, IfSome, find};
+ghost use Rattle.std.specs.Prelude.{◌≡◌, ◌≢◌, ◌≤◌, ◌↔◌, ℕ, map, None, IsSome, IfOk, IfSome, find};
 ghost use Rattle.std.specs.List.{AllByRecursion};
 ghost use Rattle.sg_session.specs.Texts as texts_of;
 ghost use Rattle.sg_session.specs.Compiled.{CheckedProgram, Compiles, IsCompiled, IsTask, unfolded_tasks};
+ghost use Rattle.sg_session.specs.Performed.{HasFile};
 ghost use Rattle.sg_session.specs.Bindings.{binding_read};
 ghost use Rattle.sg_flat.specs.declared.state.FlatState.{FlatState};
 ghost use Rattle.sg_flat.specs.State.{opening};
 ghost use Rattle.sg_exec.specs.Standing.{StandForState};
 ghost use Rattle.sparsegrid.specs.Words.{asked_by};
-ghost use Rattle.sparsegrid.specs.Meaning.{begun, meaning_of_run, meaning_of_tasks, is_unbound};
-ghost use Rattle.sparsegrid.specs.Telling.{telling_of};
+ghost use Rattle.sparsegrid.specs.Meaning.{begun, meaning_of_run, meaning_from, is_unbound};
+ghost use Rattle.sparsegrid.specs.Telling.{telling_of, shows_journal};
 ghost use Rattle.sparsegrid.specs.Outcome.{output_of, outside_of, HasSession};
-ghost use Rattle.sparsegrid.specs.steps.Along.{Sends, KeepsWritten, Went, SendCause, IsEnd, LeavesOnly, LeavesProgram};
+ghost use Rattle.sparsegrid.specs.steps.Along.{Sends, KeepsWritten, SendCause, IsEnd, LeavesOnly, LeavesProgram, ended_with};
+ghost use Rattle.sparsegrid.specs.steps.Leading.{Kept};
 
 use crate::drive::drive;
+use crate::journaling::drive_journal;
 use crate::output::{PutFailed, send};
 use crate::refuse::{refuse_snapshot, refuse_unbound};
 use crate::session::Done;
@@ -88,7 +91,7 @@ pub(crate) fn perform<R: Threads + Sync, F: Files, S: Sink, G: Gate + Sync>(
     requires some { 1 ≤ asked.now.workers }
     requires few { asked.now.workers ≤ 16 }
     ensures went { (program : CheckedProgram) → Compiles program compiled →
-        Went (λ readings. meaning_of_run program (telling_of program.names program.layouts what) (asked_by asked.now).from (map binding_read asked.now.binds.list) readings
+        Kept (shows_journal what) (λ readings. meaning_of_run program (telling_of program.names program.layouts what) (asked_by asked.now).from (map binding_read asked.now.binds.list) readings
         (unfolded_tasks program.commands)) 1
         (outside_of F.Files S.Sink files.old out.old) (outside_of F.Files S.Sink files.new out.new) result }
     ensures holds { F.holds files.new ≡ F.holds files.old }
@@ -134,8 +137,8 @@ fn perform_bound<R: Threads + Sync, F: Files, S: Sink, G: Gate + Sync>(
     requires there { AllByRecursion (IsTask compiled) tasks.now }
     requires bound { find (is_unbound compiled.names (map binding_read asked.now.binds.list)) tasks.now ≡ None }
     ensures went { (program : CheckedProgram) → Compiles program compiled →
-        Went (λ readings. begun program (asked_by asked.now).from readings
-        (λ reads state. meaning_of_tasks program (map binding_read asked.now.binds.list) (telling_of program.names program.layouts what) readings 0 reads state tasks.now)) 1
+        Kept (shows_journal what) (λ readings. begun program (asked_by asked.now).from readings
+        (λ reads state. meaning_from program (map binding_read asked.now.binds.list) (telling_of program.names program.layouts what) readings reads state tasks.now)) 1
         (outside_of F.Files S.Sink files.old out.old) (outside_of F.Files S.Sink files.new out.new) result }
     ensures holds { F.holds files.new ≡ F.holds files.old }
     ensures never_falls { F.faults files.old ≤ F.faults files.new }
@@ -180,7 +183,7 @@ fn perform_tasks<R: Threads + Sync, F: Files, S: Sink, G: Gate + Sync>(
     requires bound { find (is_unbound begun.compiled.names (map binding_read asked.now.binds.list)) tasks.now ≡ None }
     ensures went { (program : CheckedProgram) → Compiles program begun.compiled →
         (earlier : ℕ) (state : FlatState) → StandForState begun.compiled.layouts begun.stores state →
-        Went (λ readings. meaning_of_tasks program (map binding_read asked.now.binds.list) (telling_of program.names program.layouts what) readings 0 earlier state tasks.now) earlier
+        Kept (shows_journal what) (λ readings. meaning_from program (map binding_read asked.now.binds.list) (telling_of program.names program.layouts what) readings earlier state tasks.now) earlier
         (outside_of F.Files S.Sink files.old out.old) (outside_of F.Files S.Sink files.new out.new) result }
     ensures holds { F.holds files.new ≡ F.holds files.old }
     ensures never_falls { F.faults files.old ≤ F.faults files.new }
@@ -189,7 +192,7 @@ fn perform_tasks<R: Threads + Sync, F: Files, S: Sink, G: Gate + Sync>(
     ensures program { LeavesProgram begun.compiled result }
 {
     let mut session = begun;
-    match drive(
+    match drive_shown(
         rt,
         alloc,
         &mut session,
@@ -202,6 +205,51 @@ fn perform_tasks<R: Threads + Sync, F: Files, S: Sink, G: Gate + Sync>(
     ) {
         Ok(status) => Ok(done_with(status, session)),
         Err(why) => Err(why),
+    }
+}
+
+/// Performs tasks in order and writes what is shown of them. Gives the status.
+fn drive_shown<R: Threads + Sync, F: Files, S: Sink, G: Gate + Sync>(
+    rt: &R,
+    alloc: Global,
+    session: &mut Session,
+    tasks: &[Task],
+    what: Showing,
+    asked: &Words,
+    files: &mut F,
+    out: &mut S,
+    gate: &G,
+) -> Result<u8, Stop<PutFailed>>
+    requires some { 1 ≤ asked.now.workers }
+    requires few { asked.now.workers ≤ 16 }
+    requires there { AllByRecursion (IsTask session.old.compiled) tasks.now }
+    requires bound { AllByRecursion (HasFile session.old.compiled.names (map binding_read asked.now.binds.list)) tasks.now }
+    ensures went { (program : CheckedProgram) → Compiles program session.old.compiled →
+        (earlier : ℕ) (state : FlatState) → StandForState session.old.compiled.layouts session.old.stores state →
+        Kept (shows_journal what) (λ readings. meaning_from program (map binding_read asked.now.binds.list) (telling_of program.names program.layouts what) readings earlier state tasks.now) earlier
+        (outside_of F.Files S.Sink files.old out.old) (outside_of F.Files S.Sink files.new out.new) (ended_with session.new result) }
+    ensures compiled { session.new.compiled ≡ session.old.compiled }
+    ensures holds { F.holds files.new ≡ F.holds files.old }
+    ensures never_falls { F.faults files.old ≤ F.faults files.new }
+    ensures cause { SendCause result (S.faults out.old) (S.faults out.new) }
+    ensures status { IfOk result (λ status. (status ≢ 3) × (status ≢ 9)) }
+{
+    if shows_journal(what) {
+        drive_journal(rt, alloc, session, tasks, asked, files, out, gate)
+    } else {
+        drive(rt, alloc, session, tasks, what, asked, files, out, gate)
+    }
+}
+
+/// Whether a journal is shown.
+fn shows_journal(what: Showing) -> bool
+    ensures { result ≡ shows_journal what }
+{
+    match what {
+        Showing::Texts => false,
+        Showing::Image => false,
+        Showing::Advice => false,
+        Showing::Changes => true,
     }
 }
 

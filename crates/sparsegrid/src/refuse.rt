@@ -9,6 +9,7 @@ ghost use Rattle.sparsegrid.specs.Meaning.{items_or_none};
 ghost use Rattle.sparsegrid.specs.Outcome.{output_of, StandsForLast};
 ghost use Rattle.sparsegrid.specs.steps.Along.{Sends, KeepsWritten, SendCause, IsEnd, LeavesOnly, LeavesProgram, line_text};
 ghost use Rattle.sg_session.specs.Performed.{IsOpened};
+ghost use Rattle.sparsegrid.specs.steps.Leading.{HoldsNothing};
 ghost use Rattle.sparsegrid.specs.steps.Beginning.{lacks_room, no_snapshot_last, no_snapshot_leaves};
 
 use crate::last_line::{
@@ -19,6 +20,7 @@ use crate::output::{PutFailed, send_last};
 use crate::run_line::{field_text, snapshot_last};
 use crate::session::Done;
 use crate::snapshot::NoSnapshot;
+use sg_journal::laws::{nothing_is_placed, opening_is_placed};
 use sg_outside::Sink;
 use sg_session::{Compiled, Refusal, Session, Task, spell};
 use sg_snapshot::SnapFault;
@@ -168,6 +170,7 @@ pub(crate) fn refuse_snapshot<S: Sink>(
     ensures cause { SendCause result (S.faults out.old) (S.faults out.new) }
     ensures status { IfOk result (λ done. done.status ≡ (no_snapshot_last compiled.names name.now why).status) }
     ensures last { LeavesOnly (StandsForLast (no_snapshot_leaves compiled.layouts why)) result }
+    ensures nothing { HoldsNothing result }
     ensures end { IfOk result IsEnd }
     ensures program { LeavesProgram compiled result }
 {
@@ -194,15 +197,23 @@ fn refuse_full<S: Sink>(
     ensures status { IfOk result (λ done. done.status ≡ last.now.status) }
     ensures some { IfOk result (λ done. IsSome done.session) }
     ensures opened { LeavesOnly (IsOpened compiled) result }
+    ensures nothing { HoldsNothing result }
 {
+    // for the laws that they ensure
+    opening_is_placed();
+    nothing_is_placed();
     match Session::open(alloc, compiled) {
-        Ok(session) => match send_last(alloc, out, last) {
-            Ok(status) => Ok(Done {
-                status,
-                session: Some(session),
-            }),
-            Err(why) => Err(why),
-        },
+        Ok(session) => {
+            // for what each store keeps
+            session.stores.well_formed();
+            match send_last(alloc, out, last) {
+                Ok(status) => Ok(Done {
+                    status,
+                    session: Some(session),
+                }),
+                Err(why) => Err(why),
+            }
+        }
         Err(Memory) => Err(Stop::Memory),
     }
 }

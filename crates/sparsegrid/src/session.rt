@@ -8,9 +8,11 @@ ghost use Rattle.sg_session.specs.Bindings.{binding_read};
 ghost use Rattle.sparsegrid.specs.Texts.{texts};
 ghost use Rattle.sparsegrid.specs.Words as spec_words;
 ghost use Rattle.sparsegrid.specs.Words.{asked_by, doing, good_words};
-ghost use Rattle.sparsegrid.specs.Meaning.{is_code, asks_code, meaning, meaning_by, meaning_of_asked, meaning_of_compiled, meaning_in};
+ghost use Rattle.sparsegrid.specs.Meaning.{is_code, asks_code, is_journal, asks_journal, meaning, meaning_by, meaning_of_asked, meaning_of_compiled, meaning_in};
 ghost use Rattle.sparsegrid.specs.Outcome.{output_of, outside_of, HasWholeText, IsCutShort, IsEnding, LeavesSession, code_in, open_text, WroteMeaning, WroteStopped, WroteFront, EndsAs, AsksAs, StaysWritten, ReadFaults, PutFaults, ReadCount, StandsForLast, IsOfAsked, IsOfFile};
-ghost use Rattle.sparsegrid.specs.steps.Along.{Went, KeepsWritten, SendCause, IsEnd, LeavesOnly, LeavesProgram, status_of, session_of, PutsCode};
+ghost use Rattle.sparsegrid.specs.steps.Along.{KeepsWritten, SendCause, IsEnd, LeavesOnly, LeavesProgram, status_of, session_of, PutsCode};
+ghost use Rattle.sparsegrid.specs.steps.Leading.{Kept};
+ghost use Rattle.sparsegrid.specs.Journaling.{KeepsJournal};
 
 use crate::auditing::audit_bound;
 use crate::generated::{generated_text, is_gen};
@@ -19,6 +21,7 @@ use crate::perform::{check, leave_open, perform};
 use crate::refuse::{refuse_long, refuse_read, refuse_source, refuse_words};
 use crate::showing::Showing;
 use crate::words::{BadWords, Mode, Words, read_words};
+use sg_audit::laws::fronts_are_sound;
 use sg_outside::{Files, Gate, Got, Sink};
 use sg_session::{Binds, Compiled, Session, compile, lower_text};
 use sg_words::{Items, Memory, Stop, Text};
@@ -50,21 +53,25 @@ pub fn run<R: Threads + Sync, F: Files, S: Sink, G: Gate + Sync>(
 ) -> Done
     // With any status but 2, 3 and 9 exactly the moves of the meaning were made: its texts were written, each by one put, and the files that it
     // asks for were read. The status is its status.
-    ensures whole { HasWholeText result.status → WroteMeaning (texts words.now) (open_text (texts words.now) result.session) None
+    ensures whole { asks_journal (good_words (texts words.now)) ≡ false → HasWholeText result.status → WroteMeaning (texts words.now) (open_text (texts words.now) result.session) None
         (outside_of F.Files S.Sink files.old out.old) (outside_of F.Files S.Sink files.new out.new) result.status }
     // With status 2 the read that failed was the last one, and the meaning is that of the run in which it fails.
-    ensures stopped { result.status ≡ 2 → WroteStopped (texts words.now) (open_text (texts words.now) result.session)
+    ensures stopped { asks_journal (good_words (texts words.now)) ≡ false → result.status ≡ 2 → WroteStopped (texts words.now) (open_text (texts words.now) result.session)
         (outside_of F.Files S.Sink files.old out.old) (outside_of F.Files S.Sink files.new out.new) result.status }
     // With status 3 or 9 a front of the moves was made. With 3 the next of them was to write a text, of which a part was written: so no file was
     // read that the run asks for after that text. With 9 no text was written in part, nor the whole of a last line.
-    ensures front { IsCutShort result.status → WroteFront (texts words.now) (open_text (texts words.now) result.session)
+    ensures front { asks_journal (good_words (texts words.now)) ≡ false → IsCutShort result.status → WroteFront (texts words.now) (open_text (texts words.now) result.session)
         (outside_of F.Files S.Sink files.old out.old) (outside_of F.Files S.Sink files.new out.new) result.status }
     // In mode lower running out of memory leaves the written bytes as they were.
     ensures quiet { asks_code (good_words (texts words.now)) ≡ true → result.status ≡ 9 →
         StaysWritten (output_of S.Sink out.old) (output_of S.Sink out.new) }
     // Whatever the files and the sink tell, a run that came to its end ended as it means where its reads give some readings.
-    ensures ended { IsEnding result.status → EndsAs (texts words.now) (open_text (texts words.now) result.session)
+    ensures ended { asks_journal (good_words (texts words.now)) ≡ false → IsEnding result.status → EndsAs (texts words.now) (open_text (texts words.now) result.session)
         (outside_of F.Files S.Sink files.old out.old) (outside_of F.Files S.Sink files.new out.new) result.status }
+
+    // In mode journal all this holds with the parts of a journal before the states that its commands come to; and the journal is sound.
+    ensures journal { asks_journal (good_words (texts words.now)) ≡ true → KeepsJournal (texts words.now)
+        (outside_of F.Files S.Sink files.old out.old) (outside_of F.Files S.Sink files.new out.new) result.status result.session }
 
     // No fault is made up, and none is passed over or forgotten.
     ensures read_faults { ReadFaults
@@ -74,7 +81,7 @@ pub fn run<R: Threads + Sync, F: Files, S: Sink, G: Gate + Sync>(
 
     // Whatever they tell, the moves that the run means to make where its reads give some readings are made in their order, each file is read in
     // one read, up to where the run ends or is cut short, and none with bad words; the files stay as they are.
-    ensures asked { AsksAs (texts words.now) (open_text (texts words.now) result.session)
+    ensures asked { asks_journal (good_words (texts words.now)) ≡ false → AsksAs (texts words.now) (open_text (texts words.now) result.session)
         (outside_of F.Files S.Sink files.old out.old) (outside_of F.Files S.Sink files.new out.new) result.status }
     ensures reads { ReadCount (good_words (texts words.now))
         (outside_of F.Files S.Sink files.old out.old) (outside_of F.Files S.Sink files.new out.new) result.status }
@@ -88,6 +95,8 @@ pub fn run<R: Threads + Sync, F: Files, S: Sink, G: Gate + Sync>(
     ensures program { IfSome result.session (λ session. (held : Held) → F.holds files.old ≡ Some held →
         IsOfFile (texts words.now) held session) }
 {
+    // for the law that it ensures
+    fronts_are_sound();
     let mut lower = false;
     let done = done_of(answer(rt, alloc, words, files, out, gate, &mut lower));
     with_code(alloc, lower, done, out)
@@ -95,7 +104,8 @@ pub fn run<R: Threads + Sync, F: Files, S: Sink, G: Gate + Sync>(
 
 /// Writes the access code of a run that is done in mode lower, and gives how the run ended.
 fn with_code<S: Sink>(alloc: Global, lower: bool, done: Done, out: &mut S) -> Done
-    ensures { PutsCode lower done result (output_of S.Sink out.old) (output_of S.Sink out.new) (S.faults out.old) (S.faults out.new) }
+    ensures untouched { lower ≡ false → (result ≡ done) × (out.new ≡ out.old) }
+    ensures puts { PutsCode lower done result (output_of S.Sink out.old) (output_of S.Sink out.new) (S.faults out.old) (S.faults out.new) }
 {
     if !lower || done.status != 0 {
         return done;
@@ -158,7 +168,7 @@ fn answer<R: Threads + Sync, F: Files, S: Sink, G: Gate + Sync>(
     lower: &mut bool,
 ) -> Result<Done, Stop<PutFailed>>
     requires { lower.old ≡ false }
-    ensures went { Went (meaning_by (texts words.now)) 0
+    ensures went { Kept (asks_journal (good_words (texts words.now))) (meaning_by (texts words.now)) 0
         (outside_of F.Files S.Sink files.old out.old) (outside_of F.Files S.Sink files.new out.new) result }
     ensures quiet { asks_code (good_words (texts words.now)) ≡ true → KeepsWritten result (output_of S.Sink out.old) (output_of S.Sink out.new) }
     ensures holds { F.holds files.new ≡ F.holds files.old }
@@ -168,6 +178,7 @@ fn answer<R: Threads + Sync, F: Files, S: Sink, G: Gate + Sync>(
     ensures program { LeavesOnly (λ session. (held : Held) → F.holds files.old ≡ Some held →
         IsOfFile (texts words.now) held session) result }
     ensures lower { IfOk result (λ done. lower.new ≡ asks_code (good_words (texts words.now))) }
+    ensures plain { asks_journal (good_words (texts words.now)) ≡ true → lower.new ≡ false }
 {
     match read_words(alloc, words) {
         Ok(asked) => {
@@ -190,6 +201,7 @@ fn is_lower(mode: Mode) -> bool
         Mode::Save => false,
         Mode::Audit => false,
         Mode::Advise => false,
+        Mode::Journal => false,
     }
 }
 
@@ -204,7 +216,7 @@ fn run_asked<R: Threads + Sync, F: Files, S: Sink, G: Gate + Sync>(
 ) -> Result<Done, Stop<PutFailed>>
     requires some { 1 ≤ asked.now.workers }
     requires few { asked.now.workers ≤ 16 }
-    ensures went { Went (meaning_of_asked (asked_by asked.now)) 0
+    ensures went { Kept (is_journal (doing asked.now.mode)) (meaning_of_asked (asked_by asked.now)) 0
         (outside_of F.Files S.Sink files.old out.old) (outside_of F.Files S.Sink files.new out.new) result }
     ensures quiet { is_code (doing asked.now.mode) ≡ true → KeepsWritten result (output_of S.Sink out.old) (output_of S.Sink out.new) }
     ensures holds { F.holds files.new ≡ F.holds files.old }
@@ -233,7 +245,7 @@ fn run_generated<R: Threads + Sync, F: Files, S: Sink, G: Gate + Sync>(
     requires some { 1 ≤ asked.now.workers }
     requires few { asked.now.workers ≤ 16 }
     requires number { spec_words.is_gen asked.now.mode ≡ true }
-    ensures went { Went (meaning_of_asked (asked_by asked.now)) 0
+    ensures went { Kept (is_journal (doing asked.now.mode)) (meaning_of_asked (asked_by asked.now)) 0
         (outside_of F.Files S.Sink files.old out.old) (outside_of F.Files S.Sink files.new out.new) result }
     ensures quiet { is_code (doing asked.now.mode) ≡ true → KeepsWritten result (output_of S.Sink out.old) (output_of S.Sink out.new) }
     ensures holds { F.holds files.new ≡ F.holds files.old }
@@ -261,7 +273,7 @@ fn run_file<R: Threads + Sync, F: Files, S: Sink, G: Gate + Sync>(
     requires some { 1 ≤ asked.now.workers }
     requires few { asked.now.workers ≤ 16 }
     requires file { spec_words.is_gen asked.now.mode ≡ false }
-    ensures went { Went (meaning_of_asked (asked_by asked.now)) 0
+    ensures went { Kept (is_journal (doing asked.now.mode)) (meaning_of_asked (asked_by asked.now)) 0
         (outside_of F.Files S.Sink files.old out.old) (outside_of F.Files S.Sink files.new out.new) result }
     ensures quiet { is_code (doing asked.now.mode) ≡ true → KeepsWritten result (output_of S.Sink out.old) (output_of S.Sink out.new) }
     ensures holds { F.holds files.new ≡ F.holds files.old }
@@ -294,7 +306,7 @@ fn run_source<R: Threads + Sync, F: Files, S: Sink, G: Gate + Sync>(
     requires bytes { length bytes.now ≤ most_file_bytes }
     requires some { 1 ≤ asked.now.workers }
     requires few { asked.now.workers ≤ 16 }
-    ensures went { Went (λ readings. meaning_of_compiled (asked_by asked.now) readings bytes.now (compiled_program bytes.now)) 1
+    ensures went { Kept (is_journal (doing asked.now.mode)) (λ readings. meaning_of_compiled (asked_by asked.now) readings bytes.now (compiled_program bytes.now)) 1
         (outside_of F.Files S.Sink files.old out.old) (outside_of F.Files S.Sink files.new out.new) result }
     ensures quiet { is_code (doing asked.now.mode) ≡ true → KeepsWritten result (output_of S.Sink out.old) (output_of S.Sink out.new) }
     ensures holds { F.holds files.new ≡ F.holds files.old }
@@ -323,7 +335,7 @@ fn run_compiled<R: Threads + Sync, F: Files, S: Sink, G: Gate + Sync>(
     requires some { 1 ≤ asked.now.workers }
     requires few { asked.now.workers ≤ 16 }
     ensures went { (program : CheckedProgram) → Compiles program compiled →
-        Went (meaning_in (doing asked.now.mode) program (asked_by asked.now).from (map binding_read asked.now.binds.list)) 1
+        Kept (is_journal (doing asked.now.mode)) (meaning_in (doing asked.now.mode) program (asked_by asked.now).from (map binding_read asked.now.binds.list)) 1
         (outside_of F.Files S.Sink files.old out.old) (outside_of F.Files S.Sink files.new out.new) result }
     ensures quiet { is_code (doing asked.now.mode) ≡ true → KeepsWritten result (output_of S.Sink out.old) (output_of S.Sink out.new) }
     ensures holds { F.holds files.new ≡ F.holds files.old }
@@ -347,6 +359,16 @@ fn run_compiled<R: Threads + Sync, F: Files, S: Sink, G: Gate + Sync>(
             alloc,
             compiled,
             Showing::Advice,
+            asked,
+            files,
+            out,
+            gate,
+        ),
+        Mode::Journal => perform(
+            rt,
+            alloc,
+            compiled,
+            Showing::Changes,
             asked,
             files,
             out,

@@ -8,6 +8,7 @@ mod commands;
 mod extents;
 mod faults;
 mod generated;
+mod journals;
 mod kernels;
 mod language;
 mod limits;

@@ -21,7 +21,8 @@ use sg_words::{Items, Memory, Stop};
 use std::alloc::Global;
 
 /// What is done: the file is run, its kernels are looked at, or their access code is written; or the generated program is run; or the file is run
-/// and the image of its last state is written, or which layouts need the fewest words for it; or a journal of the file's containers is audited.
+/// and the image of its last state is written, or which layouts need the fewest words for it; or a journal of the file's containers is audited,
+/// or written while the file is run.
 #[derive(Clone, Copy, Debug, PartialEq, Eq)]
 pub enum Mode {
     Run,
@@ -31,6 +32,7 @@ pub enum Mode {
     Save,
     Audit,
     Advise,
+    Journal,
 }
 
 /// What the words ask for: how many workers (1 to 16), the mode, the file, the snapshot that its commands begin with, the files that are bound to
@@ -141,6 +143,8 @@ fn mode_of(value: Option<&str>) -> Option<Mode>
                 Some(Mode::Audit)
             } else if value == "advise" {
                 Some(Mode::Advise)
+            } else if value == "journal" {
+                Some(Mode::Journal)
             } else {
                 None
             }
@@ -204,6 +208,7 @@ fn may_begin(mode: Mode) -> bool
         Mode::Save => true,
         Mode::Audit => false,
         Mode::Advise => true,
+        Mode::Journal => true,
     }
 }
 
@@ -232,7 +237,13 @@ fn are_binds_for(mode: Mode, binds: &[Bind]) -> bool
     ensures { result ≡ spec.are_bindings_for (spec.doing mode) (map binding_read binds.now) }
 {
     match mode {
-        Mode::Run | Mode::Check | Mode::Lower | Mode::Gen | Mode::Save | Mode::Advise => true,
+        Mode::Run
+        | Mode::Check
+        | Mode::Lower
+        | Mode::Gen
+        | Mode::Save
+        | Mode::Advise
+        | Mode::Journal => true,
         Mode::Audit => bind_journal(binds),
     }
 }

@@ -19,7 +19,7 @@ fn asked(alloc: Global, line: &str) -> Result<String, Fail> {
     }
 }
 
-static LINES: [(&str, &str); 20] = [
+static LINES: [(&str, &str); 22] = [
     ("p.sg", "4 Run p.sg None 0"),
     ("--workers 2 p.sg x=a y=b=c", "2 Run p.sg None 0"),
     ("--workers=16 -- p.sg", "16 Run p.sg None 0"),
@@ -38,6 +38,11 @@ static LINES: [(&str, &str); 20] = [
     ("--from s p.sg", "4 Run p.sg Some(\"s\") 0"),
     ("p.sg --from=- --mode=save", "4 Save p.sg Some(\"-\") 0"),
     ("--mode=advise p.sg --from s", "4 Advise p.sg Some(\"s\") 0"),
+    (
+        "--mode journal --from=s p.sg x=g",
+        "4 Journal p.sg Some(\"s\") 0",
+    ),
+    ("--mode=journals p.sg", "BadWords"),
     ("--from - p.sg", "BadWords"),
     ("--from= p.sg", "BadWords"),
     ("--from=a p.sg --from b", "BadWords"),

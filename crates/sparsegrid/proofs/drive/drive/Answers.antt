@@ -16,6 +16,7 @@ use Rattle.sparsegrid.specs.Outcome.{Outside, output_of, outside_of}
 use Rattle.sparsegrid.specs.steps.Along.{Came, PutsText, Sends}
 use Rattle.sparsegrid.proofs.Bound.{split_at}
 use Rattle.sparsegrid.proofs.Going.{stays_same}
+use Rattle.sparsegrid.proofs.Reaching.{one_text}
 use Rattle.sparsegrid.proofs.Tasks.{came_start, came_next, went_all, cut_in_send, cut_in_step, ended_in_task, stepped, has_head, tail_of, line_of, line_status_of}
 use Rattle.sparsegrid.proofs.drive.drive.Goals as goal
 
@@ -97,14 +98,14 @@ returns-in-Err-Refused-clause-went g c = λ program compiles earlier start stand
     let cause = rw c.in-Err-Refused.field-0-is at c.in-Err-Refused.ensures.cause in
     let sends = rw c.in-Err-Refused.field-0-is at c.refuse_task.ensures.sends in
     let status = rw c.in-Err-Refused.field-0-is at c.refuse_task.ensures.status in
-    ended_in_task program binds (telling_of program.names program.layouts c.args.what) earlier start tasks i (drop i tasks) (drop (i + 1) tasks) _ c.loop-task.session.stores c.step.new.self _ _
+    (ended_in_task program binds (telling_of program.names program.layouts c.args.what) earlier start tasks i (drop i tasks) (drop (i + 1) tasks) _ c.loop-task.session.stores c.step.new.self _ _
     (outside_of g.F.Files g.S.Sink c.step.new.files c.loop-task.out) _ c.in-Err-Refused.refusal c.refuse_task.result split (subst (Compiles program) (sym same) compiles) came
     (stepped program c.loop-task.session.compiled binds came.state _ c.loop-task.session.stores c.step.new.self.stores (Err (stop.Refused c.in-Err-Refused.refusal)) _ _ here came.stand
     (has_head program compiled binds (drop i tasks) (drop (i + 1) tasks) _ compiles split c.loop-task.invariant.bound)
     told performed c.in-Err-Refused.ensures.asked c.in-Err-Refused.ensures.reads cause c.in-Err-Refused.ensures.holds)
     c.in-Err-Refused.ensures.stays (stays_same (output_of g.S.Sink c.loop-task.out))
     (line_of program.names c.session.inside.compiled.names binds _ c.in-Err-Refused.refusal c.refuse_task.result _ _ inside sends)
-    (line_status_of program.names c.session.inside.compiled.names binds _ c.in-Err-Refused.refusal c.refuse_task.result inside status) refl refl refl
+    (line_status_of program.names c.session.inside.compiled.names binds _ c.in-Err-Refused.refusal c.refuse_task.result inside status) refl refl refl).went
 
 pub returns-in-Err-Memory-clause-went : goal.returns-in-Err-Memory-clause-went
 returns-in-Err-Memory-clause-went g c = λ program compiles earlier start stand.
@@ -127,10 +128,10 @@ pub returns-clause-went : goal.returns-clause-went
 returns-clause-went g c = λ program compiles earlier start stand.
     let came = c.loop-task.invariant.came program compiles earlier start stand in
     let here = subst (Compiles program) (sym c.loop-task.invariant.compiled) compiles in
-    went_all program c.args.asked.now.binds.list (telling_of program.names program.layouts c.args.what) earlier start c.args.tasks.now c.loop-task.task-index (drop c.loop-task.task-index c.args.tasks.now) _
-    (outside_of g.F.Files g.S.Sink c.loop-task.files c.loop-task.out) _ c.loop-task.session c.end.result
-    (drop_all c.loop-task.task-index c.args.tasks.now (omega arith)) here came
+    (went_all program c.args.asked.now.binds.list (telling_of program.names program.layouts c.args.what) earlier start c.args.tasks.now c.loop-task.task-index (drop c.loop-task.task-index c.args.tasks.now) _
+    (outside_of g.F.Files g.S.Sink c.loop-task.files c.loop-task.out) _ c.loop-task.session c.end.result ((telling_of program.names program.layouts c.args.what).ending came.state)
+    (drop_all c.loop-task.task-index c.args.tasks.now (omega arith)) here came (one_text program.names program.layouts c.args.what came.state c.requires.shown)
     (subst (λ (shapes : List Shape). Sends c.end.result (output_of g.S.Sink c.loop-task.out) (output_of g.S.Sink c.end.new.out) ((telling_of program.names shapes c.args.what).ending came.state)) here.layouts
     (subst (λ (names : Tables). Sends c.end.result (output_of g.S.Sink c.loop-task.out) (output_of g.S.Sink c.end.new.out) ((telling_of names c.loop-task.session.compiled.layouts c.args.what).ending came.state)) here.names
     (c.end.ensures.sends came.state (subst (λ (shapes : List Shape). StandForState shapes c.loop-task.session.stores came.state) (sym here.layouts) came.stand))))
-    c.end.ensures.status refl refl refl
+    c.end.ensures.status refl refl refl).went

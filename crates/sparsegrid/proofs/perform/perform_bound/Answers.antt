@@ -1,4 +1,4 @@
-use Rattle.std.proofs.Common.{ℕ, List, Option, Some, None, Ok, Err, refl, sym, ap, ◌∙◌, subst, map}
+use Rattle.std.proofs.Common.{List, Some, Ok, Err, refl, sym, ap, ◌∙◌, subst, map}
 use Rattle.sg_words.specs.declared.memory.Stop.TheVariants as stop
 use Rattle.std.specs.Prelude.{option_map, string_bytes}
 use Rattle.sg_layout.specs.declared.shape.Shape.{Shape}
@@ -6,11 +6,12 @@ use Rattle.sg_store.specs.Standing.{StandForState}
 use Rattle.sg_session.specs.Compiled.{CompiledProgram}
 use Rattle.sg_session.specs.Performed.{HasState}
 use Rattle.sg_session.specs.Bindings.{binding_read}
-use Rattle.sparsegrid.specs.Telling.{telling_of}
+use Rattle.sparsegrid.specs.Telling.{telling_of, shows_journal}
 use Rattle.sparsegrid.specs.Words.{asked_by}
-use Rattle.sparsegrid.specs.Meaning.{begun, meaning_of_tasks}
+use Rattle.sparsegrid.specs.Meaning.{begun, meaning_from}
 use Rattle.sparsegrid.specs.Outcome.{outside_of}
-use Rattle.sparsegrid.proofs.Going.{stays_same, went_memory}
+use Rattle.sparsegrid.proofs.Going.{stays_same}
+use Rattle.sparsegrid.proofs.Kept.{kept_memory}
 use Rattle.sparsegrid.proofs.Tasks.{tasks_end}
 use Rattle.sparsegrid.proofs.Sources.{begun_ends}
 use Rattle.sparsegrid.proofs.Beginning.{begun_opened, begun_with, begun_memory, begun_refused, was_of, sent_of, status_of_line, last_of, has_state}
@@ -18,16 +19,16 @@ use Rattle.sparsegrid.proofs.perform.perform_bound.Goals as goal
 
 pub returns-in-Ok-clause-went : goal.returns-in-Ok-clause-went
 returns-in-Ok-clause-went g c = λ program compiles.
-    begun_opened program (asked_by c.args.asked.now).from c.args.compiled c.in-Ok.session
-    (λ readings reads state. meaning_of_tasks program (map binding_read c.args.asked.now.binds.list) (telling_of program.names program.layouts c.args.what) readings 0 reads state c.args.tasks.now) _ _
+    begun_opened (shows_journal c.args.what) program (asked_by c.args.asked.now).from c.args.compiled c.in-Ok.session
+    (λ readings reads state. meaning_from program (map binding_read c.args.asked.now.binds.list) (telling_of program.names program.layouts c.args.what) readings reads state c.args.tasks.now) _ _
     c.perform_tasks.result (ap (option_map string_bytes) c.in-None.is) compiles c.in-Ok.ensures (λ same state stand. c.perform_tasks.ensures.went program same 1 state stand)
 
 pub returns-in-Err-clause-went : goal.returns-in-Err-clause-went
 returns-in-Err-clause-went g c = λ program compiles.
     let bindings = map binding_read c.args.asked.now.binds.list in
     let telling = telling_of program.names program.layouts c.args.what in
-    went_memory (λ readings. begun program (asked_by c.args.asked.now).from readings (λ reads state. meaning_of_tasks program bindings telling readings 0 reads state c.args.tasks.now)) 1 _ _
-    (λ readings. begun_ends program (asked_by c.args.asked.now).from readings (λ reads state. meaning_of_tasks program bindings telling readings 0 reads state c.args.tasks.now)
+    kept_memory (shows_journal c.args.what) (λ readings. begun program (asked_by c.args.asked.now).from readings (λ reads state. meaning_from program bindings telling readings reads state c.args.tasks.now)) 1 _ _
+    (λ readings. begun_ends program (asked_by c.args.asked.now).from readings (λ reads state. meaning_from program bindings telling readings reads state c.args.tasks.now)
     (λ reads state. tasks_end program bindings telling readings 0 reads state c.args.tasks.now)) (stays_same _) refl refl refl
 
 pub invariant_of-begun : goal.invariant_of-begun
@@ -37,8 +38,8 @@ invariant_of-begun g c =
 
 pub returns-in-Ok-read_stores-clause-went : goal.returns-in-Ok-read_stores-clause-went
 returns-in-Ok-read_stores-clause-went g c = λ program compiles.
-    begun_with program (asked_by c.args.asked.now).from c.as_str-name.result.now (ap (option_map string_bytes) c.in-Some.is ∙ ap Some (sym c.as_str-name.ensures.value))
-    (λ readings reads state. meaning_of_tasks program (map binding_read c.args.asked.now.binds.list) (telling_of program.names program.layouts c.args.what) readings 0 reads state c.args.tasks.now)
+    begun_with (shows_journal c.args.what) program (asked_by c.args.asked.now).from c.as_str-name.result.now (ap (option_map string_bytes) c.in-Some.is ∙ ap Some (sym c.as_str-name.ensures.value))
+    (λ readings reads state. meaning_from program (map binding_read c.args.asked.now.binds.list) (telling_of program.names program.layouts c.args.what) readings reads state c.args.tasks.now)
     c.in-Ok-read_stores.stores _ (outside_of g.F.Files g.S.Sink c.read_stores.new.files c.args.out.now) _
     (was_of c.compiled.inside.layouts.list program.layouts (g.F.Files.holds c.args.files.now) c.as_str-name.result.now (Ok c.in-Ok-read_stores.stores)
     (ap (λ (p : CompiledProgram). p.layouts) c.compiled.view_is ∙ compiles.layouts) c.in-Ok-read_stores.ensures.given)
@@ -54,14 +55,14 @@ returns-in-Err-Refused-clause-went g c = λ program compiles.
     let sends = rw c.in-Err-Refused.field-0-is at c.refuse_snapshot.ensures.sends in
     let status = rw c.in-Err-Refused.field-0-is at c.refuse_snapshot.ensures.status in
     let last = rw c.in-Err-Refused.field-0-is at c.refuse_snapshot.ensures.last in
-    begun_refused program (asked_by c.args.asked.now).from name (ap (option_map string_bytes) c.in-Some.is ∙ ap Some (sym c.as_str-name.ensures.value))
-    (λ readings reads state. meaning_of_tasks program (map binding_read c.args.asked.now.binds.list) (telling_of program.names program.layouts c.args.what) readings 0 reads state c.args.tasks.now)
+    begun_refused (shows_journal c.args.what) program (asked_by c.args.asked.now).from name (ap (option_map string_bytes) c.in-Some.is ∙ ap Some (sym c.as_str-name.ensures.value))
+    (λ readings reads state. meaning_from program (map binding_read c.args.asked.now.binds.list) (telling_of program.names program.layouts c.args.what) readings reads state c.args.tasks.now)
     why _ (outside_of g.F.Files g.S.Sink c.read_stores.new.files c.args.out.now) _
     (was_of c.compiled.inside.layouts.list program.layouts (g.F.Files.holds c.args.files.now) name (Err (stop.Refused why)) (ap (λ (p : CompiledProgram). p.layouts) c.compiled.view_is ∙ compiles.layouts) given)
     c.in-Err-Refused.ensures.asked c.in-Err-Refused.ensures.reads c.in-Err-Refused.ensures.holds (stays_same _) cause refl refl refl c.refuse_snapshot.result
     (sent_of program c.args.compiled name why _ _ c.refuse_snapshot.result compiles sends)
     (status_of_line program c.args.compiled name why c.refuse_snapshot.result compiles status)
-    (last_of program c.args.compiled why c.refuse_snapshot.result compiles last)
+    (last_of program c.args.compiled why c.refuse_snapshot.result compiles last) c.refuse_snapshot.ensures.nothing
 
 pub returns-in-Err-Memory-clause-went : goal.returns-in-Err-Memory-clause-went
 returns-in-Err-Memory-clause-went g c = λ program compiles.
@@ -70,8 +71,8 @@ returns-in-Err-Memory-clause-went g c = λ program compiles.
     let telling = telling_of program.names program.layouts c.args.what in
     let given = rw c.in-Err-Memory.field-0-is at c.in-Err-Memory.ensures.given in
     let cause = rw c.in-Err-Memory.field-0-is at c.in-Err-Memory.ensures.cause in
-    begun_memory program (asked_by c.args.asked.now).from name (ap (option_map string_bytes) c.in-Some.is ∙ ap Some (sym c.as_str-name.ensures.value))
-    (λ readings reads state. meaning_of_tasks program bindings telling readings 0 reads state c.args.tasks.now) _ _
+    begun_memory (shows_journal c.args.what) program (asked_by c.args.asked.now).from name (ap (option_map string_bytes) c.in-Some.is ∙ ap Some (sym c.as_str-name.ensures.value))
+    (λ readings reads state. meaning_from program bindings telling readings reads state c.args.tasks.now) _ _
     (was_of c.compiled.inside.layouts.list program.layouts (g.F.Files.holds c.args.files.now) name (Err stop.Memory) (ap (λ (p : CompiledProgram). p.layouts) c.compiled.view_is ∙ compiles.layouts) given)
     c.in-Err-Memory.ensures.asked c.in-Err-Memory.ensures.reads c.in-Err-Memory.ensures.holds (stays_same _) cause
     (λ readings state. tasks_end program bindings telling readings 0 2 state c.args.tasks.now)

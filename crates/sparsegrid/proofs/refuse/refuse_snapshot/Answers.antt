@@ -1,5 +1,6 @@
 use Rattle.std.proofs.Common.{sym, ◌∙◌}
 use Rattle.sparsegrid.proofs.Beginning.{refused_without, left_none, full_end, full_last, full_program}
+use Rattle.sparsegrid.proofs.Kept.{holds_none}
 use Rattle.sparsegrid.proofs.refuse.refuse_snapshot.Goals as goal
 
 pub returns-then-lacks_room-clause-last : goal.returns-then-lacks_room-clause-last
@@ -18,3 +19,6 @@ returns-in-Ok-clause-last g c = left_none _ c.refuse.result c.refuse.ensures.ses
 pub returns-in-Ok-clause-end : goal.returns-in-Ok-clause-end
 returns-in-Ok-clause-end g c =
     refused_without c.args.compiled.names c.args.name.now c.args.why c.refuse.result (sym c.lacks_room.ensures ∙ c.if-lacks_room.false) (rw c.in-Ok.ensures at c.refuse.ensures.status) c.refuse.ensures.session
+
+pub returns-in-Ok-clause-nothing : goal.returns-in-Ok-clause-nothing
+returns-in-Ok-clause-nothing g c = holds_none c.refuse.result c.refuse.ensures.session
