@@ -104,7 +104,7 @@ static REFUSED: &[(&str, Refusal)] = &[
     ),
     ("run k;", Refusal::Name(NameFault::Unknown { item: 1 })),
     (
-        "layout A(i) { dense(i: 4); field x: i32; } layout B(i) { dense(i: 3); field y: i32; } kernel k { for i in A { x[i] = true; } }",
+        "layout A(i) { dense(i: 4); field x: i32; } layout B(i) { dense(i: 0); field y: i32; } kernel k { for i in A { x[i] = true; } }",
         Refusal::Layout {
             layout: 1,
             fault: LayoutFault::BadExtent { node: 1 },

@@ -23,7 +23,7 @@ const PRUNED: &str =
 /// A list of chunks under each of two containers, which grow and are cleared.
 const LISTS: &str =
     "layout A(j, i) { pointer(j: 2) cap 2; dynamic(i: 8) chunk 2 cap 8; field x: i32; } \
-     kernel a { for p in 0..1 { x[0, 3] = 1; x[1, 7] = 2; } } kernel b { for p in 0..1 { x[0, 7] = 3; } } \
+     kernel a { for p in 0..1 { x[0, 3] += 1; x[1, 7] += 2; } } kernel b { for p in 0..1 { x[0, 7] += 3; } } \
      run a; dump x; run b; times 2 { clear A; run a; }";
 
 const FULL: &str =

@@ -7,7 +7,7 @@ use std::test::Fail;
 /// Sizes, axes, boxes and commands that are refused, and full pools.
 static SIZES: &[(&str, &str, u32, u32, u32)] = &[
     (
-        "layout A(i) { dense(i: 4); field x: i32; } layout B(i) { dense(i: 3); field y: i32; } layout C(i) { pointer(i: 4) cap 0; field z: i32; } kernel k { for i in A { x[i] = true; } }",
+        "layout A(i) { dense(i: 4); field x: i32; } layout B(i) { dense(i: 0); field y: i32; } layout C(i) { pointer(i: 4) cap 0; field z: i32; } kernel k { for i in A { x[i] = true; } }",
         "refused: layout: B node 1 rule 1",
         1,
         58,
