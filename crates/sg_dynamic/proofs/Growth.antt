@@ -1,17 +1,16 @@
 -- How chains grow, and that there is room for it.
-use Rattle.std.proofs.Common.{◌≡◌, ◌≢◌, ℕ, zero, suc, ◌+◌, ◌-◌, ◌*◌, ◌/◌, ◌<◌, ◌≤◌, ◌^◌, Bool, true, false, cond, ◌||◌, ◌==◌, List, [], ◌∷◌, ◌++◌, length, take, drop, get_or, set, replicate, refl, sym, ap, ◌∙◌, subst, arith, inl, inr, append_assoc, add-one}
-use Rattle.std.specs.Prelude.{sum_by, IsTrue, Some, None}
-use Rattle.std.specs.List.{list_any}
+use Rattle.std.proofs.Common.{◌≡◌, ◌≢◌, ℕ, zero, suc, ◌+◌, ◌-◌, ◌*◌, ◌/◌, ◌<◌, ◌≤◌, Bool, true, false, cond, ◌||◌, ◌==◌, List, [], ◌∷◌, ◌++◌, length, take, get_or, set, replicate, refl, sym, ap, ◌∙◌, subst, arith, inl, inr, add-one}
+use Rattle.std.specs.Prelude.{sum_by, slice_index, IsTrue}
 use Rattle.std.proofs.lemmas.Bool.{cases_eq, cases_lt, cases_Bool}
 use Rattle.std.proofs.lemmas.Bool.Decides.{eqb_tells}
-use Rattle.std.proofs.lemmas.List.{length-set, length-append, length-take, length-replicate, get_or-set_same, get_or-set_other, set-set, set-get_or, take_at, take-append-le, take_all}
-use Rattle.std.proofs.lemmas.List.Sums.{sum_by-cons, sum_by-set}
+use Rattle.std.proofs.lemmas.List.{length-set, length-append, length-take, length-replicate, append-nil, get_or_append_left, get_or-append_right, get_or-set_same, get_or-set_other, set-set, set-get_or, take-append-le, take_all}
+use Rattle.std.proofs.lemmas.List.Sums.{sum_by-cons, sum_by-append, sum_by-set}
 use Rattle.std.proofs.Math.Nat.{div-lt_iff_lt-mul, suc-mul, mul-le-mul_left}
-use Rattle.sg_links.specs.Lists.{Lists, list_of, with_list, times, times_in_lists, AreDisjoint}
-use Rattle.sg_links.proofs.Uses.{times_in_set, times-append, times_same, times_other, one_if, sums, sums_all, sums_same, total_is_sum}
+use Rattle.sg_links.specs.Lists.{Lists, list_of, with_list, times, times_in_lists}
+use Rattle.sg_links.proofs.Uses.{times_in_set, times-append, times_same, times_other, one_if, sums_all, total_is_sum}
 use Rattle.sg_pool.specs.Numbers.{PoolNumbers, place_count, is_live_number, live_count, IsFree, IsSettled}
 use Rattle.sg_pool.proofs.Uses.{live_is_number, live_or_free, live_count_below}
-use Rattle.sg_dynamic.specs.Chunks.{chunks_of, chunk_need, IsExact, HaveRoom, AreFitted}
+use Rattle.sg_dynamic.specs.Chunks.{chunks_of, chunk_need, lengths_from, IsExact, HaveRoom, AreFitted}
 use Rattle.sg_dynamic.specs.steps.Growing.{Grew, FitSoFar}
 
 mul_le : (len : ℕ) {chunk : ℕ} → 1 ≤ chunk → len * 1 ≤ len * chunk
@@ -200,5 +199,74 @@ room_so_far old now pool lengths chunk done room fit = record {
   within = λ i below. elim (cases_lt i done) [
     | inl before ↦ omega (arith, fit.long i before)
     | inr past ↦ omega (arith, ap length (fit.later i past), room.within i below)
+  ];
+}
+
+-- ── Lengths of which the first are here, and all others are 0 ──
+
+pub whole_front : (lengths : List ℕ) (many : ℕ) → many ≡ length lengths → lengths_from lengths many ≡ lengths
+whole_front lengths many same =
+    let none : many - length lengths ≡ 0 = omega (arith, same) in
+    ap (λ n. lengths ++ replicate n 0) none ∙ append-nil lengths
+
+zeros_at : (n i : ℕ) → slice_index (replicate n 0) i ≡ 0
+zeros_at zero i = refl
+zeros_at (suc n) zero = refl
+zeros_at (suc n) (suc i) = zeros_at n i
+
+-- there are as many as the chains only if these are no more
+pub front_long : (front : List ℕ) (many : ℕ) → length (lengths_from front many) ≡ length front + (many - length front)
+front_long front many =
+    let both : length (lengths_from front many) ≡ length front + length {A = ℕ} (replicate (many - length front) 0) = length-append front (replicate (many - length front) 0) in
+    let rest : length {A = ℕ} (replicate (many - length front) 0) ≡ many - length front = length-replicate (many - length front) 0 in
+    omega (arith, both, rest)
+
+pub front_few : (chains : Lists) (front : List ℕ) (chunk : ℕ) → HaveRoom chains (lengths_from front (length chains.lists)) chunk → length front ≤ length chains.lists
+front_few chains front chunk room = omega (arith, room.many, front_long front (length chains.lists))
+
+pub front_below : (chains : Lists) (front : List ℕ) (chunk i : ℕ) → HaveRoom chains (lengths_from front (length chains.lists)) chunk → i < length front → i < length (lengths_from front (length chains.lists))
+front_below chains front chunk i room below = omega (arith, room.many, front_long front (length chains.lists), below)
+
+pub front_at : (front : List ℕ) (many i : ℕ) → i < length front → get_or (lengths_from front many) i 0 ≡ get_or front i 0
+front_at front many i below = get_or_append_left front (replicate (many - length front) 0) 0 i below
+
+front_past : (front : List ℕ) (many i : ℕ) → length front ≤ i → get_or (lengths_from front many) i 0 ≡ 0
+front_past front many i past =
+    get_or-append_right front (replicate (many - length front) 0) (length front) i 0 refl past
+    ∙ zeros_at (many - length front) (i - length front)
+
+no_chunks : (chunk : ℕ) → 1 ≤ chunk → chunks_of chunk 0 ≡ 0
+no_chunks chunk some = omega (arith, chunks_within chunk 0 some)
+
+zeros_need : (chunk n : ℕ) → 1 ≤ chunk → chunk_need chunk (replicate n 0) ≡ 0
+zeros_need chunk zero some = refl
+zeros_need chunk (suc n) some =
+    let next : chunk_need chunk (replicate (suc n) 0) ≡ chunks_of chunk 0 + chunk_need chunk (replicate n 0) = sum_by-cons (λ (k : ℕ). chunks_of chunk k) 0 (replicate n 0) in
+    let later : chunk_need chunk (replicate n 0) ≡ 0 = zeros_need chunk n some in
+    omega (arith, next, no_chunks chunk some, later)
+
+-- the others need no chunks
+pub front_need : (front : List ℕ) (many chunk : ℕ) → 1 ≤ chunk → chunk_need chunk front ≡ chunk_need chunk (lengths_from front many)
+front_need front many chunk some =
+    let both : chunk_need chunk (lengths_from front many) ≡ chunk_need chunk front + chunk_need chunk (replicate (many - length front) 0) =
+    sum_by-append (λ (k : ℕ). chunks_of chunk k) front (replicate (many - length front) 0) in
+    let none : chunk_need chunk (replicate (many - length front) 0) ≡ 0 = zeros_need chunk (many - length front) some in
+    omega (arith, both, none)
+
+-- when the first fit, all do
+pub fit_front_end : (old new : Lists) (pool : PoolNumbers) (front : List ℕ) (chunk done : ℕ) → 1 ≤ chunk → HaveRoom old (lengths_from front (length old.lists)) chunk → FitSoFar old new pool (lengths_from front (length old.lists)) chunk done → length front ≤ done → AreFitted old new (lengths_from front (length old.lists)) chunk
+fit_front_end old new pool front chunk done some room fit past = record {
+  many = fit.many;
+  numbers = fit.numbers;
+  front = λ i below. elim (cases_lt i done) [
+    | inl before ↦ fit.front i before
+    | inr later ↦ take_all (length (list_of old i)) (list_of new i) (omega (arith, ap length (fit.later i later))) ∙ fit.later i later
+  ];
+  long = λ i below. elim (cases_lt i done) [
+    | inl before ↦ fit.long i before
+    | inr later ↦
+        let zero_is : get_or (lengths_from front (length old.lists)) i 0 ≡ 0 = front_past front (length old.lists) i (omega (arith, past, later)) in
+        let none : chunks_of chunk (get_or (lengths_from front (length old.lists)) i 0) ≡ 0 = ap (chunks_of chunk) zero_is ∙ no_chunks chunk some in
+        omega (arith, ap length (fit.later i later), room.within i below, none)
   ];
 }

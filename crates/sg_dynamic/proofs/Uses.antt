@@ -1,15 +1,15 @@
 -- Lemmas on chains for the crates above.
-use Rattle.std.proofs.Common.{◌≡◌, ◌≢◌, ℕ, zero, suc, ◌+◌, ◌-◌, ◌*◌, ◌/◌, ◌<◌, ◌≤◌, Bool, true, false, cond, List, [], ◌∷◌, ◌++◌, length, take, drop, get_or, set, replicate, refl, sym, ap, ◌∙◌, subst, arith, inl, inr}
-use Rattle.std.specs.Prelude.{Some, IsTrue, slice_get, sum_by}
-use Rattle.std.proofs.lemmas.Bool.{cases_eq, cases_lt, cases_Bool}
-use Rattle.std.proofs.lemmas.List.{length-set, get_or-set_same, get_or-set_other, get_or-replicate, length-replicate, take-append-drop, get_or-drop}
-use Rattle.std.proofs.lemmas.Option.{slice_get-get_or, slice_get_within, get_or_from_slice_get}
+use Rattle.std.proofs.Common.{◌≡◌, ℕ, zero, suc, ◌+◌, ◌-◌, ◌*◌, ◌/◌, ◌<◌, ◌≤◌, false, List, [], ◌∷◌, ◌++◌, length, take, drop, get_or, set, replicate, refl, sym, ap, ◌∙◌, arith, inl, inr}
+use Rattle.std.specs.Prelude.{Some, IsTrue, slice_get}
+use Rattle.std.proofs.lemmas.Bool.{cases_eq, cases_Bool}
+use Rattle.std.proofs.lemmas.List.{length-set, get_or-set_same, get_or-set_other, get_or-replicate, length-replicate, take-append-drop}
 use Rattle.std.proofs.lemmas.List.Sums.{sum_by-cons}
 use Rattle.std.proofs.Math.Nat.{le-div_iff_mul-le, div-mul-le_self}
 use Rattle.sg_links.specs.Lists.{Lists, list_of, times, times_in_lists, empty_lists}
 use Rattle.sg_links.proofs.Uses.{times_in_set, times-append, times_same, stands, one_if}
 use Rattle.sg_pool.specs.Numbers.{PoolNumbers, place_count, is_live_number}
-use Rattle.sg_dynamic.specs.Chunks.{chunks_of, chunk_need, IsExact, HaveRoom, AreFitted}
+use Rattle.sg_dynamic.specs.Chunks.{chunks_of, lengths_from, IsExact, HaveRoom, AreFitted}
+use Rattle.sg_dynamic.proofs.Growth.{front_long}
 pub use Rattle.sg_dynamic.proofs.Growth.{chunks_within, room_for_one}
 
 -- longer lists have a number at least as often
@@ -93,6 +93,12 @@ empty_room chains lengths chunk numbers heads is many = record {
       let nothing : list_of chains i ≡ [] = ap (λ (l : Lists). list_of l i) is ∙ get_or-replicate {A = List ℕ} heads i [] [] (omega arith) in
       omega (arith, ap length nothing);
 }
+
+-- and room for lengths of which the first are here
+pub empty_front : (chains : Lists) (front : List ℕ) (chunk numbers heads : ℕ) → chains ≡ empty_lists numbers heads → length front ≤ heads → HaveRoom chains (lengths_from front (length chains.lists)) chunk
+empty_front chains front chunk numbers heads is few =
+    let many : length chains.lists ≡ heads = ap (λ (l : Lists). length l.lists) is ∙ length-replicate {A = List ℕ} heads [] in
+    empty_room chains (lengths_from front (length chains.lists)) chunk numbers heads is (omega (arith, many, few, front_long front (length chains.lists)))
 
 -- chains that fit have room for lengths that do not fall
 pub chunks_rise : (chunk less more : ℕ) → 1 ≤ chunk → less ≤ more → chunks_of chunk less ≤ chunks_of chunk more

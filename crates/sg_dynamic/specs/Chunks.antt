@@ -1,5 +1,5 @@
 -- Chains of chunks: how many chunks lengths need, and chains that fit them.
-use Rattle.std.specs.Prelude.{◌≡◌, ℕ, ◌+◌, ◌-◌, ◌<◌, ◌≤◌, ◌/◌, Bool, cond, nat_lt, if◌then◌else◌, Result, Ok, Err, List, length, take, sum_by, slice_index}
+use Rattle.std.specs.Prelude.{◌≡◌, ℕ, ◌+◌, ◌-◌, ◌<◌, ◌≤◌, ◌/◌, cond, nat_lt, if◌then◌else◌, Result, Ok, Err, List, ◌++◌, length, replicate, take, sum_by, slice_index}
 use Rattle.sg_links.specs.Lists.{Lists, list_of, times_in_lists}
 use Rattle.sg_pool.specs.Numbers.{PoolNumbers, place_count, is_live_number}
 use Rattle.sg_dynamic.specs.declared.chunks.ChunkFull.{ChunkFull}
@@ -16,6 +16,10 @@ chunk_need chunk lengths = sum_by (λ len. chunks_of chunk len) lengths
 abbrev pub fit : ℕ → List ℕ → ℕ → Result Unit ChunkFull
 fit chunk lengths places =
     if nat_lt places (chunk_need chunk lengths) then Err (record { need = chunk_need chunk lengths; cap = places }) else Ok tt
+
+-- so many lengths, of which the first are these and all others are 0
+abbrev pub lengths_from : List ℕ → ℕ → List ℕ
+lengths_from front many = front ++ replicate (many - length front) 0
 
 -- the chains are over the numbers of the pool, and what stands in them, once, is exactly what is live
 pub record IsExact (chains : Lists) (pool : PoolNumbers) : Type 0 where

@@ -2,7 +2,7 @@ ghost use Rattle.std.specs.Prelude.{◌≡◌, ℕ, ◌+◌, ◌<◌, ◌≤◌,
 ghost use Rattle.std.specs.List.{All};
 ghost use Rattle.sg_links.specs.Lists.{list_of};
 ghost use Rattle.sg_pool.specs.Numbers.{place_count};
-ghost use Rattle.sg_dynamic.specs.Chunks.{chunks_of, chunk_need, fit, IsExact, HaveRoom, AreFitted};
+ghost use Rattle.sg_dynamic.specs.Chunks.{chunks_of, chunk_need, fit, lengths_from, IsExact, HaveRoom, AreFitted};
 ghost use Rattle.sg_dynamic.specs.steps.Growing.{Grew};
 
 use sg_links::Links;
@@ -35,14 +35,36 @@ pub fn fit_chunks(
     ensures fitted { OnOk result (AreFitted chains.old chains.new lengths.now chunk) }
     ensures exact { IsExact chains.new pool.new }
 {
-    let heads = chains.heads();
-    let need = chunks_needed(lengths, chunk);
+    fit_front(chains, pool, lengths, chunk)
+}
+
+/// Lets each chain grow as `fit_chunks` does, where only the first lengths are here and all others are 0. Takes time in proportion to these
+/// lengths, their chunks, and the chains up to the last that was used.
+pub fn fit_front(
+    chains: &mut Links,
+    pool: &mut Pool,
+    front: &[u64],
+    chunk: u32,
+) -> Result<(), ChunkFull>
+    requires some { 1 ≤ chunk }
+    requires short { All (λ len. len ≤ 2 ^ 15) front.now }
+    requires room { HaveRoom chains.old (lengths_from front.now (length chains.old.lists)) chunk }
+    requires exact { IsExact chains.old pool.old }
+    ensures answer { result ≡ fit chunk (lengths_from front.now (length chains.old.lists)) (place_count pool.old) }
+    ensures chains_stay { OnErr result (chains.new ≡ chains.old) }
+    ensures pool_stays { OnErr result (pool.new ≡ pool.old) }
+    ensures fitted { OnOk result (AreFitted chains.old chains.new (lengths_from front.now (length chains.old.lists)) chunk) }
+    ensures exact { IsExact chains.new pool.new }
+{
+    // for the bound that it ensures
+    let _heads = chains.heads();
+    let need = front_needs(chains, front, chunk);
     let cap = pool.places();
     if need > u64::from(cap) {
         return Err(ChunkFull { need, cap });
     }
-    for head in 0..heads {
-        lengthen(chains, pool, head, chunks(lengths[head as usize], chunk));
+    for head in 0..front.len() {
+        lengthen(chains, pool, head as u32, chunks(front[head], chunk));
     }
     chains.arrange();
     Ok(())
@@ -69,6 +91,19 @@ fn chunks_needed(lengths: &[u64], chunk: u32) -> u64
         need += u64::from(chunks(*len, chunk));
     }
     need
+}
+
+/// How many chunks as many lengths as there are chains need, of which these are the first and all others are 0.
+fn front_needs(chains: &Links, front: &[u64], chunk: u32) -> u64
+    requires some { 1 ≤ chunk }
+    requires short { All (λ len. len ≤ 2 ^ 15) front.now }
+    requires within { length front.now ≤ length chains.now.lists }
+    ensures need { result ≡ chunk_need chunk (lengths_from front.now (length chains.now.lists)) }
+    ensures few { length front.now < 2 ^ 32 }
+{
+    // for the bound that it ensures
+    let _heads = chains.heads();
+    chunks_needed(front, chunk)
 }
 
 /// Draws numbers and puts them at the end of a chain, until it is as long as wanted.

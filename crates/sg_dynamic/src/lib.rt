@@ -7,5 +7,5 @@ pub mod pass;
 pub mod rule;
 pub mod seat;
 
-pub use chunks::{ChunkFull, fit_chunks};
+pub use chunks::{ChunkFull, fit_chunks, fit_front};
 pub use seat::{LengthPass, RaiseSeat};

@@ -4,3 +4,4 @@ pub mod Kept
 pub mod Changes
 pub mod Uses
 pub mod Orders
+pub mod Padded

@@ -2,13 +2,13 @@
 use Rattle.std.proofs.Common.{◌≡◌, ◌≢◌, ℕ, ◌+◌, ◌<◌, ◌≤◌, List, [], length, set, get_or, take, refl, sym, ap, ◌∙◌, subst, arith, inl, inr}
 use Rattle.std.specs.Prelude.{Some, slice_get, sum_by}
 use Rattle.std.proofs.lemmas.Option.{slice_get-get_or}
-use Rattle.std.proofs.lemmas.Bool.{cases_eq}
-use Rattle.std.proofs.lemmas.List.{get_or-set_same, get_or-set_other}
+use Rattle.std.proofs.lemmas.Bool.{cases_eq, cases_lt}
+use Rattle.std.proofs.lemmas.List.{get_or-set_same, get_or-set_other, get_or-map, get_or_past, length-map}
 use Rattle.std.proofs.lemmas.List.Sums.{sum_by-take-le, sum_by_more, sum_by_more_le}
 use Rattle.sg_links.specs.declared.head.Head.{Head}
 use Rattle.sg_links.specs.Lists.{Lists}
-use Rattle.sg_links.specs.Heads.{lists_of}
-use Rattle.sg_links.specs.steps.Rows.{AreLinked, IsLaid, AreLaid}
+use Rattle.sg_links.specs.Heads.{numbers_along, lists_of}
+use Rattle.sg_links.specs.steps.Rows.{no_head, AreLinked, IsLaid, AreLaid}
 use Rattle.sg_links.proofs.Kept.{AreKept}
 use Rattle.sg_links.proofs.Uses.{fit_numbers}
 
@@ -42,12 +42,17 @@ laid_list head lists starts rest order after end more laid there rest_is last fr
     | inr other ↦ λ k below.
         let before : i < head = omega arith in
         let same : get_or rest i 0 ≡ get_or starts i 0 = old_start i other in
-        let inside : get_or starts i 0 + k < end = omega (arith, laid.within i before) in
+        let inside : get_or starts i 0 + k < end = laid.within i before k below in
         ap (λ s. get_or after (s + k) 0) same ∙ front (get_or starts i 0 + k) inside ∙ laid.laid i before k below
   ];
-  within = λ i within. elim (cases_eq i head) [
-    | inl here ↦ subst (λ j. get_or rest j 0 + length (get_or lists j []) ≤ more) (sym here) (omega (arith, new_start, more_is))
-    | inr other ↦ omega (arith, laid.within i (omega arith), old_start i other, more_is)
+  within = λ i within k below. elim (cases_eq i head) [
+    | inl here ↦
+        let long : length (get_or lists i []) ≡ length (get_or lists head []) = ap (λ j. length (get_or lists j [])) here in
+        let start : get_or rest i 0 ≡ end = ap (λ j. get_or rest j 0) here ∙ new_start in
+        omega (arith, below, long, start, more_is)
+    | inr other ↦
+        let inside : get_or starts i 0 + k < end = laid.within i (omega arith) k below in
+        omega (arith, inside, old_start i other, more_is)
   ];
 }
   where
@@ -67,12 +72,43 @@ room_for next heads head linked there =
 pub sum_more : (next : List ℕ) (heads : List Head) (head : ℕ) → AreLinked next heads (lists_of next heads) → head < length heads → sum_by length (take (head + 1) (lists_of next heads)) ≡ sum_by length (take head (lists_of next heads)) + length (get_or (lists_of next heads) head [])
 sum_more next heads head linked there = sum_by_more {X = List ℕ} length (lists_of next heads) head [] (omega (arith, linked.as_many))
 
--- all that is laid stands among so many numbers
-pub all_laid : (next : List ℕ) (heads : List Head) (starts order : List ℕ) (head end : ℕ) → AreLinked next heads (lists_of next heads) → AreLaid head (lists_of next heads) starts order end → end ≡ sum_by length (take head (lists_of next heads)) → head ≡ length heads → AreLaid (length heads) (lists_of next heads) starts order (length next)
-all_laid next heads starts order head end linked laid sum last =
+-- a head without numbers leads along no list
+pub unused_empty : (next : List ℕ) (heads : List Head) (head : ℕ) → (get_or heads head no_head).len ≡ 0 → get_or (lists_of next heads) head [] ≡ []
+unused_empty next heads head none = elim (cases_lt head (length heads)) [
+  | inl below ↦
+      get_or-map (λ (h : Head). numbers_along next h.first h.len) heads head no_head [] below
+      ∙ ap (λ (n : ℕ). numbers_along next (get_or heads head no_head).first n) none
+  | inr over ↦
+      let many : length (lists_of next heads) ≡ length heads = length-map heads (λ (h : Head). numbers_along next h.first h.len) in
+      get_or_past (lists_of next heads) head [] (omega (arith, over, many))
+]
+
+-- past the last head there is none
+pub past_unused : (heads : List Head) (head : ℕ) → length heads ≤ head → (get_or heads head no_head).len ≡ 0
+past_unused heads head over = ap (λ (h : Head). h.len) (get_or_past heads head no_head over)
+
+-- heads without numbers from a place on
+pub rest_unused : (heads : List Head) (rest : Head) (end head : ℕ) → ((place : ℕ) (other : Head) → end ≤ place → place < length heads → get_or heads place other ≡ rest) → rest.len ≡ 0 → end ≤ head → (get_or heads head no_head).len ≡ 0
+rest_unused heads rest end head same none past = elim (cases_lt head (length heads)) [
+  | inl below ↦ ap (λ (h : Head). h.len) (same head no_head past below) ∙ none
+  | inr over ↦ past_unused heads head over
+]
+
+-- all that is laid stands among so many numbers, and the lists that are not laid are empty
+pub all_laid : (next : List ℕ) (heads : List Head) (starts order : List ℕ) (head end : ℕ) → AreLinked next heads (lists_of next heads) → AreLaid head (lists_of next heads) starts order end → end ≡ sum_by length (take head (lists_of next heads)) → ((i : ℕ) → head ≤ i → (get_or heads i no_head).len ≡ 0) → AreLaid (length heads) (lists_of next heads) starts order (length next)
+all_laid next heads starts order head end linked laid sum none =
     let lists : List (List ℕ) = lists_of next heads in
     let few : end ≤ length next = omega (arith, sum, sum_by-take-le {X = List ℕ} length lists head, fit_numbers (seen_of next heads) linked.disjoint) in
-    subst (λ n. AreLaid n lists starts order (length next)) last (record { laid = laid.laid; within = λ i below. omega (arith, laid.within i below, few) })
+    record {
+      laid = λ i below k inside. elim (cases_lt i head) [
+        | inl before ↦ laid.laid i before k inside
+        | inr past ↦ absurd (omega (arith, inside, ap length (unused_empty next heads i (none i past))))
+      ];
+      within = λ i below k inside. elim (cases_lt i head) [
+        | inl before ↦ let there : get_or starts i 0 + k < end = laid.within i before k inside in omega (arith, there, few)
+        | inr past ↦ absurd (omega (arith, inside, ap length (unused_empty next heads i (none i past))))
+      ];
+    }
 
 -- ── What is laid is found ──
 

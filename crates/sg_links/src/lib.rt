@@ -6,6 +6,8 @@ pub mod laws;
 pub mod links;
 pub mod memory;
 mod order;
+pub mod row;
 
 pub use links::Links;
 pub use memory::LinkMemory;
+pub use row::Row;

@@ -1,10 +1,10 @@
-ghost use Rattle.std.specs.Prelude.{◌≡◌, ◌≢◌, ℕ, ◌+◌, ◌<◌, [], ◌∷◌, ◌++◌, length, drop, slice_get, IfOk};
+ghost use Rattle.std.specs.Prelude.{◌≡◌, ◌≢◌, ℕ, ◌+◌, ◌<◌, ◌≤◌, [], ◌∷◌, ◌++◌, length, drop, slice_get, IfOk};
 ghost use Rattle.sg_links.specs.Lists.{Lists, empty_lists, list_of, with_list, times_in_lists, AreDisjoint};
 
 use crate::LinkMemory;
 use crate::head::Head;
-use crate::order::{lay_all, walk_to};
-use sqlite_items::Items;
+use crate::order::{heads_used, lay_all, walk_to};
+use crate::row::Row;
 use std::alloc::Global;
 use std::marker::Model;
 
@@ -12,10 +12,10 @@ use std::marker::Model;
 /// has them one after the other, each from its place in `starts` on.
 #[derive(Debug, Drop)]
 pub struct Links {
-    next: Items<u32>,
-    heads: Items<Head>,
-    starts: Items<u32>,
-    order: Items<u32>,
+    next: Row<u32>,
+    heads: Row<Head>,
+    starts: Row<u32>,
+    order: Row<u32>,
     pub(crate) arranged: bool,
 }
 
@@ -43,23 +43,23 @@ impl Links {
             len: 0,
         };
         Ok(Links {
-            next: Items::from_vec(vec![in alloc; numbers; numbers as usize]?),
-            heads: Items::from_vec(vec![in alloc; empty; heads as usize]?),
-            starts: Items::from_vec(vec![in alloc; 0; heads as usize]?),
-            order: Items::from_vec(vec![in alloc; 0; numbers as usize]?),
+            next: Row::make(alloc, numbers as usize, numbers)?,
+            heads: Row::make(alloc, heads as usize, empty)?,
+            starts: Row::make(alloc, heads as usize, 0)?,
+            order: Row::make(alloc, numbers as usize, 0)?,
             arranged: false,
         })
     }
 
-    /// Equal lists.
+    /// Equal lists. In time by the numbers and lists up to the last that was used.
     pub fn copy(&self, alloc: Global) -> Result<Links, LinkMemory>
         ensures { IfOk result (λ copy. copy ≡ self.now) }
     {
         Ok(Links {
-            next: Items::from_slice(alloc, self.next.as_slice())?,
-            heads: Items::from_slice(alloc, self.heads.as_slice())?,
-            starts: Items::from_slice(alloc, self.starts.as_slice())?,
-            order: Items::from_slice(alloc, self.order.as_slice())?,
+            next: self.next.copy(alloc)?,
+            heads: self.heads.copy(alloc)?,
+            starts: self.starts.copy(alloc)?,
+            order: self.order.copy(alloc)?,
             arranged: self.arranged,
         })
     }
@@ -71,7 +71,7 @@ impl Links {
         requires free { times_in_lists number self.old.lists ≡ 0 }
         ensures { self.new ≡ with_list self.old head (number ∷ list_of self.old head) }
     {
-        let old = self.heads.as_slice()[head as usize];
+        let old = self.heads.get(head as usize);
         self.arranged = false;
         self.next.set(number as usize, old.first);
         if old.len == 0 {
@@ -93,7 +93,7 @@ impl Links {
         requires free { times_in_lists number self.old.lists ≡ 0 }
         ensures { self.new ≡ with_list self.old head (list_of self.old head ++ number ∷ []) }
     {
-        let old = self.heads.as_slice()[head as usize];
+        let old = self.heads.get(head as usize);
         self.arranged = false;
         self.next.set(number as usize, self.next.len() as u32);
         if old.len == 0 {
@@ -115,12 +115,12 @@ impl Links {
         ensures value { result ≡ slice_get (list_of self.old head) 0 }
         ensures left { self.new ≡ with_list self.old head (drop 1 (list_of self.old head)) }
     {
-        let old = self.heads.as_slice()[head as usize];
+        let old = self.heads.get(head as usize);
         if old.len == 0 {
             return None;
         }
         let shorter = Head {
-            first: self.next.as_slice()[old.first as usize],
+            first: self.next.get(old.first as usize),
             last: old.last,
             len: old.len - 1,
         };
@@ -136,8 +136,8 @@ impl Links {
         requires apart { head ≢ from }
         ensures { self.new ≡ with_list (with_list self.old from []) head (list_of self.old head ++ list_of self.old from) }
     {
-        let old = self.heads.as_slice()[head as usize];
-        let more = self.heads.as_slice()[from as usize];
+        let old = self.heads.get(head as usize);
+        let more = self.heads.get(from as usize);
         let end = self.next.len() as u32;
         let empty = Head {
             first: end,
@@ -163,16 +163,11 @@ impl Links {
     }
 
     /// Arranges the lists, so that `nth` takes constant time until a list is changed. Takes no memory, and time in proportion to the numbers
-    /// in lists and the lists.
+    /// in lists and the lists up to the last that was used.
     pub fn arrange(&mut self)
         ensures { self.new ≡ self.old }
     {
-        lay_all(
-            self.next.as_slice(),
-            self.heads.as_slice(),
-            &mut self.starts,
-            &mut self.order,
-        );
+        lay_all(&self.next, &self.heads, &mut self.starts, &mut self.order);
         self.arranged = true;
     }
 
@@ -182,20 +177,15 @@ impl Links {
         requires { head < length self.now.lists }
         ensures { result ≡ slice_get (list_of self.now head) place }
     {
-        let list = self.heads.as_slice()[head as usize];
+        let list = self.heads.get(head as usize);
         if place >= list.len {
             return None;
         }
         if self.arranged {
-            let start = self.starts.as_slice()[head as usize];
-            return Some(self.order.as_slice()[start as usize + place as usize]);
+            let start = self.starts.get(head as usize);
+            return Some(self.order.get(start as usize + place as usize));
         }
-        Some(walk_to(
-            self.next.as_slice(),
-            self.heads.as_slice(),
-            head as usize,
-            place,
-        ))
+        Some(walk_to(&self.next, &self.heads, head as usize, place))
     }
 
     /// How many numbers a list has.
@@ -204,7 +194,7 @@ impl Links {
         ensures length { result ≡ length (list_of self.now head) }
         ensures disjoint { AreDisjoint self.now }
     {
-        self.heads.as_slice()[head as usize].len
+        self.heads.get(head as usize).len
     }
 
     /// The first number of a list. None if the list is empty.
@@ -212,7 +202,7 @@ impl Links {
         requires { head < length self.now.lists }
         ensures { result ≡ slice_get (list_of self.now head) 0 }
     {
-        let list = self.heads.as_slice()[head as usize];
+        let list = self.heads.get(head as usize);
         if list.len == 0 {
             None
         } else {
@@ -225,7 +215,7 @@ impl Links {
         requires { 0 < times_in_lists number self.now.lists }
         ensures { (head place : ℕ) → slice_get (list_of self.now head) place ≡ Some number → result ≡ slice_get (list_of self.now head) (place + 1) }
     {
-        let following = self.next.as_slice()[number as usize];
+        let following = self.next.get(number as usize);
         if following as usize == self.next.len() {
             None
         } else {
@@ -246,6 +236,14 @@ impl Links {
         ensures { result ≡ length self.now.lists }
     {
         self.heads.len() as u32
+    }
+
+    /// How many lists there are up to the last that was ever used: those from there on are empty. In constant time.
+    pub fn used(&self) -> u32
+        ensures few { result ≤ length self.now.lists }
+        ensures rest { (head : ℕ) → result ≤ head → list_of self.now head ≡ [] }
+    {
+        heads_used(&self.heads) as u32
     }
 }
 

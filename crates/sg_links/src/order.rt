@@ -1,12 +1,21 @@
 ghost use Rattle.std.specs.Prelude.{◌≡◌, ℕ, ◌+◌, ◌<◌, ◌≤◌, length, slice_index, slice_index_or};
 ghost use Rattle.sg_links.specs.Heads.{lists_of};
-ghost use Rattle.sg_links.specs.steps.Rows.{list_at, AreLinked, AreLaid, IsLaid};
+ghost use Rattle.sg_links.specs.steps.Rows.{no_head, list_at, AreLinked, AreLaid, IsLaid};
 
 use crate::head::Head;
-use sqlite_items::Items;
+use crate::row::Row;
 
-/// Lays the lists one after the other: each goes into `order` from its place in `starts` on.
-pub fn lay_all(next: &[u32], heads: &[Head], starts: &mut Items<u32>, order: &mut Items<u32>)
+/// How many heads there are up to the last that may have numbers.
+pub fn heads_used(heads: &Row<Head>) -> usize
+    ensures few { result ≤ length heads.now }
+    ensures rest { (head : ℕ) → result ≤ head → (slice_index_or heads.now head no_head).len ≡ 0 }
+{
+    let (used, rest) = heads.end();
+    if rest.len == 0 { used } else { heads.len() }
+}
+
+/// Lays the lists one after the other: each that may have numbers goes into `order` from its place in `starts` on.
+pub fn lay_all(next: &Row<u32>, heads: &Row<Head>, starts: &mut Row<u32>, order: &mut Row<u32>)
     requires linked { AreLinked next.now heads.now (lists_of next.now heads.now) }
     requires starts { length starts.old ≡ length heads.now }
     requires order { length order.old ≡ length next.now }
@@ -15,15 +24,15 @@ pub fn lay_all(next: &[u32], heads: &[Head], starts: &mut Items<u32>, order: &mu
     ensures order { length order.new ≡ length next.now }
 {
     let mut end = 0;
-    for head in 0..heads.len() {
+    for head in 0..heads_used(heads) {
         starts.set(head, end);
         lay(next, heads, head, end, order);
-        end += heads[head].len;
+        end += heads.get(head).len;
     }
 }
 
 /// Lays one list into the order, from a place on.
-fn lay(next: &[u32], heads: &[Head], head: usize, start: u32, order: &mut Items<u32>)
+fn lay(next: &Row<u32>, heads: &Row<Head>, head: usize, start: u32, order: &mut Row<u32>)
     requires linked { AreLinked next.now heads.now (lists_of next.now heads.now) }
     requires there { head < length heads.now }
     requires room { start + length (list_at next.now heads.now head) ≤ length order.old }
@@ -31,24 +40,24 @@ fn lay(next: &[u32], heads: &[Head], head: usize, start: u32, order: &mut Items<
     ensures front { (k : ℕ) → k < start → slice_index order.new k ≡ slice_index order.old k }
     ensures length { length order.new ≡ length order.old }
 {
-    let list = heads[head];
+    let list = heads.get(head);
     let mut number = list.first;
     for step in 0..list.len {
         order.set(start as usize + step as usize, number);
-        number = next[number as usize];
+        number = next.get(number as usize);
     }
 }
 
 /// The number at a place of a list, by a walk along it.
-pub fn walk_to(next: &[u32], heads: &[Head], head: usize, place: u32) -> u32
+pub fn walk_to(next: &Row<u32>, heads: &Row<Head>, head: usize, place: u32) -> u32
     requires linked { AreLinked next.now heads.now (lists_of next.now heads.now) }
     requires there { head < length heads.now }
     requires within { place < length (list_at next.now heads.now head) }
     ensures { result ≡ slice_index (list_at next.now heads.now head) place }
 {
-    let mut number = heads[head].first;
+    let mut number = heads.get(head).first;
     for _step in 0..place {
-        number = next[number as usize];
+        number = next.get(number as usize);
     }
     number
 }

@@ -1,13 +1,14 @@
 -- The fields of a pool, kept by each of its calls.
-use Rattle.std.proofs.Common.{◌≡◌, ℕ, ◌+◌, ◌-◌, ◌<◌, ◌≤◌, Bool, List, [], ◌∷◌, ◌++◌, length, get_or, drop, Some, None, refl, sym, ap, ◌∙◌, subst, arith}
+use Rattle.std.proofs.Common.{◌≡◌, ℕ, zero, suc, ◌+◌, ◌-◌, ◌<◌, ◌≤◌, ◌^◌, Bool, false, List, [], ◌∷◌, ◌++◌, length, get_or, drop, replicate, Some, None, refl, sym, ap, ◌∙◌, subst, arith}
 use Rattle.std.specs.Prelude.{slice_get}
 use Rattle.std.specs.List.{range_with_len}
-use Rattle.std.proofs.lemmas.List.{length-set}
-use Rattle.sg_links.specs.Lists.{Lists, list_of, with_list, times, times_in_lists}
+use Rattle.std.proofs.lemmas.List.{length-set, length-replicate}
+use Rattle.sg_links.specs.Lists.{Lists, list_of, with_list, empty_lists, times, times_in_lists}
 use Rattle.sg_links.proofs.Uses.{stands}
 use Rattle.sg_pool.specs.Numbers.{PoolNumbers, IsParted, IsFree, IsSettled, IsRaised}
 use Rattle.sg_pool.specs.steps.Kept.{row, dead_in, IsKept}
-use Rattle.sg_pool.proofs.Parts.{parted_settled, free_after, parted_listed_drawn, parted_past, listed_is_free, free_row}
+use Rattle.sg_pool.proofs.Uses.{none_live_counted}
+use Rattle.sg_pool.proofs.Parts.{made_parted, parted_settled, free_after, parted_listed_drawn, parted_past, listed_is_free, free_row}
 use Rattle.sg_pool.proofs.FreeLists.{list_there, front_of}
 
 -- what the fields show
@@ -23,6 +24,26 @@ only_list : (lists : List (List ℕ)) (x : ℕ) → length lists ≡ 1 → times
 only_list [] x one = absurd (omega arith)
 only_list (list ∷ []) x one = omega arith
 only_list (list ∷ (other ∷ lists)) x one = absurd (omega arith)
+
+-- ── A new pool ──
+
+none_set : (places number : ℕ) → get_or (replicate places false) number false ≡ false
+none_set zero number = refl
+none_set (suc places) zero = refl
+none_set (suc places) (suc number) = none_set places number
+
+pub kept_made : (live : List Bool) (free : Lists) (places : ℕ) → places < 2 ^ 32 → live ≡ replicate places false → free ≡ empty_lists places 1 → IsKept live 0 free 0
+kept_made live free places few live_is free_is =
+    let long : length live ≡ places = ap length live_is ∙ length-replicate {A = Bool} places false in
+    let none : (number : ℕ) → get_or live number false ≡ false = λ number. ap (λ (l : List Bool). get_or l number false) live_is ∙ none_set places number in
+    let empty : list_of free 0 ≡ [] = ap (λ (l : Lists). list_of l 0) free_is in
+    record {
+      counted = sym (none_live_counted (row live) none);
+      few = omega (arith, long, few);
+      one_list = ap (λ (l : Lists). length l.lists) free_is;
+      over = ap (λ (l : Lists). l.numbers) free_is ∙ sym long;
+      parted = subst (λ xs. IsParted (record { live = live; free = xs; mark = 0 })) (sym empty) (made_parted live none);
+    }
 
 -- ── Settling ──
 

@@ -4,7 +4,7 @@ use Rattle.std.specs.Prelude.{IsTrue, slice_set, count_by}
 use Rattle.std.specs.List.{All, range_with_len}
 use Rattle.std.proofs.lemmas.Bool.{cases_Bool, cases_eq, cases_lt, false≢true}
 use Rattle.std.proofs.lemmas.Bool.Decides.{leb_tells, eqb_tells}
-use Rattle.std.proofs.lemmas.List.{length-set, get_or-set_same, get_or-set_other}
+use Rattle.std.proofs.lemmas.List.{length-set, get_or-set_same, get_or-set_other, get_or_default}
 use Rattle.std.proofs.lemmas.List.Sums.{sum_by-set}
 use Rattle.sg_links.specs.Lists.{times}
 use Rattle.sg_links.proofs.Uses.{times-append, times_same, times_other, one_if}
@@ -173,6 +173,17 @@ can_settle_row pool taken can = record { free = λ i d below. free_row pool (get
 
 pub settled_row : (old new : PoolNumbers) (taken : List ℕ) → IsSettled (row old.live) (row new.live) taken → IsSettled old new taken
 settled_row old new taken settled = record { places = settled.places; live = settled.live; count = settled.count }
+
+-- what was taken is live, and what is live now of a free list was taken
+pub taken_live : (old live : List Bool) (taken : List ℕ) → IsSettled (row old) (row live) taken → All (λ x. get_or live x false ≡ true) taken
+taken_live old live taken settled = λ i d below.
+    taken_is_live (row old) (row live) taken (get_or taken i d) settled (i, below, sym (get_or_default taken i d (get_or taken i d) below))
+
+pub listed_taken : (pool : PoolNumbers) (live : List Bool) (taken : List ℕ) → IsSettled (row pool.live) (row live) taken → (x : ℕ) → IsParted pool → 0 < times x pool.free → get_or live x false ≡ true → 0 < times x taken
+listed_taken pool live taken settled x parted stands on = elim (live_was_or_taken (row pool.live) (row live) taken x settled on) [
+  | inl was ↦ absurd (false≢true (sym (parted_listed pool x parted stands).2 ∙ was))
+  | inr there ↦ has_times x taken there
+]
 
 pub taken_below : (pool : PoolNumbers) (taken : List ℕ) → CanSettle pool taken → All (λ n. n < place_count pool) taken
 taken_below pool taken can i d below = (can.free i d below).below

@@ -1,6 +1,6 @@
 -- How often numbers stand in a range, and in what a sweep leaves of a list.
 use Rattle.std.proofs.Common.{◌≡◌, ◌≢◌, ℕ, zero, suc, ◌+◌, ◌<◌, ◌≤◌, Bool, true, false, not, cond, List, [], ◌∷◌, length, get_or, refl, sym, ap, ◌∙◌, subst, arith, inl, inr}
-use Rattle.std.specs.List.{Contains, AllPairs, range_with_len}
+use Rattle.std.specs.List.{All, Contains, AllPairs, range_with_len}
 use Rattle.std.proofs.lemmas.Bool.{cases_Bool, cases_eq, false≢true}
 use Rattle.sg_words.proofs.Uses.{contains_head, contains_rest}
 use Rattle.sg_links.specs.Lists.{times}
@@ -63,6 +63,17 @@ dead_least live x xs = elim (cases_Bool (get_or live x false)) [
   | inl on ↦ omega (arith, dead_live live x xs on)
   | inr off ↦ omega (arith, dead_dead live x xs off)
 ]
+
+-- live numbers alone leave nothing, and others stay
+pub dead_none : (live : List Bool) (xs : List ℕ) → All (λ x. get_or live x false ≡ true) xs → dead_in live xs ≡ []
+dead_none live [] on = refl
+dead_none live (y ∷ ys) on = swept live y ys (on 0 0 (omega arith)) ∙ dead_none live ys (λ i d below. on (suc i) d (omega (arith, below)))
+
+pub dead_all : (live : List Bool) (xs : List ℕ) → ((x : ℕ) → 0 < times x xs → get_or live x false ≡ false) → dead_in live xs ≡ xs
+dead_all live [] off = refl
+dead_all live (y ∷ ys) off =
+    left live y ys (off y (omega (arith, times_same y ys)))
+    ∙ ap (λ (zs : List ℕ). y ∷ zs) (dead_all live ys (λ x some. off x (omega (arith, times-cons x y ys, some))))
 
 -- ── Members of a list, by how often they stand there ──
 

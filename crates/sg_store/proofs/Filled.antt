@@ -1,13 +1,13 @@
 -- Slots that are filled one after the other with numbers of a stock.
-use Rattle.std.proofs.Common.{◌≡◌, ◌≢◌, ℕ, suc, ◌+◌, ◌<◌, ◌≤◌, true, List, [], ◌∷◌, ◌++◌, length, take, get_or, refl, sym, ap, ◌∙◌, subst, arith, inl, inr}
+use Rattle.std.proofs.Common.{◌≡◌, ◌≢◌, ℕ, suc, ◌+◌, ◌<◌, ◌≤◌, true, List, [], ◌∷◌, ◌++◌, length, take, get_or, refl, sym, ap, ◌∙◌, subst, arith, inl, inr, ◌⊎◌}
 use Rattle.std.specs.Prelude.{slice_index, slice_set}
 use Rattle.std.specs.List.{Contains, AllPairs, All}
 use Rattle.std.proofs.lemmas.Bool.{false≢true, cases_eq}
 use Rattle.std.proofs.lemmas.List.{length-set, get_or-set_same, get_or-set_other, get_or_default, length-take-le, get_or-take, take_more}
-use Rattle.std.proofs.lemmas.List.Elements.{Contains-push_cases, Contains-push, Contains-append_left}
-use Rattle.sg_pool.specs.Numbers.{is_live_number, IsStock}
+use Rattle.std.proofs.lemmas.List.Elements.{Contains-push_cases, Contains-push, Contains-append_left, All-contains}
+use Rattle.sg_pool.specs.Numbers.{place_count, is_live_number, live_count, IsFree, CanSettle}
 use Rattle.sg_store.specs.declared.node.NodeWords.{NodeWords}
-use Rattle.sg_store.specs.steps.Filling.{IsFill, IsUnlinkedStock}
+use Rattle.sg_store.specs.steps.Filling.{IsFill, IsUnlinkedStock, HasEnough}
 use Rattle.sg_store.proofs.Walking.{index_contains}
 
 -- before any slot
@@ -109,11 +109,10 @@ next_fresh stock taken number once below is has =
     once k taken number before below (sym (get_or-take taken stock k number before) ∙ has.2 ∙ is)
 
 -- one slot more of a list, where it was empty: it has the next number of the stock
-pub filled_more : (before after now stock slots : List ℕ) (room taken i d e : ℕ) → IsUnlinkedStock before stock → room < length stock → All (λ slot. slot < length before) slots → i < length slots → taken ≤ room → slice_index after (get_or slots i d) ≡ 0 → now ≡ slice_set after (get_or slots i d) (get_or stock taken e + 1) → IsFill before after (take taken stock) (take i slots) → IsFill before now (take (taken + 1) stock) (take (i + 1) slots)
-filled_more before after now stock slots room taken i d e fresh roomy within below few empty is fill =
+pub filled_more : (before after now stock slots : List ℕ) (taken i d e : ℕ) → IsUnlinkedStock before stock → taken < length stock → All (λ slot. slot < length before) slots → i < length slots → slice_index after (get_or slots i d) ≡ 0 → now ≡ slice_set after (get_or slots i d) (get_or stock taken e + 1) → IsFill before after (take taken stock) (take i slots) → IsFill before now (take (taken + 1) stock) (take (i + 1) slots)
+filled_more before after now stock slots taken i d e fresh there within below empty is fill =
     let slot : ℕ = get_or slots i d in
     let number : ℕ = get_or stock taken e in
-    let there : taken < length stock = omega arith in
     let same : number ≡ get_or stock taken number = get_or_default stock taken e number there in
     let more = fill_more before after (take taken stock) (take i slots) slot number fill empty (within i d below)
     (next_fresh stock taken number fresh.once there same) (fresh.unlinked number (taken, there, sym same)) in
@@ -128,12 +127,22 @@ filled_same before after now taken slots i d below some is fill =
     subst (λ l. IsFill before l taken (take (i + 1) slots)) (sym is)
     (subst (λ l. IsFill before after taken l) (sym (take_more slots i d below)) (fill_skip before after taken (take i slots) (get_or slots i d) fill some))
 
--- no link of a node has a number of its stock
-pub stock_fresh : (kept : NodeWords) (stock links same : List ℕ) → IsStock kept.pool stock → ((number : ℕ) → Contains kept.links (suc number) → is_live_number kept.pool number ≡ true) → links ≡ kept.links → same ≡ stock → IsUnlinkedStock links same
+-- there is a number for the next slot, if those before it have taken no more than the room
+pub number_there : (stock slots : List ℕ) (room taken i : ℕ) → HasEnough stock room slots → i < length slots → taken ≤ i → taken ≤ room → taken < length stock
+number_there stock slots room taken i (inl all) below low few = omega (arith, all, below, low)
+number_there stock slots room taken i (inr past) below low few = omega (arith, past, few)
+
+-- as many numbers as slots, or all, are enough
+pub enough_of : (kept : NodeWords) (stock slots same : List ℕ) (cap room : ℕ) → (length slots ≤ length stock) ⊎ (length stock + live_count kept.pool ≡ place_count kept.pool) → place_count kept.pool ≡ cap + 17 → room + live_count kept.pool ≡ cap → same ≡ stock → HasEnough same room slots
+enough_of kept stock slots same cap room (inl all) places spare is = inl (omega (arith, all, ap length is))
+enough_of kept stock slots same cap room (inr rest) places spare is = inr (omega (arith, rest, places, spare, ap length is))
+
+-- no link of a node has a number that can be made live
+pub stock_fresh : (kept : NodeWords) (stock links same : List ℕ) → CanSettle kept.pool stock → ((number : ℕ) → Contains kept.links (suc number) → is_live_number kept.pool number ≡ true) → links ≡ kept.links → same ≡ stock → IsUnlinkedStock links same
 stock_fresh kept stock links same is linked links_are stock_is =
     subst (λ l. IsUnlinkedStock links l) (sym stock_is) (record {
       once = is.once;
       unlinked = λ number has link.
-          let free = (is.members number).0 has in
+          let free : IsFree kept.pool number = All-contains (IsFree kept.pool) stock number is.free has in
           false≢true (sym free.not_live ∙ linked number (subst (λ l. Contains l (suc number)) links_are link));
     })

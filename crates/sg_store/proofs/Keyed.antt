@@ -1,5 +1,5 @@
 -- Keys that are put into a table, one after the other: what the links by slots become, and that there is room.
-use Rattle.std.proofs.Common.{◌≡◌, ◌≢◌, ℕ, zero, suc, ◌+◌, ◌-◌, ◌<◌, ◌≤◌, Bool, true, false, List, ◌∷◌, ◌++◌, length, take, map, get_or, refl, sym, ap, ◌∙◌, arith, inl, inr}
+use Rattle.std.proofs.Common.{◌≡◌, ◌≢◌, ℕ, zero, suc, ◌+◌, ◌-◌, ◌<◌, ◌≤◌, Bool, true, false, List, ◌∷◌, ◌++◌, ◌⊎◌, length, take, map, get_or, refl, sym, ap, ◌∙◌, arith, inl, inr}
 use Rattle.std.specs.Prelude.{Option, Some, None, is_some, if◌then◌else◌, slice_index, slice_set, ◌==◌}
 use Rattle.std.specs.List.{range_with_len, Contains, All, AllPairs}
 use Rattle.std.proofs.lemmas.Bool.{false≢true, cases_eq}
@@ -9,7 +9,7 @@ use Rattle.std.proofs.lemmas.List.FromFn.{length-range_with_len, get_or-range_wi
 use Rattle.std.proofs.lemmas.List.Elements.{Contains-append_left, Contains-append_right}
 use Rattle.sg_hash.specs.Tables.{IsTable, AreBeside, beside, IsFull}
 use Rattle.sg_hash.proofs.Uses.{stands_once, beside_at}
-use Rattle.sg_pool.specs.Numbers.{place_count, live_count, IsStock}
+use Rattle.sg_pool.specs.Numbers.{place_count, live_count, CanSettle}
 use Rattle.sg_pool.proofs.Uses.{fewer, live_numbers, in_live_numbers, length-live_numbers}
 use Rattle.sg_store.specs.declared.node.NodeWords.{NodeWords}
 use Rattle.sg_store.specs.declared.hash.KeyPlan.{KeyPlan}
@@ -17,7 +17,7 @@ use Rattle.sg_store.specs.Slots.{link_word, links_by_slot}
 use Rattle.sg_store.specs.steps.Filling.{IsFill}
 use Rattle.sg_store.specs.WellFormed.{by_slots}
 use Rattle.sg_store.specs.steps.Keying.{IsKeyed, HasPlaces, CanAddKey, AddsKey, CanFillKeys, FilledKeys, CanPlanKeys, IsKeyPlan}
-use Rattle.sg_store.proofs.Filled.{filled_more, filled_same, stock_fresh}
+use Rattle.sg_store.proofs.Filled.{filled_more, filled_same, stock_fresh, number_there, enough_of}
 use Rattle.sg_store.proofs.Walking.{index_contains}
 use Rattle.sg_store.proofs.BySlots.{links_many, slot_link}
 
@@ -192,12 +192,12 @@ key_put keys links new_keys new_links slot number count true can none long full 
 }
 
 -- the next slot of a list can be put
-pub can_add : (old_keys old_links keys links stock slots : List ℕ) (room taken count i d : ℕ) → CanFillKeys old_keys old_links stock room slots count → IsKeyed keys links (length old_keys) count → IsFill (links_by_slot old_keys old_links count) (links_by_slot keys links count) (take taken stock) (take i slots) → taken ≤ room → i < length slots → CanAddKey keys links (get_or slots i d) count
-can_add old_keys old_links keys links stock slots room taken count i d can keyed fill few below = record {
+pub can_add : (old_keys old_links keys links stock slots : List ℕ) (room taken count i d : ℕ) → CanFillKeys old_keys old_links stock room slots count → IsKeyed keys links (length old_keys) count → IsFill (links_by_slot old_keys old_links count) (links_by_slot keys links count) (take taken stock) (take i slots) → taken ≤ room → taken ≤ i → i < length slots → CanAddKey keys links (get_or slots i d) count
+can_add old_keys old_links keys links stock slots room taken count i d can keyed fill few low below = record {
   keyed = record { long = refl; table = keyed.table; links_beside = keyed.links_beside; are_slots = keyed.are_slots };
   few = can.few;
   within = can.within i d below;
-  has_places = fill_places old_keys old_links keys links stock (take i slots) room taken count can.has_places keyed.long few (omega (arith, can.roomy, few)) fill;
+  has_places = fill_places old_keys old_links keys links stock (take i slots) room taken count can.has_places keyed.long few (omega (arith, number_there stock slots room taken i can.enough below low few)) fill;
 }
 
 -- after it was, and where it was there already
@@ -209,11 +209,11 @@ keyed_on old_keys old_links keys links new_keys new_links slot number count adde
   are_slots = adds.keyed.are_slots;
 }
 
-pub turn_more : (old_keys old_links keys links new_keys new_links stock slots : List ℕ) (room taken count i d e : ℕ) → CanFillKeys old_keys old_links stock room slots count → IsFill (links_by_slot old_keys old_links count) (links_by_slot keys links count) (take taken stock) (take i slots) → taken ≤ room → i < length slots → AddsKey keys links new_keys new_links (get_or slots i d) (get_or stock taken e) true count → IsFill (links_by_slot old_keys old_links count) (links_by_slot new_keys new_links count) (take (taken + 1) stock) (take (i + 1) slots)
-turn_more old_keys old_links keys links new_keys new_links stock slots room taken count i d e can fill few below adds =
+pub turn_more : (old_keys old_links keys links new_keys new_links stock slots : List ℕ) (room taken count i d e : ℕ) → CanFillKeys old_keys old_links stock room slots count → IsFill (links_by_slot old_keys old_links count) (links_by_slot keys links count) (take taken stock) (take i slots) → taken ≤ room → taken ≤ i → i < length slots → AddsKey keys links new_keys new_links (get_or slots i d) (get_or stock taken e) true count → IsFill (links_by_slot old_keys old_links count) (links_by_slot new_keys new_links count) (take (taken + 1) stock) (take (i + 1) slots)
+turn_more old_keys old_links keys links new_keys new_links stock slots room taken count i d e can fill few low below adds =
     let added = adds.is_new refl in
-    filled_more (links_by_slot old_keys old_links count) (links_by_slot keys links count) (links_by_slot new_keys new_links count) stock slots room taken i d e
-    can.fresh can.roomy (within_links old_keys old_links slots count can.within) below few added.0 added.1 fill
+    filled_more (links_by_slot old_keys old_links count) (links_by_slot keys links count) (links_by_slot new_keys new_links count) stock slots taken i d e
+    can.fresh (number_there stock slots room taken i can.enough below low few) (within_links old_keys old_links slots count can.within) below added.0 added.1 fill
 
 pub turn_same : (old_keys old_links keys links new_keys new_links stock slots : List ℕ) (taken count i d number : ℕ) → IsFill (links_by_slot old_keys old_links count) (links_by_slot keys links count) (take taken stock) (take i slots) → i < length slots → AddsKey keys links new_keys new_links (get_or slots i d) number false count → IsFill (links_by_slot old_keys old_links count) (links_by_slot new_keys new_links count) (take taken stock) (take (i + 1) slots)
 turn_same old_keys old_links keys links new_keys new_links stock slots taken count i d number fill below adds =
@@ -221,11 +221,11 @@ turn_same old_keys old_links keys links new_keys new_links stock slots taken cou
     filled_same (links_by_slot old_keys old_links count) (links_by_slot keys links count) (links_by_slot new_keys new_links count) (take taken stock) slots i d below was.0 was.1 fill
 
 -- a node's own table can be filled from its stock
-pub can_fill : (kept : NodeWords) (cap room count : ℕ) (slots stock : List ℕ) → CanPlanKeys kept cap slots count → IsStock kept.pool stock → length stock + live_count kept.pool ≡ place_count kept.pool → room + live_count kept.pool ≡ cap → CanFillKeys kept.keys kept.links stock room slots count
+pub can_fill : (kept : NodeWords) (cap room count : ℕ) (slots stock : List ℕ) → CanPlanKeys kept cap slots count → CanSettle kept.pool stock → (length slots ≤ length stock) ⊎ (length stock + live_count kept.pool ≡ place_count kept.pool) → room + live_count kept.pool ≡ cap → CanFillKeys kept.keys kept.links stock room slots count
 can_fill kept cap room count slots stock plan is rest spare = record {
   keyed = plan.keyed;
   few = plan.few;
-  roomy = omega (arith, rest, spare, plan.places);
+  enough = enough_of kept stock slots stock cap room rest plan.places spare refl;
   fresh = stock_fresh (by_slots kept count) stock (links_by_slot kept.keys kept.links count) stock is plan.linked refl refl;
   within = plan.within;
   has_places = record {
@@ -236,8 +236,8 @@ can_fill kept cap room count slots stock plan is rest spare = record {
   };
 }
 
-pub plan_filled : (kept : NodeWords) (cap count : ℕ) (slots : List ℕ) (plan : KeyPlan) → IsStock kept.pool plan.stock → length plan.stock + live_count kept.pool ≡ place_count kept.pool → place_count kept.pool ≡ cap + 17 → plan.room + live_count kept.pool ≡ cap → FilledKeys kept.keys kept.links plan.keys plan.links plan.stock plan.room plan.taken slots count → IsKeyPlan kept cap slots count plan
-plan_filled kept cap count slots plan is rest places spare filled = record {
+pub plan_filled : (kept : NodeWords) (cap count : ℕ) (slots : List ℕ) (plan : KeyPlan) → CanSettle kept.pool plan.stock → plan.room + live_count kept.pool ≡ cap → FilledKeys kept.keys kept.links plan.keys plan.links plan.stock plan.room plan.taken slots count → IsKeyPlan kept cap slots count plan
+plan_filled kept cap count slots plan free spare filled = record {
   keyed = filled.keyed;
-  linked = record { room = spare; stock = is; roomy = omega (arith, rest, spare, places); filled = filled.filled };
+  linked = record { room = spare; free = free; filled = filled.filled };
 }

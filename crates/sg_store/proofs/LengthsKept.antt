@@ -1,7 +1,7 @@
 -- Lengths up to the last slot that leads to a cell that is kept.
-use Rattle.std.proofs.Common.{◌≡◌, ◌≢◌, ℕ, zero, suc, ◌+◌, ◌-◌, ◌*◌, ◌/◌, ◌%◌, ◌<◌, ◌≤◌, Bool, true, false, ◌&&◌, nat_lt, cond, Option, None, refl, sym, ap, ◌∙◌, subst, arith, inl, inr}
+use Rattle.std.proofs.Common.{◌≡◌, ◌≢◌, ℕ, zero, suc, ◌+◌, ◌-◌, ◌*◌, ◌/◌, ◌%◌, ◌<◌, ◌≤◌, Bool, true, false, ◌&&◌, nat_lt, cond, List, length, Option, None, refl, sym, ap, ◌∙◌, subst, arith, inl, inr}
 use Rattle.std.specs.Prelude.{slice_index}
-use Rattle.std.proofs.lemmas.Bool.{false≢true, cases_Bool, and_parts}
+use Rattle.std.proofs.lemmas.Bool.{false≢true, cases_Bool, cases_lt, and_parts}
 use Rattle.std.proofs.lemmas.Bool.Decides.{nat_tests}
 use Rattle.std.proofs.lemmas.Nat.{div-mul-add, mod-mul-add, div-add-mod', mod_below}
 use Rattle.sg_layout.specs.declared.shape.Kind.{Kind}
@@ -13,7 +13,7 @@ use Rattle.sg_store.specs.declared.node.NodeWords.{NodeWords}
 use Rattle.sg_store.specs.Slots.{active_below, below_length, chunk_cell}
 use Rattle.sg_store.specs.steps.Trimming.{is_kept, leads_kept, stays_set}
 use Rattle.sg_store.specs.steps.Cutting.{below_lengths}
-use Rattle.sg_store.specs.steps.KeptWords.{last_kept, keeps_cell, kept_length}
+use Rattle.sg_store.specs.steps.KeptWords.{in_row, last_kept, keeps_cell, kept_length, AreKeptLengths}
 use Rattle.sg_store.proofs.SlotPaths.{same_bool}
 use Rattle.sg_store.proofs.KeptPlaces.{range_from_any, any_in_range}
 
@@ -121,3 +121,26 @@ pub stays_below : (keeps : ℕ → Bool) (node : NodeShape) (kept : NodeWords) �
 stays_below keeps node kept is some slot on =
     let found = stays_at keeps node kept slot is some on in
     is_below (slot % size_of node.sizes) (slice_index kept.lengths (slot / size_of node.sizes)) (omega (arith, found.1, found.2))
+
+either : (b : Bool) (x y z : ℕ) → x ≡ z → y ≡ z → cond b x y ≡ z
+either true x y z p q = p
+either false x y z p q = q
+
+-- where the lengths that stand have been kept, all have: the others are 0
+pub kept_through : (kept : NodeWords) (chunk : ℕ) (row : List Bool) (lengths : List ℕ) (through : ℕ) → AreKeptLengths kept chunk row lengths through → through ≤ length kept.lengths → ((parent : ℕ) → through ≤ parent → slice_index kept.lengths parent ≡ 0) → AreKeptLengths kept chunk row lengths (length kept.lengths)
+kept_through kept chunk row lengths through are few none = record {
+  as_many = are.as_many;
+  each = λ parent.
+      let long : ℕ = kept_length kept chunk (in_row row) parent in
+      let old : ℕ = slice_index kept.lengths parent in
+      elim (cases_lt parent through) [
+        | inl before ↦
+            are.each parent ∙ ap (λ b. cond b long old) (is_below parent through before)
+            ∙ sym (ap (λ b. cond b long old) (is_below parent (length kept.lengths) (omega (arith, before, few))))
+        | inr past ↦
+            let zero_is : old ≡ 0 = none parent past in
+            let kept_none : long ≡ 0 = ap (λ (n : ℕ). last_kept (keeps_cell kept.chains chunk (in_row row) parent) n) zero_is in
+            are.each parent ∙ either (nat_lt parent through) long old 0 kept_none zero_is
+            ∙ sym (either (nat_lt parent (length kept.lengths)) long old 0 kept_none zero_is)
+      ];
+}

@@ -3,8 +3,10 @@ pub mod LiveNeed
 pub mod HasRoom
 pub mod SpotPlaces
 pub mod SpotWidths
+pub mod DenseNodes
 pub mod Widths
 pub mod SpotCells
+pub mod CellsOfFields
 pub mod FieldRows
 pub mod AtNumber
 pub mod OpenedBy
@@ -98,3 +100,4 @@ pub mod TablesTrimmed
 pub mod NodesTrimmed
 pub mod LinkListing
 mod WorkedStore
+pub mod FrontLengths

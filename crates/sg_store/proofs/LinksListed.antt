@@ -8,7 +8,7 @@ use Rattle.std.proofs.lemmas.List.Elements.{Contains-push, Contains-push_cases, 
 use Rattle.std.proofs.lemmas.List.Quantifiers.{all_pairs_push}
 use Rattle.std.proofs.lemmas.Option.{same_Some}
 use Rattle.sg_layout.specs.declared.shape.NodeShape.{NodeShape}
-use Rattle.sg_pool.specs.Numbers.{place_count, is_live_number}
+use Rattle.sg_pool.specs.Numbers.{is_live_number, IsParted}
 use Rattle.sg_store.specs.declared.node.NodeWords.{NodeWords}
 use Rattle.sg_store.specs.declared.links.LinkAt.{LinkAt}
 use Rattle.sg_store.specs.StoreWords.{StoreWords}
@@ -17,6 +17,7 @@ use Rattle.sg_layout.specs.StorageWords.{ends_segment}
 use Rattle.sg_store.specs.Links.{IsLink, AreLinks, node_above}
 use Rattle.sg_store.specs.LinkLaws.{AreSound, IsLiveAt}
 use Rattle.sg_store.specs.steps.Noting.{LinksBelow}
+use Rattle.sg_store.proofs.Marked.{live_is_marked}
 
 pub below_none : (store : StoreWords) (index : ℕ) → LinksBelow store index 0 []
 below_none store index = record {
@@ -65,15 +66,16 @@ below_more store index number links link sound is number_is so_far = record {
       (λ k d below. let was = (so_far.members (get_or links k d)).0 (k, below, get_or_default links k (get_or links k d) d below) in omega (arith, was.1, number_is));
 }
 
-pub below_all : (store : StoreWords) (index : ℕ) (node : NodeShape) (kept : NodeWords) (links : List LinkAt) (count : ℕ) → AreSound store index → slice_get store.nodes index ≡ Some kept → count ≡ place_count kept.pool → LinksBelow store index count links → AreLinks store index links
-below_all store index node kept links count sound has count_is all = record {
+-- the links of the numbers below the mark are all: none past it is live
+pub below_marked : (store : StoreWords) (index : ℕ) (kept : NodeWords) (links : List LinkAt) (count : ℕ) → AreSound store index → slice_get store.nodes index ≡ Some kept → IsParted kept.pool → count ≡ kept.pool.mark → LinksBelow store index count links → AreLinks store index links
+below_marked store index kept links count sound has parted count_is all = record {
   members = λ link. (
     λ there. ((all.members link).0 there).0,
     λ is.
-        let fits = sound.fit link is in
-        let same : fits.kept ≡ kept = same_Some fits.kept kept (sym fits.kept_there ∙ has) in
-        let below : link.number < place_count kept.pool = subst (λ (k : NodeWords). link.number < place_count k.pool) same fits.place in
-        (all.members link).1 (is, omega (arith, below, count_is)),
+        let at : IsLiveAt store index link.number = (sound.live link.number).1 (link, is, refl) in
+        let same : at.kept ≡ kept = same_Some at.kept kept (sym at.there ∙ has) in
+        let live : is_live_number kept.pool link.number ≡ true = subst (λ (k : NodeWords). is_live_number k.pool link.number ≡ true) same at.live in
+        (all.members link).1 (is, omega (arith, live_is_marked kept.pool link.number parted live, count_is)),
   );
   rising = all.rising;
 }

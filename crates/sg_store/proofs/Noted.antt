@@ -1,7 +1,7 @@
 -- One slot after the other is written beside the number that it holds.
-use Rattle.std.proofs.Common.{◌≡◌, ◌≢◌, ℕ, suc, ◌+◌, ◌-◌, ◌*◌, ◌<◌, List, length, refl, sym, ap, ◌∙◌, arith, inl, inr}
+use Rattle.std.proofs.Common.{◌≡◌, ◌≢◌, ℕ, suc, ◌+◌, ◌-◌, ◌*◌, ◌<◌, ◌≤◌, List, [], length, refl, sym, ap, ◌∙◌, arith, inl, inr}
 use Rattle.std.specs.Prelude.{Some, slice_index, slice_get, slice_set}
-use Rattle.std.proofs.lemmas.Bool.{cases_eq}
+use Rattle.std.proofs.lemmas.Bool.{cases_eq, cases_lt}
 use Rattle.std.proofs.lemmas.List.{length-set, get_or-set_same, get_or-set_other}
 use Rattle.std.proofs.lemmas.Option.{same_Some, slice_get_within}
 use Rattle.sg_links.specs.Lists.{Lists, list_of, times_in_lists, AreDisjoint}
@@ -75,6 +75,16 @@ chain_more chain first through number old now new once at below is so_far = reco
 
 pub chains_none : (chains : Lists) (full : ℕ) (slots : List ℕ) → ChainsNoted chains full 0 slots slots
 chains_none chains full slots = record { as_many = refl; here = λ head place number below is. absurd (omega (arith, below)) }
+
+-- chains that are empty hold nothing
+pub chains_end : (chains : Lists) (full through all : ℕ) (old new : List ℕ) → ((head : ℕ) → through ≤ head → list_of chains head ≡ []) → ChainsNoted chains full through old new → ChainsNoted chains full all old new
+chains_end chains full through all old new empty noted = record {
+  as_many = noted.as_many;
+  here = λ head place number low holds. elim (cases_lt head through) [
+    | inl before ↦ noted.here head place number before holds
+    | inr past ↦ absurd (omega (arith, slice_get_within (list_of chains head) place number holds, ap length (empty head past)))
+  ];
+}
 
 pub chains_more : (chains : Lists) (full through : ℕ) (old now new : List ℕ) → AreDisjoint chains → ChainsNoted chains full through old now
     → ChainNoted (list_of chains through) (through * full) (length (list_of chains through)) now new → ChainsNoted chains full (through + 1) old new

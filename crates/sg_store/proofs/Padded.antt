@@ -2,7 +2,7 @@
 use Rattle.std.proofs.Common.{◌≡◌, ℕ, zero, suc, ◌+◌, ◌-◌, ◌<◌, ◌≤◌, List, [], ◌∷◌, ◌++◌, length, take, replicate, refl, sym, ap, ◌∙◌, arith, inl, inr}
 use Rattle.std.specs.Prelude.{slice_index, slice_set}
 use Rattle.std.proofs.lemmas.Bool.{cases_eq, cases_lt}
-use Rattle.std.proofs.lemmas.List.{length-append, length-replicate, length-set, length-take-le, get_or-set_same, get_or-set_other, get_or_append_left, get_or-append_right, get_or_past, set-append_left, take-append-le}
+use Rattle.std.proofs.lemmas.List.{append-nil, length-append, length-replicate, length-set, length-take-le, get_or-set_same, get_or-set_other, get_or_append_left, get_or-append_right, get_or_past, set-append_left, take-append-le}
 use Rattle.std.proofs.lemmas.Grind.{same_number_lists}
 use Rattle.sg_store.specs.steps.Fresh.{IsZeroRow}
 use Rattle.sg_store.specs.steps.Padded.{padded}
@@ -40,6 +40,12 @@ same_padded : (row words : List ℕ) (cells : ℕ) → length words ≤ cells �
 same_padded row words cells few long same =
     same_number_lists row (padded words cells) (long ∙ sym (padded_long words cells few))
     (λ cell below. same cell (omega (arith, below, long)) ∙ sym (padded_at words cells cell))
+
+-- words for all cells
+pub padded_whole : (words : List ℕ) (cells : ℕ) → cells ≡ length words → padded words cells ≡ words
+padded_whole words cells same =
+    let none : cells - length words ≡ 0 = omega (arith, same) in
+    ap (λ n. words ++ replicate n 0) none ∙ append-nil words
 
 pub padded_none : (words : List ℕ) (cells : ℕ) → words ≡ [] → padded words cells ≡ replicate cells 0
 padded_none words cells none =

@@ -20,7 +20,7 @@ use Rattle.sg_layout.specs.NeedLaws.{ReachedAreLive}
 use Rattle.sg_layout.specs.PathLaws.{PathIsSlot}
 use Rattle.sg_layout.specs.Slots.{IsSlot}
 use Rattle.sg_pool.specs.Numbers.{place_count, is_live_number, live_count, IsFree}
-use Rattle.sg_pool.proofs.Uses.{front_can_settle, live_numbers, live_numbers_once, from_live_numbers, length-live_numbers}
+use Rattle.sg_pool.proofs.Uses.{front_settles, live_numbers, live_numbers_once, from_live_numbers, length-live_numbers}
 use Rattle.sg_store.specs.declared.node.NodeWords.{NodeWords}
 use Rattle.sg_store.specs.declared.pointer.Plan.{Plan}
 use Rattle.sg_store.specs.StoreWords.{StoreWords}
@@ -204,9 +204,9 @@ can_links store i cap wanted slots plan o is fits count live own all = record {
     in_live = λ q none some. (all q (added_live store i cap wanted slots plan o is q none some)).is_live;
     all_taken = is.filled.fill.all_taken;
     once = is.filled.fill.once;
-    free = front_can_settle o.kept.pool plan.stock plan.taken is.stock;
+    free = front_settles o.kept.pool plan.stock plan.taken is.free;
   };
-  within_cap = omega (arith, is.room, is.roomy, o.cap_is, length-take-le plan.taken plan.stock (omega (arith, is.roomy)));
+  within_cap = omega (arith, is.room, o.cap_is, length-take-le plan.taken plan.stock is.filled.enough);
 }
 
 linked_same : (node : NodeShape) → node.kind ≡ Pointer → as_linked node ≡ node
@@ -327,9 +327,9 @@ past_cap store i cap wanted slots plan o is past old was_open =
       ];
     } in
     let numbers : List ℕ = live_numbers o.kept.pool ++ taken in
-    let once : AllPairs (λ x y. x ≢ y) numbers = apart_append (live_numbers o.kept.pool) taken (live_numbers_once o.kept.pool) (front_can_settle o.kept.pool plan.stock plan.taken is.stock).once
+    let once : AllPairs (λ x y. x ≢ y) numbers = apart_append (live_numbers o.kept.pool) taken (live_numbers_once o.kept.pool) (front_settles o.kept.pool plan.stock plan.taken is.free).once
     (λ n live took.
-    let free : IsFree o.kept.pool n = All-contains (IsFree o.kept.pool) taken n (front_can_settle o.kept.pool plan.stock plan.taken is.stock).free took in
+    let free : IsFree o.kept.pool n = All-contains (IsFree o.kept.pool) taken n (front_settles o.kept.pool plan.stock plan.taken is.free).free took in
     false≢true (sym free.not_live ∙ from_live_numbers o.kept.pool n live)) in
     let fits : length numbers ≤ length (reached_slots store.shape coords number) =
     numbers_fit store i plan.links coords numbers o.reached o.wants.one_slot links once
@@ -340,7 +340,7 @@ past_cap store i cap wanted slots plan o is past old was_open =
           index_contains plan.links found.0 n (fill.stays found.0 (λ none. cc) ∙ word))
       | inr took ↦ fill.all_taken n took
     ]) in
-    omega (arith, fits, length-append (live_numbers o.kept.pool) taken, length-live_numbers o.kept.pool, is.room, is.roomy, is.filled.most, length-take-le plan.taken plan.stock (omega (arith, is.roomy, is.filled.most)))
+    omega (arith, fits, length-append (live_numbers o.kept.pool) taken, length-live_numbers o.kept.pool, is.room, length-take-le plan.taken plan.stock is.filled.enough)
   where
     or_left : (a b : Bool) → a ≡ true → (a || b) ≡ true
     or_left true b e = refl

@@ -1,7 +1,7 @@
 -- A chain that is turned once round.
 use Rattle.std.proofs.Common.{◌≡◌, ◌≢◌, ℕ, zero, suc, ◌+◌, ◌<◌, ◌≤◌, Bool, true, false, not, ◌&&◌, ◌==◌, nat_lt, cond, List, [], ◌∷◌, ◌++◌, length, get_or, take, drop, Some, refl, sym, ap, ◌∙◌, subst, arith, inl, inr, append_assoc}
 use Rattle.std.specs.Prelude.{IsTrue, slice_get}
-use Rattle.std.proofs.lemmas.Bool.{cases_Bool, cases_eq}
+use Rattle.std.proofs.lemmas.Bool.{cases_Bool, cases_eq, cases_lt}
 use Rattle.std.proofs.lemmas.Bool.Decides.{eqb_tells, leb_tells}
 use Rattle.std.proofs.lemmas.List.{length-set, length-take, length-append, get_or-set_same, get_or-set_other, set-set, set-get_or, take_more, drop_more, take_all, drop_all, take-append-le, append-nil}
 use Rattle.std.proofs.lemmas.Option.{none-some, same_Some}
@@ -175,3 +175,21 @@ cut_more old now new lengths chunk done wanted so_far below wants is =
       ];
       later = λ i above. others i (λ e. omega arith) ∙ so_far.later i (omega arith);
     }
+
+none_taken : (n : ℕ) → take {A = ℕ} n [] ≡ []
+none_taken zero = refl
+none_taken (suc n) = refl
+
+-- chains that were empty have nothing to cut
+pub cut_end : (old new : Lists) (lengths : List ℕ) (chunk done all : ℕ) → CutSoFar old new lengths chunk done → ((head : ℕ) → done ≤ head → list_of old head ≡ []) → done ≤ all → CutSoFar old new lengths chunk all
+cut_end old new lengths chunk done all so_far empty few = record {
+  numbers = so_far.numbers;
+  many = so_far.many;
+  cut = λ i below. elim (cases_lt i done) [
+    | inl before ↦ so_far.cut i before
+    | inr past ↦
+        let wanted : ℕ = chunks_of chunk (get_or lengths i 0) in
+        so_far.later i past ∙ empty i past ∙ sym (none_taken wanted) ∙ ap (λ (xs : List ℕ). take wanted xs) (sym (empty i past))
+  ];
+  later = λ i above. so_far.later i (omega (arith, few, above));
+}

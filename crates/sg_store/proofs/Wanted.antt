@@ -220,7 +220,6 @@ numbers_push store i coords slots at q is some = record {
   ];
 }
 
--- the same, where the coordinate is the next of a list
 -- a list has the same in it after one more of what it has
 pub has_again : (slots : List ℕ) (k slot d : ℕ) → k < length slots → get_or slots k slot ≡ slot → HaveSame slots (slots ++ slot ∷ [])
 has_again slots k slot d below is number = (
@@ -238,6 +237,7 @@ numbers_same store i coords slots now is same = record {
   all = λ at has number e. (same number).1 (is.all at has number e);
 }
 
+-- the same, where the coordinate is the next of a list
 pub numbers_next : (store : StoreWords) (i k : ℕ) (wanted : List Coord) (slots now : List ℕ) (d : Coord) (result : Option ℕ) → k < length wanted → result ≡ slot_number_in store.shape.nodes store.nodes 0 (path store.shape (get_or wanted k d) (suc i)) → AreNumbers store i (take k wanted) slots → ((q : ℕ) → result ≡ Some q → HaveSame now (slots ++ q ∷ [])) → (result ≡ None → now ≡ slots) → AreNumbers store i (take (k + 1) wanted) now
 numbers_next store i k wanted slots now d None below is so_far some none =
     subst (λ l. AreNumbers store i l now) (sym (take_more wanted k d below)) (subst (λ l. AreNumbers store i (take k wanted ++ get_or wanted k d ∷ []) l) (sym (none refl)) (numbers_skip store i (take k wanted) slots (get_or wanted k d) so_far (sym is)))

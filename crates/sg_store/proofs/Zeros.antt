@@ -29,16 +29,16 @@ zero_bits masks none bit =
     ap (λ word. bit_at word (bit % 64) == 1) (none (bit / 64)) ∙ ap (λ b. b == 1) (bit_at-zero (bit % 64))
 
 -- zero words are those of a fresh node, where they are as many as the node has
-pub fresh_dense : (node : NodeShape) (kept : NodeWords) (slots : ℕ) → AreZeroWords (record { keys = 0; links = 0; masks = 0; lengths = 0; numbers = 0 }) kept → IsFreshNode Dense node kept slots
+pub fresh_dense : (node : NodeShape) (kept : NodeWords) (slots : ℕ) → AreZeroWords (record { keys = 0; links = 0; masks = 0; lengths = 0; numbers = 0; chunks = 0 }) kept → IsFreshNode Dense node kept slots
 fresh_dense node kept slots zeros = record { sized = tt; no_link = zeros.no_link; no_bit = zeros.no_bit; no_length = zeros.no_length; none_live = zeros.none_live; none_counted = zeros.none_counted; parted = zeros.parted }
 
-pub fresh_mask : (node : NodeShape) (kept : NodeWords) (slots : ℕ) → AreZeroWords (record { keys = 0; links = 0; masks = div_ceil slots 64; lengths = 0; numbers = 0 }) kept → IsFreshNode Bitmasked node kept slots
+pub fresh_mask : (node : NodeShape) (kept : NodeWords) (slots : ℕ) → AreZeroWords (record { keys = 0; links = 0; masks = div_ceil slots 64; lengths = 0; numbers = 0; chunks = 0 }) kept → IsFreshNode Bitmasked node kept slots
 fresh_mask node kept slots zeros = record { sized = zeros.mask_count; no_link = zeros.no_link; no_bit = zeros.no_bit; no_length = zeros.no_length; none_live = zeros.none_live; none_counted = zeros.none_counted; parted = zeros.parted }
 
-pub fresh_pointer : (node : NodeShape) (kept : NodeWords) (slots places : ℕ) → places ≡ count_of node.cap + 17 → AreZeroWords (record { keys = 0; links = slots; masks = 0; lengths = 0; numbers = places }) kept → IsFreshNode Pointer node kept slots
+pub fresh_pointer : (node : NodeShape) (kept : NodeWords) (slots places : ℕ) → places ≡ count_of node.cap + 17 → AreZeroWords (record { keys = 0; links = slots; masks = 0; lengths = 0; numbers = places; chunks = 0 }) kept → IsFreshNode Pointer node kept slots
 fresh_pointer node kept slots places same zeros = record { sized = (zeros.link_count, zeros.places ∙ same); no_link = zeros.no_link; no_bit = zeros.no_bit; no_length = zeros.no_length; none_live = zeros.none_live; none_counted = zeros.none_counted; parted = zeros.parted }
 
-pub fresh_hash : (node : NodeShape) (kept : NodeWords) (slots places table : ℕ) → slots ≤ 2 ^ 32 → places ≡ count_of node.cap + 17 → table ≡ power_for (2 * count_of node.cap) → AreZeroWords (record { keys = table; links = table; masks = 0; lengths = 0; numbers = places }) kept → IsFreshNode Hash node kept slots
+pub fresh_hash : (node : NodeShape) (kept : NodeWords) (slots places table : ℕ) → slots ≤ 2 ^ 32 → places ≡ count_of node.cap + 17 → table ≡ power_for (2 * count_of node.cap) → AreZeroWords (record { keys = table; links = table; masks = 0; lengths = 0; numbers = places; chunks = 0 }) kept → IsFreshNode Hash node kept slots
 fresh_hash node kept slots places table few same power zeros = record {
   sized = (few, zeros.keys_are ∙ ap (λ n. replicate n 0) power, zeros.links_are ∙ ap (λ n. replicate n 0) power, zeros.places ∙ same);
   no_link = zeros.no_link;
@@ -49,7 +49,7 @@ fresh_hash node kept slots places table few same power zeros = record {
   parted = zeros.parted;
 }
 
-pub fresh_dynamic : (node : NodeShape) (kept : NodeWords) (slots parents places : ℕ) → IsCapped Dynamic node → slots ≡ parents * size_of node.sizes → places ≡ count_of node.cap → AreZeroWords (record { keys = 0; links = 0; masks = 0; lengths = parents; numbers = places }) kept → IsFreshNode Dynamic node kept slots
+pub fresh_dynamic : (node : NodeShape) (kept : NodeWords) (slots parents places : ℕ) → IsCapped Dynamic node → slots ≡ parents * size_of node.sizes → places ≡ count_of node.cap → AreZeroWords (record { keys = 0; links = 0; masks = 0; lengths = parents; numbers = places; chunks = places }) kept → IsFreshNode Dynamic node kept slots
 fresh_dynamic node kept slots parents places capped sized same zeros = record {
   sized = (
     capped.2,

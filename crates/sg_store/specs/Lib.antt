@@ -5,6 +5,8 @@ pub mod WellFormed
 pub mod StandsFor
 pub mod Standing
 pub mod Spots
+pub mod DenseNodes
+pub mod FieldCells
 pub mod Rows
 pub mod Reaching
 pub mod Changes

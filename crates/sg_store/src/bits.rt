@@ -24,7 +24,7 @@ impl Store {
         paths_tell();
         let _extents = self.layout.extents();
         let kept = &self.nodes.as_slice()[node as usize - 1];
-        Ok(Items::from_slice(alloc, kept.masks.as_slice())?)
+        Ok(Items::from_vec(kept.masks.whole(alloc)?))
     }
 
     /// Gives a bitmasked node, numbered from 1, these masks.

@@ -46,7 +46,7 @@ pub(crate) fn fresh_nodes(alloc: Global, layout: &Layout) -> Result<FreshNodes, 
     })
 }
 
-/// How many words of each kind a node has, and how many numbers its pool has.
+/// How many words of each kind a node has, how many numbers its pool has, and how many of them chains may have.
 #[derive(Clone, Copy, Debug)]
 struct Room {
     keys: usize,
@@ -54,6 +54,7 @@ struct Room {
     masks: usize,
     lengths: usize,
     numbers: u32,
+    chunks: u32,
 }
 
 const NONE: Room = Room {
@@ -62,6 +63,7 @@ const NONE: Room = Room {
     masks: 0,
     lengths: 0,
     numbers: 0,
+    chunks: 0,
 };
 
 /// Such words for a node under so many places, with so many slots.
@@ -117,6 +119,7 @@ fn fresh_node(
                 &Room {
                     lengths,
                     numbers,
+                    chunks: numbers,
                     ..NONE
                 },
             )
@@ -158,9 +161,9 @@ fn zero_words(alloc: Global, room: &Room) -> Result<NodeWords, Memory>
     Ok(NodeWords {
         keys: Items::from_vec(vec![in alloc; 0; room.keys]?),
         links: WordRow::zeros(alloc, room.links)?,
-        masks: Items::from_vec(vec![in alloc; 0; room.masks]?),
-        lengths: Items::from_vec(vec![in alloc; 0; room.lengths]?),
-        chains: empty_chains(alloc, room.numbers, room.lengths as u32)?,
+        masks: WordRow::zeros(alloc, room.masks)?,
+        lengths: WordRow::zeros(alloc, room.lengths)?,
+        chains: empty_chains(alloc, room.chunks, room.lengths as u32)?,
         pool,
     })
 }
@@ -205,8 +208,8 @@ impl NodeWords {
         Ok(NodeWords {
             keys: Items::from_slice(alloc, self.keys.as_slice())?,
             links: self.links.copy(alloc)?,
-            masks: Items::from_slice(alloc, self.masks.as_slice())?,
-            lengths: Items::from_slice(alloc, self.lengths.as_slice())?,
+            masks: self.masks.copy(alloc)?,
+            lengths: self.lengths.copy(alloc)?,
             chains: copy_chains(alloc, &self.chains)?,
             pool: self.pool.copy(alloc)?,
         })

@@ -10,6 +10,7 @@ ghost use Rattle.sg_store.specs.steps.Levels.{IsHashOf, OpensNext, IsPastCap, If
 use crate::node::{NodeWords, overwrite};
 use crate::reach::Full;
 use crate::store::Store;
+use crate::word_row::WordRow;
 use sg_coord::Coord;
 use sg_hash::{find, put};
 use sg_layout::{need_counts_live, paths_tell, rules_decide};
@@ -17,11 +18,11 @@ use sg_words::{Items, Memory, Stop};
 use std::alloc::Global;
 
 /// A table for a hash node's slots, before it is settled: the slots that were no keys have the first `taken` numbers of
-/// the stock. There is room for `room` more numbers; `taken` is one past it where they are not enough.
+/// the stock, of which a front is here. There is room for `room` more numbers; `taken` is one past it where they are not enough.
 #[derive(Debug, Drop)]
 pub(crate) struct KeyPlan {
     pub(crate) keys: Items<u64>,
-    pub(crate) links: Items<u64>,
+    pub(crate) links: WordRow,
     pub(crate) stock: Items<u32>,
     pub(crate) room: usize,
     pub(crate) taken: usize,
@@ -70,14 +71,14 @@ fn plan_keys(alloc: Global, kept: &NodeWords, cap: u32, slots: &[usize]) -> Resu
     requires { CanPlanKeys kept.now cap slots.now count }
     ensures { IfOk result (IsKeyPlan kept.now cap slots.now count) }
 {
-    let stock = kept.pool.stock(alloc)?;
+    let stock = kept.pool.stock_front(alloc, slots.len())?;
     let mut keys = Vec::from_slice(alloc, kept.keys.as_slice())?;
     let mut links = kept.links.whole(alloc)?;
     let room = (cap - kept.pool.live()) as usize;
     let taken = fill_keys(&mut keys, &mut links, stock.as_slice(), room, slots);
     Ok(KeyPlan {
         keys: Items::from_vec(keys),
-        links: Items::from_vec(links),
+        links: WordRow::of(links),
         stock,
         room,
         taken,
@@ -96,6 +97,18 @@ impl NodeWords {
         // for the law that it ensures
         self.pool.places();
     }
+
+    /// The same with a table that is moved in, in time by the numbers taken and the pool's free list.
+    fn rekey_row(&mut self, keys: Items<u64>, links: WordRow, taken: &[u32])
+        requires { CanRekey keys links taken.now self.old }
+        ensures { IsRekeyed keys links taken.now self.old self.new }
+    {
+        self.keys = keys;
+        self.links = links;
+        self.pool.settle(taken);
+        // for the law that it ensures
+        self.pool.places();
+    }
 }
 
 /// Gives one of these nodes, by its index from 0, this table.
@@ -109,6 +122,22 @@ fn rekey_at(nodes: &mut Vec<NodeWords>, index: usize, keys: &[u64], links: &[u64
     kept.rekey(keys, links, taken);
 }
 
+/// The same with a table that is moved in.
+fn rekey_row_at(
+    nodes: &mut Vec<NodeWords>,
+    index: usize,
+    keys: Items<u64>,
+    links: WordRow,
+    taken: &[u32],
+)
+    requires there { index < length nodes.old.items }
+    requires can { (kept : NodeWords) → slice_get nodes.old.items index ≡ Some kept → CanRekey keys links taken.now kept }
+    ensures { ChangesAt (IsRekeyed keys links taken.now) nodes.old.items nodes.new.items index }
+{
+    let kept = &mut nodes[index];
+    kept.rekey_row(keys, links, taken);
+}
+
 impl Store {
     /// Gives the hash node with this index, from 0, this table, and makes the numbers live that it takes from the stock.
     pub(crate) fn settle_keys(&mut self, index: usize, keys: &[u64], links: &[u64], taken: &[u32])
@@ -117,6 +146,15 @@ impl Store {
         ensures { ChangesNode (IsRekeyed keys.now links.now taken.now) self.old self.new index }
     {
         rekey_at(&mut self.nodes, index, keys, links, taken);
+    }
+
+    /// The same with a table that is moved in.
+    fn settle_table(&mut self, index: usize, keys: Items<u64>, links: WordRow, taken: &[u32])
+        requires there { index < length self.old.nodes }
+        requires can { AtNodeOf (CanSettleKeys keys links taken.now) self.old index }
+        ensures { ChangesNode (IsRekeyed keys links taken.now) self.old self.new index }
+    {
+        rekey_row_at(&mut self.nodes, index, keys, links, taken);
     }
 
     /// A table for slots of the hash node with this index, from 0, filled beside its words.
@@ -136,19 +174,21 @@ impl Store {
         plan_keys(alloc, &self.nodes.as_slice()[index], cap, slots)
     }
 
-    fn settle_key_plan(&mut self, index: usize, plan: &KeyPlan)
+    fn settle_key_plan(&mut self, index: usize, plan: KeyPlan)
         requires there { index < length self.old.nodes }
-        requires within { plan.now.taken ≤ length plan.now.stock }
-        requires can { AtNodeOf (CanSettleKeys plan.now.keys plan.now.links (take plan.now.taken plan.now.stock)) self.old index }
-        ensures { ChangesNode (IsRekeyed plan.now.keys plan.now.links (take plan.now.taken plan.now.stock)) self.old self.new index }
+        requires within { plan.taken ≤ length plan.stock }
+        requires can { AtNodeOf (CanSettleKeys plan.keys plan.links (take plan.taken plan.stock)) self.old index }
+        ensures { ChangesNode (IsRekeyed plan.keys plan.links (take plan.taken plan.stock)) self.old self.new index }
     {
-        let stock = plan.stock.as_slice();
-        self.settle_keys(
-            index,
-            plan.keys.as_slice(),
-            plan.links.as_slice(),
-            &stock[..plan.taken],
-        );
+        let KeyPlan {
+            keys,
+            links,
+            stock,
+            room: _,
+            taken,
+        } = plan;
+        let stock = stock.as_slice();
+        self.settle_table(index, keys, links, &stock[..taken]);
     }
 
     /// Opens the hash node with this index, from 0, for wanted coordinates, whose slots have these numbers.
@@ -182,7 +222,7 @@ impl Store {
                 cap,
             }));
         }
-        self.settle_key_plan(index, &plan);
+        self.settle_key_plan(index, plan);
         Ok(())
     }
 }

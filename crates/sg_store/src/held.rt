@@ -1,6 +1,6 @@
 //! From numbers back to the slots that hold them.
 
-ghost use Rattle.std.specs.Prelude.{◌≡◌, ◌≢◌, ◌+◌, ◌-◌, ◌*◌, ◌^◌, ◌<◌, ◌≤◌, ℕ, length, IfOk, slice_index};
+ghost use Rattle.std.specs.Prelude.{◌≡◌, ◌≢◌, ◌+◌, ◌-◌, ◌*◌, ◌^◌, ◌<◌, ◌≤◌, ℕ, length, replicate, IfOk, slice_index};
 ghost use Rattle.sg_layout.specs.declared.shape.Kind.TheVariants.{Dynamic};
 ghost use Rattle.sg_layout.specs.Axes.{count_of, size_of};
 ghost use Rattle.sg_links.specs.Lists.{list_of, AreDisjoint};
@@ -11,25 +11,24 @@ ghost use Rattle.sg_store.specs.steps.Noting.{AreBelow, IsLinkedOnce, IsNoted, H
 use crate::node::{NodeWords, chunk_of};
 use crate::word_row::WordRow;
 use sg_layout::{Kind, NodeShape};
-use sg_links::Links;
-use sg_words::{Items, Memory};
+use sg_links::{Links, Row};
+use sg_words::Memory;
 use std::alloc::Global;
 
-/// For each number of a node's pool that a slot holds, the slot: of a node that has slots over all copies. In time by the node's words and
-/// numbers.
+/// For each number of a node's pool that a slot holds, the slot: of a node that has slots over all copies. In time by the words that stand
+/// and the numbers up to the last that a slot holds.
 pub(crate) fn held_slots(
     alloc: Global,
     node: &NodeShape,
     kept: &NodeWords,
     full: usize,
-) -> Result<Items<usize>, Memory>
+) -> Result<Row<usize>, Memory>
     requires node { IsSomeNode node.now kept.now }
     requires full { full ≡ full_chain node.now }
     requires room { node.now.kind ≡ Dynamic → length kept.now.chains.lists * full ≤ 2 ^ 47 }
     ensures { IfOk result (HasSlots node.now kept.now) }
 {
-    let places = kept.pool.places() as usize;
-    let mut slots = Items::from_vec(vec![in alloc; 0; places]?);
+    let mut slots = zero_slots(alloc, kept.pool.places())?;
     match node.kind {
         Kind::Dense | Kind::Bitmasked => {}
         Kind::Pointer => note_links(&mut slots, &kept.links),
@@ -39,8 +38,18 @@ pub(crate) fn held_slots(
     Ok(slots)
 }
 
+/// Slots 0 for so many numbers.
+fn zero_slots(alloc: Global, numbers: u32) -> Result<Row<usize>, Memory>
+    ensures { IfOk result (λ slots. slots ≡ replicate numbers 0) }
+{
+    match Row::make(alloc, numbers as usize, 0) {
+        Ok(slots) => Ok(slots),
+        Err(_) => Err(Memory),
+    }
+}
+
 /// Writes beside each number that a link has the place of the link.
-fn note_links(slots: &mut Items<usize>, links: &WordRow)
+fn note_links(slots: &mut Row<usize>, links: &WordRow)
     requires within { AreBelow links.now (length slots.old) }
     requires once { IsLinkedOnce links.now }
     ensures { HeldSoFar (λ place. place) links.now slots.old slots.new (length links.now) }
@@ -51,7 +60,7 @@ fn note_links(slots: &mut Items<usize>, links: &WordRow)
 }
 
 /// Writes beside each number that a link has the key that stands beside the link.
-fn note_keys(slots: &mut Items<usize>, keys: &[u64], links: &WordRow)
+fn note_keys(slots: &mut Row<usize>, keys: &[u64], links: &WordRow)
     requires many { length keys.now ≡ length links.now }
     requires within { AreBelow links.now (length slots.old) }
     requires once { IsLinkedOnce links.now }
@@ -63,7 +72,7 @@ fn note_keys(slots: &mut Items<usize>, keys: &[u64], links: &WordRow)
 }
 
 /// Writes the slot beside the number of its link, if there is one.
-fn note(slots: &mut Items<usize>, link: u64, slot: usize)
+fn note(slots: &mut Row<usize>, link: u64, slot: usize)
     requires { link ≢ 0 → link - 1 < length slots.old }
     ensures { IsNoted link slot slots.old slots.new }
 {
@@ -72,20 +81,22 @@ fn note(slots: &mut Items<usize>, link: u64, slot: usize)
     }
 }
 
-/// Writes beside each number that stands in a chain its slot: the chains have so many slots each, one after the other.
-fn note_chains(slots: &mut Items<usize>, chains: &Links, full: usize)
+/// Writes beside each number that stands in a chain its slot: the chains have so many slots each, one after the other. In time by the
+/// chains up to the last that was used.
+fn note_chains(slots: &mut Row<usize>, chains: &Links, full: usize)
     requires within { chains.now.numbers ≤ length slots.old }
     requires short { (head : ℕ) → length (list_of chains.now head) ≤ full }
     requires room { length chains.now.lists * full ≤ 2 ^ 47 }
     ensures { ChainsNoted chains.now full (length chains.now.lists) slots.old slots.new }
 {
-    for head in 0..chains.heads() {
-        note_chain(slots, chains, head, head as usize * full);
+    for head in 0..chains.used() {
+        let first = head as usize * full;
+        note_chain(slots, chains, head, first);
     }
 }
 
 /// Writes beside each number of a chain its slot, the first one's being given.
-fn note_chain(slots: &mut Items<usize>, chains: &Links, head: u32, slot: usize)
+fn note_chain(slots: &mut Row<usize>, chains: &Links, head: u32, slot: usize)
     requires there { head < length chains.now.lists }
     requires within { chains.now.numbers ≤ length slots.old }
     requires room { slot + length (list_of chains.now head) ≤ 2 ^ 47 }

@@ -11,6 +11,7 @@ ghost use Rattle.sg_store.specs.steps.Planning.{IsPlannable, IsPlanFor};
 use crate::kept_words::is_in_row;
 use crate::node::{NodeWords, bit};
 use crate::node_plan::{NodePlan, StayingWords};
+use crate::word_row::WordRow;
 use sg_layout::{Kind, NodeShape};
 use sg_words::{Items, Memory};
 use std::alloc::Global;
@@ -36,7 +37,7 @@ pub(crate) fn row_above(
     ensures above { IfOk result (λ above. (place : ℕ) → in_row above place ≡ place_kept (in_row plan.now.row) node.now kept.now place) }
 {
     match &plan.words {
-        StayingWords::Lengths(lengths) => row_of_lengths(alloc, lengths.as_slice(), places),
+        StayingWords::Lengths(lengths) => row_of_lengths(alloc, lengths, places),
         StayingWords::Whole => row_of_slots(alloc, node, kept, size, places, plan.row.as_slice()),
         StayingWords::Masks(_masks) => row_of_slots(
             alloc,
@@ -59,13 +60,13 @@ pub(crate) fn row_above(
 }
 
 /// The places above a dynamic node whose lengths are not 0.
-fn row_of_lengths(alloc: Global, lengths: &[u64], places: usize) -> Result<Items<bool>, Memory>
+fn row_of_lengths(alloc: Global, lengths: &WordRow, places: usize) -> Result<Items<bool>, Memory>
     ensures long { IfOk result (λ above. length above ≡ places) }
     ensures each { IfOk result (λ above. (place : ℕ) → in_row above place ≡ (nat_lt place places && not (slice_index lengths.now place == 0))) }
 {
     let mut above = Items::from_vec(vec![in alloc; false; places]?);
     for place in 0..places {
-        if place < lengths.len() && lengths[place] != 0 {
+        if lengths.get(place) != 0 {
             above.set(place, true);
         }
     }

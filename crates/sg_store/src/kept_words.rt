@@ -7,7 +7,7 @@ ghost use Rattle.sg_store.specs.steps.KeptWords.{in_row, kept_link, AreKeptBits,
 use crate::mask::mark;
 use crate::node::bit;
 use crate::word_row::WordRow;
-use sg_words::{Items, Memory};
+use sg_words::Memory;
 use std::alloc::Global;
 
 /// Whether a row keeps a place; not past its end.
@@ -18,14 +18,10 @@ pub(crate) fn is_in_row(row: &[bool], place: usize) -> bool
 }
 
 /// The masks with those bits alone whose slots are kept.
-pub(crate) fn kept_masks(
-    alloc: Global,
-    masks: &Items<u64>,
-    row: &[bool],
-) -> Result<Items<u64>, Memory>
+pub(crate) fn kept_masks(alloc: Global, masks: &WordRow, row: &[bool]) -> Result<WordRow, Memory>
     ensures { IfOk result (λ kept. AreKeptBits masks.now kept row.now (length row.now)) }
 {
-    let mut kept = Items::from_vec(vec![in alloc; 0; masks.len()]?);
+    let mut kept = WordRow::zeros(alloc, masks.len())?;
     for slot in 0..row.len() {
         keep_bit(&mut kept, masks, row, slot);
     }
@@ -33,7 +29,7 @@ pub(crate) fn kept_masks(
 }
 
 /// Sets a bit that the masks have, where its slot is kept.
-fn keep_bit(kept: &mut Items<u64>, masks: &Items<u64>, row: &[bool], slot: usize)
+fn keep_bit(kept: &mut WordRow, masks: &WordRow, row: &[bool], slot: usize)
     requires { length kept.old ≡ length masks.now }
     ensures as_many { length kept.new ≡ length kept.old }
     ensures bits { (other : ℕ) → mask_bit kept.new other ≡ (mask_bit kept.old other || (slot == other && (mask_bit masks.now other && in_row row.now other))) }

@@ -30,7 +30,7 @@ impl Store {
         let _extents = self.layout.extents();
         let last = self.layout.nodes() - 1;
         let kept = &self.nodes.as_slice()[last];
-        Ok(Items::from_slice(alloc, kept.lengths.as_slice())?)
+        Ok(Items::from_vec(kept.lengths.whole(alloc)?))
     }
 
     /// Gives a dynamic node, which is the last, these lengths, and each parent the chunks that its length needs. Refused,

@@ -5,7 +5,9 @@ pub mod bits;
 mod by_workers;
 pub mod cells;
 mod cutting;
+mod dense_node;
 mod dynamic;
+mod field_cells;
 pub mod field_row;
 mod frame;
 mod fresh;
@@ -41,6 +43,7 @@ mod valued;
 mod walk;
 pub mod word_row;
 
+pub use field_cells::FieldCells;
 pub use field_row::FieldFront;
 pub use links::LinkAt;
 pub use reach::Full;

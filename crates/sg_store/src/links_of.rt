@@ -1,6 +1,6 @@
 //! The links of a node.
 
-ghost use Rattle.std.specs.Prelude.{◌≡◌, ◌+◌, ◌-◌, ◌*◌, ◌/◌, ◌%◌, ◌^◌, ◌<◌, ◌≤◌, cond, is_some, true, false, length, IfOk, IsTrue};
+ghost use Rattle.std.specs.Prelude.{◌≡◌, ◌+◌, ◌-◌, ◌*◌, ◌/◌, ◌%◌, ◌^◌, ◌<◌, ◌≤◌, cond, is_some, true, false, length, slice_index, IfOk, IsTrue};
 ghost use Rattle.sg_layout.specs.Axes.{size_of};
 ghost use Rattle.sg_layout.specs.Live.{kind_at};
 ghost use Rattle.sg_layout.specs.StorageWords.{ends_segment};
@@ -13,12 +13,13 @@ use crate::laws::links_are_sound;
 use crate::links::LinkAt;
 use crate::store::Store;
 use sg_layout::{Kind, NodeShape, laws as layouts};
+use sg_links::Row;
 use sg_words::Memory;
 use std::alloc::Global;
 
 impl Store {
-    /// The links of a node with a cap, numbered from 1: those of its live numbers, each once, rising. In time by the node's words
-    /// and numbers.
+    /// The links of a node with a cap, numbered from 1: those of its live numbers, each once, rising. In time by the node's words that
+    /// stand, the places of a hash node's table, and the numbers up to the high water mark.
     pub fn links_of(&self, alloc: Global, node: u32) -> Result<Vec<LinkAt>, Memory>
         requires first { 1 ≤ node }
         requires capped { IsTrue (kind_has_cap (kind_at self.now.shape.nodes node)) }
@@ -34,13 +35,12 @@ impl Store {
         let widths = self.layout.widths(index);
         let full = full_chain(shape, widths.size);
         let slots = held_slots(alloc, shape, kept, full)?;
-        let slots = slots.as_slice();
         let above = self.has_parent(index);
         let copy = widths.before as usize * per_place(shape, widths.size, full);
         let mut links = Vec::new(alloc);
-        for number in 0..kept.pool.places() {
+        for number in 0..kept.pool.mark() {
             if kept.pool.is_live(number) {
-                links.push(link_for(above, copy, slots[number as usize], number))?;
+                links.push(link_at(above, copy, &slots, number))?;
             }
         }
         Ok(links)
@@ -81,6 +81,22 @@ fn per_place(node: &NodeShape, size: u32, full: usize) -> usize
         Kind::Pointer | Kind::Hash => size as usize,
         Kind::Dynamic => full,
     }
+}
+
+/// Where the slot stands that is written beside a number: it is one over all copies, each of which has so many.
+fn link_at(above: bool, copy: usize, slots: &Row<usize>, number: u32) -> LinkAt
+    requires there { number < length slots.now }
+    requires some { 1 ≤ copy }
+    requires small { copy ≤ 2 ^ 30 }
+    requires few { slice_index slots.now number / copy + 1 < 2 ^ 32 }
+    requires root { above ≡ false → slice_index slots.now number < copy }
+    ensures { result ≡ record {
+      number = number;
+      parent = cond above (slice_index slots.now number / copy + 1) 0;
+      slot = cond above (slice_index slots.now number % copy) (slice_index slots.now number);
+    } }
+{
+    link_for(above, copy, slots.get(number as usize), number)
 }
 
 /// Where the slot with this number, over all copies, stands, each of which has so many.

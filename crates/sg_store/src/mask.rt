@@ -1,32 +1,31 @@
-ghost use Rattle.std.specs.Prelude.{◌≡◌, Some, slice_get, ℕ, ◌*◌, ◌<◌, ◌||◌, ◌==◌, length, All, OnOk, OnErr};
+ghost use Rattle.std.specs.Prelude.{◌≡◌, Some, slice_get, ℕ, ◌*◌, ◌<◌, ◌||◌, ◌==◌, List, length, All};
 ghost use Rattle.sg_layout.specs.declared.shape.Kind.TheVariants.{Bitmasked};
 ghost use Rattle.sg_store.specs.declared.node.NodeWords.{NodeWords};
 ghost use Rattle.sg_store.specs.Slots.{mask_bit};
-ghost use Rattle.sg_store.specs.steps.Marking.{IsMarked};
+ghost use Rattle.sg_store.specs.steps.Marking.{IsMarked, HasMarked};
 ghost use Rattle.sg_store.specs.steps.AtNode.{AtNodeOf, AreNumbers};
 ghost use Rattle.sg_store.specs.steps.Settling.{CanSettleMasks, IsRemasked, ChangesAt, ChangesNode};
 ghost use Rattle.sg_store.specs.Reaching.{KeepsCells};
 ghost use Rattle.sg_store.specs.steps.Levels.{IsOfKind, OpensNext};
 
-use crate::node::{NodeWords, overwrite, word};
+use crate::node::NodeWords;
 use crate::store::Store;
+use crate::word_row::WordRow;
 use sg_coord::Coord;
 use sg_layout::paths_tell;
-use sg_words::{Items, Memory};
-use std::alloc::Global;
 
 /// Sets the bit with this number.
-pub(crate) fn mark(masks: &mut Items<u64>, number: usize)
+pub(crate) fn mark(masks: &mut WordRow, number: usize)
     requires { number < 64 * length masks.old }
     ensures bits { (bit : ℕ) → mask_bit masks.new bit ≡ (mask_bit masks.old bit || number == bit) }
     ensures as_many { length masks.new ≡ length masks.old }
 {
-    let word = word(masks, number / 64);
+    let word = masks.get(number / 64);
     masks.set(number / 64, word | (1 << (number % 64)));
 }
 
 /// Sets the bits with these numbers.
-fn mark_all(masks: &mut Items<u64>, numbers: &[usize])
+fn mark_all(masks: &mut WordRow, numbers: &[usize])
     requires { All (λ number. number < 64 * length masks.old) numbers.now }
     ensures { IsMarked masks.old masks.new numbers.now }
 {
@@ -41,8 +40,27 @@ impl NodeWords {
         requires { length masks.now ≡ length self.old.masks }
         ensures { IsRemasked masks.now self.old self.new }
     {
-        overwrite(&mut self.masks, masks);
+        self.masks.overwrite(masks);
     }
+
+    /// Sets the bits of the node with these numbers.
+    fn mark_bits(&mut self, numbers: &[usize])
+        requires { All (λ number. number < 64 * length self.old.masks) numbers.now }
+        ensures { HasMarked numbers.now self.old self.new }
+    {
+        mark_all(&mut self.masks, numbers);
+    }
+}
+
+/// Sets these bits of one of these nodes, by its index from 0.
+fn mark_bits_at(nodes: &mut Vec<NodeWords>, index: usize, numbers: &[usize])
+    requires there { index < length nodes.old.items }
+    requires can { (kept : NodeWords) → slice_get nodes.old.items index ≡ Some kept →
+        All (λ number. number < 64 * length kept.masks) numbers.now }
+    ensures { ChangesAt (HasMarked numbers.now) nodes.old.items nodes.new.items index }
+{
+    let kept = &mut nodes[index];
+    kept.mark_bits(numbers);
 }
 
 /// Gives one of these nodes, by its index from 0, these masks.
@@ -66,27 +84,30 @@ impl Store {
         remask_at(&mut self.nodes, index, masks);
     }
 
-    /// Opens the bitmasked node with this index, from 0, for wanted coordinates, whose slots have these numbers.
-    pub(crate) fn open_mask(
-        &mut self,
-        alloc: Global,
-        index: usize,
-        wanted: &[Coord],
-        slots: &[usize],
-    ) -> Result<(), Memory>
+    /// Sets these bits of the bitmasked node with this index, from 0.
+    fn mark_node(&mut self, index: usize, numbers: &[usize])
+        requires there { index < length self.old.nodes }
+        requires within { (kept : NodeWords) → slice_get self.old.nodes index ≡ Some kept →
+            All (λ number. number < 64 * length kept.masks) numbers.now }
+        requires can { (masks : List ℕ) (kept : NodeWords) → slice_get self.old.nodes index ≡ Some kept →
+            IsMarked kept.masks masks numbers.now → AtNodeOf (CanSettleMasks masks) self.old index }
+        ensures { ChangesNode (HasMarked numbers.now) self.old self.new index }
+    {
+        mark_bits_at(&mut self.nodes, index, numbers);
+    }
+
+    /// Opens the bitmasked node with this index, from 0, for wanted coordinates, whose slots have these numbers. Takes no memory.
+    pub(crate) fn open_mask(&mut self, index: usize, wanted: &[Coord], slots: &[usize])
         requires few { index < 6 }
         requires masked { AtNodeOf (IsOfKind Bitmasked) self.old index }
         requires numbers { AreNumbers self.old index wanted.now slots.now }
-        ensures opened { OnOk result (OpensNext self.old self.new wanted.now index) }
-        ensures keeps { OnOk result (KeepsCells self.old self.new) }
-        ensures stays { OnErr result (self.new ≡ self.old) }
+        ensures opened { OpensNext self.old self.new wanted.now index }
+        ensures keeps { KeepsCells self.old self.new }
     {
         // for the law that it ensures
         paths_tell();
-        let kept = &self.nodes.as_slice()[index];
-        let mut masks = Items::from_slice(alloc, kept.masks.as_slice())?;
-        mark_all(&mut masks, slots);
-        self.remask_node(index, masks.as_slice());
-        Ok(())
+        // for the invariant that it ensures
+        self.layout();
+        self.mark_node(index, slots);
     }
 }

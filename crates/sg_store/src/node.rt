@@ -21,8 +21,8 @@ use sg_words::Items;
 pub struct NodeWords {
     pub keys: Items<u64>,
     pub links: WordRow,
-    pub masks: Items<u64>,
-    pub lengths: Items<u64>,
+    pub masks: WordRow,
+    pub lengths: WordRow,
     pub chains: Links,
     pub pool: Pool,
 }
@@ -60,7 +60,7 @@ impl NodeWords {
         ensures { result ≡ unless_unset bits (nat_lt index (slice_index self.now.lengths parent))
             (chunk_cell chunk (list_of self.now.chains parent) index) }
     {
-        if bits && index as u64 >= word(&self.lengths, parent) {
+        if bits && index as u64 >= self.lengths.get(parent) {
             return None;
         }
         chunk_cell(&self.chains, chunk, parent, index)
@@ -68,7 +68,7 @@ impl NodeWords {
 }
 
 /// A slot that leads to itself, and only where its bit is set or `bits` is false.
-fn past_bit(masks: &Items<u64>, slot: usize, bits: bool) -> Option<usize>
+fn past_bit(masks: &WordRow, slot: usize, bits: bool) -> Option<usize>
     ensures { result ≡ unless_unset bits (mask_bit masks.now slot) (Some slot) }
 {
     if bits && !bit(masks, slot) {
@@ -127,10 +127,10 @@ pub(crate) fn word(words: &Items<u64>, index: usize) -> u64
 }
 
 /// The bit with this number; not set past the last word.
-pub(crate) fn bit(masks: &Items<u64>, number: usize) -> bool
+pub(crate) fn bit(masks: &WordRow, number: usize) -> bool
     ensures { result ≡ mask_bit masks.now number }
 {
-    (word(masks, number / 64) >> (number % 64)) & 1 == 1
+    (masks.get(number / 64) >> (number % 64)) & 1 == 1
 }
 
 /// Gives words other values, as many.

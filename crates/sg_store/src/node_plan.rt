@@ -33,10 +33,10 @@ pub(crate) struct NodePlan {
 #[derive(Debug, Drop)]
 pub(crate) enum StayingWords {
     Whole,
-    Masks(Items<u64>),
+    Masks(WordRow),
     Linked(WordRow),
     Table(WordRow, KeptTable),
-    Lengths(Items<u64>),
+    Lengths(WordRow),
 }
 
 /// The plan of a node of which a row keeps places below.
@@ -103,10 +103,10 @@ impl NodeWords {
     {
         match &plan.words {
             StayingWords::Whole => {}
-            StayingWords::Masks(masks) => overwrite(&mut self.masks, masks.as_slice()),
+            StayingWords::Masks(masks) => self.masks.become_like(masks),
             StayingWords::Linked(links) => self.cut_links(links),
             StayingWords::Table(links, table) => self.cut_table(links, table),
-            StayingWords::Lengths(lengths) => self.cut_lengths(lengths.as_slice(), chunk_of(node)),
+            StayingWords::Lengths(lengths) => self.cut_lengths(lengths, chunk_of(node)),
         }
         self.numbers_parted();
     }
@@ -151,7 +151,7 @@ impl NodeWords {
     }
 
     /// Gives a dynamic node other lengths, and cuts its chains to them.
-    fn cut_lengths(&mut self, lengths: &[u64], chunk: u32)
+    fn cut_lengths(&mut self, lengths: &WordRow, chunk: u32)
         requires some { 1 ≤ chunk }
         requires short { All (λ len. len ≤ 2 ^ 15) lengths.now }
         requires as_many { length lengths.now ≡ length self.old.lengths }
@@ -161,6 +161,6 @@ impl NodeWords {
     {
         shorten_all(&mut self.chains, &mut self.pool, lengths, chunk);
         self.chains.arrange();
-        overwrite(&mut self.lengths, lengths);
+        self.lengths.become_like(lengths);
     }
 }

@@ -4,7 +4,7 @@ ghost use Rattle.sg_store.specs.declared.node.NodeWords.{NodeWords};
 ghost use Rattle.sg_store.specs.Reaching.{KeepsCells};
 ghost use Rattle.sg_store.specs.steps.AtNode.{AtNodeOf, AreNumbers};
 ghost use Rattle.sg_store.specs.steps.Settling.{CanSettleLinks, CanRelink, IsRelinked, ChangesAt, ChangesNode};
-ghost use Rattle.sg_store.specs.steps.Filling.{IsUnlinkedStock, FilledTo, IsPlan};
+ghost use Rattle.sg_store.specs.steps.Filling.{IsUnlinkedStock, HasEnough, FilledTo, IsPlan};
 ghost use Rattle.sg_store.specs.steps.Levels.{IsPointerOf, OpensNext, IsPastCap, IfRefused};
 
 use crate::node::NodeWords;
@@ -17,7 +17,7 @@ use sg_words::{Items, Memory, Stop};
 use std::alloc::Global;
 
 /// Links for a node's slots, before they are settled: those that were empty have the first `taken` numbers of the
-/// stock. There is room for `room` more numbers; `taken` is one past it where they are not enough.
+/// stock, of which a front is here. There is room for `room` more numbers; `taken` is one past it where they are not enough.
 #[derive(Debug, Drop)]
 pub(crate) struct Plan {
     pub(crate) links: WordRow,
@@ -29,7 +29,7 @@ pub(crate) struct Plan {
 /// Fills the slots that are empty with numbers of the stock, in order, until there are no more slots or one number more
 /// than the room is taken. How many are taken.
 fn fill(links: &mut WordRow, stock: &[u32], room: usize, slots: &[usize]) -> usize
-    requires roomy { room < length stock.now }
+    requires enough { HasEnough stock.now room slots.now }
     requires fresh { IsUnlinkedStock links.old stock.now }
     requires within { All (λ slot. slot < length links.old) slots.now }
     ensures { FilledTo links.old links.new stock.now room result slots.now }
@@ -57,7 +57,7 @@ fn plan_links(alloc: Global, kept: &NodeWords, cap: u32, slots: &[usize]) -> Res
     requires within { All (λ slot. slot < length kept.now.links) slots.now }
     ensures { IfOk result (IsPlan kept.now cap slots.now) }
 {
-    let stock = kept.pool.stock(alloc)?;
+    let stock = kept.pool.stock_front(alloc, slots.len())?;
     let mut links = kept.links.copy(alloc)?;
     let room = (cap - kept.pool.live()) as usize;
     let taken = fill(&mut links, stock.as_slice(), room, slots);
@@ -81,7 +81,7 @@ impl NodeWords {
         self.pool.places();
     }
 
-    /// The same with a row of links, in time by the numbers taken.
+    /// The same with a row of links, in time by the numbers taken and the pool's free list.
     fn relink_row(&mut self, links: WordRow, taken: &[u32])
         requires { CanRelink links taken.now self.old }
         ensures { IsRelinked links taken.now self.old self.new }

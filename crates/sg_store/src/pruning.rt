@@ -41,7 +41,8 @@ impl Store {
     }
 
     /// Makes the active coordinates the closure of those where some field isn't 0, and keeps all values. What holds none of these is
-    /// given back; what stays keeps its number and its slot. Where memory runs out the store is as before. In time by its storage words.
+    /// given back; what stays keeps its number and its slot. Where memory runs out the store is as before. In time by the words that
+    /// stand, the slots of numbers below the pools' marks, and the places of a hash node's table.
     pub fn prune(&mut self, alloc: Global) -> Result<(), Memory>
         ensures pruned { OnOk result ((flat : FlatLayout) → StandsFor self.old flat → StandsFor self.new (pruned self.old.shape flat)) }
         ensures same_shape { self.new.shape ≡ self.old.shape }

@@ -55,7 +55,7 @@ impl Store {
 
     /// The store with the closure of the active coordinates and the wanted ones in the place of the active ones, and all values kept.
     /// Refused where the need for these passes a cap: then, and where memory runs out, the store is let go. In time by the wanted
-    /// coordinates, the links that stand, and all words of other nodes.
+    /// coordinates, the words that stand, and the places of a hash node's table.
     pub fn opened(self, alloc: Global, wanted: &[Coord]) -> Result<Store, Stop<Full>>
         requires { All (Inside (bounds_of_shape self.shape)) wanted.now }
         ensures answer { (flat : FlatLayout) → StandsFor self flat →
@@ -97,7 +97,7 @@ impl Store {
             Kind::Dense => Ok(()),
             Kind::Bitmasked => {
                 let slots = self.numbers(alloc, index, wanted)?;
-                self.open_mask(alloc, index, wanted, slots.as_slice())?;
+                self.open_mask(index, wanted, slots.as_slice());
                 Ok(())
             }
             Kind::Pointer => {

@@ -5,11 +5,12 @@ ghost use Rattle.sg_pool.specs.Numbers.{live_count};
 ghost use Rattle.sg_dynamic.specs.Chunks.{chunks_of, IsExact};
 ghost use Rattle.sg_store.specs.steps.Cuts.{CutSoFar};
 
+use crate::word_row::WordRow;
 use sg_links::Links;
 use sg_pool::Pool;
 
-/// Shortens each chain to the chunks that its length needs, and gives back the others.
-pub(crate) fn shorten_all(chains: &mut Links, pool: &mut Pool, lengths: &[u64], chunk: u32)
+/// Shortens each chain to the chunks that its length needs, and gives back the others. In time by the chains up to the last that was used.
+pub(crate) fn shorten_all(chains: &mut Links, pool: &mut Pool, lengths: &WordRow, chunk: u32)
     requires some { 1 ≤ chunk }
     requires short { All (λ len. len ≤ 2 ^ 15) lengths.now }
     requires many { length chains.old.lists ≡ length lengths.now }
@@ -18,8 +19,8 @@ pub(crate) fn shorten_all(chains: &mut Links, pool: &mut Pool, lengths: &[u64], 
     ensures exact { IsExact chains.new pool.new }
     ensures fewer { live_count pool.new ≤ live_count pool.old }
 {
-    for head in 0..chains.heads() {
-        let wanted = chunks(lengths[head as usize], chunk);
+    for head in 0..chains.used() {
+        let wanted = chunks(lengths.get(head as usize), chunk);
         shorten(chains, pool, head, wanted);
     }
 }

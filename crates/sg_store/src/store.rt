@@ -61,7 +61,7 @@ impl Store {
         })
     }
 
-    /// A copy of the store. In time by the words that were given to fields, and by the words of the nodes.
+    /// A copy of the store. In time by the words that were given, and by the places of a hash node's table.
     pub fn copy(&self, alloc: Global) -> Result<Store, Memory>
         ensures { IfOk result (λ copy. copy ≡ self.now) }
     {

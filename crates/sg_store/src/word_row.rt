@@ -1,5 +1,5 @@
-//! The words of a node, by slots. A row ends after the last word that it was given, so that it takes time by these words and not by
-//! its slots.
+//! Rows of words of a node. A row ends after the last word that it was given, so that it takes time by these words and not by its
+//! slots.
 
 ghost use Rattle.std.specs.Prelude.{◌≡◌, ℕ, ◌<◌, ◌≤◌, length, replicate, slice_index, slice_set, vec_capacity, IfOk};
 ghost use Rattle.sg_store.specs.steps.Padded.{padded};
@@ -8,8 +8,8 @@ use sg_words::{Items, Memory};
 use std::alloc::Global;
 use std::marker::Model;
 
-/// A word for each slot of a node, with room for all of them; past the last that was given all are 0. Contracts see the words of all
-/// slots.
+/// A word for each slot of a row, with room for all of them; past the last that was given all are 0. Slots of a row are those of the
+/// node, 64 of them together, its parents, or the places of its table. Contracts see the words of all slots.
 #[derive(Debug, Drop)]
 pub struct WordRow {
     words: Vec<u64>,
@@ -34,6 +34,14 @@ impl WordRow {
     {
         let words = Vec::with_capacity(alloc, slots)?;
         Ok(WordRow { words, slots })
+    }
+
+    /// A row in which all these words stand.
+    pub(crate) fn of(words: Vec<u64>) -> WordRow
+        ensures { result ≡ words.items }
+    {
+        let slots = words.len();
+        WordRow { words, slots }
     }
 
     /// A copy of the row.
@@ -69,6 +77,7 @@ impl WordRow {
     pub(crate) fn standing(&self) -> &[u64]
         ensures few { length result.now ≤ length self.now }
         ensures words { (slot : ℕ) → slice_index result.now slot ≡ slice_index self.now slot }
+        ensures row { self.now ≡ padded result.now (length self.now) }
     {
         self.words.as_slice()
     }

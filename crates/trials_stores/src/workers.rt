@@ -1,9 +1,14 @@
-//! Stores made, copied and listed by workers, as without them.
+//! Stores made, copied and listed by workers, as without them, and a field that is given the words of another.
+
+ghost use Rattle.std.specs.Prelude.{◌<◌, length, IfOk};
+ghost use Rattle.std.specs.List.{concat};
+ghost use Rattle.sg_store.specs.WellFormed.{IsFieldRow};
 
 use crate::fixtures::{Node, coords_of, on_line, put, reach, store_of};
 use sg_elements::{active_count, active_count_by_workers, elements, elements_by_workers};
 use sg_layout::Kind::{Dense, Pointer};
 use sg_store::Store;
+use sg_words::{Items, Memory};
 use std::alloc::Global;
 use std::test::Fail;
 use std::thread::Threads;
@@ -130,6 +135,72 @@ fn workers_make_the_same(rt: HostRuntime) -> Result<(), Fail> {
     for nodes in &BLOCKS {
         let same = agree(&rt, rt.alloc(), nodes)?;
         assert!(rt; same);
+    }
+    Ok(())
+}
+
+/// The words of the first field, in one part.
+fn first_row(alloc: Global, store: &Store) -> Result<Vec<Items<u32>>, Memory>
+    requires { 0 < length store.now.shape.fields }
+    ensures { IfOk result (λ parts. IsFieldRow store.now (concat parts.items)) }
+{
+    let row = store.field_row(alloc, 0)?;
+    let words = Items::from_slice(alloc, row.as_slice())?;
+    let mut parts = Vec::new(alloc);
+    parts.push(words)?;
+    Ok(parts)
+}
+
+/// Whether a field has the words of a field of another store.
+fn is_same_row(
+    alloc: Global,
+    store: &Store,
+    place: u32,
+    other: &Store,
+    from: u32,
+) -> Result<bool, Fail> {
+    if store.layout().shape().fields.len() <= place as usize
+        || other.layout().shape().fields.len() <= from as usize
+    {
+        return Ok(false);
+    }
+    let row = store.field_row(alloc, place)?;
+    let same = other.field_row(alloc, from)?;
+    Ok(row.as_slice() == same.as_slice())
+}
+
+/// Gives the last of three fields the words of the first: whether it has them, and the others stay.
+fn last_is_first(alloc: Global, store: &mut Store) -> Result<bool, Fail> {
+    if store.layout().shape().fields.len() != 3 {
+        return Ok(false);
+    }
+    let copy = store.copy(alloc)?;
+    let parts = first_row(alloc, store)?;
+    store.set_field_row(2, parts.as_slice());
+    Ok(
+        is_same_row(alloc, store, 0, &copy, 0)?
+            && is_same_row(alloc, store, 1, &copy, 1)?
+            && is_same_row(alloc, store, 2, &copy, 0)?,
+    )
+}
+
+fn is_given(alloc: Global, store: &mut Store) -> Result<bool, Fail> {
+    fill(alloc, store)?;
+    last_is_first(alloc, store)
+}
+
+fn give(alloc: Global, nodes: &[Node]) -> Result<bool, Fail> {
+    match store_of(alloc, 1, nodes) {
+        Ok(mut store) => is_given(alloc, &mut store),
+        Err(fail) => Err(fail),
+    }
+}
+
+#[test]
+fn a_row_is_given(rt: HostRuntime) -> Result<(), Fail> {
+    for nodes in &BLOCKS {
+        let given = give(rt.alloc(), nodes)?;
+        assert!(rt; given);
     }
     Ok(())
 }

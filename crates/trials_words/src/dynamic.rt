@@ -1,6 +1,6 @@
 ghost use Rattle.std.specs.Prelude.{◌<◌, length};
 
-use sg_dynamic::{LengthPass, fit_chunks};
+use sg_dynamic::{LengthPass, fit_chunks, fit_front};
 use sg_links::Links;
 use sg_pool::Pool;
 use sg_words::Items;
@@ -32,6 +32,18 @@ fn a_long_chain_is_arranged(rt: HostRuntime) -> Result<(), Fail> {
     assert_eq!(rt; fitted, Ok(()));
     assert_eq!(rt; (chains.len(0), pool.live()), (LONG, LONG));
     assert_eq!(rt; summed(&chains), 107_370_905_600);
+    Ok(())
+}
+
+/// Of four chains the first two have lengths, in chunks of two: one of them gets two, and none the others.
+#[test]
+fn the_first_chains_grow(rt: HostRuntime) -> Result<(), Fail> {
+    let mut chains = Links::make(rt.alloc(), 6, 4)?;
+    let mut pool = Pool::make(rt.alloc(), 6)?;
+    let fitted = fit_front(&mut chains, &mut pool, &[0, 3], 2);
+    assert_eq!(rt; fitted, Ok(()));
+    assert_eq!(rt; (chains.used(), pool.live()), (2, 2));
+    assert_eq!(rt; (chains.len(0), chains.len(1), chains.len(3)), (0, 2, 0));
     Ok(())
 }
 

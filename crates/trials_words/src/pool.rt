@@ -32,7 +32,8 @@ enum Step {
     Draw(Option<u32>),
 }
 
-/// Steps with a pool of six, and the stock after each: what was passed or came back is taken before what was never taken.
+/// Steps with a pool of six, and the stock after each, of which a front has two numbers: what was passed or came back is taken before
+/// what was never taken.
 static STEPS: [(Step, &[u32]); 14] = [
     (Settle(3), &[0, 1, 2, 4, 5]),
     (Draw(Some(0)), &[1, 2, 4, 5]),
@@ -78,7 +79,8 @@ fn goes_on(alloc: Global, pool: &mut Pool) -> Result<bool, Memory> {
             return Ok(false);
         }
         let stock = pool.stock(alloc)?;
-        if stock.as_slice() != *want {
+        let front = pool.stock_front(alloc, 2)?;
+        if stock.as_slice() != *want || front.as_slice() != &want[..want.len().min(2)] {
             return Ok(false);
         }
     }

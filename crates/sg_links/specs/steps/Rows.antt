@@ -1,5 +1,5 @@
 -- When a row and heads keep lists, and what is laid of them.
-use Rattle.std.specs.Prelude.{◌≡◌, ℕ, ◌+◌, ◌-◌, ◌<◌, ◌≤◌, ◌^◌, true, Bool, List, [], ◌∷◌, length, slice_index, slice_index_or}
+use Rattle.std.specs.Prelude.{◌≡◌, ℕ, ◌+◌, ◌-◌, ◌<◌, ◌^◌, true, Bool, List, [], ◌∷◌, length, slice_index, slice_index_or}
 use Rattle.sg_links.specs.declared.head.Head.{Head}
 use Rattle.sg_links.specs.Lists.{AreDisjoint}
 use Rattle.sg_links.specs.Heads.{lists_of}
@@ -38,7 +38,7 @@ IsLaid list start order = (k : ℕ) → k < length list → slice_index order (s
 -- so do those of the first lists, each from a start of its own, and all before an end
 pub record AreLaid (count : ℕ) (lists : List (List ℕ)) (starts order : List ℕ) (end : ℕ) : Type 0 where
   pub laid : (i : ℕ) → i < count → IsLaid (slice_index_or lists i []) (slice_index starts i) order
-  pub within : (i : ℕ) → i < count → slice_index starts i + length (slice_index_or lists i []) ≤ end
+  pub within : (i : ℕ) → i < count → (k : ℕ) → k < length (slice_index_or lists i []) → slice_index starts i + k < end
 
 -- a row and heads keep lists, and where they are arranged all are laid
 pub record AreInOrder (next : List ℕ) (heads : List Head) (starts order : List ℕ) (arranged : Bool) : Type 0 where

@@ -43,7 +43,7 @@ pub record AreZeroWords (room : Room) (kept : NodeWords) : Type 0 where
   pub link_count : length kept.links ≡ room.links
   pub mask_count : length kept.masks ≡ room.masks
   pub length_count : length kept.lengths ≡ room.lengths
-  pub chains_are : kept.chains ≡ empty_lists room.numbers room.lengths
+  pub chains_are : kept.chains ≡ empty_lists room.chunks room.lengths
   pub no_length : (parent : ℕ) → slice_index kept.lengths parent ≡ 0
   pub places : place_count kept.pool ≡ room.numbers
   pub no_link : (slot : ℕ) → slice_index kept.links slot ≡ 0

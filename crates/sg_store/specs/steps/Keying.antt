@@ -11,7 +11,7 @@ use Rattle.sg_store.specs.Slots.{links_by_slot}
 use Rattle.sg_store.specs.WellFormed.{by_slots}
 pub use Rattle.sg_store.specs.Changes.{IsRekeyed}
 use Rattle.sg_store.specs.steps.Settling.{CanSettleLinks}
-use Rattle.sg_store.specs.steps.Filling.{IsUnlinkedStock, FilledTo, IsPlan}
+use Rattle.sg_store.specs.steps.Filling.{IsUnlinkedStock, HasEnough, FilledTo, IsPlan}
 
 -- a table of so many places, whose keys are numbers of so many slots
 pub record IsKeyed (keys links : List ℕ) (places count : ℕ) : Type 0 where
@@ -31,7 +31,7 @@ pub record HasPlaces (keys links : List ℕ) (room count : ℕ) : Type 0 where
 pub record CanFillKeys (keys links stock : List ℕ) (room : ℕ) (slots : List ℕ) (count : ℕ) : Type 0 where
   pub keyed : IsKeyed keys links (length keys) count
   pub few : count ≤ 2 ^ 32
-  pub roomy : room < length stock
+  pub enough : HasEnough stock room slots
   pub fresh : IsUnlinkedStock (links_by_slot keys links count) stock
   pub within : All (λ slot. slot < count) slots
   pub has_places : HasPlaces keys links room count

@@ -1,5 +1,5 @@
 -- One level of reaching coordinates: what stays while a node is opened for them, and when it is too full.
-use Rattle.std.specs.Prelude.{◌≡◌, ℕ, suc, ◌<◌, Bool, true, List, ◌++◌, length, Some, slice_get}
+use Rattle.std.specs.Prelude.{◌≡◌, ℕ, suc, ◌<◌, Bool, List, ◌++◌, length, Some, slice_get}
 use Rattle.sg_words.specs.declared.memory.Stop.{Stop}
 use Rattle.sg_words.specs.declared.memory.Stop.TheVariants as stop
 use Rattle.sg_coord.specs.declared.coord.Coord.{Coord}
@@ -7,7 +7,6 @@ use Rattle.sg_layout.specs.declared.shape.Kind.{Kind}
 use Rattle.sg_layout.specs.declared.shape.Kind.TheVariants.{Pointer, Hash}
 use Rattle.sg_layout.specs.declared.shape.NodeShape.{NodeShape}
 use Rattle.sg_layout.specs.Axes.{count_of}
-use Rattle.sg_layout.specs.StorageWords.{ends_segment}
 use Rattle.sg_layout.specs.Need.{reached_slots, need_of}
 use Rattle.sg_store.specs.declared.node.NodeWords.{NodeWords}
 use Rattle.sg_store.specs.declared.reach.Full.{Full}
@@ -21,10 +20,6 @@ IsOfKind kind node kept slots live = node.kind ≡ kind
 -- a hash node with this cap
 abbrev pub IsHashOf : ℕ → NodeShape → NodeWords → ℕ → (ℕ → Bool) → Type 0
 IsHashOf cap node kept slots live = (node.kind ≡ Hash) × (count_of node.cap ≡ cap)
-
--- a node with child containers, and this cap
-abbrev pub IsLinkedOf : ℕ → NodeShape → NodeWords → ℕ → (ℕ → Bool) → Type 0
-IsLinkedOf cap node kept slots live = (ends_segment node.kind ≡ true) × (count_of node.cap ≡ cap)
 
 -- a pointer node with this cap
 abbrev pub IsPointerOf : ℕ → NodeShape → NodeWords → ℕ → (ℕ → Bool) → Type 0

@@ -1,4 +1,4 @@
-use Rattle.std.proofs.Common.{arith, ap, subst, sym, ◌≡◌, ◌≤◌, ◌+◌, ◌-◌, ◌/◌, ◌^◌, ◌∙◌, ℕ}
+use Rattle.std.proofs.Common.{arith, ap, ◌≡◌, ◌+◌, ◌-◌, ◌/◌, ◌∙◌, ℕ}
 use Rattle.sg_dynamic.specs.Chunks.{chunks_of}
 use Rattle.sg_dynamic.proofs.Growth.{chunks_within}
 use Rattle.sg_dynamic.proofs.chunks.chunks.Goals as goal

@@ -1,13 +1,21 @@
-use Rattle.std.proofs.Common.{arith, ◌<◌, ◌≤◌, length, ℕ}
-use Rattle.sg_dynamic.specs.Chunks.{chunk_need}
-use Rattle.sg_dynamic.proofs.Growth.{room_for_one, room_so_far}
+use Rattle.std.proofs.Common.{◌∙◌, List, ℕ, length, sym, ap, subst}
+use Rattle.std.specs.Prelude.{OnOk}
+use Rattle.sg_pool.specs.Numbers.{place_count}
+use Rattle.sg_dynamic.specs.Chunks.{fit, HaveRoom, AreFitted}
+use Rattle.sg_dynamic.proofs.Growth.{whole_front}
 use Rattle.sg_dynamic.proofs.chunks.fit_chunks.Goals as goal
 
-pub lengthen-requires-clause-room : goal.lengthen-requires-clause-room
-lengthen-requires-clause-room c =
-    let fit = c.loop-head.invariant in
-    let room = room_so_far c.args.chains.now c.loop-head.chains c.loop-head.pool c.args.lengths.now c.args.chunk c.loop-head.head c.requires.room fit in
-    let enough : chunk_need c.args.chunk c.args.lengths.now ≤ c.loop-head.chains.numbers = omega arith in
-    let there : c.loop-head.head < length c.args.lengths.now = omega arith in
-    let one = room_for_one c.args.chunk c.loop-head.chains c.args.lengths.now c.loop-head.head room there enough in
-    omega arith
+pub fit_front-requires-clause-room : goal.fit_front-requires-clause-room
+fit_front-requires-clause-room c =
+    let same = whole_front c.args.lengths.now (length c.args.chains.now.lists) c.requires.room.many in
+    subst (λ (l : List ℕ). HaveRoom c.args.chains.now l c.args.chunk) (sym same) c.requires.room
+
+pub returns-clause-answer : goal.returns-clause-answer
+returns-clause-answer c =
+    let same = whole_front c.args.lengths.now (length c.args.chains.now.lists) c.requires.room.many in
+    c.fit_front.ensures.answer ∙ ap (λ (l : List ℕ). fit c.args.chunk l (place_count c.args.pool.now)) same
+
+pub returns-clause-fitted : goal.returns-clause-fitted
+returns-clause-fitted c =
+    let same = whole_front c.args.lengths.now (length c.args.chains.now.lists) c.requires.room.many in
+    subst (λ (l : List ℕ). OnOk c.fit_front.result (AreFitted c.args.chains.now c.fit_front.new.chains l c.args.chunk)) same c.fit_front.ensures.fitted

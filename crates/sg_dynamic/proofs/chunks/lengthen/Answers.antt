@@ -1,5 +1,4 @@
-use Rattle.std.proofs.Common.{arith, ap, ◌<◌, ◌+◌, ◌≡◌, ℕ, length, sym, subst, ◌∙◌}
-use Rattle.std.proofs.lemmas.List.{length-set}
+use Rattle.std.proofs.Common.{sym, subst}
 use Rattle.sg_links.specs.Lists.{Lists}
 use Rattle.sg_dynamic.specs.Chunks.{IsExact}
 use Rattle.sg_dynamic.proofs.Growth.{free_below, exact_after, grew_more, not_full, heads_stay}

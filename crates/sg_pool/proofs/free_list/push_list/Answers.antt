@@ -5,7 +5,7 @@ use Rattle.sg_pool.proofs.free_list.push_list.Goals as goal
 use Rattle.sg_pool.proofs.free_list.push_list.Goals.{in-Some+in_ok-push-in-Some, in-None}
 
 pub next-next-requires : goal.next-next-requires
-next-next-requires c = listed c.args.free.now c.loop-place._place c.in-Some.number c.requires (sym c.loop-place.invariant.at ∙ c.in-Some.is)
+next-next-requires c = listed c.args.free.now c.loop-place._place c.in-Some.number c.requires.there (sym c.loop-place.invariant.at ∙ c.in-Some.is)
 
 pub loop-place-preserved : goal.loop-place-preserved
 loop-place-preserved c =
@@ -20,6 +20,6 @@ loop-place-preserved c =
                 ∙ ap (λ list. c.args.numbers.now ++ list) (sym more);
           }
       | in-None w ↦
-          let below : c.loop-place._place < length (list_of c.args.free.now 0) = grind arith in
+          let below : c.loop-place._place < length (list_of c.args.free.now 0) = omega (arith, c.requires.within) in
           absurd (something (list_of c.args.free.now 0) c.loop-place._place below (sym c.loop-place.invariant.at ∙ w.in-None.is))
     ]

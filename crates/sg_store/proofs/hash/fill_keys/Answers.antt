@@ -3,6 +3,7 @@ use Rattle.std.specs.Prelude.{slice_index}
 use Rattle.sg_store.specs.Slots.{links_by_slot}
 use Rattle.sg_store.specs.steps.Filling.{IsFill}
 use Rattle.sg_store.specs.steps.Keying.{AddsKey}
+use Rattle.sg_store.proofs.Filled.{number_there}
 use Rattle.sg_store.proofs.Keyed.{can_add, keyed_on, turn_more, turn_same}
 use Rattle.sg_store.proofs.hash.fill_keys.Goals as goal
 use Rattle.sg_store.proofs.hash.fill_keys.Goals.{then-add_key+else-taken-room, else-add_key}
@@ -10,7 +11,7 @@ use Rattle.sg_store.proofs.hash.fill_keys.Goals.{then-add_key+else-taken-room, e
 pub add_key-requires : goal.add_key-requires
 add_key-requires g c =
     can_add c.args.keys.now c.args.links.now c.loop-slot.keys c.loop-slot.links c.args.stock.now c.args.slots.now c.args.room c.loop-slot.taken g.count c.loop-slot.slot-index 0
-    c.requires c.loop-slot.invariant.keyed c.loop-slot.invariant.fill c.loop-slot.invariant.few c.loop-slot-test.true
+    c.requires c.loop-slot.invariant.keyed c.loop-slot.invariant.fill c.loop-slot.invariant.few c.loop-slot.invariant.low c.loop-slot-test.true
 
 pub returns-then-taken-room : goal.returns-then-taken-room
 returns-then-taken-room g c =
@@ -24,7 +25,8 @@ returns-then-taken-room g c =
         through = c.loop-slot.slot-index + 1;
         within = omega (arith, c.loop-slot-test.true);
         fill = turn_more c.args.keys.now c.args.links.now c.loop-slot.keys c.loop-slot.links c.add_key.new.keys c.add_key.new.links c.args.stock.now c.args.slots.now c.args.room c.loop-slot.taken g.count c.loop-slot.slot-index 0 0
-            c.requires c.loop-slot.invariant.fill c.loop-slot.invariant.few c.loop-slot-test.true adds;
+            c.requires c.loop-slot.invariant.fill c.loop-slot.invariant.few c.loop-slot.invariant.low c.loop-slot-test.true adds;
+        enough = omega (arith, (number_there c.args.stock.now c.args.slots.now c.args.room c.loop-slot.taken c.loop-slot.slot-index c.requires.enough c.loop-slot-test.true c.loop-slot.invariant.low c.loop-slot.invariant.few));
         most = omega (arith, c.loop-slot.invariant.few);
         all = λ few. absurd (omega (arith, few, c.if-taken-room.true));
       };
@@ -41,8 +43,10 @@ loop-slot-preserved g c = elim c.if-add_key.branch [
         keyed = keyed_on c.args.keys.now c.args.links.now c.loop-slot.keys c.loop-slot.links c.add_key.new.keys c.add_key.new.links slot number g.count true c.loop-slot.invariant.keyed adds;
         fill = subst (λ n. IsFill (links_by_slot c.args.keys.now c.args.links.now g.count) (links_by_slot c.add_key.new.keys c.add_key.new.links g.count) (take n c.args.stock.now) (take (c.loop-slot.slot-index + 1) c.args.slots.now)) (sym w.taken-is)
             (turn_more c.args.keys.now c.args.links.now c.loop-slot.keys c.loop-slot.links c.add_key.new.keys c.add_key.new.links c.args.stock.now c.args.slots.now c.args.room c.loop-slot.taken g.count c.loop-slot.slot-index 0 0
-            c.requires c.loop-slot.invariant.fill c.loop-slot.invariant.few c.loop-slot-test.true adds);
+            c.requires c.loop-slot.invariant.fill c.loop-slot.invariant.few c.loop-slot.invariant.low c.loop-slot-test.true adds);
         few = omega (arith, w.taken-is, w.if-taken-room.false);
+        low = omega (arith, w.taken-is, c.loop-slot.invariant.low);
+        enough = omega (arith, w.taken-is, (number_there c.args.stock.now c.args.slots.now c.args.room c.loop-slot.taken c.loop-slot.slot-index c.requires.enough c.loop-slot-test.true c.loop-slot.invariant.low c.loop-slot.invariant.few));
       }
   | else-add_key w ↦
       let slot : ℕ = slice_index c.args.slots.now c.loop-slot.slot-index in
@@ -55,5 +59,11 @@ loop-slot-preserved g c = elim c.if-add_key.branch [
             (turn_same c.args.keys.now c.args.links.now c.loop-slot.keys c.loop-slot.links c.add_key.new.keys c.add_key.new.links c.args.stock.now c.args.slots.now c.loop-slot.taken g.count c.loop-slot.slot-index 0 number
             c.loop-slot.invariant.fill c.loop-slot-test.true adds);
         few = omega (arith, w.taken-is, c.loop-slot.invariant.few);
+        low = omega (arith, w.taken-is, c.loop-slot.invariant.low);
+        enough = omega (arith, w.taken-is, c.loop-slot.invariant.enough);
       }
 ]
+
+pub bounds-stock-taken : goal.bounds-stock-taken
+bounds-stock-taken g c =
+    number_there c.args.stock.now c.args.slots.now c.args.room c.loop-slot.taken c.loop-slot.slot-index c.requires.enough c.loop-slot-test.true c.loop-slot.invariant.low c.loop-slot.invariant.few

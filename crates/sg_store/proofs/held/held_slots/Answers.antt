@@ -1,5 +1,6 @@
 use Rattle.std.proofs.Common.{◌≡◌, ℕ, ◌-◌, List, length, inl, inr, sym, ap, subst, arith}
 use Rattle.std.specs.Prelude.{slice_index}
+use Rattle.std.proofs.lemmas.List.{length-replicate}
 use Rattle.std.proofs.lemmas.Option.{none-some}
 use Rattle.sg_layout.specs.declared.shape.Kind.TheVariants.{Dense, Bitmasked, Pointer, Hash, Dynamic}
 use Rattle.sg_pool.specs.Numbers.{place_count}
@@ -11,12 +12,12 @@ use Rattle.sg_store.proofs.held.held_slots.Goals as goal
 pub note_links-requires-clause-within : goal.note_links-requires-clause-within
 note_links-requires-clause-within c = λ place number at.
     let own = as_kind c.args.node.now c.args.kept.now Pointer c.in-Pointer.is c.requires.node in
-    omega (arith, pointer_below c.args.node.now c.args.kept.now own.0 own.1 own.2 place number at, ap length c.from_vec-slots.ensures, c.in_ok-vec.ensures.len, c.places-places.ensures.places)
+    omega (arith, pointer_below c.args.node.now c.args.kept.now own.0 own.1 own.2 place number at, ap length c.in_ok-slots.ensures, length-replicate {A = ℕ} c.places.result 0, c.places.ensures.places)
 
 pub note_keys-requires-clause-within : goal.note_keys-requires-clause-within
 note_keys-requires-clause-within c = λ place number at.
     let own = as_kind c.args.node.now c.args.kept.now Hash c.in-Hash.is c.requires.node in
-    omega (arith, hash_below c.args.node.now c.args.kept.now own.0 own.1 own.2 place number at, ap length c.from_vec-slots.ensures, c.in_ok-vec.ensures.len, c.places-places.ensures.places)
+    omega (arith, hash_below c.args.node.now c.args.kept.now own.0 own.1 own.2 place number at, ap length c.in_ok-slots.ensures, length-replicate {A = ℕ} c.places.result 0, c.places.ensures.places)
 
 pub note_keys-requires-clause-once : goal.note_keys-requires-clause-once
 note_keys-requires-clause-once c =
@@ -32,8 +33,8 @@ pub returns : goal.returns
 returns c =
     let node = c.args.node.now in
     let kept = c.args.kept.now in
-    let old = c.from_vec-slots.result in
-    let many : length c.from_vec-slots.result ≡ place_count c.args.kept.now.pool = omega (arith, ap length c.from_vec-slots.ensures, c.in_ok-vec.ensures.len, c.places-places.ensures.places) in
+    let old : List ℕ = c.in_ok-slots.slots in
+    let many : length c.in_ok-slots.slots ≡ place_count c.args.kept.now.pool = omega (arith, ap length c.in_ok-slots.ensures, length-replicate {A = ℕ} c.places.result 0, c.places.ensures.places) in
     elim c.match-node.branch [
       | in-Dense w ↦ subst (HasSlots node kept) (sym w.slots-is) (elim w.in-Dense.is [
         | inl e ↦ no_slots node kept Dense old e (λ slot number holds. none-some number holds) many

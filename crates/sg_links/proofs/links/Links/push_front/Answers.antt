@@ -1,4 +1,4 @@
-use Rattle.std.proofs.Common.{arith, ap, refl, get_or}
+use Rattle.std.proofs.Common.{arith, refl}
 use Rattle.std.proofs.lemmas.List.{length-set}
 use Rattle.sg_links.specs.steps.Rows.{no_head}
 use Rattle.sg_links.proofs.Kept.{kept_from, in_order, kept_seen}
@@ -8,25 +8,25 @@ use Rattle.sg_links.proofs.links.Links.push_front.Goals as goal
 pub invariant_of-self : goal.invariant_of-self
 invariant_of-self c =
     let kept = kept_from c.args.self.now _ _ c.self.invariant.linked c.self.view_is in
-    in_order _ _ _ _ _ _ _ _ _ c.self.invariant kept (pushed_front_first c.args.self.now _ _ _ _ c.args.head c.args.number _ _ kept c.requires.there c.requires.below c.requires.free (ap (λ heads. get_or heads c.args.head no_head) c.as_slice.ensures) c.if-old-eq0.true c.single.ensures c.set.ensures c.set-then-old-eq0.ensures) (length-set _ _ _) refl
+    in_order _ _ _ _ _ _ _ _ _ c.self.invariant kept (pushed_front_first c.args.self.now _ _ _ _ c.args.head c.args.number _ _ kept c.requires.there c.requires.below c.requires.free (c.get-old.ensures no_head) c.if-old-eq0.true c.single.ensures c.set.ensures c.set-then-old-eq0.ensures) (length-set _ _ _) refl
 
 pub returns-then-old-eq0 : goal.returns-then-old-eq0
 returns-then-old-eq0 c =
     let kept = kept_from c.args.self.now _ _ c.self.invariant.linked c.self.view_is in
-    kept_seen _ _ _ (pushed_front_first c.args.self.now _ _ _ _ c.args.head c.args.number _ _ kept c.requires.there c.requires.below c.requires.free (ap (λ heads. get_or heads c.args.head no_head) c.as_slice.ensures) c.if-old-eq0.true c.single.ensures c.set.ensures c.set-then-old-eq0.ensures)
+    kept_seen _ _ _ (pushed_front_first c.args.self.now _ _ _ _ c.args.head c.args.number _ _ kept c.requires.there c.requires.below c.requires.free (c.get-old.ensures no_head) c.if-old-eq0.true c.single.ensures c.set.ensures c.set-then-old-eq0.ensures)
 
 pub overflow_add-longer : goal.overflow_add-longer
 overflow_add-longer c =
     let kept = kept_from c.args.self.now _ _ c.self.invariant.linked c.self.view_is in
-    let fits = longer_by_one c.args.self.now _ _ c.args.head c.args.number _ kept c.requires.there c.requires.below c.requires.free (ap (λ heads. get_or heads c.args.head no_head) c.as_slice.ensures) in
+    let fits = longer_by_one c.args.self.now _ _ c.args.head c.args.number _ kept c.requires.there c.requires.below c.requires.free (c.get-old.ensures no_head) in
     omega arith
 
 pub invariant_of-self-else-old-eq0 : goal.invariant_of-self-else-old-eq0
 invariant_of-self-else-old-eq0 c =
     let kept = kept_from c.args.self.now _ _ c.self.invariant.linked c.self.view_is in
-    in_order _ _ _ _ _ _ _ _ _ c.self.invariant kept (pushed_front c.args.self.now _ _ _ _ c.args.head c.args.number _ _ kept c.requires.there c.requires.below c.requires.free (ap (λ heads. get_or heads c.args.head no_head) c.as_slice.ensures) c.if-old-eq0.false refl c.set.ensures c.set-else-old-eq0.ensures) (length-set _ _ _) refl
+    in_order _ _ _ _ _ _ _ _ _ c.self.invariant kept (pushed_front c.args.self.now _ _ _ _ c.args.head c.args.number _ _ kept c.requires.there c.requires.below c.requires.free (c.get-old.ensures no_head) c.if-old-eq0.false refl c.set.ensures c.set-else-old-eq0.ensures) (length-set _ _ _) refl
 
 pub returns-else-old-eq0 : goal.returns-else-old-eq0
 returns-else-old-eq0 c =
     let kept = kept_from c.args.self.now _ _ c.self.invariant.linked c.self.view_is in
-    kept_seen _ _ _ (pushed_front c.args.self.now _ _ _ _ c.args.head c.args.number _ _ kept c.requires.there c.requires.below c.requires.free (ap (λ heads. get_or heads c.args.head no_head) c.as_slice.ensures) c.if-old-eq0.false refl c.set.ensures c.set-else-old-eq0.ensures)
+    kept_seen _ _ _ (pushed_front c.args.self.now _ _ _ _ c.args.head c.args.number _ _ kept c.requires.there c.requires.below c.requires.free (c.get-old.ensures no_head) c.if-old-eq0.false refl c.set.ensures c.set-else-old-eq0.ensures)

@@ -1,5 +1,4 @@
-use Rattle.std.proofs.Common.{◌≡◌, ℕ, ◌≤◌, ◌^◌, List, sym, ap, ◌∙◌, subst}
-use Rattle.std.specs.List.{All}
+use Rattle.std.proofs.Common.{◌≡◌, ℕ, sym, ap, ◌∙◌, subst}
 use Rattle.sg_store.specs.declared.node.NodeWords.{NodeWords}
 use Rattle.sg_store.specs.declared.node_plan.StayingWords.{StayingWords}
 use Rattle.sg_store.specs.steps.Trimming.{IsTrimmed}
@@ -27,8 +26,7 @@ cut_table-requires-clause-stays c =
 pub cut_lengths-requires-clause-short : goal.cut_lengths-requires-clause-short
 cut_lengths-requires-clause-short c =
     let plan = subst (λ (s : StayingWords). AreStaying s c.args.node.now.kind c.args.node.now c.args.self.now c.args.plan.now.row) c.in-Lengths.is c.requires.plan in
-    subst (λ (lengths : List ℕ). All (λ len. len ≤ 2 ^ 15) lengths) (sym c.as_slice-in-Lengths.ensures)
-    (new_lengths_short c.args.plan.now.row c.args.node.now c.args.self.now c.in-Lengths.lengths plan.0 c.requires.node plan.1)
+    new_lengths_short c.args.plan.now.row c.args.node.now c.args.self.now c.in-Lengths.lengths plan.0 c.requires.node plan.1
 
 pub returns-clause-trimmed : goal.returns-clause-trimmed
 returns-clause-trimmed c = elim c.match-plan.branch [
@@ -37,7 +35,7 @@ returns-clause-trimmed c = elim c.match-plan.branch [
       (whole_trims c.args.plan.now.row c.args.node.now c.args.self.now c.match-plan.self plan).0
   | in-Masks w ↦
       let plan = subst (λ (s : StayingWords). AreStaying s c.args.node.now.kind c.args.node.now c.args.self.now c.args.plan.now.row) w.in-Masks.is c.requires.plan in
-      let now : c.match-plan.self.masks ≡ w.in-Masks.masks = ap (λ (k : NodeWords). k.masks) w.self-is ∙ w.overwrite.ensures ∙ w.as_slice.ensures in
+      let now : c.match-plan.self.masks ≡ w.in-Masks.masks = ap (λ (k : NodeWords). k.masks) w.self-is ∙ w.become_like.ensures in
       (masks_trim c.args.plan.now.row c.args.node.now c.args.self.now c.match-plan.self w.in-Masks.masks plan.0 plan.1 now).0
   | in-Linked w ↦
       let plan = subst (λ (s : StayingWords). AreStaying s c.args.node.now.kind c.args.node.now c.args.self.now c.args.plan.now.row) w.in-Linked.is c.requires.plan in
@@ -53,6 +51,5 @@ returns-clause-trimmed c = elim c.match-plan.branch [
       let plan = subst (λ (s : StayingWords). AreStaying s c.args.node.now.kind c.args.node.now c.args.self.now c.args.plan.now.row) w.in-Lengths.is c.requires.plan in
       subst (λ (after : NodeWords). IsTrimmed (in_row c.args.plan.now.row) c.args.node.now c.args.self.now after) (sym w.self-is)
       (lengths_trim c.args.plan.now.row c.args.node.now c.args.self.now w.cut_lengths.new.self w.in-Lengths.lengths plan.0 c.requires.node plan.1
-      (subst (λ (chunk : ℕ). HasCutLengths w.in-Lengths.lengths chunk c.args.self.now w.cut_lengths.new.self) w.chunk_of.ensures
-      (subst (λ (lengths : List ℕ). HasCutLengths lengths w.chunk_of.result c.args.self.now w.cut_lengths.new.self) w.as_slice-in-Lengths.ensures w.cut_lengths.ensures))).0
+      (subst (λ (chunk : ℕ). HasCutLengths w.in-Lengths.lengths chunk c.args.self.now w.cut_lengths.new.self) w.chunk_of.ensures w.cut_lengths.ensures)).0
 ]

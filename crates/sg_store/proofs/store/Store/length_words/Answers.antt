@@ -22,7 +22,7 @@ bounds-as_slice-last c =
     let nodes = c.as_slice.ensures.value ∙ ap (λ (s : StoreWords). s.nodes) c.self.view_is in
     subst (λ (words : List NodeWords). last < length words) (sym nodes) (slice_get_within store.nodes last at.1 at.2.has)
 
-read : (c : goal.In_ok-from_slice) → c.in_ok-from_slice.field-0 ≡ lengths_of c.args.self.now (length c.args.self.now.shape.nodes)
+read : (c : goal.After-from_vec) → c.from_vec.result ≡ lengths_of c.args.self.now (length c.args.self.now.shape.nodes)
 read c =
     let store : StoreWords = c.args.self.now in
     let last : ℕ = c.nodes-last.result - 1 in
@@ -31,7 +31,7 @@ read c =
     let same : c.index-as_slice-last.result ≡ at.1 =
     read_as c.as_slice.result.now store.nodes last c.index-as_slice-last.result at.1 (c.as_slice.ensures.value ∙ ap (λ (s : StoreWords). s.nodes) c.self.view_is)
     c.index-as_slice-last.is at.2.has in
-    c.in_ok-from_slice.ensures ∙ c.as_slice-2.ensures ∙ ap (λ (k : NodeWords). k.lengths) same
+    c.from_vec.ensures ∙ c.in_ok-whole.ensures ∙ ap (λ (k : NodeWords). k.lengths) same
     ∙ sym (lengths_are store (length store.shape.nodes) last at.0 at.1 at.2)
 
 pub returns-clause-words : goal.returns-clause-words

@@ -11,7 +11,7 @@ use Rattle.sg_store.specs.Links.{copy_slots}
 use Rattle.sg_store.specs.LinkLaws.{AreSound}
 use Rattle.sg_store.specs.steps.Noting.{HasSlots, LinksBelow}
 use Rattle.sg_store.specs.steps.Widths.{IsWidths}
-use Rattle.sg_store.proofs.LinksListed.{below_none, below_skipped, below_all}
+use Rattle.sg_store.proofs.LinksListed.{below_none, below_skipped, below_marked}
 use Rattle.sg_store.proofs.LinkListing.{IsListed, IsNext, node_inside, words_inside, listing_of, some_node, chains_have_room, copy_few, copy_is, next_link, pushed}
 use Rattle.sg_store.proofs.store.Store.links_of.Goals as goal
 use Rattle.sg_store.proofs.store.Store.links_of.Goals.{then-is_live+in_ok-push, else-is_live}
@@ -85,8 +85,15 @@ loop-number-init c =
     let well : IsWellFormed store = c.layout.ensures.well_formed in
     subst (λ (links : List LinkAt). LinksBelow store (c.args.node - 1) 0 links) (sym c.new-links.ensures.items) (below_none store (c.args.node - 1))
 
-pub link_for-requires-clause-some : goal.link_for-requires-clause-some
-link_for-requires-clause-some c =
+pub is_live-requires : goal.is_live-requires
+is_live-requires c = omega (arith, c.loop-number-test.true, c.mark-number-end.ensures.mark, c.mark-number-end.ensures.parted.within)
+
+pub link_at-requires-clause-there : goal.link_at-requires-clause-there
+link_at-requires-clause-there c =
+    omega (arith, c.in_ok-slots.ensures.as_many, c.loop-number-test.true, c.mark-number-end.ensures.mark, c.mark-number-end.ensures.parted.within)
+
+pub link_at-requires-clause-some : goal.link_at-requires-clause-some
+link_at-requires-clause-some c =
     let store : StoreWords = c.args.self.now in
     let well : IsWellFormed store = c.layout.ensures.well_formed in
     let words : c.as_slice-2.result.now ≡ store.nodes = c.as_slice-2.ensures.value ∙ ap (λ (s : StoreWords). s.nodes) c.self.view_is in
@@ -100,14 +107,14 @@ link_for-requires-clause-some c =
     listing_of store well c.args.node c.requires.first c.requires.capped c.as_slice.result.now c.as_slice-2.result.now shapes words node kept widths c.index-as_slice-index.is c.index-as_slice-index-2.is
     (subst (λ (s : Shape). IsWidths s.nodes index widths) shape c.widths-widths.ensures) in
     let copy : widths.before * c.per_place.result ≡ copy_slots store.shape.nodes index node = copy_is store index node kept widths c.per_place.result listed c.per_place.ensures in
-    let slots : List ℕ = c.as_slice-slots.result.now in
-    let has : HasSlots node kept slots = subst (λ (xs : List ℕ). HasSlots node kept xs) (sym c.as_slice-slots.ensures) c.in_ok-slots.ensures in
+    let slots : List ℕ = c.in_ok-slots.slots in
+    let has : HasSlots node kept slots = c.in_ok-slots.ensures in
     let next : IsNext store index node slots c.loop-number.number =
     next_link store index node kept widths slots c.loop-number.number listed (c.rules_decide.ensures.accepted store.shape) has (sym c.is_live.ensures ∙ c.if-is_live.true) in
     subst (λ n. 1 ≤ n) (sym copy) next.some
 
-pub link_for-requires-clause-small : goal.link_for-requires-clause-small
-link_for-requires-clause-small c =
+pub link_at-requires-clause-small : goal.link_at-requires-clause-small
+link_at-requires-clause-small c =
     let store : StoreWords = c.args.self.now in
     let well : IsWellFormed store = c.layout.ensures.well_formed in
     let words : c.as_slice-2.result.now ≡ store.nodes = c.as_slice-2.ensures.value ∙ ap (λ (s : StoreWords). s.nodes) c.self.view_is in
@@ -123,8 +130,8 @@ link_for-requires-clause-small c =
     let few : widths.before * c.per_place.result ≤ 2 ^ 30 = subst (λ n. widths.before * n ≤ 2 ^ 30) (sym c.per_place.ensures) (copy_few store index node kept widths listed) in
     few
 
-pub link_for-requires-clause-few : goal.link_for-requires-clause-few
-link_for-requires-clause-few c =
+pub link_at-requires-clause-few : goal.link_at-requires-clause-few
+link_at-requires-clause-few c =
     let store : StoreWords = c.args.self.now in
     let well : IsWellFormed store = c.layout.ensures.well_formed in
     let words : c.as_slice-2.result.now ≡ store.nodes = c.as_slice-2.ensures.value ∙ ap (λ (s : StoreWords). s.nodes) c.self.view_is in
@@ -138,14 +145,14 @@ link_for-requires-clause-few c =
     listing_of store well c.args.node c.requires.first c.requires.capped c.as_slice.result.now c.as_slice-2.result.now shapes words node kept widths c.index-as_slice-index.is c.index-as_slice-index-2.is
     (subst (λ (s : Shape). IsWidths s.nodes index widths) shape c.widths-widths.ensures) in
     let copy : widths.before * c.per_place.result ≡ copy_slots store.shape.nodes index node = copy_is store index node kept widths c.per_place.result listed c.per_place.ensures in
-    let slots : List ℕ = c.as_slice-slots.result.now in
-    let has : HasSlots node kept slots = subst (λ (xs : List ℕ). HasSlots node kept xs) (sym c.as_slice-slots.ensures) c.in_ok-slots.ensures in
+    let slots : List ℕ = c.in_ok-slots.slots in
+    let has : HasSlots node kept slots = c.in_ok-slots.ensures in
     let next : IsNext store index node slots c.loop-number.number =
     next_link store index node kept widths slots c.loop-number.number listed (c.rules_decide.ensures.accepted store.shape) has (sym c.is_live.ensures ∙ c.if-is_live.true) in
     subst (λ n. slice_index slots c.loop-number.number / n + 1 < 2 ^ 32) (sym copy) next.few
 
-pub link_for-requires-clause-root : goal.link_for-requires-clause-root
-link_for-requires-clause-root c =
+pub link_at-requires-clause-root : goal.link_at-requires-clause-root
+link_at-requires-clause-root c =
     let store : StoreWords = c.args.self.now in
     let well : IsWellFormed store = c.layout.ensures.well_formed in
     let words : c.as_slice-2.result.now ≡ store.nodes = c.as_slice-2.ensures.value ∙ ap (λ (s : StoreWords). s.nodes) c.self.view_is in
@@ -159,8 +166,8 @@ link_for-requires-clause-root c =
     listing_of store well c.args.node c.requires.first c.requires.capped c.as_slice.result.now c.as_slice-2.result.now shapes words node kept widths c.index-as_slice-index.is c.index-as_slice-index-2.is
     (subst (λ (s : Shape). IsWidths s.nodes index widths) shape c.widths-widths.ensures) in
     let copy : widths.before * c.per_place.result ≡ copy_slots store.shape.nodes index node = copy_is store index node kept widths c.per_place.result listed c.per_place.ensures in
-    let slots : List ℕ = c.as_slice-slots.result.now in
-    let has : HasSlots node kept slots = subst (λ (xs : List ℕ). HasSlots node kept xs) (sym c.as_slice-slots.ensures) c.in_ok-slots.ensures in
+    let slots : List ℕ = c.in_ok-slots.slots in
+    let has : HasSlots node kept slots = c.in_ok-slots.ensures in
     let next : IsNext store index node slots c.loop-number.number =
     next_link store index node kept widths slots c.loop-number.number listed (c.rules_decide.ensures.accepted store.shape) has (sym c.is_live.ensures ∙ c.if-is_live.true) in
     λ none. subst (λ n. slice_index slots c.loop-number.number < n) (sym copy) (next.root (sym c.has_parent-above.ensures ∙ none))
@@ -180,16 +187,16 @@ loop-number-preserved c =
     listing_of store well c.args.node c.requires.first c.requires.capped c.as_slice.result.now c.as_slice-2.result.now shapes words node kept widths c.index-as_slice-index.is c.index-as_slice-index-2.is
     (subst (λ (s : Shape). IsWidths s.nodes index widths) shape c.widths-widths.ensures) in
     let copy : widths.before * c.per_place.result ≡ copy_slots store.shape.nodes index node = copy_is store index node kept widths c.per_place.result listed c.per_place.ensures in
-    let slots : List ℕ = c.as_slice-slots.result.now in
-    let has : HasSlots node kept slots = subst (λ (xs : List ℕ). HasSlots node kept xs) (sym c.as_slice-slots.ensures) c.in_ok-slots.ensures in
+    let slots : List ℕ = c.in_ok-slots.slots in
+    let has : HasSlots node kept slots = c.in_ok-slots.ensures in
     let sound : AreSound store index = c.links_are_sound.ensures store well index node listed.at listed.capped in
     elim c.if-is_live.branch [
       | then-is_live+in_ok-push w ↦
           let next : IsNext store index node slots c.loop-number.number =
           next_link store index node kept widths slots c.loop-number.number listed (c.rules_decide.ensures.accepted store.shape) has (sym c.is_live.ensures ∙ w.if-is_live.true) in
           subst (λ (links : List LinkAt). LinksBelow store index (c.loop-number.number + 1) links) (sym (ap (λ (v : Vec LinkAt Global). v.items) w.links-is ∙ w.in_ok-push.ensures.items))
-          (pushed store index node slots c.loop-number.links.items c.loop-number.number (slice_index slots c.loop-number.number) (widths.before * c.per_place.result) c.has_parent-above.result w.link_for.result
-          sound next c.has_parent-above.ensures copy refl w.link_for.ensures c.loop-number.invariant)
+          (pushed store index node slots c.loop-number.links.items c.loop-number.number (slice_index slots c.loop-number.number) (widths.before * c.per_place.result) c.has_parent-above.result w.link_at.result
+          sound next c.has_parent-above.ensures copy refl w.link_at.ensures c.loop-number.invariant)
       | else-is_live w ↦
           subst (λ (links : List LinkAt). LinksBelow store index (c.loop-number.number + 1) links) (sym (ap (λ (v : Vec LinkAt Global). v.items) w.links-is))
           (below_skipped store index c.loop-number.number kept c.loop-number.links.items sound listed.has (sym c.is_live.ensures ∙ w.if-is_live.false) c.loop-number.invariant)
@@ -210,4 +217,5 @@ returns c =
     listing_of store well c.args.node c.requires.first c.requires.capped c.as_slice.result.now c.as_slice-2.result.now shapes words node kept widths c.index-as_slice-index.is c.index-as_slice-index-2.is
     (subst (λ (s : Shape). IsWidths s.nodes index widths) shape c.widths-widths.ensures) in
     let sound : AreSound store index = c.links_are_sound.ensures store well index node listed.at listed.capped in
-    below_all store index node kept c.loop-number.links.items c.places-number-end.result sound listed.has c.places-number-end.ensures.places (subst (λ n. LinksBelow store index n c.loop-number.links.items) (omega (arith, c.loop-number-test.false, c.loop-number.auto.number-end)) c.loop-number.invariant)
+    below_marked store index kept c.loop-number.links.items c.mark-number-end.result sound listed.has c.mark-number-end.ensures.parted c.mark-number-end.ensures.mark
+    (subst (λ n. LinksBelow store index n c.loop-number.links.items) (omega (arith, c.loop-number-test.false, c.loop-number.auto.number-end)) c.loop-number.invariant)

@@ -20,7 +20,7 @@ bounds-as_slice-node c =
     let nodes = c.as_slice.ensures.value ∙ ap (λ (s : StoreWords). s.nodes) c.self.view_is in
     subst (λ (words : List NodeWords). c.args.node - 1 < length words) (sym nodes) (slice_get_within store.nodes (c.args.node - 1) at.1 at.2.has)
 
-read : (c : goal.In_ok-from_slice) → c.in_ok-from_slice.field-0 ≡ masks_of c.args.self.now c.args.node
+read : (c : goal.After-from_vec) → c.from_vec.result ≡ masks_of c.args.self.now c.args.node
 read c =
     let store : StoreWords = c.args.self.now in
     let well : IsWellFormed store = subst IsWellFormed c.self.view_is c.self.invariant in
@@ -28,7 +28,7 @@ read c =
     let same : c.index-as_slice-node.result ≡ at.1 =
     read_as c.as_slice.result.now store.nodes (c.args.node - 1) c.index-as_slice-node.result at.1 (c.as_slice.ensures.value ∙ ap (λ (s : StoreWords). s.nodes) c.self.view_is)
     c.index-as_slice-node.is at.2.has in
-    c.in_ok-from_slice.ensures ∙ c.as_slice-2.ensures ∙ ap (λ (k : NodeWords). k.masks) same
+    c.from_vec.ensures ∙ c.in_ok-whole.ensures ∙ ap (λ (k : NodeWords). k.masks) same
     ∙ sym (masks_are store c.args.node (c.args.node - 1) at.0 at.1 at.2)
 
 pub returns-clause-words : goal.returns-clause-words

@@ -1,4 +1,4 @@
-use Rattle.std.proofs.Common.{◌≡◌, ℕ, suc, ◌+◌, List, length, sym, ap, ◌∙◌, subst, arith}
+use Rattle.std.proofs.Common.{◌≡◌, ℕ, suc, ◌+◌, List, length, ap, ◌∙◌, subst, arith}
 use Rattle.std.specs.Prelude.{slice_index}
 use Rattle.std.proofs.lemmas.Option.{slice_get_within}
 use Rattle.sg_layout.specs.Axes.{size_of, sizes_of}
@@ -34,18 +34,18 @@ raise_all-requires-clause-there c =
     c.size-size.ensures.value ∙ ap (λ (s : StoreWords). slice_index (sizes_of s.shape.nodes) c.args.index) c.self.view_is ∙ size_at store.shape.nodes c.args.index o.node o.is.at in
     let kept : c.index-as_slice-index.result ≡ o.kept =
     read_as c.as_slice.result.now store.nodes c.args.index c.index-as_slice-index.result o.kept (c.as_slice.ensures.value ∙ ap (λ (s : StoreWords). s.nodes) c.self.view_is) c.index-as_slice-index.is o.is.has in
-    let same : c.in_ok-lengths.lengths ≡ o.kept.lengths = c.in_ok-lengths.ensures ∙ c.as_slice-2.ensures ∙ ap (λ (k : NodeWords). k.lengths) kept in
+    let same : c.in_ok-lengths.lengths ≡ o.kept.lengths = c.in_ok-lengths.ensures ∙ ap (λ (k : NodeWords). k.lengths) kept in
     parents_there store c.args.index c.args.cap c.args.chunk c.args.wanted.now c.args.slots.now c.in_ok-lengths.lengths c.size-size.result o sized c.size-size.ensures.some same
 
-pub relength_node-requires-clause-there : goal.relength_node-requires-clause-there
-relength_node-requires-clause-there c =
+pub relength_node_row-requires-clause-there : goal.relength_node_row-requires-clause-there
+relength_node_row-requires-clause-there c =
     let store : StoreWords = c.args.self.now in
     let o = dynamic_opening store c.args.index c.args.cap c.args.chunk c.args.wanted.now c.args.slots.now (subst IsWellFormed c.self.view_is c.self.invariant)
     (c.paths_tell.ensures.is_slot store.shape) (c.rules_decide.ensures.accepted store.shape) c.requires.dynamic c.requires.numbers in
     slice_get_within store.nodes c.args.index o.kept o.is.has
 
-pub relength_node-requires-clause-can : goal.relength_node-requires-clause-can
-relength_node-requires-clause-can c =
+pub relength_node_row-requires-clause-can : goal.relength_node_row-requires-clause-can
+relength_node_row-requires-clause-can c =
     let store : StoreWords = c.args.self.now in
     let o = dynamic_opening store c.args.index c.args.cap c.args.chunk c.args.wanted.now c.args.slots.now (subst IsWellFormed c.self.view_is c.self.invariant)
     (c.paths_tell.ensures.is_slot store.shape) (c.rules_decide.ensures.accepted store.shape) c.requires.dynamic c.requires.numbers in
@@ -53,11 +53,10 @@ relength_node-requires-clause-can c =
     c.size-size.ensures.value ∙ ap (λ (s : StoreWords). slice_index (sizes_of s.shape.nodes) c.args.index) c.self.view_is ∙ size_at store.shape.nodes c.args.index o.node o.is.at in
     let kept : c.index-as_slice-index.result ≡ o.kept =
     read_as c.as_slice.result.now store.nodes c.args.index c.index-as_slice-index.result o.kept (c.as_slice.ensures.value ∙ ap (λ (s : StoreWords). s.nodes) c.self.view_is) c.index-as_slice-index.is o.is.has in
-    let same : c.in_ok-lengths.lengths ≡ o.kept.lengths = c.in_ok-lengths.ensures ∙ c.as_slice-2.ensures ∙ ap (λ (k : NodeWords). k.lengths) kept in
-    let raised : RiseByMany o.kept.lengths c.as_slice-3.result.now c.size-size.result c.args.slots.now =
-    subst (λ (l : List ℕ). RiseByMany l c.as_slice-3.result.now c.size-size.result c.args.slots.now) same
-    (subst (λ (m : List ℕ). RiseByMany c.in_ok-lengths.lengths m c.size-size.result c.args.slots.now) (sym c.as_slice-3.ensures) c.raise_all.ensures) in
-    can_settle_lengths store c.args.index c.args.cap c.args.chunk c.args.wanted.now c.args.slots.now c.as_slice-3.result.now c.size-size.result o sized raised
+    let same : c.in_ok-lengths.lengths ≡ o.kept.lengths = c.in_ok-lengths.ensures ∙ ap (λ (k : NodeWords). k.lengths) kept in
+    let raised : RiseByMany o.kept.lengths c.raise_all.new.lengths c.size-size.result c.args.slots.now =
+    subst (λ (l : List ℕ). RiseByMany l c.raise_all.new.lengths c.size-size.result c.args.slots.now) same c.raise_all.ensures in
+    can_settle_lengths store c.args.index c.args.cap c.args.chunk c.args.wanted.now c.args.slots.now c.raise_all.new.lengths c.size-size.result o sized raised
 
 pub returns-in-Ok-clause-opened : goal.returns-in-Ok-clause-opened
 returns-in-Ok-clause-opened c =
@@ -68,11 +67,10 @@ returns-in-Ok-clause-opened c =
     c.size-size.ensures.value ∙ ap (λ (s : StoreWords). slice_index (sizes_of s.shape.nodes) c.args.index) c.self.view_is ∙ size_at store.shape.nodes c.args.index o.node o.is.at in
     let kept : c.index-as_slice-index.result ≡ o.kept =
     read_as c.as_slice.result.now store.nodes c.args.index c.index-as_slice-index.result o.kept (c.as_slice.ensures.value ∙ ap (λ (s : StoreWords). s.nodes) c.self.view_is) c.index-as_slice-index.is o.is.has in
-    let same : c.in_ok-lengths.lengths ≡ o.kept.lengths = c.in_ok-lengths.ensures ∙ c.as_slice-2.ensures ∙ ap (λ (k : NodeWords). k.lengths) kept in
-    let raised : RiseByMany o.kept.lengths c.as_slice-3.result.now c.size-size.result c.args.slots.now =
-    subst (λ (l : List ℕ). RiseByMany l c.as_slice-3.result.now c.size-size.result c.args.slots.now) same
-    (subst (λ (m : List ℕ). RiseByMany c.in_ok-lengths.lengths m c.size-size.result c.args.slots.now) (sym c.as_slice-3.ensures) c.raise_all.ensures) in
-    (dynamic_opened store c.relength_node.new.self c.args.index c.args.cap c.args.chunk c.args.wanted.now c.args.slots.now c.as_slice-3.result.now c.size-size.result o sized raised c.in-Ok.ensures.fitted).0
+    let same : c.in_ok-lengths.lengths ≡ o.kept.lengths = c.in_ok-lengths.ensures ∙ ap (λ (k : NodeWords). k.lengths) kept in
+    let raised : RiseByMany o.kept.lengths c.raise_all.new.lengths c.size-size.result c.args.slots.now =
+    subst (λ (l : List ℕ). RiseByMany l c.raise_all.new.lengths c.size-size.result c.args.slots.now) same c.raise_all.ensures in
+    (dynamic_opened store c.relength_node_row.new.self c.args.index c.args.cap c.args.chunk c.args.wanted.now c.args.slots.now c.raise_all.new.lengths c.size-size.result o sized raised c.in-Ok.ensures.fitted).0
 
 pub returns-in-Ok-clause-keeps : goal.returns-in-Ok-clause-keeps
 returns-in-Ok-clause-keeps c =
@@ -83,11 +81,10 @@ returns-in-Ok-clause-keeps c =
     c.size-size.ensures.value ∙ ap (λ (s : StoreWords). slice_index (sizes_of s.shape.nodes) c.args.index) c.self.view_is ∙ size_at store.shape.nodes c.args.index o.node o.is.at in
     let kept : c.index-as_slice-index.result ≡ o.kept =
     read_as c.as_slice.result.now store.nodes c.args.index c.index-as_slice-index.result o.kept (c.as_slice.ensures.value ∙ ap (λ (s : StoreWords). s.nodes) c.self.view_is) c.index-as_slice-index.is o.is.has in
-    let same : c.in_ok-lengths.lengths ≡ o.kept.lengths = c.in_ok-lengths.ensures ∙ c.as_slice-2.ensures ∙ ap (λ (k : NodeWords). k.lengths) kept in
-    let raised : RiseByMany o.kept.lengths c.as_slice-3.result.now c.size-size.result c.args.slots.now =
-    subst (λ (l : List ℕ). RiseByMany l c.as_slice-3.result.now c.size-size.result c.args.slots.now) same
-    (subst (λ (m : List ℕ). RiseByMany c.in_ok-lengths.lengths m c.size-size.result c.args.slots.now) (sym c.as_slice-3.ensures) c.raise_all.ensures) in
-    (dynamic_opened store c.relength_node.new.self c.args.index c.args.cap c.args.chunk c.args.wanted.now c.args.slots.now c.as_slice-3.result.now c.size-size.result o sized raised c.in-Ok.ensures.fitted).1
+    let same : c.in_ok-lengths.lengths ≡ o.kept.lengths = c.in_ok-lengths.ensures ∙ ap (λ (k : NodeWords). k.lengths) kept in
+    let raised : RiseByMany o.kept.lengths c.raise_all.new.lengths c.size-size.result c.args.slots.now =
+    subst (λ (l : List ℕ). RiseByMany l c.raise_all.new.lengths c.size-size.result c.args.slots.now) same c.raise_all.ensures in
+    (dynamic_opened store c.relength_node_row.new.self c.args.index c.args.cap c.args.chunk c.args.wanted.now c.args.slots.now c.raise_all.new.lengths c.size-size.result o sized raised c.in-Ok.ensures.fitted).1
 
 pub returns-clause-full : goal.returns-clause-full
 returns-clause-full c =
@@ -98,12 +95,11 @@ returns-clause-full c =
     c.size-size.ensures.value ∙ ap (λ (s : StoreWords). slice_index (sizes_of s.shape.nodes) c.args.index) c.self.view_is ∙ size_at store.shape.nodes c.args.index o.node o.is.at in
     let kept : c.index-as_slice-index.result ≡ o.kept =
     read_as c.as_slice.result.now store.nodes c.args.index c.index-as_slice-index.result o.kept (c.as_slice.ensures.value ∙ ap (λ (s : StoreWords). s.nodes) c.self.view_is) c.index-as_slice-index.is o.is.has in
-    let same : c.in_ok-lengths.lengths ≡ o.kept.lengths = c.in_ok-lengths.ensures ∙ c.as_slice-2.ensures ∙ ap (λ (k : NodeWords). k.lengths) kept in
-    let raised : RiseByMany o.kept.lengths c.as_slice-3.result.now c.size-size.result c.args.slots.now =
-    subst (λ (l : List ℕ). RiseByMany l c.as_slice-3.result.now c.size-size.result c.args.slots.now) same
-    (subst (λ (m : List ℕ). RiseByMany c.in_ok-lengths.lengths m c.size-size.result c.args.slots.now) (sym c.as_slice-3.ensures) c.raise_all.ensures) in
+    let same : c.in_ok-lengths.lengths ≡ o.kept.lengths = c.in_ok-lengths.ensures ∙ ap (λ (k : NodeWords). k.lengths) kept in
+    let raised : RiseByMany o.kept.lengths c.raise_all.new.lengths c.size-size.result c.args.slots.now =
+    subst (λ (l : List ℕ). RiseByMany l c.raise_all.new.lengths c.size-size.result c.args.slots.now) same c.raise_all.ensures in
     let next : c.args.index + 1 ≡ suc c.args.index = omega arith in
-    dynamic_full store c.args.index c.args.cap c.args.chunk c.args.wanted.now c.args.slots.now c.as_slice-3.result.now c.size-size.result c.in-Err._full o sized raised
+    dynamic_full store c.args.index c.args.cap c.args.chunk c.args.wanted.now c.args.slots.now c.raise_all.new.lengths c.size-size.result c.in-Err._full o sized raised
     (record {
       parents = c.need_counts_live.ensures.parents store.shape;
       up_to = c.need_counts_live.ensures.greatest store.shape;

@@ -42,7 +42,7 @@ settle_key_plan-requires-clause-within c =
     (c.paths_tell.ensures.is_slot c.args.self.now.shape) (c.need_counts_live.ensures.live c.args.self.now.shape) c.requires.hash c.requires.numbers in
     let plan : IsKeyPlan o.level.kept c.args.cap c.args.slots.now (slots_at c.args.self.now.shape.nodes 1 c.args.index) c.in_ok-plan.plan =
     c.in_ok-plan.ensures o.level.kept o.level.is.has in
-    omega (arith, plan.linked.roomy, c.if-plan.false)
+    plan.linked.filled.enough
 
 pub settle_key_plan-requires-clause-can : goal.settle_key_plan-requires-clause-can
 settle_key_plan-requires-clause-can c =

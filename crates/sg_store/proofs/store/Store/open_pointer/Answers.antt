@@ -122,3 +122,6 @@ returns-clause-keeps c =
     subst (λ (ls : List ℕ). IsPlan (with_links o.kept ls) c.args.cap c.args.slots.now c.in_ok-plan.plan) (sym whole.1)
     (subst (λ (k : NodeWords). IsPlan k c.args.cap c.args.slots.now c.in_ok-plan.plan) same c.in_ok-plan.ensures) in
     (pointer_opened c.args.self.now c.settle_plan.new.self c.args.index c.args.cap c.args.wanted.now c.args.slots.now c.in_ok-plan.plan o whole.1 whole.2 plan c.if-plan.false c.settle_plan.ensures).1
+
+pub settle_plan-requires-clause-within : goal.settle_plan-requires-clause-within
+settle_plan-requires-clause-within c = c.in_ok-plan.ensures.filled.enough
