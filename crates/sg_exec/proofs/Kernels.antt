@@ -28,6 +28,7 @@ use Rattle.sg_exec.specs.steps.Machines.{seen_in}
 use Rattle.sg_exec.specs.steps.Moments.{slice_turn, AreNamedAt}
 use Rattle.sg_exec.specs.steps.Landing.{AreTurnsOf, Lands}
 use Rattle.sg_exec.specs.steps.Wants.{acts, AreWants, reached_layouts}
+use Rattle.sg_exec.proofs.Covered.{turn_writes}
 use Rattle.sg_exec.proofs.Ending.{ended, meaning_outside, meaning_full}
 use Rattle.sg_exec.proofs.Sliced.{wants_of, wants_of_turns, first_same, wants_same, of_writes}
 use Rattle.sg_exec.proofs.Located.{wanted_are, located_made, left_at_loop}
@@ -123,10 +124,6 @@ module _ (laws : KernelLaws) (stores : List StoreWords) (state : FlatState) (ker
       (ended stores mids news state (map code points) laws.test laws.extends (sym same_first ∙ found.0) both.0 same both.1 lands)
 
 -- ---- loads
-
-turn_writes : (rows : List Write) → writes_of (map turn_of rows) ≡ rows
-turn_writes [] = refl
-turn_writes (row ∷ rows) = ap (λ (ws : List Write). row ∷ ws) (turn_writes rows)
 
 pub load_outside : (stores : List StoreWords) (state : FlatState) (rows : List Write) (fault : RunFault) → first_outside (shapes_of stores) (map turn_of rows) ≡ Some fault → load_meaning (shapes_of stores) state rows ≡ Err fault
 load_outside stores state rows fault outside = meaning_outside (shapes_of stores) state (map turn_of rows) fault outside

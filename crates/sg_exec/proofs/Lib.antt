@@ -3,6 +3,7 @@ pub mod Keeping
 pub mod KeptLand
 pub mod Rows
 pub mod LowBits
+pub mod ByWord
 pub mod Masks
 pub mod EachLane
 pub mod Seeing
@@ -15,7 +16,9 @@ pub mod ValuesRead
 pub mod EarlierAccesses
 pub mod PlacesHeld
 pub mod HeldWords
+pub mod DenseSteps
 pub mod Reading
+pub mod FieldValues
 pub mod LatestWrites
 pub mod BoxPoints
 pub mod Ranges
@@ -39,6 +42,7 @@ pub mod Activating
 pub mod Located
 pub mod Sliced
 pub mod Walked
+pub mod Covered
 pub mod Kernels
 pub mod Settling
 pub mod Uncapped
@@ -74,3 +78,8 @@ pub mod MadeRuns
 pub mod RacedRun
 pub mod RacedHand
 pub mod WorkedTurns
+pub mod Sides
+pub mod BlockRows
+pub mod HeadRows
+pub mod RowsLand
+pub mod RunsLoaded

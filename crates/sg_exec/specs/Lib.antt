@@ -1,4 +1,5 @@
 pub mod Standing
 pub mod Running
+pub mod Runs
 pub mod Examples
 pub mod steps

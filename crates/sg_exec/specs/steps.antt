@@ -2,6 +2,7 @@
 pub mod Stepping
 pub mod Machines
 pub mod Holding
+pub mod FieldReads
 pub mod Rows
 pub mod Moments
 pub mod Accessing
@@ -17,4 +18,6 @@ pub mod Racing
 pub mod Pending
 pub mod Passes
 pub mod Working
+pub mod Blocks
+pub mod Asked
 pub mod Made

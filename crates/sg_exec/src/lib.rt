@@ -3,8 +3,10 @@
 
 mod activation;
 mod lanes;
+mod loads;
 mod results;
 pub mod run;
 mod workers;
 
-pub use run::{load_rows, run_kernel};
+pub use loads::row_run::RowRun;
+pub use run::{load_rows, load_runs, run_kernel};

@@ -1,15 +1,19 @@
-ghost use Rattle.std.specs.Prelude.{◌≡◌, ◌<◌, ◌≤◌, [], length, IfOk, OnErr, vec_capacity};
+ghost use Rattle.std.specs.Prelude.{◌≡◌, ◌<◌, ◌≤◌, [], All, length, IfOk, OnErr, vec_capacity};
 ghost use Rattle.std.specs.List.{AllZip};
 ghost use Rattle.sg_flat.specs.declared.state.FlatState.{FlatState};
 ghost use Rattle.sg_store.specs.StandsFor.{StandsFor};
 ghost use Rattle.sg_store.specs.Links.{GrowsLinks};
 ghost use Rattle.sg_exec.specs.Standing.{shapes_of, StandForState};
 ghost use Rattle.sg_exec.specs.Running.{IsRunnable, Ran, run_meaning, load_meaning};
+ghost use Rattle.sg_exec.specs.Runs.{IsShortRun, writes_of_runs};
 ghost use Rattle.sg_exec.specs.steps.Landing.{current, with_copied_store, CopiesRan};
 ghost use Rattle.sg_exec.specs.steps.Made.{CanLand, MadeRan};
 
 use crate::activation::activate::{activated_for_rows, activated_for_slice};
 use crate::lanes::values::ONE_POINT;
+use crate::loads::copies::run_copies;
+use crate::loads::expanding::writes_of_runs;
+use crate::loads::row_run::RowRun;
 use crate::results::commit::land;
 use crate::results::landing::land_all;
 use crate::results::made::Made;
@@ -70,6 +74,54 @@ pub fn load_rows<R: Threads + Sync>(
     let copies = loaded_copies(rt, alloc, stores, rows)?;
     settle(stores, copies);
     Ok(())
+}
+
+/// Loads runs of rows into a field, from 0, of a layout, from 0: what `load_rows` makes of all their rows. Rows that stand side by side in a
+/// container are asked for and found together, where that tells all. Refused as `load_rows` is; after a refusal, or where memory runs
+/// out, the stores are as before. No part of a run's coordinate is below 0, and those of its last row are numbers of I32.
+pub fn load_runs<R: Threads + Sync>(
+    rt: &R,
+    alloc: Global,
+    stores: &mut Stores,
+    layouts: &Layouts,
+    layout: u32,
+    place: u32,
+    runs: &[RowRun],
+) -> Result<(), Stop<RunFault>>
+    requires short { All IsShortRun runs.now }
+    ensures answer { (state : FlatState) → StandForState layouts.now.list stores.old.list state →
+        Ran layouts.now.list stores.new.list result (load_meaning layouts.now.list state (writes_of_runs layout place runs.now)) }
+    ensures links { AllZip GrowsLinks stores.old.list stores.new.list }
+    ensures stays { OnErr result (stores.new ≡ stores.old) }
+{
+    match run_copies(rt, alloc, stores, layout, place, runs) {
+        Ok(Some(copies)) => {
+            settle(stores, copies);
+            Ok(())
+        }
+        Ok(None) => load_each(rt, alloc, stores, layouts, layout, place, runs),
+        Err(Memory) => Err(Stop::Memory),
+    }
+}
+
+/// The same, row by row.
+fn load_each<R: Threads + Sync>(
+    rt: &R,
+    alloc: Global,
+    stores: &mut Stores,
+    layouts: &Layouts,
+    layout: u32,
+    place: u32,
+    runs: &[RowRun],
+) -> Result<(), Stop<RunFault>>
+    requires short { All IsShortRun runs.now }
+    ensures answer { (state : FlatState) → StandForState layouts.now.list stores.old.list state →
+        Ran layouts.now.list stores.new.list result (load_meaning layouts.now.list state (writes_of_runs layout place runs.now)) }
+    ensures links { AllZip GrowsLinks stores.old.list stores.new.list }
+    ensures stays { OnErr result (stores.new ≡ stores.old) }
+{
+    let rows = writes_of_runs(alloc, layout, place, runs)?;
+    load_rows(rt, alloc, stores, layouts, rows.as_slice())
 }
 
 /// What a kernel makes of the stores, and room to land it.

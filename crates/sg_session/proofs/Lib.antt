@@ -26,3 +26,5 @@ mod PlainElses
 mod SamePrograms
 mod SameRuns
 mod WorkedCode
+mod Loads
+pub mod LongLoads

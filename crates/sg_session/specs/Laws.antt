@@ -1,5 +1,5 @@
--- The laws of compiling: numbering leaves no command out, and code keeps what tasks mean.
-use Rattle.std.specs.Prelude.{◌≡◌, IsTrue, List, filter_map, Option, Some, None, Ok}
+-- Laws of compiling, and of loads: numbering leaves no command out, code keeps what tasks mean, and no load writes outside.
+use Rattle.std.specs.Prelude.{◌≡◌, ◌≢◌, ℕ, IsTrue, List, filter_map, Option, Some, None, Ok, Err, slice_get}
 use Rattle.std.specs.List.{AllZip}
 use Rattle.sg_ast.specs.declared.command.Command.{Command, out-Command}
 use Rattle.sg_ast.specs.declared.command.Command.TheOpen as c
@@ -8,16 +8,21 @@ use Rattle.sg_ast.specs.declared.program.Item.{Item}
 use Rattle.sg_ast.specs.declared.program.Item.TheVariants as item
 use Rattle.sg_ast.specs.declared.program.Program.{Program}
 use Rattle.sg_ast.specs.Grammar.{is_program}
+use Rattle.sg_coord.specs.declared.coord.Coord.{Coord}
+use Rattle.sg_layout.specs.declared.shape.Shape.{Shape}
 use Rattle.sg_flat.specs.declared.state.FlatState.{FlatState}
+use Rattle.sg_flat.specs.declared.effects.RunFault.TheVariants.{WriteOutside}
 use Rattle.sg_flat.specs.State.{IsFlat}
 use Rattle.sg_outside.specs.Files.{Reading}
+use Rattle.sg_names.specs.declared.tables.FieldAt.{FieldAt}
 use Rattle.sg_names.specs.Tables.{Tables, layout_named, field_named, kernel_named}
+use Rattle.sg_session.specs.declared.refusal.RunRefusal.TheVariants as refusal
 use Rattle.sg_session.specs.declared.tasks.Task.{Task}
 use Rattle.sg_session.specs.declared.tasks.Task.TheVariants.{Load, Run, Dump, Image, Stats, Prune, Clear}
 use Rattle.sg_session.specs.declared.tasks.Stage.{Stage}
 use Rattle.sg_session.specs.declared.tasks.Stage.TheVariants.{Once, Times}
 use Rattle.sg_session.specs.Compiled.{CheckedProgram, CompiledProgram, Compiles}
-use Rattle.sg_session.specs.Commands.{task_meaning, compiled_meaning}
+use Rattle.sg_session.specs.Commands.{after_load, task_meaning, compiled_meaning}
 use Rattle.sg_session.specs.Compiling.{compiled_tree}
 
 -- the command that an item is
@@ -57,3 +62,8 @@ CommandsAreKept = (program : Program) (compiled : CheckedProgram) → IsTrue (is
 abbrev pub CompilingKeepsTasks : Type 0
 CompilingKeepsTasks = (program : CheckedProgram) (compiled : CompiledProgram) → Compiles program compiled → (state : FlatState) → IsFlat compiled.layouts state →
     (task : Task) (reading : Reading) → compiled_meaning compiled state task reading ≡ task_meaning program state task reading
+
+-- No load writes outside, whatever the read of its file gave: a row of the file that isn't inside is a fault of the text.
+abbrev pub LoadsStayInside : Type 0
+LoadsStayInside = (layouts : List Shape) (at : FieldAt) (shape : Shape) → slice_get layouts at.layout ≡ Some shape →
+    (state : FlatState) (reading : Reading) (stmt : ℕ) (c : Coord) → after_load layouts state at reading ≢ Err (refusal.Run None (WriteOutside stmt c))

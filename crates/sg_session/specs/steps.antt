@@ -4,3 +4,4 @@ pub mod Parts
 pub mod Reads
 pub mod Following
 pub mod Taking
+pub mod LongRuns

@@ -1,10 +1,12 @@
 //! Loads of grid texts into stores.
 
-ghost use Rattle.std.specs.Prelude.{◌≡◌, ◌≤◌, ◌++◌, false, map, Some, IsSome, OnErr, OnOk, IfOk};
+ghost use Rattle.std.specs.Prelude.{◌≡◌, ◌≤◌, ◌++◌, false, map, Some, slice_get, IsSome, OnErr, OnOk, IfOk};
 ghost use Rattle.std.specs.Option.{option_copied};
 ghost use Rattle.sg_flat.specs.declared.state.FlatState.{FlatState};
 ghost use Rattle.std.specs.List.{All, AllZip};
 ghost use Rattle.sg_store.specs.Links.{GrowsLinks};
+ghost use Rattle.sg_exec.specs.Running.{Ran, load_meaning};
+ghost use Rattle.sg_exec.specs.Runs.{IsShortRun, writes_of_runs};
 ghost use Rattle.sg_exec.specs.Standing.{StandForState};
 ghost use Rattle.sg_coord.specs.Bounds.{bounds_of};
 ghost use Rattle.sg_grid.specs.Reading.{IsRunInside};
@@ -12,19 +14,21 @@ ghost use Rattle.sg_grid.specs.Runs.{run_rows, rows_of_runs};
 ghost use Rattle.sg_outside.specs.Files.{Held, Reading, Bytes};
 ghost use Rattle.sg_session.specs.Compiled.{IsField};
 ghost use Rattle.sg_session.specs.Bindings.{binding_read, file_of_field};
-ghost use Rattle.sg_session.specs.Commands.{field_writes, grid_refusal, row_write, load_made};
+ghost use Rattle.sg_session.specs.Commands.{bounds_or_none, field_writes, grid_refusal, row_write, load_made};
 ghost use Rattle.sg_session.specs.Performed.{Performs, reading_of, StepCause, reads_after, asked_after};
-ghost use Rattle.sg_words.specs.Answers.{Answers};
+ghost use Rattle.sg_words.specs.Answers.{AnswersAs};
 ghost use Rattle.sg_session.specs.steps.Reads.{is_read_refusal};
+ghost use Rattle.sg_session.specs.steps.LongRuns.{row_run};
 
 use crate::binds::{Binds, file_bound};
 use crate::compiled::Compiled;
 use crate::perform::no_text;
 use crate::refusal::RunRefusal;
 use sg_coord::Extents;
-use sg_exec::load_rows;
-use sg_flat::{Way, Write};
-use sg_grid::{GridFault, GridRun, read_grid, row_of_run};
+use sg_exec::{RowRun, load_rows, load_runs};
+use sg_flat::{RunFault, Way, Write};
+use sg_grid::runs::is_run_inside;
+use sg_grid::{Grid, GridFault, GridRun, read_grid, row_of_run};
 use sg_names::FieldAt;
 use sg_outside::{Files, Got};
 use sg_store::Stores;
@@ -99,8 +103,8 @@ fn load_bytes<R: Threads + Sync>(
     ensures links { AllZip GrowsLinks stores.old.list stores.new.list }
     ensures stays { OnErr result (stores.new ≡ stores.old) }
 {
-    match rows_of(alloc, compiled, at, bytes) {
-        Ok(rows) => match load_rows(rt, alloc, stores, &compiled.layouts, rows.as_slice()) {
+    match runs_of(alloc, compiled, at, bytes) {
+        Ok(grid) => match load_grid(rt, alloc, compiled, stores, at, grid.runs.as_slice()) {
             Ok(()) => Ok(no_text(alloc)),
             Err(Stop::Refused(fault)) => Err(Stop::Refused(RunRefusal::Run {
                 kernel: None,
@@ -113,22 +117,98 @@ fn load_bytes<R: Threads + Sync>(
     }
 }
 
-/// The writes of the rows of a grid text, each of its value into the field.
-fn rows_of(
+/// The runs of a grid text over the layout of a field.
+fn runs_of(
     alloc: Global,
     compiled: &Compiled,
     at: FieldAt,
     bytes: &[u8],
-) -> Result<Items<Write>, Stop<GridFault>>
+) -> Result<Grid, Stop<GridFault>>
     requires { IsField compiled.now at }
-    ensures { Answers result (field_writes compiled.now.layouts at bytes.now) }
+    ensures rows { AnswersAs (λ grid. map (row_write at.layout at.place) (rows_of_runs grid.runs)) result (field_writes compiled.now.layouts at bytes.now) }
+    ensures inside { IfOk result (λ grid. All (IsRunInside (bounds_or_none (slice_get compiled.now.layouts at.layout))) grid.runs) }
+{
+    let extents = extents_of(compiled, at);
+    read_grid(alloc, bytes, &extents, at.ty)
+}
+
+/// The extents of the layout of a field.
+fn extents_of(compiled: &Compiled, at: FieldAt) -> Extents
+    requires { IsField compiled.now at }
+    ensures { bounds_of result ≡ bounds_or_none (slice_get compiled.now.layouts at.layout) }
 {
     let layout = &compiled.layouts.list.as_slice()[at.layout as usize];
-    let extents = layout.extents();
-    match read_grid(alloc, bytes, &extents, at.ty) {
-        Ok(grid) => Ok(writes_of(alloc, at, &extents, grid.runs.as_slice())?),
-        Err(why) => Err(why),
+    layout.extents()
+}
+
+/// Loads the rows of runs into a field: where some run is longer than a row, run by run, else row by row.
+#[tactic(auto, using(crate::proofs::LinksKept::links_itself))]
+fn load_grid<R: Threads + Sync>(
+    rt: &R,
+    alloc: Global,
+    compiled: &Compiled,
+    stores: &mut Stores,
+    at: FieldAt,
+    runs: &[GridRun],
+) -> Result<(), Stop<RunFault>>
+    requires field { IsField compiled.now at }
+    requires inside { All (IsRunInside (bounds_or_none (slice_get compiled.now.layouts at.layout))) runs.now }
+    ensures answer { (state : FlatState) → StandForState compiled.now.layouts stores.old.list state →
+        Ran compiled.now.layouts stores.new.list result (load_meaning compiled.now.layouts state (map (row_write at.layout at.place) (rows_of_runs runs.now))) }
+    ensures links { AllZip GrowsLinks stores.old.list stores.new.list }
+    ensures stays { OnErr result (stores.new ≡ stores.old) }
+{
+    let extents = extents_of(compiled, at);
+    if runs.iter().any(|run| run.len > 1) {
+        let long = row_runs(alloc, &extents, runs)?;
+        return load_long(rt, alloc, compiled, stores, at, long.as_slice());
     }
+    let writes = writes_of(alloc, at, &extents, runs)?;
+    load_rows(rt, alloc, stores, &compiled.layouts, writes.as_slice())
+}
+
+/// Loads runs of rows into a field.
+fn load_long<R: Threads + Sync>(
+    rt: &R,
+    alloc: Global,
+    compiled: &Compiled,
+    stores: &mut Stores,
+    at: FieldAt,
+    runs: &[RowRun],
+) -> Result<(), Stop<RunFault>>
+    requires short { All IsShortRun runs.now }
+    ensures answer { (state : FlatState) → StandForState compiled.now.layouts stores.old.list state →
+        Ran compiled.now.layouts stores.new.list result (load_meaning compiled.now.layouts state (writes_of_runs at.layout at.place runs.now)) }
+    ensures links { AllZip GrowsLinks stores.old.list stores.new.list }
+    ensures stays { OnErr result (stores.new ≡ stores.old) }
+{
+    let layouts = &compiled.layouts;
+    load_runs(rt, alloc, stores, layouts, at.layout, at.place, runs)
+}
+
+/// Runs of a grid as runs of rows.
+fn row_runs(alloc: Global, extents: &Extents, runs: &[GridRun]) -> Result<Items<RowRun>, Memory>
+    requires { All (IsRunInside (bounds_of extents.now)) runs.now }
+    ensures runs { IfOk result (λ long. long ≡ map row_run runs.now) }
+    ensures short { IfOk result (All IsShortRun) }
+{
+    let mut long = Items::new(alloc);
+    for run in runs {
+        long.push(row_run(extents, *run))?;
+    }
+    Ok(long)
+}
+
+/// A run of a grid as a run of rows.
+fn row_run(extents: &Extents, run: GridRun) -> RowRun
+    requires { IsRunInside (bounds_of extents.now) run }
+    ensures run { result ≡ row_run run }
+    ensures short { IsShortRun result }
+{
+    // for the bound that it ensures
+    is_run_inside(extents, run);
+    let GridRun { at, len, word } = run;
+    RowRun { at, len, word }
 }
 
 /// The write of each row of runs into a field.

@@ -1,9 +1,10 @@
-//! What compiling keeps, as the contract of a function that does nothing.
+//! What compiling keeps, and what loads can't do, each as the contract of a function that does nothing.
 
 ghost use Rattle.sg_session.specs.Independence.{LayoutsDontMatter};
-ghost use Rattle.sg_session.specs.Laws.{CommandsAreKept, CompilingKeepsTasks};
+ghost use Rattle.sg_session.specs.Laws.{CommandsAreKept, CompilingKeepsTasks, LoadsStayInside};
 
 use sg_coord::{Extents, numbering};
+use sg_grid::laws::runs_are_rows;
 use sg_layout::laws::{closure_closes, points_in_order};
 use sg_parser::laws::parsed_is_spelled;
 use sg_types::laws::{declared_layouts_fit, typed_is_well_typed, variables_are_numbered};
@@ -26,6 +27,14 @@ pub fn commands_are_kept()
 pub fn compiling_keeps_tasks()
     ensures { CompilingKeepsTasks }
 {}
+
+/// No load writes outside.
+pub fn loads_stay_inside()
+    ensures { LoadsStayInside }
+{
+    // for the law that it ensures
+    runs_are_rows();
+}
 
 /// The programs of two files that differ in the nodes of their layouts alone, and run neutral kernels alone, leave the same values after
 /// each command and at the end, and draw the same images.

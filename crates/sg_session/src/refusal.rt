@@ -44,7 +44,7 @@ pub enum RunRefusal {
     GridBytes {
         field: u32,
     },
-    /// The first line of the file announces more than 2^20 rows.
+    /// The first line of the file announces more than 2^20 lines, or its lines have more than 2^20 rows.
     GridRows {
         field: u32,
     },

@@ -38,10 +38,6 @@ coords_in layout writes = map (λ write. write.at) (filter (λ write. write.layo
 abbrev pub SameMembers : List Coord → List Coord → Type 0
 SameMembers left right = (at : Coord) → Contains left at ↔ Contains right at
 
--- lists have the same members, one by one
-abbrev pub HaveSameMembers : List (List Coord) → List (List Coord) → Type 0
-HaveSameMembers old now = AllZip SameMembers old now
-
 -- a list has the members of another and one more, which may be among them already
 abbrev pub HasOneMore : List Coord → List Coord → Coord → Type 0
 HasOneMore old now at = SameMembers now (old ++ at ∷ [])

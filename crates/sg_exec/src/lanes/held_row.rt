@@ -24,7 +24,7 @@ pub struct HeldRow {
 }
 
 /// The same in one column.
-#[derive(Clone, Copy)]
+#[derive(Clone, Copy, PartialEq, Eq)]
 pub struct HeldWords {
     pub kind: u32,
     pub part: u32,
@@ -160,17 +160,18 @@ pub(crate) fn held_in_some(row: &HeldRow, columns: &Columns) -> HeldRow
     ensures others { (k : ℕ) → k < 32 → (On columns.now.on k → ⊥) → held_at result k ≡ None }
 {
     HeldRow {
-        kinds: kinds_in_some(row.kinds, columns.on),
+        kinds: words_where(row.kinds, columns.on),
         parts: row.parts,
         slots: row.slots,
     }
 }
 
+/// Words where others aren't 0, and 0 elsewhere.
 #[inline(always)]
-fn kinds_in_some(kinds: u32x32, on: u32x32) -> u32x32
-    ensures { (k : ℕ) → k < 32 → get_or result k 0 ≡ (if get_or on k 0 == 0 then 0 else get_or kinds k 0) }
+pub(crate) fn words_where(words: u32x32, on: u32x32) -> u32x32
+    ensures { (k : ℕ) → k < 32 → get_or result k 0 ≡ (if get_or on k 0 == 0 then 0 else get_or words k 0) }
 {
-    on.simd_eq(u32x32::splat(0)).select(u32x32::splat(0), kinds)
+    on.simd_eq(u32x32::splat(0)).select(u32x32::splat(0), words)
 }
 
 /// The one word that all of a row are which aren't 0, if there is one.

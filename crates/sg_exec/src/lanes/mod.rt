@@ -2,10 +2,12 @@
 
 pub(crate) mod arithmetic;
 pub(crate) mod batch;
+pub(crate) mod by_word;
 pub(crate) mod cell_write;
 pub(crate) mod cells;
 pub(crate) mod columns;
 pub(crate) mod control;
+pub(crate) mod dense_step;
 pub(crate) mod effects;
 pub(crate) mod held;
 pub(crate) mod held_row;
@@ -19,6 +21,7 @@ pub(crate) mod own;
 pub(crate) mod own_cell;
 pub(crate) mod places;
 pub(crate) mod row;
+pub(crate) mod row_values;
 pub(crate) mod spots;
 pub(crate) mod values;
 pub(crate) mod view;

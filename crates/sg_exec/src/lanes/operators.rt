@@ -6,6 +6,7 @@ ghost use Rattle.sg_words.specs.Words.{applied, applied_un, mulq_of, rank_of, fl
 ghost use Rattle.sg_words.specs.declared.operators.BinOp.TheVariants as bin;
 ghost use Rattle.sg_words.specs.declared.operators.UnOp.TheVariants as un;
 
+use crate::lanes::by_word::{div, shl, shr};
 use sg_coord::Digits;
 use sg_words::{BinOp, Ty, UnOp, apply, mulq, number};
 use std::simd::prelude::*;
@@ -27,7 +28,7 @@ fn zipped(op: BinOp, ty: Ty, a: u32x32, b: u32x32) -> u32x32
         BinOp::Add => add(ty, a, b),
         BinOp::Sub => sub(ty, a, b),
         BinOp::Mul => mul(ty, a, b),
-        BinOp::Div => lane_by_lane(BinOp::Div, ty, a, b),
+        BinOp::Div => div(ty, a, b),
         BinOp::Rem => lane_by_lane(BinOp::Rem, ty, a, b),
         BinOp::And => and(ty, a, b),
         BinOp::Or => or(ty, a, b),
@@ -35,7 +36,7 @@ fn zipped(op: BinOp, ty: Ty, a: u32x32, b: u32x32) -> u32x32
         BinOp::LAnd => land(ty, a, b),
         BinOp::LOr => lor(ty, a, b),
         BinOp::Shl => shl(ty, a, b),
-        BinOp::Shr => lane_by_lane(BinOp::Shr, ty, a, b),
+        BinOp::Shr => shr(ty, a, b),
         BinOp::Min => min(ty, a, b),
         BinOp::Max => max(ty, a, b),
         BinOp::Eq => eq(ty, a, b),
@@ -128,7 +129,7 @@ fn low_word(product: i64, s: u32) -> u32
 
 /// The first lane.
 #[inline(always)]
-fn first_lane(a: u32x32) -> u32 {
+pub(crate) fn first_lane(a: u32x32) -> u32 {
     a.to_array()[0]
 }
 
@@ -164,7 +165,7 @@ pub(crate) fn joined_by(high: u32x32, size: u32, low: u32x32) -> u32x32
 
 /// An operator on two rows, one lane after the other.
 #[inline(always)]
-fn lane_by_lane(op: BinOp, ty: Ty, a: u32x32, b: u32x32) -> u32x32
+pub(crate) fn lane_by_lane(op: BinOp, ty: Ty, a: u32x32, b: u32x32) -> u32x32
     ensures { result ≡ zip2 (applied op ty) a b }
 {
     let a = a.to_array();
@@ -361,12 +362,4 @@ fn lnot(a: u32x32) -> u32x32
 {
     a.simd_eq(u32x32::splat(0))
         .select(u32x32::splat(1), u32x32::splat(0))
-}
-
-#[inline(always)]
-fn shl(ty: Ty, a: u32x32, b: u32x32) -> u32x32
-    ensures { result ≡ zip2 (applied bin.Shl ty) a b }
-{
-    let _ty = ty;
-    a << (b & u32x32::splat(31))
 }

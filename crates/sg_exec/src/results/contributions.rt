@@ -50,6 +50,9 @@ pub(crate) fn give_all(
     ensures seats { AreSeats accumulated.now seats.new.items }
     ensures taken { HaveTaken accumulated.now writes.now pending.old.items seats.old.items pending.new.items seats.new.items }
 {
+    if accumulated.len() == 0 {
+        return;
+    }
     let mut last = 0;
     for write in writes {
         last = give_one(stores, reached, accumulated, write, last, pending, seats);

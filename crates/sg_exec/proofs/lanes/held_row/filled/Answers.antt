@@ -1,4 +1,4 @@
-use Rattle.std.proofs.Common.{ℕ, List, Bool, cond, eqb, get_or, ap, ◌∙◌, arith, w32}
+use Rattle.std.proofs.Common.{ℕ, List, Bool, cond, eqb, get_or, ap, ◌∙◌, w32}
 use Rattle.std.specs.Prelude.{replicate, ◌==◌}
 use Rattle.std.proofs.lemmas.Simd.{tops_compared, length-replicate, get_or-replicate}
 use lib.Lanes.{sel_l}

@@ -1,9 +1,13 @@
 use Rattle.std.proofs.Common.{List, subst, arith}
 use Rattle.std.proofs.lemmas.List.{take_all}
+use Rattle.std.proofs.lemmas.Option.{slice_get_within}
 use Rattle.sg_exec.specs.declared.lanes.cell_write.CellWrite.{CellWrite}
 use Rattle.sg_exec.specs.steps.Pending.{HaveTaken}
 use Rattle.sg_exec.proofs.Taking.{took_nothing, took_next}
 use Rattle.sg_exec.proofs.results.contributions.give_all.Goals as goal
+
+pub returns-then-accumulated-eq0-clause-taken : goal.returns-then-accumulated-eq0-clause-taken
+returns-then-accumulated-eq0-clause-taken c = λ k it before old after now is is_before is_old is_after is_now. absurd (omega (arith, slice_get_within c.args.accumulated.now k it is, c.if-accumulated-eq0.true))
 
 pub loop-write-init : goal.loop-write-init
 loop-write-init c = record { pending = c.requires.pending; seats = c.requires.seats; taken = took_nothing c.args.accumulated.now c.args.pending.now.items c.args.seats.now.items }

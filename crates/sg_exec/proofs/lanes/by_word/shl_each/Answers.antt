@@ -1,5 +1,5 @@
 use Rattle.sg_exec.proofs.EachLane.{masked_below, shifted}
-use Rattle.sg_exec.proofs.lanes.operators.shl.Goals as goal
+use Rattle.sg_exec.proofs.lanes.by_word.shl_each.Goals as goal
 
 pub overflow_shl-result : goal.overflow_shl-result
 overflow_shl-result c = masked_below c.args.a c.args.b 32 c.fits-b.0

@@ -1,0 +1,7 @@
+use Rattle.std.proofs.Common.{take}
+use Rattle.sg_exec.specs.Runs.{writes_of_runs}
+use Rattle.sg_exec.specs.steps.Blocks.{RowsLanded}
+use Rattle.sg_exec.proofs.loads.landing_runs.land_runs.Given as goal
+
+abbrev pub invariant-loop-run : goal.invariant-loop-run
+invariant-loop-run l = RowsLanded l.fn.store l.store l.layout (writes_of_runs l.layout l.place (take l.run-index l.runs))
