@@ -25,6 +25,7 @@ pub mod SpanSound
 pub mod SpanStart
 pub mod Chained
 pub mod FormsAlike
+pub mod ReadsDecide
 pub mod Uses
 pub mod WorkedRuns
 pub mod WorkedTypes

@@ -11,7 +11,7 @@ use Rattle.sg_layout.specs.declared.shape.Shape.{Shape}
 use Rattle.sg_layout.specs.Examples.{at1, line_of_four}
 use Rattle.sg_flat.specs.declared.effects.Way.{Way}
 use Rattle.sg_flat.specs.declared.effects.Way.TheVariants.{Own, Acc}
-use Rattle.sg_flat.specs.declared.effects.Domain.TheVariants.{Walk}
+use Rattle.sg_flat.specs.declared.effects.Domain.TheVariants.{Walk, Range}
 use Rattle.sg_flat.specs.declared.state.FlatState.{FlatState}
 use Rattle.sg_flat.specs.State.{IsFlat, IsFlatField, opening, opening_layout}
 use Rattle.sg_ir.specs.declared.code.Inst.{Inst}
@@ -22,11 +22,12 @@ use Rattle.sg_ir.specs.Runs.{Seen, Moved, Place, Access, CodeWrite, CodeWant, it
 use Rattle.sg_ir.specs.Places.{place_at}
 use Rattle.sg_ir.specs.Named.{AreNamed, IsNamed}
 use Rattle.sg_ir.specs.Apt.{Use, Writes, Reads, ReadsOwn, IsWantOf, KeepsItsWays, IsApt, WantsItsWrites, may_activate, uses_in, uses_step}
+use Rattle.sg_ir.specs.Touches.{layouts_written, layouts_touched, wanted_step}
 use Rattle.sg_ir.specs.WellTyped.{Frame, frame_of, sets_step, is_well_typed}
 use Rattle.sg_ir.proofs.Judging.{judges-Const, judges-Bin, judges-OwnRead, judges-OwnWrite}
 use Rattle.sg_flat.specs.Domain.{domain_points}
 use Rattle.sg_ir.proofs.Equations.{does-Const, does-Bin, does-Root, does-ReadCell, does-OwnRead, does-OwnWrite, does-Want}
-use Rattle.sg_ir.proofs.Folds.{fold-Const, fold-Bin, fold-OwnRead, fold-OwnWrite}
+use Rattle.sg_ir.proofs.Folds.{fold-Const, fold-Bin, fold-OwnRead, fold-OwnWrite, fold-Want}
 
 -- one layout of four points with one field
 abbrev shapes : List Shape
@@ -186,3 +187,21 @@ want_without_write_is_not_apt wants =
     let pairs = wants opened opened_is_flat (at1 0) there in
     let with_want = subst (λ (ws : List CodeWant). AllZip (IsWantOf shapes) ws (filter (may_activate (Walk 0)) (iteration seen_first adds_one).writes)) (sym (wanted-is _) ∙ first_wanted) pairs in
     subst (λ (writes : List CodeWrite). AllZip (IsWantOf shapes) (record { layout = 0; stmt = 1; at = at1 0 } ∷ []) writes) (sym (activating-is _) ∙ activates_none seen_first) with_want
+
+-- ---- what it writes and touches: the layout twice in the text, and once by its walk
+
+increments_write : layouts_written increments ≡ 0 ∷ []
+increments_write =
+    simp (fold-Const wanted_step, fold-Bin wanted_step, fold-OwnRead wanted_step, fold-OwnWrite wanted_step, fold-Const uses_step, fold-Bin uses_step, fold-OwnRead uses_step, fold-OwnWrite uses_step)
+
+increments_touch : layouts_touched increments ≡ 0 ∷ 0 ∷ 0 ∷ []
+increments_touch =
+    simp (fold-Const wanted_step, fold-Bin wanted_step, fold-OwnRead wanted_step, fold-OwnWrite wanted_step, fold-Const uses_step, fold-Bin uses_step, fold-OwnRead uses_step, fold-OwnWrite uses_step)
+
+-- a slice that wants a coordinate writes its layout
+wanting : KernelCode
+wanting = record { slice = code_of (ty.I32 ∷ []) (v.Const 0 0 ∷ v.Want 3 (0 ∷ []) 1 ∷ []); code = code_of [] []; domain = Range (at1 0) (at1 4) }
+
+wanting_writes : layouts_written wanting ≡ 3 ∷ []
+unfolding wanting
+wanting_writes = simp (fold-Const wanted_step, fold-Want wanted_step, fold-Const uses_step, fold-Want uses_step)

@@ -2,6 +2,7 @@ pub mod Runs
 pub mod Places
 pub mod Named
 pub mod Apt
+pub mod Touches
 pub mod WellTyped
 pub mod Texts
 pub mod Laws

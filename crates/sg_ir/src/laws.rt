@@ -6,6 +6,7 @@ ghost use Rattle.sg_flat.specs.declared.effects.Domain.{Domain};
 ghost use Rattle.sg_ir.specs.Blocks.{Block};
 ghost use Rattle.sg_ir.specs.Laws.{PlaceHasCoordinate};
 ghost use Rattle.sg_ir.specs.SpanLaws.{WordsLieInSpans};
+ghost use Rattle.sg_ir.specs.Touches.{ReadsDecide};
 
 use sg_coord::{Extents, numbering};
 use sg_flat::laws::box_in_order;
@@ -41,3 +42,8 @@ pub fn words_lie_in_spans()
     closure_members();
     box_in_order();
 }
+
+/// At two states that have the same layouts wherever code reads, each iteration writes and wants the same.
+pub fn reads_decide()
+    ensures { ReadsDecide }
+{}
