@@ -8,4 +8,5 @@ pub mod AlikeTests
 pub mod Pieced
 pub mod Opens
 pub mod Words
+pub mod Leasts
 pub mod Uses

@@ -4,6 +4,7 @@
 pub mod advising;
 pub mod converting;
 mod kept;
+pub mod laws;
 mod likeness;
 mod moving;
 mod parts;

@@ -249,7 +249,7 @@ pub(crate) const READ: Rule = Rule {
 
 pub(crate) const GRID: Rule = Rule {
     line: "grid: F line L",
-    sentence: "a grid text has a line `grid AXES ROWS`, and a line for each row: its coordinates in rising order and a value, with one blank between each two, each line with a newline",
+    sentence: "a grid text has a line `grid AXES ROWS` and a line for each row, or `grid2 AXES LINES` and a line for each run, with its length before the value: coordinates in rising order, one blank between each two, each line with a newline",
     breaks: "a blank at the end of a line, carriage returns, 007",
     instead: "grid 1 2, 0 5, 3 7 in three lines",
 };
@@ -258,14 +258,14 @@ pub(crate) const GRID_ROWS: Rule = Rule {
     line: "limit: grid rows F",
     sentence: "a grid text has at most 1,048,576 rows",
     breaks: "grid 1 2000000",
-    instead: "two files, and two fields or runs",
+    instead: "two files, for two fields, or for two runs with a snapshot between them",
 };
 
 pub(crate) const GRID_BYTES: Rule = Rule {
     line: "limit: grid bytes F",
     sentence: "a grid text has at most 16,777,216 bytes",
     breaks: "rows of a million coordinates",
-    instead: "two files, and two fields or runs",
+    instead: "two files, for two fields, or for two runs with a snapshot between them",
 };
 
 pub(crate) const SNAPSHOT: Rule = Rule {

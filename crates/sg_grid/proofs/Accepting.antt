@@ -192,7 +192,7 @@ either_found numbers bounds type runs bytes (Some head) second is _ short e = in
 either_found numbers bounds type runs bytes None (Some head) _ is short e = inr (below_found numbers Two bounds type runs bytes head is short e)
 either_found numbers bounds type runs bytes None None _ _ short e = absurd (cc)
 
-whole_found : ((t : Ty) (z : ℤ) → NumberHasWord t z) → (bounds : Bounds) (type : Ty) (runs : List GridRun) (bytes : List ℕ) → runs_of bounds type bytes ≡ Ok runs
+pub whole_found : ((t : Ty) (z : ℤ) → NumberHasWord t z) → (bounds : Bounds) (type : Ty) (runs : List GridRun) (bytes : List ℕ) → runs_of bounds type bytes ≡ Ok runs
     → IsTextOf One bounds type runs bytes ⊎ IsTextOf Two bounds type runs bytes
 unfolding runs_of
 whole_found numbers bounds type runs bytes e = by_case (nat_lt most_grid_bytes (length bytes)) refl e where

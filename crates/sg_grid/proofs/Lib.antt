@@ -6,3 +6,4 @@ pub mod Turns
 pub mod Numerals
 pub mod Rows
 pub mod Singles
+pub mod RunRows

@@ -2,7 +2,8 @@
 ghost use Rattle.sg_coord.specs.Bounds.{Bounds, IsBounds};
 ghost use Rattle.sg_words.specs.declared.operators.Ty.{Ty};
 ghost use Rattle.sg_layout.specs.declared.shape.Shape.{Shape};
-ghost use Rattle.sg_grid.specs.Laws.{AcceptsGridTexts, FaultsAreFirst, ReadsWritten, ReadsDump};
+ghost use Rattle.sg_grid.specs.declared.grid.Version.{Version};
+ghost use Rattle.sg_grid.specs.Laws.{AcceptsGridTexts, FaultsAreFirst, RunsAreRows, ReadsRows, ReadsWritten, ReadsDump};
 
 use sg_coord::laws::strict_order;
 use sg_layout::laws::closure_members;
@@ -13,6 +14,16 @@ pub fn grid_texts_are_read()
     ensures { (bounds : Bounds) (type : Ty) → IsBounds bounds → AcceptsGridTexts bounds type }
 {
     words_are_numbers();
+}
+
+/// All rows of runs are inside and rise, and so do those of a text that is read.
+pub fn runs_are_rows()
+    ensures runs { (version : Version) (bounds : Bounds) → RunsAreRows version bounds }
+    ensures read { (bounds : Bounds) (type : Ty) → ReadsRows bounds type }
+{
+    // for the laws that they ensure
+    words_are_numbers();
+    strict_order();
 }
 
 /// A fault is there, and all before it is well.

@@ -10,7 +10,7 @@ use Rattle.sg_layout.specs.declared.shape.Shape.{Shape}
 use Rattle.sg_layout.specs.Limits.{spare_places}
 pub use Rattle.sg_layout.specs.Limits.{most_words}
 use Rattle.sg_layout.specs.Axes.{count_of, size_of, slots_of}
-use Rattle.sg_layout.specs.Examples.{node1, node2, shape_with, blocks, growing, grid}
+use Rattle.sg_layout.specs.Examples.{node1, node2, shape_with, blocks, odd_blocks, growing, grid}
 
 -- a node whose slots have child containers ends a segment
 abbrev pub ends_segment : Kind → Bool
@@ -110,6 +110,10 @@ total_words shapes = sum_by words_of_shape shapes
 pointer_blocks : words_of_shape blocks ≡ 80
 pointer_blocks = refl
 
+-- 3 links, and 19 copies of 5 cells
+words_of_odd_blocks : words_of_shape odd_blocks ≡ 98
+words_of_odd_blocks = refl
+
 one_dynamic : words_of_shape growing ≡ 12
 one_dynamic = refl
 
@@ -153,6 +157,11 @@ dynamic_below : words_of_shape
     (shape_with 1 (node1 Pointer (pos 2) (pos 2) (pos 0) ∷ node1 Dense (pos 4) (pos 0) (pos 0) ∷ node1 Dynamic (pos 8) (pos 3) (pos 4) ∷ []))
     ≡ 169
 dynamic_below = refl
+
+-- bitmasked(i: 5); bitmasked(i: 13); has 1 word for 5 bits, 2 words for 65, and 65 cells
+odd_masks : words_of_shape (shape_with 1 (node1 Bitmasked (pos 5) (pos 0) (pos 0) ∷ node1 Bitmasked (pos 13) (pos 0) (pos 0) ∷ []))
+    ≡ 68
+odd_masks = refl
 
 segments_of_grid : length (segments grid.nodes) ≡ 3
 segments_of_grid = refl

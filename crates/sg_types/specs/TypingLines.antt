@@ -234,7 +234,3 @@ is_good at (Turns name range) = not (is_bound at name) && is_good_range at range
 -- a line is well typed
 abbrev pub is_good_line : Line → Bool
 is_good_line line = is_good line.at line.head
-
--- a kernel is well typed where earlier items declare these constants
-abbrev pub is_good_kernel : Context → KernelDecl → Bool
-is_good_kernel at kernel = list_all is_good_line (typing_lines at kernel)

@@ -1,5 +1,5 @@
 //! What spreads along links from where it starts: each link is looked at once.
-ghost use Rattle.std.specs.Prelude.{◌≡◌, ℕ, ◌==◌, ◌∷◌, ◌++◌, [], true, get_or, vec_len, if◌then◌else◌, IfOk, OnOk};
+ghost use Rattle.std.specs.Prelude.{◌≡◌, ℕ, ◌==◌, ◌∷◌, ◌++◌, [], true, get_or, vec_len, if◌then◌else◌, IfOk, OnOk, OnErr};
 ghost use Rattle.sg_words.specs.Spread as spec;
 ghost use Rattle.sg_words.specs.steps.SpreadSteps as steps;
 
@@ -65,10 +65,11 @@ pub fn is_marked(marks: &Items<bool>, place: usize) -> bool
     }
 }
 
-/// Marks a place; the others stay as they are.
+/// Marks a place; the others stay as they are. If memory runs out, all do.
 pub fn mark(marks: &mut Items<bool>, place: usize) -> Result<(), Memory>
-    ensures { OnOk result ((other : ℕ) → spec.bears_mark marks.new other
+    ensures marked { OnOk result ((other : ℕ) → spec.bears_mark marks.new other
         ≡ (if other == place then true else spec.bears_mark marks.old other)) }
+    ensures stays { OnErr result ((other : ℕ) → spec.bears_mark marks.new other ≡ spec.bears_mark marks.old other) }
 {
     while marks.len() <= place {
         marks.push(false)?;
