@@ -1,5 +1,5 @@
--- A run in mode journal ends as the same one in mode run.
-use Rattle.std.proofs.Common.{ℕ, suc, List, [], ◌∷◌, Option, Some, None, Result, Ok, Err, refl, sym, subst}
+-- A run that shows something of its commands ends as the same one in mode run.
+use Rattle.std.proofs.Common.{◌≡◌, ℕ, suc, Bool, false, if◌then◌else◌, List, [], ◌∷◌, Option, Some, None, Result, Ok, Err, refl, sym, ap, subst}
 use Rattle.std.specs.Prelude.{find}
 use Rattle.sg_outside.specs.Files.{Reading, Bytes, TooMany, Missing}
 use Rattle.sg_lexer.specs.Limits.{most_file_bytes}
@@ -15,14 +15,15 @@ use Rattle.sg_session.specs.Commands.{Left, task_meaning}
 use Rattle.sg_session.specs.Bindings.{Binding, file_of_task}
 use Rattle.sg_session.specs.Compiled.{CheckedProgram, unfolded_tasks}
 use Rattle.sg_session.specs.Compiling.{compiled_program}
-use Rattle.sparsegrid.specs.declared.showing.Showing.TheVariants.{Texts, Changes}
+use Rattle.sparsegrid.specs.declared.showing.Showing.{Showing}
+use Rattle.sparsegrid.specs.declared.showing.Showing.TheVariants.{Texts}
 use Rattle.sparsegrid.specs.declared.words.Mode.{Mode}
 use Rattle.sparsegrid.specs.declared.words.Mode.TheVariants as mode
-use Rattle.sparsegrid.specs.Words.{Asked}
+use Rattle.sparsegrid.specs.Words.{Asked, Doing, performs, doing, is_generated, is_gen}
 use Rattle.sparsegrid.specs.Limits.{most_snapshot_bytes}
 use Rattle.sparsegrid.specs.Telling.{Telling, telling_of}
-use Rattle.sparsegrid.specs.Meaning.{Meaning, Readings, after_restoring, after_snapshot, begun, is_unbound, after_task, task_and_more, meaning_of_tasks, meaning_from, meaning_unless, meaning_of_run, meaning_of_compiled, meaning_of_source, meaning_of_asked}
-use Rattle.sparsegrid.specs.Laws.{EndAlike, JournalEndsAsRun}
+use Rattle.sparsegrid.specs.Meaning.{Meaning, Readings, after_restoring, after_snapshot, begun, is_unbound, after_task, task_and_more, meaning_of_tasks, meaning_from, meaning_unless, meaning_of_run, meaning_in, meaning_of_compiled, meaning_of_source, meaning_of_file, meaning_of_generated, meaning_of_asked}
+use Rattle.sparsegrid.specs.Laws.{EndAlike, ShownEndsAsRun}
 
 same : (m : Meaning) → EndAlike m m
 same m = record { status = refl; last = refl; line = λ other. refl }
@@ -76,25 +77,28 @@ run_alike program one two from bindings readings tasks = by_find (find (is_unbou
       (λ reads state. from_alike program bindings one two readings reads state tasks)
   by_find (Some task) = same _
 
-module _ (workers : ℕ) (file : List ℕ) (from : Option (List ℕ)) (bindings : List Binding) (number : ℕ) (readings : Readings) where
+module _ (workers : ℕ) (file : List ℕ) (from : Option (List ℕ)) (bindings : List Binding) (number : ℕ) (readings : Readings) (own : Mode) (what : Showing) (shows : doing own ≡ performs what) where
   abbrev in_mode : Mode → Asked
   in_mode m = record { workers = workers; mode = m; file = file; from = from; bindings = bindings; number = number }
 
-  compiled_alike : (bytes : List ℕ) (answer : Result CheckedProgram Refusal) → EndAlike (meaning_of_compiled (in_mode mode.Journal) readings bytes answer) (meaning_of_compiled (in_mode mode.Run) readings bytes answer)
+  compiled_alike : (bytes : List ℕ) (answer : Result CheckedProgram Refusal) → EndAlike (meaning_of_compiled (in_mode own) readings bytes answer) (meaning_of_compiled (in_mode mode.Run) readings bytes answer)
   compiled_alike bytes (Err why) = same _
   compiled_alike bytes (Ok program) =
-      run_alike program (telling_of program.names program.layouts Changes) (telling_of program.names program.layouts Texts) from bindings readings (unfolded_tasks program.commands)
+      subst (λ (d : Doing). EndAlike (meaning_in d program from bindings readings) (meaning_in (performs Texts) program from bindings readings)) (sym shows)
+      (run_alike program (telling_of program.names program.layouts what) (telling_of program.names program.layouts Texts) from bindings readings (unfolded_tasks program.commands))
 
-  source_alike : (given : Reading) → EndAlike (meaning_of_source (in_mode mode.Journal) readings given) (meaning_of_source (in_mode mode.Run) readings given)
+  source_alike : (given : Reading) → EndAlike (meaning_of_source (in_mode own) readings given) (meaning_of_source (in_mode mode.Run) readings given)
   source_alike Missing = same _
   source_alike TooMany = same _
   source_alike (Bytes bytes) = compiled_alike bytes (compiled_program bytes)
 
-  file_alike : EndAlike (meaning_of_asked (in_mode mode.Journal) readings) (meaning_of_asked (in_mode mode.Run) readings)
+  file_alike : EndAlike (meaning_of_file (in_mode own) readings) (meaning_of_file (in_mode mode.Run) readings)
   file_alike = let r = source_alike (readings 1 file most_file_bytes) in record { status = r.status; last = r.last; line = r.line }
 
-pub journal_ends_as_run : JournalEndsAsRun
-journal_ends_as_run asked readings is =
-    subst (λ (m : Mode). EndAlike (meaning_of_asked (record { workers = asked.workers; mode = m; file = asked.file; from = asked.from; bindings = asked.bindings; number = asked.number }) readings)
-    (meaning_of_asked (record { workers = asked.workers; mode = mode.Run; file = asked.file; from = asked.from; bindings = asked.bindings; number = asked.number }) readings)) (sym is)
-    (file_alike asked.workers asked.file asked.from asked.bindings asked.number readings)
+  asked_alike : EndAlike (meaning_of_asked (in_mode own) readings) (meaning_of_asked (in_mode mode.Run) readings)
+  asked_alike =
+      let plain : is_gen own ≡ false = ap is_generated shows in
+      subst (λ (b : Bool). EndAlike (if b then meaning_of_generated (in_mode own) readings else meaning_of_file (in_mode own) readings) (meaning_of_file (in_mode mode.Run) readings)) (sym plain) file_alike
+
+pub shown_ends_as_run : ShownEndsAsRun
+shown_ends_as_run asked readings what shows = asked_alike asked.workers asked.file asked.from asked.bindings asked.number readings asked.mode what shows

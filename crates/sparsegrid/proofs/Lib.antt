@@ -21,6 +21,7 @@ pub mod Opened
 pub mod Parts
 pub mod Parted
 pub mod Reaching
+mod PartsTold
 pub mod PartsWritten
 pub mod Journaled
 pub mod Audits

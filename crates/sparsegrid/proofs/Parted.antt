@@ -75,7 +75,7 @@ all_written held [] (Reaches at ∷ moves) quiet sound = absurd sound
 all_written held (part ∷ parts) (Reaches at ∷ moves) quiet sound =
     text_append (writing (lines_text part)) (Reaches at ∷ with_parts parts moves)
     ∙ ap (λ (text : List ℕ). text ++ text_in (with_parts parts moves)) (text_written (lines_text part))
-    ∙ ap (λ (text : List ℕ). lines_text part ++ text) (all_written sound.0 parts moves quiet sound.3) ∙ sym (flat_map-append line_text part (lines_in parts))
+    ∙ ap (λ (text : List ℕ). lines_text part ++ text) (all_written sound.0 parts moves quiet sound.4) ∙ sym (flat_map-append line_text part (lines_in parts))
 
 -- ---- a front of a text that ends in a last line
 

@@ -1,5 +1,5 @@
 -- Tasks that are performed while their journal is written.
-use Rattle.std.proofs.Common.{◌≡◌, ℕ, zero, suc, ◌+◌, true, List, [], ◌∷◌, ◌++◌, map, length, drop, Option, Some, None, Result, Ok, Err, IfOk, refl, sym, ap, ◌∙◌, subst, append_assoc, append-nil, arith}
+use Rattle.std.proofs.Common.{◌≡◌, ℕ, zero, suc, ◌+◌, true, List, [], ◌∷◌, ◌++◌, map, length, Result, Ok, Err, IfOk, refl, sym, ap, ◌∙◌, subst, append_assoc, append-nil, arith}
 use Rattle.std.specs.Prelude.{All}
 use Rattle.std.specs.List.{AllZip}
 use Rattle.std.proofs.lemmas.List.{length-append}
@@ -8,13 +8,10 @@ use Rattle.sg_words.specs.declared.memory.Stop.TheVariants as stop
 use Rattle.sg_words.specs.declared.text.Text.{Text}
 use Rattle.sg_layout.specs.declared.shape.Shape.{Shape}
 use Rattle.sg_flat.specs.declared.state.FlatState.{FlatState}
-use Rattle.sg_outside.specs.Files.{Missing}
-use Rattle.sg_names.specs.Tables.{Tables}
 use Rattle.sg_store.specs.StoreWords.{StoreWords}
 use Rattle.sg_store.specs.WellFormed.{IsWellFormed}
 use Rattle.sg_store.specs.Links.{KeepsLinks}
 use Rattle.sg_store.specs.Standing.{StandForState}
-use Rattle.sg_grid.specs.Limits.{most_grid_bytes}
 use Rattle.sg_journal.specs.declared.lines.Link.{Link}
 use Rattle.sg_journal.specs.declared.lines.Line.{Line}
 use Rattle.sg_journal.specs.Lines.{lines_text, IsInRange, end_line}
@@ -28,7 +25,6 @@ use Rattle.sg_audit.specs.AuditLaws.{YesIsSound}
 use Rattle.sg_session.specs.declared.binds.Bind.{Bind}
 use Rattle.sg_session.specs.declared.refusal.RunRefusal.{RunRefusal}
 use Rattle.sg_session.specs.declared.tasks.Task.{Task}
-use Rattle.sg_session.specs.Commands.{Left, task_meaning}
 use Rattle.sg_session.specs.Compiled.{CheckedProgram, Compiles}
 use Rattle.sg_session.specs.Bindings.{Binding, binding_read, file_of_task}
 use Rattle.sg_session.specs.Performed.{SessionParts}
@@ -37,9 +33,9 @@ use Rattle.sparsegrid.specs.declared.session.Done.{Done}
 use Rattle.sparsegrid.specs.declared.showing.Showing.TheVariants.{Changes}
 use Rattle.sparsegrid.specs.Lines.{run_last}
 use Rattle.sparsegrid.specs.Moves.{Move, Reaches, Reached, writing, reaching, reached_in}
-use Rattle.sparsegrid.specs.Parts.{Parts, before_reached, with_parts, AreSoundParts, HoldsStores}
-use Rattle.sparsegrid.specs.Telling.{Telling, telling_of}
-use Rattle.sparsegrid.specs.Meaning.{Meaning, Readings, moves_of, after_moves, asking_for, at_state, after_task, task_and_more, meaning_of_tasks, meaning_from}
+use Rattle.sparsegrid.specs.Parts.{Parts, with_parts, IsWhereHeld, AreChanges, AreSoundParts, HoldsStores}
+use Rattle.sparsegrid.specs.Telling.{telling_of}
+use Rattle.sparsegrid.specs.Meaning.{Meaning, Readings, moves_of, after_moves, at_state, meaning_of_tasks, meaning_from}
 use Rattle.sparsegrid.specs.Outcome.{Output, Outside, StaysWritten}
 use Rattle.sparsegrid.specs.Journaling.{with_journal}
 use Rattle.sparsegrid.specs.steps.Along.{Came, PutsText, PutsPart, Sends, Follows, load_reads, line_text, ended_with}
@@ -47,62 +43,10 @@ use Rattle.sparsegrid.specs.steps.Leading.{Kept, Journals, PutsChanges, PutsNext
 use Rattle.sparsegrid.proofs.Writing.{reached_append, reached, none_reached, unread_reaching, grew_reaching, grew_part, made_none, made_unread}
 use Rattle.sparsegrid.proofs.Going.{at_text, stays_same, went_still, compose}
 use Rattle.sparsegrid.proofs.Parted.{reached_with}
-use Rattle.sparsegrid.proofs.Parts.{parts_go_on, led_audited, led_over}
+use Rattle.sparsegrid.proofs.PartsTold.{parts_told, parts_meant}
+use Rattle.sparsegrid.proofs.Parts.{where_placed, parts_go_on, led_audited, led_over}
 use Rattle.sparsegrid.proofs.Kept.{kept_memory}
 use Rattle.sparsegrid.proofs.Tasks.{Stepped, load_moves, load_still, tasks_end, done_next, means_next, cut_in_step, cut_in_send, ended_in_task, went_all}
-
--- ---- the parts of a journal, told as the commands' texts
-
--- the next part is that of the number, and then those behind it are left
-part_there : (parts : Parts) (number : ℕ) (at : Reached) (more : Parts → List Move)
-    → before_reached (drop number parts) at more ≡ writing (part_text parts number) ++ Reaches at ∷ more (drop (suc number) parts)
-part_there [] zero at more = refl
-part_there [] (suc number) at more = refl
-part_there (part ∷ parts) zero at more = refl
-part_there (part ∷ parts) (suc number) at more = part_there parts number at more
-
-module _ (program : CheckedProgram) (bindings : List Binding) (names : Tables) (shapes : List Shape) (parts : Parts) where
-  abbrev plain : Telling
-  plain = telling_of names shapes Changes
-
-  -- a state is reached, and its part was written before it
-  part_before : (number : ℕ) (at : Reached) (m : Meaning)
-      → with_journal (drop number parts) (after_moves (reaching [] at) m) ≡ after_moves (reaching (part_text parts number) at) (with_journal (drop (suc number) parts) m)
-  part_before number at m =
-      ap (λ (moves : List Move). let n : Meaning = record { moves = moves; line = m.line; status = m.status; last = m.last } in n)
-      (part_there parts number at (λ left. with_parts left m.moves) ∙ sym (append_assoc (writing (part_text parts number)) (Reaches at ∷ []) (with_parts (drop (suc number) parts) m.moves)))
-
-  -- what tasks mean with the parts is what they mean where these are told of them
-  pub parts_told : (readings : Readings) (number n : ℕ) (state : FlatState) (tasks : List Task)
-      → with_journal (drop number parts) (meaning_of_tasks program bindings plain readings number n state tasks) ≡ meaning_of_tasks program bindings (telling_parts parts) readings number n state tasks
-  unfolding meaning_of_tasks
-  parts_told readings number n state [] = refl
-  parts_told readings number n state (task ∷ tasks) = by_file (file_of_task program.names bindings task) (λ after next. parts_told readings (suc number) after next tasks) where
-    more : ℕ → FlatState → Meaning
-    more after next = meaning_of_tasks program bindings plain readings (suc number) after next tasks
-
-    told : ℕ → FlatState → Meaning
-    told after next = meaning_of_tasks program bindings (telling_parts parts) readings (suc number) after next tasks
-
-    by_answer : (file : Option (List ℕ)) (after : ℕ) (answer : Result Left RunRefusal) → ((next : FlatState) → with_journal (drop (suc number) parts) (more after next) ≡ told after next)
-        → with_journal (drop number parts) (after_task program plain number state file task (more after) answer) ≡ after_task program (telling_parts parts) number state file task (told after) answer
-    by_answer file after (Ok left) rest = part_before number (at_state program left.state) (more after left.state)
-        ∙ ap (λ (m : Meaning). after_moves (reaching (part_text parts number) (at_state program left.state)) m) (rest left.state)
-    by_answer file after (Err why) rest = refl
-
-    by_file : (file : Option (List ℕ)) → ((after : ℕ) (next : FlatState) → with_journal (drop (suc number) parts) (more after next) ≡ told after next)
-        → with_journal (drop number parts) (task_and_more program plain readings number n state task more file) ≡ task_and_more program (telling_parts parts) readings number n state task told file
-    by_file None rest = by_answer None n (task_meaning program state task Missing) (rest n)
-    by_file (Some name) rest =
-        ap (λ (m : Meaning). asking_for name m) (by_answer (Some name) (suc n) (task_meaning program state task (readings (suc n) name most_grid_bytes)) (rest (suc n)))
-
--- and so do all tasks, behind the first part
-pub parts_meant : (program : CheckedProgram) (bindings : List Binding) (names : Tables) (shapes : List Shape) (first : List Line) (more : Parts) (readings : Readings) (earlier : ℕ) (start : FlatState) (tasks : List Task)
-    → with_journal (first ∷ more) (meaning_from program bindings (telling_of names shapes Changes) readings earlier start tasks)
-    ≡ after_moves (reaching (lines_text first) (at_state program start)) (meaning_of_tasks program bindings (telling_parts more) readings 0 earlier start tasks)
-parts_meant program bindings names shapes first more readings earlier start tasks =
-    part_before program bindings names shapes (first ∷ more) 0 (at_state program start) (meaning_of_tasks program bindings (telling_of names shapes Changes) readings 0 earlier start tasks)
-    ∙ ap (λ (m : Meaning). after_moves (reaching (lines_text first) (at_state program start)) m) (parts_told program bindings names shapes more readings 0 earlier start tasks)
 
 -- ---- one part more
 
@@ -160,9 +104,16 @@ module _ (compiled : CheckedProgram) (binds : List Bind) (earlier : ℕ) (start 
       → All IsWellFormed stores → All IsWellFormed stores' → AllZip KeepsLinks stores stores' → ArePlaced stores' next → StandForState compiled.layouts stores' state → All IsInRange (changes placed next)
       → (held : List Link) × LeadPartsTo compiled.layouts (first ∷ came.more ++ changes placed next ∷ []) (at_state compiled start ∷ reached_in came.did ++ at_state compiled state ∷ []) held × HoldsPlaced held next
   led_next change number rest stores stores' placed next now state came old new keep are stand fits =
-      let to = change compiled.layouts stores stores' placed next came.held state old new came.stand.shapes_are stand keep came.placed_is are came.members in (
+      let to = change compiled.layouts stores stores' placed next came.held state old new came.stand.shapes_are stand keep came.placed_is are came.members in
+      let changed : AreChanges came.held to.next (changes placed next) = record {
+        from = placed;
+        to = next;
+        from_is = where_placed stores placed came.held came.placed_is came.members;
+        to_is = where_placed stores' next to.next are to.holds;
+        lines = refl;
+      } in (
         to.next,
-        parts_go_on compiled.layouts (first ∷ came.more) (at_state compiled start ∷ reached_in came.did) came.held to.next (changes placed next) (at_state compiled state) came.led refl to.sound to.needed fits,
+        parts_go_on compiled.layouts (first ∷ came.more) (at_state compiled start ∷ reached_in came.did) came.held to.next (changes placed next) (at_state compiled state) came.led refl to.sound to.needed changed fits,
         to.holds,
       )
 
@@ -318,16 +269,23 @@ module _ (compiled : CheckedProgram) (binds : List Bind) (earlier : ℕ) (start 
 -- ---- from the first part on
 
 -- the changes from where nothing stands begin a journal
-pub begun_with : StoresBegin → (program : CheckedProgram) (start : FlatState) (stores : List StoreWords) (placed : Placing) → All IsWellFormed stores → StandForState program.layouts stores start → ArePlaced stores placed
+pub begun_with : StoresBegin → ((shapes : List Shape) → IsWhereHeld [] (nothing_placed shapes)) → (program : CheckedProgram) (start : FlatState) (stores : List StoreWords) (placed : Placing) → All IsWellFormed stores → StandForState program.layouts stores start → ArePlaced stores placed
     → All IsInRange (changes (nothing_placed program.layouts) placed) → Begins program start (changes (nothing_placed program.layouts) placed) placed
-begun_with begin program start stores placed well stand are fits =
+begun_with begin nothing program start stores placed well stand are fits =
     let first = changes (nothing_placed program.layouts) placed in
     let to = begin program.layouts stores placed start well stand are in
+    let changed : AreChanges [] to.next first = record {
+      from = nothing_placed program.layouts;
+      to = placed;
+      from_is = nothing program.layouts;
+      to_is = where_placed stores placed to.next are to.holds;
+      lines = refl;
+    } in
     record {
       held = to.next;
       led = record {
         over = (refl, tt);
-        sound = (to.next, to.sound, to.needed, tt);
+        sound = (to.next, to.sound, to.needed, changed, tt);
         after = ap (held_after (rooms_of program.layouts) []) (append-nil first) ∙ to.sound;
         in_range = subst (All IsInRange) (sym (append-nil first)) fits;
       };

@@ -5,7 +5,8 @@ use Rattle.sg_outside.specs.Files.{Bytes}
 use Rattle.sg_lexer.specs.Limits.{most_file_bytes}
 use Rattle.sparsegrid.specs.declared.words.Mode.TheVariants as mode
 use Rattle.sparsegrid.specs.Generated.{generated_text}
-use Rattle.sparsegrid.specs.Words.{Asked}
+use Rattle.sparsegrid.specs.declared.showing.Showing.{Showing}
+use Rattle.sparsegrid.specs.Words.{Asked, performs, doing}
 use Rattle.sparsegrid.specs.Meaning.{Meaning, Readings, asking_for, meaning_of_asked}
 use Rattle.sparsegrid.specs.Outcome.{Outside, HasWholeText, WroteMeaning, ReadFaults, PutFaults}
 
@@ -28,7 +29,7 @@ pub record EndAlike (m other : Meaning) : Type 0 where
   pub last : m.last ≡ other.last
   pub line : m.status ≢ 0 → m.line ≡ other.line
 
--- a run in mode journal ends as the same one in mode run
-abbrev pub JournalEndsAsRun : Type 0
-JournalEndsAsRun = (asked : Asked) (readings : Readings) → asked.mode ≡ mode.Journal
+-- a run whose mode performs the commands and shows something of that, as an image, advice or a journal, ends as the same one in mode run
+abbrev pub ShownEndsAsRun : Type 0
+ShownEndsAsRun = (asked : Asked) (readings : Readings) (what : Showing) → doing asked.mode ≡ performs what
     → EndAlike (meaning_of_asked asked readings) (meaning_of_asked (record { workers = asked.workers; mode = mode.Run; file = asked.file; from = asked.from; bindings = asked.bindings; number = asked.number }) readings)

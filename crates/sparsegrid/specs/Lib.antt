@@ -4,6 +4,7 @@ pub mod WordExamples
 pub mod Lines
 pub mod Limits
 pub mod Advice
+pub mod AdviceExamples
 pub mod Telling
 pub mod Generated
 pub mod Moves

@@ -1,5 +1,5 @@
 -- The journal that a run writes, in parts, and what it must be.
-use Rattle.std.specs.Prelude.{◌≡◌, List, [], ◌∷◌, ◌++◌, Some, refl, codes}
+use Rattle.std.specs.Prelude.{◌≡◌, ℕ, List, [], ◌∷◌, ◌++◌, Some, refl, codes}
 use Rattle.std.specs.List.{flat_map, AllByRecursion}
 use Rattle.std.specs.Fmt.{digits}
 use Rattle.sg_layout.specs.declared.shape.Shape.{Shape}
@@ -10,8 +10,9 @@ use Rattle.sg_journal.specs.declared.lines.Line.TheVariants.{Take, Free}
 use Rattle.sg_journal.specs.Lines.{lines_text, journal_text, link}
 use Rattle.sg_journal.specs.Journal.{held_after}
 use Rattle.sg_journal.specs.Rooms.{rooms_of}
-use Rattle.sg_journal.specs.Placing.{Placing, ArePlaced}
+use Rattle.sg_journal.specs.Placing.{Placing, links_at, ArePlaced, AreRising}
 use Rattle.sg_journal.specs.PlacingLaws.{HoldsPlaced}
+use Rattle.sg_journal.specs.Changes.{changes}
 use Rattle.sg_journal.specs.Needs.{HoldsNeed}
 use Rattle.sg_audit.specs.declared.verdict.Verdict.TheVariants.{Yes}
 use Rattle.sg_audit.specs.Auditing.{audited}
@@ -38,14 +39,29 @@ with_parts parts (ReadsFile name ∷ moves) = ReadsFile name ∷ with_parts part
 with_parts parts (WritesText text ∷ moves) = WritesText text ∷ with_parts parts moves
 with_parts parts (Reaches at ∷ moves) = before_reached parts at (λ left. with_parts left moves)
 
+-- a placing is where the held numbers stand: those of each node by rising number
+pub record IsWhereHeld (held : List Link) (placing : Placing) : Type 0 where
+  pub holds : HoldsPlaced held placing
+  pub rising : (layout node : ℕ) → AreRising (links_at placing layout node)
+
+-- A part is the changes from what is held before it to what is held after it: what stands no more is freed, then what has come to stand is taken,
+-- and a number that stays where it is has no line.
+pub record AreChanges (held next : List Link) (part : List Line) : Type 0 where
+  pub from : Placing
+  pub to : Placing
+  pub from_is : IsWhereHeld held from
+  pub to_is : IsWhereHeld next to
+  pub lines : part ≡ changes from to
+
 -- From what is held on, each part is sound lines, after which at each node with a cap as many numbers are held as the state needs that is reached
--- with it; there is one for each state.
+-- with it, and which say what has changed and no more; there is one for each state.
 abbrev pub AreSoundParts : List Link → Parts → List Reached → Type 0
 AreSoundParts held [] [] = Unit {0}
 AreSoundParts held [] (at ∷ more) = ⊥
 AreSoundParts held (part ∷ parts) [] = ⊥
 AreSoundParts held (part ∷ parts) (at ∷ more) =
-    (next : List Link) × (held_after (rooms_of at.shapes) held part ≡ Some next) × HoldsNeed at.shapes at.state next × AreSoundParts next parts more
+    (next : List Link) × (held_after (rooms_of at.shapes) held part ≡ Some next) × HoldsNeed at.shapes at.state next × AreChanges held next part
+    × AreSoundParts next parts more
 
 -- states are reached over layouts of these shapes
 abbrev pub AreOver : List Shape → List Reached → Type 0

@@ -112,20 +112,25 @@ worker_numbers = (codes "1", 1) ∷ (codes "2", 2) ∷ (codes "3", 3) ∷ (codes
     ∷ (codes "8", 8) ∷ (codes "9", 9) ∷ (codes "10", 10) ∷ (codes "11", 11) ∷ (codes "12", 12) ∷ (codes "13", 13) ∷ (codes "14", 14)
     ∷ (codes "15", 15) ∷ (codes "16", 16) ∷ []
 
--- the number beside the first text that equals the given one
-abbrev pub number_beside : List (List ℕ × ℕ) → List ℕ → Option ℕ
-number_beside [] text = None
-number_beside (row ∷ rows) text = if bytes_eq row.0 text then Some row.1 else number_beside rows text
+-- what stands beside the first text that equals the given one
+abbrev pub value_beside : {A : Type 0} → List (List ℕ × A) → List ℕ → Option A
+value_beside [] text = None
+value_beside (row ∷ rows) text = if bytes_eq text row.0 then Some row.1 else value_beside rows text
 
 -- the number of workers, which is 4 without the option
 abbrev pub workers_of : Option (List ℕ) → Option ℕ
 workers_of None = Some 4
-workers_of (Some value) = number_beside worker_numbers value
+workers_of (Some value) = value_beside worker_numbers value
+
+-- the modes as they are written
+abbrev pub mode_words : List (List ℕ × Mode)
+mode_words = (codes "run", mode.Run) ∷ (codes "check", mode.Check) ∷ (codes "lower", mode.Lower) ∷ (codes "gen", mode.Gen)
+    ∷ (codes "save", mode.Save) ∷ (codes "audit", mode.Audit) ∷ (codes "advise", mode.Advise) ∷ (codes "journal", mode.Journal) ∷ []
 
 -- the mode, which is to run without the option
 abbrev pub mode_of : Option (List ℕ) → Option Mode
 mode_of None = Some mode.Run
-mode_of (Some value) = if bytes_eq value (codes "run") then Some mode.Run else (if bytes_eq value (codes "check") then Some mode.Check else (if bytes_eq value (codes "lower") then Some mode.Lower else (if bytes_eq value (codes "gen") then Some mode.Gen else (if bytes_eq value (codes "save") then Some mode.Save else (if bytes_eq value (codes "audit") then Some mode.Audit else (if bytes_eq value (codes "advise") then Some mode.Advise else (if bytes_eq value (codes "journal") then Some mode.Journal else None)))))))
+mode_of (Some value) = value_beside mode_words value
 
 -- what is done with a program: its tasks are performed, and a mode shows something of that; those of the generated one are; its kernels are
 -- looked at; their access code is written; a journal of its containers is audited; or one is written while its tasks are performed

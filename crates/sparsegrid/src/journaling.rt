@@ -59,6 +59,7 @@ pub(crate) fn drive_journal<R: Threads + Sync, F: Files, S: Sink, G: Gate + Sync
 {
     // for the laws that they ensure, and for what each store keeps
     journals::stores_change();
+    journals::nothing_is_placed();
     audits::yes_is_sound();
     session.stores.well_formed();
     match begin(alloc, session) {

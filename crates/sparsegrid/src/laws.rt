@@ -1,7 +1,7 @@
 //! What follows from the clauses and the meaning of a run, each as the contract of a function that does nothing.
 
 ghost use Rattle.sparsegrid.specs.Independence.{LayoutsDontMatterToCalls, LayoutsDontMatterToRuns, MeaningIsOfCommands};
-ghost use Rattle.sparsegrid.specs.Laws.{FaultlessIsWhole, GeneratedIsText, JournalEndsAsRun};
+ghost use Rattle.sparsegrid.specs.Laws.{FaultlessIsWhole, GeneratedIsText, ShownEndsAsRun};
 ghost use Rattle.sparsegrid.specs.WorkedRun.{WorkedRun};
 
 use sg_parser::laws::parsed_is_spelled;
@@ -18,10 +18,11 @@ pub fn generated_is_text()
     ensures { GeneratedIsText }
 {}
 
-/// A run in mode journal has the status and the last state of the same run in mode run, and its last line where not all is done.
-#[tactic(auto, using(crate::proofs::EndsAlike::journal_ends_as_run))]
-pub fn journal_ends_as_run()
-    ensures { JournalEndsAsRun }
+/// A run in mode save, advise or journal has the status and the last state of the same run in mode run, and its last line where not all is
+/// done.
+#[tactic(auto, using(crate::proofs::EndsAlike::shown_ends_as_run))]
+pub fn shown_ends_as_run()
+    ensures { ShownEndsAsRun }
 {}
 
 /// Where nothing is refused, the commands of a run are performed one after the other, and the run means what they leave.

@@ -32,17 +32,19 @@ use std::thread::Threads;
 const FILE_LIMIT: u64 = 65536;
 
 /// How a run ended: its status, and with status 0 or 7 the session, in mode lower also with 3 where the put of the code failed. After status 7
-/// that is the session before the refused run of a kernel or load.
+/// that is the session before the refused run of a kernel or load, and the opening one where a snapshot has no room.
 #[derive(Drop)]
 pub struct Done {
     pub status: u8,
     pub session: Option<Session>,
 }
 
-/// Runs the program that the words name: reads its file and performs its commands in order, or looks at its kernels, or writes their access
-/// code; or performs the commands of the generated program; or writes one last line that says why it was refused. Statuses: 0 all done, 1 bad
-/// words, or a load without a file, 2 a read failed, 3 a put failed, 4 the bytes spell no program, 5 the program breaks a rule, 6 a loaded file
-/// is no grid text of its field, 7 a run of a kernel or a load was refused, 8 a limit was passed, 9 running out of memory.
+/// Runs the program that the words name: reads its file and performs its commands in order, from the state of a snapshot on if one is given, and
+/// writes their texts, or in place of these the last state's image, advice on layouts, or a journal of containers; or looks at its kernels, writes
+/// their access code, or judges a journal; or performs the commands of the generated program; or writes one last line that says why it was refused.
+/// Statuses: 0 all done, 1 bad words, or a load without a file, 2 a read failed, 3 a put failed, 4 the bytes spell no program, 5 the program breaks
+/// a rule, 6 a loaded file is no grid text of its field, or a snapshot is none of the layouts, 7 a kernel writes outside, or a kernel, a load or a
+/// snapshot finds no room, 8 a limit was passed, 9 running out of memory.
 pub fn run<R: Threads + Sync, F: Files, S: Sink, G: Gate + Sync>(
     rt: &R,
     alloc: Global,

@@ -11,6 +11,8 @@ mod generated;
 mod journals;
 mod kernels;
 mod language;
+mod language_grids;
+mod language_words;
 mod limits;
 mod loads;
 mod longest;

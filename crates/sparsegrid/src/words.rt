@@ -99,10 +99,10 @@ static WORKERS: [(&str, u32); 16] = [
 
 /// The number beside a text.
 fn number_beside(mut table: &[(&str, u32)], text: &str) -> Option<u32>
-    ensures { result ≡ spec.number_beside (map (λ row. (row.0.now, row.1)) table.entry.now) text.now }
+    ensures { result ≡ spec.value_beside (map (λ row. (row.0.now, row.1)) table.entry.now) text.now }
 {
     while let [row, rest @ ..] = table {
-        if row.0 == text {
+        if text == row.0 {
             return Some(row.1);
         }
         table = rest;

@@ -22,7 +22,7 @@ use Rattle.sg_journal.specs.declared.placing.Placed.{Placed}
 use Rattle.sg_audit.specs.AuditLaws.{AreSoundLines}
 use Rattle.sparsegrid.specs.declared.output.PutFailed.{PutFailed}
 use Rattle.sparsegrid.specs.declared.session.Done.{Done}
-use Rattle.sparsegrid.specs.Parts.{Parts, lines_in, AreSoundParts, AreOver, HoldsStores}
+use Rattle.sparsegrid.specs.Parts.{Parts, lines_in, AreChanges, AreSoundParts, AreOver, HoldsStores}
 use Rattle.sparsegrid.specs.Moves.{Move, Reached, names_in, reached_in}
 use Rattle.sparsegrid.specs.Telling.{Telling}
 use Rattle.sparsegrid.specs.Meaning.{Meaning, Readings, at_state, after_moves, meaning_of_tasks}
@@ -68,7 +68,7 @@ pub record LeadPartsTo (shapes : List Shape) (parts : Parts) (states : List Reac
 -- one more sound part goes behind them
 abbrev pub PartsGoOn : Type 0
 PartsGoOn = (shapes : List Shape) (parts : Parts) (states : List Reached) (held next : List Link) (part : List Line) (at : Reached) →
-    LeadPartsTo shapes parts states held → at.shapes ≡ shapes → held_after (rooms_of shapes) held part ≡ Some next → HoldsNeed shapes at.state next → All IsInRange part →
+    LeadPartsTo shapes parts states held → at.shapes ≡ shapes → held_after (rooms_of shapes) held part ≡ Some next → HoldsNeed shapes at.state next → AreChanges held next part → All IsInRange part →
     LeadPartsTo shapes (parts ++ part ∷ []) (states ++ at ∷ []) next
 
 -- ---- performed tasks, whose changes were written in place of their texts

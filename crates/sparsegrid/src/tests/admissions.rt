@@ -65,6 +65,11 @@ static KERNELS: &[(&str, u8, &str)] = &[
         "refused: admission: kernel k statement 3 rule 1\n",
     ),
     (
+        "layout A(i) { dense(i: 1); field x: i32; } kernel k { for i in A { x[i] |= 1; x[i] ^= 2; } }",
+        5,
+        "refused: admission: kernel k statement 2 rule 1\n",
+    ),
+    (
         "layout A(i) { dense(i: 8); field x: i32; } kernel k { for i in 0..1 { x[i] = x[i - 1] + 4; } }",
         5,
         "refused: admission: kernel k statement 1 rule 2\n",

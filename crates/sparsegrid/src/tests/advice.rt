@@ -20,6 +20,12 @@ const FULL: &str = "layout A(i) { dense(i: 4); field x: i32; }
     layout B(i) { pointer(i: 4) cap 1; field y: i32; }
     kernel k { for i in 1..3 { y[i] = 1; } } run k;";
 
+/// Two layouts that are alike, and the image of a state in which the first one keeps the coordinate 5.
+const TWO: &str = "layout A(i) { bitmasked(i: 16); field x: i32; }
+    layout B(i) { pointer(i: 4) cap 2; dense(i: 4); field y: i32; }";
+
+const FIVE_KEPT: &str = "SGS1\x02\0\0\0\x01\0\0\0\x05\0\0\0\x07\0\0\0\0\0\0\0";
+
 /// The words, the source, the status, and what is written.
 static RUNS: &[(&[&str], &str, u8, &str)] = &[
     (
@@ -41,6 +47,13 @@ static RUNS: &[(&[&str], &str, u8, &str)] = &[
          advise D D 5\nbest D D 5\nstats D active 0\n",
     ),
     (
+        &["--mode=advise", "--from=s", "p.sg"],
+        TWO,
+        0,
+        "advise A A 17\nadvise A B 8\nbest A B 8\nstats B active 4 node 1 live 1\n\
+         advise B A 17\nadvise B B 4\nbest B B 4\nstats B active 0 node 1 live 0\n",
+    ),
+    (
         &["p.sg", "--mode=advise"],
         FULL,
         7,
@@ -54,14 +67,14 @@ static RUNS: &[(&[&str], &str, u8, &str)] = &[
     ),
 ];
 
-static GRIDS: &[(&str, &str)] = &[("g", "grid 1 2\n5 7\n40 1\n")];
+static FILES: &[(&str, &str)] = &[("g", "grid 1 2\n5 7\n40 1\n"), ("s", FIVE_KEPT)];
 
 #[test]
 fn fewest_words_are_advised(rt: HostRuntime) -> Result<(), Fail> {
     for (words, source, status, text) in RUNS {
         let setting = Setting {
             words,
-            others: GRIDS,
+            others: FILES,
             ..Setting::of(source)
         };
         setting.ends_on_workers(&rt, rt.alloc(), *status, text)?;

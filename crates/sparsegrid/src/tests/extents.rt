@@ -5,6 +5,7 @@ use std::test::Fail;
 
 /// Programs, with the status and the text of their run.
 static ROWS: &[(&str, u8, &str)] = &[
+    ("layout A(i) { dense(i: 3); field x: i32; }", 0, ""),
     // a border inside a block, and the last coordinate
     (
         "layout A(i) { pointer(i: 3) cap 2; dense(i: 5); field x: i32; } kernel k { for i in 7..8 { x[i] = 1; } } run k; dump x;",

@@ -26,6 +26,10 @@ const LISTS: &str =
      kernel a { for p in 0..1 { x[0, 3] += 1; x[1, 7] += 2; } } kernel b { for p in 0..1 { x[0, 7] += 3; } } \
      run a; dump x; run b; times 2 { clear A; run a; }";
 
+/// The same block is taken, freed and taken again.
+const CLEARED: &str =
+    "layout A(i) { pointer(i: 4) cap 2; dense(i: 4); field x: i32; } kernel k { for i in 5..6 { x[i] = 7; } } run k; clear A; run k;";
+
 const FULL: &str =
     "layout A(i) { pointer(i: 4) cap 1; dense(i: 4); field x: i32; } kernel one { for i in 0..1 { x[i] = 1; } } \
      kernel two { for i in 4..5 { x[i] = 2; } } run one; dump x; run two;";
@@ -73,6 +77,7 @@ static RUNS: &[(&str, &[&str], &str, &[u64], u8, &str, (usize, usize))] = &[
     ),
     ("--workers=16", &[], PRUNED, &[], 0, "end\n", (2, 1)),
     ("--workers=16", &[], LISTS, &[], 0, "end\n", (26, 18)),
+    ("--workers=2", &[], CLEARED, &[], 0, "end\n", (2, 1)),
     (
         "--workers=2",
         &[],

@@ -80,10 +80,14 @@ static OTHERS: &[(&str, &str)] = &[
     ("m.grid", "grid 1 4\n0 2\n1 3\n2 5\n3 7\n"),
     ("runs", "grid2 1 2\n0 3 5\n8 1 -2\n"),
     ("rows", "grid2 2 3\n0 30 2 1\n0 33 1 2\n1 0 32 3\n"),
+    ("across", "grid2 2 2\n0 2 5 7\n1 4 1 -1\n"),
 ];
 
 const FOUR_BLOCKS: &str =
     "layout A(i) { pointer(i: 4) cap 4; dense(i: 4); field x: i32; } load x; dump x;";
+
+const THREE_IN_A_ROW: &str =
+    "layout A(i, j) { pointer(i: 2, j: 3) cap 4; dense(j: 3); field x: i32; } load x; dump x;";
 
 const STRIPES: &str =
     "layout A(i, j) { pointer(i: 2, j: 2) cap 4; bitmasked(j: 32); field x: i32; } load x; stats A;";
@@ -113,6 +117,13 @@ static READS: &[(&str, &[&str], &[u64], u8, &str)] = &[
         &[],
         0,
         "grid 1 8\n0 5\n1 5\n2 5\n3 0\n8 -2\n9 0\n10 0\n11 0\n",
+    ),
+    (
+        THREE_IN_A_ROW,
+        &["p.sg", "x=across"],
+        &[],
+        0,
+        "grid 2 12\n0 0 0\n0 1 0\n0 2 7\n0 3 7\n0 4 7\n0 5 7\n0 6 7\n0 7 0\n0 8 0\n1 3 0\n1 4 -1\n1 5 0\n",
     ),
     (
         STRIPES,

@@ -58,6 +58,25 @@ fn longest_grids(rt: HostRuntime) -> Result<(), Fail> {
     Ok(())
 }
 
+static TALL: &str = "layout A(i, j) { dense(i: 1025, j: 1024); field x: i32; } load x;";
+
+/// Runs of 1,024 rows, so many of them.
+fn runs(alloc: Global, count: u32) -> Result<String, AllocError> {
+    let mut text = format!(in alloc; "grid2 2 {count}\n")?;
+    for i in 0..count {
+        text.push_str(format!(in alloc; "{i} 0 1024 1\n")?.as_str())?;
+    }
+    Ok(text)
+}
+
+#[test]
+fn most_rows_of_runs(rt: HostRuntime) -> Result<(), Fail> {
+    let alloc = rt.alloc();
+    loaded(&rt, alloc, TALL, runs(alloc, 1024)?.as_str(), 0, "")?;
+    let last = "refused: limit: grid rows x\n";
+    loaded(&rt, alloc, TALL, runs(alloc, 1025)?.as_str(), 8, last)
+}
+
 static SQUARE: &str =
     "layout A(i, j) { dense(i: 1024, j: 1024); field x: i32; } load x; dump x; image x 0 1;";
 

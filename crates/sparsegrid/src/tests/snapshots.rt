@@ -24,6 +24,21 @@ const TELLS_IN_ONE: &str =
 const LOADS: &str =
     "layout A(i) { pointer(i: 4) cap 2; dense(i: 4); field x: i32; } load x; dump x;";
 
+/// Two fields in each of two layouts.
+const SETS_FOUR_FIELDS: &str =
+    "layout A(i) { bitmasked(i: 4); field x: i32; field y: u32; } layout B(i) { bitmasked(i: 4); field v: i32; field w: u32; } \
+     kernel a { for i in 1..4 { if i != 2 { x[i] = (i + 13) / 2; y[i] = u32((i + 9) / 2); } } } \
+     kernel b { for i in 2..3 { v[i] = 9; w[i] = 10u; } } run a; run b;";
+
+const TELLS_FOUR_FIELDS: &str =
+    "layout A(i) { bitmasked(i: 4); field x: i32; field y: u32; } layout B(i) { bitmasked(i: 4); field v: i32; field w: u32; } \
+     dump x; dump y; dump v; dump w;";
+
+/// The image of the state that `SETS_FOUR_FIELDS` leaves: the words of a field stand together.
+const FOUR_FIELDS: &str =
+    "SGS1\x02\0\0\0\x02\0\0\0\x01\0\0\0\x03\0\0\0\x07\0\0\0\x08\0\0\0\x05\0\0\0\x06\0\0\0\
+     \x01\0\0\0\x02\0\0\0\x09\0\0\0\x0a\0\0\0";
+
 /// The image of the state that `SETS` leaves.
 const ONE_BLOCK: &str =
     "SGS1\x01\0\0\0\x04\0\0\0\x04\0\0\0\x05\0\0\0\x06\0\0\0\x07\0\0\0\0\0\0\0\x07\0\0\0\0\0\0\0\0\0\0\0";
@@ -43,6 +58,7 @@ static FILES: &[(&str, &str)] = &[
     ("five", FIVE_ALONE),
     ("less", A_BYTE_LESS),
     ("-", ONE_BLOCK),
+    ("four", FOUR_FIELDS),
     ("g", "grid 1 1\n0 3\n"),
 ];
 
@@ -56,6 +72,22 @@ static RUNS: &[(&[&str], &str, &[u64], &[u64], u8, &str)] = &[
         &[],
         0,
         ONE_BLOCK,
+    ),
+    (
+        &["--mode=save", "p.sg"],
+        SETS_FOUR_FIELDS,
+        &[],
+        &[],
+        0,
+        FOUR_FIELDS,
+    ),
+    (
+        &["--from=four", "p.sg"],
+        TELLS_FOUR_FIELDS,
+        &[],
+        &[],
+        0,
+        "grid 1 2\n1 7\n3 8\ngrid 1 2\n1 5\n3 6\ngrid 1 1\n2 9\ngrid 1 1\n2 10\n",
     ),
     (&["--mode=save", "p.sg"], "", &[], &[], 0, "SGS1\0\0\0\0"),
     (
