@@ -7,3 +7,4 @@ pub mod Searches
 pub mod Starts
 pub mod Endings
 pub mod Events
+pub mod Paging

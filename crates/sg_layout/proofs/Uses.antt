@@ -12,8 +12,8 @@ use Rattle.sg_layout.specs.Accepted.{IsAccepted}
 use Rattle.sg_layout.specs.Rules.{has_good_extents}
 -- nodes without a fault: what the first keeps, and that the later ones have none
 pub use Rattle.sg_layout.proofs.Keeping.{faultless_head, faultless_tail}
--- extents are from 1 to 2 ^ 15, at a node and over nodes
-pub use Rattle.sg_layout.proofs.Extending.{IsExtent, whole_from, extent_is, in_some, over_some, good_extents, axes_declared}
+-- extents are from 1 to 2 ^ 15, at a node and over nodes, and those of further axes 1
+pub use Rattle.sg_layout.proofs.Extending.{IsExtent, whole_from, extent_is, in_some, over_some, good_extents, unnamed_over, axes_declared}
 -- sizes are at least 1; an accepted shape has no fault, and few nodes and fields
 pub use Rattle.sg_layout.proofs.Faultless.{size_some, slots_some, size_axes, no_fault, volume_slots, slots_few, counts_declared}
 -- what makes a slot live

@@ -1,5 +1,5 @@
 -- The cells of a field.
-use Rattle.std.proofs.Common.{◌≡◌, ℕ, suc, ◌+◌, ◌*◌, ◌-◌, ◌<◌, ◌≤◌, List, length, refl, ap, ◌∙◌, sym, subst, arith}
+use Rattle.std.proofs.Common.{◌≡◌, ℕ, suc, ◌+◌, ◌*◌, ◌<◌, List, length, refl, ap, ◌∙◌, sym}
 use Rattle.std.specs.Prelude.{slice_index}
 use Rattle.sg_coord.specs.Laws.{InsideTest}
 use Rattle.sg_layout.specs.PathLaws.{SlotIsPath}

@@ -30,6 +30,7 @@ pub mod Zeros
 pub mod Roomy
 pub mod Opening
 pub mod ActiveCells
+pub mod NextCells
 pub mod OneFlat
 pub mod BySlots
 pub mod KeyPlaces
@@ -88,7 +89,7 @@ pub mod LengthsKept
 pub mod MarkedKept
 pub mod Padded
 pub mod LikeRows
-pub mod StandingWords
+pub mod WordsInUse
 pub mod PlansTrimmed
 pub mod TablesKept
 pub mod StorePlans

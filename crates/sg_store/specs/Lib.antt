@@ -7,6 +7,7 @@ pub mod Standing
 pub mod Spots
 pub mod DenseNodes
 pub mod FieldCells
+pub mod Following
 pub mod Rows
 pub mod Reaching
 pub mod Changes

@@ -3,11 +3,11 @@ ghost use Rattle.std.specs.List.{All};
 ghost use Rattle.sg_pool.specs.Numbers.{place_count, is_live_number, live_count};
 ghost use Rattle.sg_store.specs.steps.Cuts.{IsCut, IsCutThrough, HasLinks, IsLinkedOnce};
 
-use crate::word_row::WordRow;
+use sg_hash::PagedRow;
 use sg_pool::Pool;
 
 /// Gives back the numbers of links that stand no longer.
-pub(crate) fn give_back_cut(pool: &mut Pool, old: &WordRow, new: &WordRow)
+pub(crate) fn give_back_cut(pool: &mut Pool, old: &PagedRow, new: &PagedRow)
     requires as_many { length new.now ≡ length old.now }
     requires linked { HasLinks pool.old old.now }
     requires once { IsLinkedOnce old.now }
@@ -17,8 +17,10 @@ pub(crate) fn give_back_cut(pool: &mut Pool, old: &WordRow, new: &WordRow)
     ensures places { place_count pool.new ≡ place_count pool.old }
     ensures fewer { live_count pool.new ≤ live_count pool.old }
 {
-    for (slot, link) in old.standing().iter().enumerate() {
-        give_back_one(pool, *link, new.get(slot));
+    let mut slot = 0;
+    while let Some(next) = old.next(slot) {
+        give_back_one(pool, old.get(next), new.get(next));
+        slot = next + 1;
     }
 }
 

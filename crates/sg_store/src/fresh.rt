@@ -11,10 +11,11 @@ use crate::field_row::FieldRow;
 use crate::node::{NodeWords, chunk_of};
 use crate::word_row::WordRow;
 use sg_coord::count;
+use sg_hash::PagedRow;
 use sg_layout::{Kind, Layout, NodeShape};
 use sg_links::Links;
 use sg_pool::Pool;
-use sg_words::{Items, Memory};
+use sg_words::Memory;
 use std::alloc::Global;
 
 /// How many numbers a pool has besides those of its node's cap: a spare for each of 16 workers, and one more.
@@ -159,8 +160,8 @@ fn zero_words(alloc: Global, room: &Room) -> Result<NodeWords, Memory>
     // for the law that it ensures
     pool.places();
     Ok(NodeWords {
-        keys: Items::from_vec(vec![in alloc; 0; room.keys]?),
-        links: WordRow::zeros(alloc, room.links)?,
+        keys: PagedRow::zeros(alloc, room.keys)?,
+        links: PagedRow::zeros(alloc, room.links)?,
         masks: WordRow::zeros(alloc, room.masks)?,
         lengths: WordRow::zeros(alloc, room.lengths)?,
         chains: empty_chains(alloc, room.chunks, room.lengths as u32)?,
@@ -206,7 +207,7 @@ impl NodeWords {
         ensures { IfOk result (λ copy. copy ≡ self.now) }
     {
         Ok(NodeWords {
-            keys: Items::from_slice(alloc, self.keys.as_slice())?,
+            keys: self.keys.copy(alloc)?,
             links: self.links.copy(alloc)?,
             masks: self.masks.copy(alloc)?,
             lengths: self.lengths.copy(alloc)?,

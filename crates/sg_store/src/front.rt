@@ -10,7 +10,7 @@ use sg_layout::{Kind, NodeShape};
 
 impl Store {
     /// How many cells there are up to the last that may be reached.
-    pub fn cells_in_use(&self) -> usize
+    pub(crate) fn cells_in_use(&self) -> usize
         ensures few { result ≤ cell_count self.now.shape }
         ensures all { (cell : ℕ) → IsReached self.now cell → cell < result }
     {

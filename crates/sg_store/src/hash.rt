@@ -7,12 +7,11 @@ ghost use Rattle.sg_store.specs.steps.Settling.{ChangesAt, ChangesNode};
 ghost use Rattle.sg_store.specs.steps.Keying.{CanAddKey, AddsKey, FilledKeys, CanFillKeys, IsKeyPlan, CanPlanKeys, CanRekey, CanSettleKeys, IsRekeyed};
 ghost use Rattle.sg_store.specs.steps.Levels.{IsHashOf, OpensNext, IsPastCap, IfRefused};
 
-use crate::node::{NodeWords, overwrite};
+use crate::node::NodeWords;
 use crate::reach::Full;
 use crate::store::Store;
-use crate::word_row::WordRow;
 use sg_coord::Coord;
-use sg_hash::{find, put};
+use sg_hash::{PagedRow, find_in, put_in};
 use sg_layout::{need_counts_live, paths_tell, rules_decide};
 use sg_words::{Items, Memory, Stop};
 use std::alloc::Global;
@@ -21,30 +20,30 @@ use std::alloc::Global;
 /// the stock, of which a front is here. There is room for `room` more numbers; `taken` is one past it where they are not enough.
 #[derive(Debug, Drop)]
 pub(crate) struct KeyPlan {
-    pub(crate) keys: Items<u64>,
-    pub(crate) links: WordRow,
+    pub(crate) keys: PagedRow,
+    pub(crate) links: PagedRow,
     pub(crate) stock: Items<u32>,
     pub(crate) room: usize,
     pub(crate) taken: usize,
 }
 
 /// Puts a slot into a table, with a number beside it. False if it is there already.
-fn add_key(keys: &mut [u64], links: &mut [u64], slot: usize, number: u32) -> bool
+fn add_key(keys: &mut PagedRow, links: &mut PagedRow, slot: usize, number: u32) -> bool
     ghost count: { ℕ }
     requires { CanAddKey keys.old links.old slot count }
     ensures { AddsKey keys.old links.old keys.new links.new slot number result count }
 {
-    if find(keys, links, slot as u32).is_some() {
+    if find_in(keys, links, slot as u32).is_some() {
         return false;
     }
-    put(keys, links, slot as u32, number)
+    put_in(keys, links, slot as u32, number)
 }
 
 /// Puts the slots that are no keys into a table, with numbers of the stock, in order, until there are no more slots or one
 /// number more than the room is taken. How many are taken.
 fn fill_keys(
-    keys: &mut [u64],
-    links: &mut [u64],
+    keys: &mut PagedRow,
+    links: &mut PagedRow,
     stock: &[u32],
     room: usize,
     slots: &[usize],
@@ -72,13 +71,13 @@ fn plan_keys(alloc: Global, kept: &NodeWords, cap: u32, slots: &[usize]) -> Resu
     ensures { IfOk result (IsKeyPlan kept.now cap slots.now count) }
 {
     let stock = kept.pool.stock_front(alloc, slots.len())?;
-    let mut keys = Vec::from_slice(alloc, kept.keys.as_slice())?;
-    let mut links = kept.links.whole(alloc)?;
+    let mut keys = kept.keys.copy(alloc)?;
+    let mut links = kept.links.copy(alloc)?;
     let room = (cap - kept.pool.live()) as usize;
     let taken = fill_keys(&mut keys, &mut links, stock.as_slice(), room, slots);
     Ok(KeyPlan {
-        keys: Items::from_vec(keys),
-        links: WordRow::of(links),
+        keys,
+        links,
         stock,
         room,
         taken,
@@ -91,7 +90,7 @@ impl NodeWords {
         requires { CanRekey keys.now links.now taken.now self.old }
         ensures { IsRekeyed keys.now links.now taken.now self.old self.new }
     {
-        overwrite(&mut self.keys, keys);
+        self.keys.overwrite(keys);
         self.links.overwrite(links);
         self.pool.settle(taken);
         // for the law that it ensures
@@ -99,7 +98,7 @@ impl NodeWords {
     }
 
     /// The same with a table that is moved in, in time by the numbers taken and the pool's free list.
-    fn rekey_row(&mut self, keys: Items<u64>, links: WordRow, taken: &[u32])
+    fn rekey_row(&mut self, keys: PagedRow, links: PagedRow, taken: &[u32])
         requires { CanRekey keys links taken.now self.old }
         ensures { IsRekeyed keys links taken.now self.old self.new }
     {
@@ -126,8 +125,8 @@ fn rekey_at(nodes: &mut Vec<NodeWords>, index: usize, keys: &[u64], links: &[u64
 fn rekey_row_at(
     nodes: &mut Vec<NodeWords>,
     index: usize,
-    keys: Items<u64>,
-    links: WordRow,
+    keys: PagedRow,
+    links: PagedRow,
     taken: &[u32],
 )
     requires there { index < length nodes.old.items }
@@ -149,7 +148,7 @@ impl Store {
     }
 
     /// The same with a table that is moved in.
-    fn settle_table(&mut self, index: usize, keys: Items<u64>, links: WordRow, taken: &[u32])
+    fn settle_table(&mut self, index: usize, keys: PagedRow, links: PagedRow, taken: &[u32])
         requires there { index < length self.old.nodes }
         requires can { AtNodeOf (CanSettleKeys keys links taken.now) self.old index }
         ensures { ChangesNode (IsRekeyed keys links taken.now) self.old self.new index }

@@ -9,7 +9,7 @@ ghost use Rattle.sg_store.specs.Links.{full_chain};
 ghost use Rattle.sg_store.specs.steps.Noting.{AreBelow, IsLinkedOnce, IsNoted, HeldSoFar, ChainNoted, ChainsNoted, IsSomeNode, HasSlots};
 
 use crate::node::{NodeWords, chunk_of};
-use crate::word_row::WordRow;
+use sg_hash::PagedRow;
 use sg_layout::{Kind, NodeShape};
 use sg_links::{Links, Row};
 use sg_words::Memory;
@@ -32,7 +32,7 @@ pub(crate) fn held_slots(
     match node.kind {
         Kind::Dense | Kind::Bitmasked => {}
         Kind::Pointer => note_links(&mut slots, &kept.links),
-        Kind::Hash => note_keys(&mut slots, kept.keys.as_slice(), &kept.links),
+        Kind::Hash => note_keys(&mut slots, &kept.keys, &kept.links),
         Kind::Dynamic => note_chains(&mut slots, &kept.chains, full),
     }
     Ok(slots)
@@ -49,25 +49,33 @@ fn zero_slots(alloc: Global, numbers: u32) -> Result<Row<usize>, Memory>
 }
 
 /// Writes beside each number that a link has the place of the link.
-fn note_links(slots: &mut Row<usize>, links: &WordRow)
+fn note_links(slots: &mut Row<usize>, links: &PagedRow)
     requires within { AreBelow links.now (length slots.old) }
     requires once { IsLinkedOnce links.now }
     ensures { HeldSoFar (λ place. place) links.now slots.old slots.new (length links.now) }
 {
-    for (place, link) in links.standing().iter().enumerate() {
-        note(slots, *link, place);
+    let mut place = 0;
+    while let Some(next) = links.next(place) {
+        note(slots, links.get(next), next);
+        place = next + 1;
     }
 }
 
 /// Writes beside each number that a link has the key that stands beside the link.
-fn note_keys(slots: &mut Row<usize>, keys: &[u64], links: &WordRow)
+fn note_keys(slots: &mut Row<usize>, keys: &PagedRow, links: &PagedRow)
     requires many { length keys.now ≡ length links.now }
     requires within { AreBelow links.now (length slots.old) }
     requires once { IsLinkedOnce links.now }
     ensures { HeldSoFar (λ place. slice_index keys.now place - 1) links.now slots.old slots.new (length links.now) }
 {
-    for (place, link) in links.standing().iter().enumerate() {
-        note(slots, *link, keys[place].saturating_sub(1) as usize);
+    let mut place = 0;
+    while let Some(next) = links.next(place) {
+        note(
+            slots,
+            links.get(next),
+            keys.get(next).saturating_sub(1) as usize,
+        );
+        place = next + 1;
     }
 }
 

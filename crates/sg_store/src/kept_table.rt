@@ -4,46 +4,46 @@ ghost use Rattle.std.specs.Prelude.{◌+◌, ◌<◌, length, IfOk};
 ghost use Rattle.sg_store.specs.steps.KeptTables.{IsOldTable, IsKeptSoFar, IsKeptTable};
 
 use crate::kept_rows::is_link_in_row;
-use crate::node::word;
-use crate::word_row::WordRow;
-use sg_hash::put;
-use sg_words::{Items, Memory};
+use sg_hash::{PagedRow, put_in};
+use sg_words::Memory;
 use std::alloc::Global;
 
 /// A table of keys, with the links beside them.
 #[derive(Debug, Drop)]
 pub(crate) struct KeptTable {
-    pub(crate) keys: Items<u64>,
-    pub(crate) links: Items<u64>,
+    pub(crate) keys: PagedRow,
+    pub(crate) links: PagedRow,
 }
 
-/// A table of as many places, with those keys alone whose numbers a row keeps.
+/// A table of as many places, with those keys alone whose numbers a row keeps. In time by the keys.
 pub(crate) fn kept_table(
     alloc: Global,
-    keys: &Items<u64>,
-    links: &WordRow,
+    keys: &PagedRow,
+    links: &PagedRow,
     row: &[bool],
 ) -> Result<KeptTable, Memory>
     requires { IsOldTable keys.now links.now }
     ensures { IfOk result (λ table. IsKeptTable keys.now links.now row.now table.keys table.links) }
 {
-    let mut kept = vec![in alloc; 0; keys.len()]?;
-    let mut beside = vec![in alloc; 0; keys.len()]?;
-    for place in 0..keys.len() {
-        put_kept(&mut kept, &mut beside, keys, links, place, row);
+    let mut kept = PagedRow::zeros(alloc, keys.len())?;
+    let mut beside = PagedRow::zeros(alloc, keys.len())?;
+    let mut place = 0;
+    while let Some(next) = keys.next(place) {
+        put_kept(&mut kept, &mut beside, keys, links, next, row);
+        place = next + 1;
     }
     Ok(KeptTable {
-        keys: Items::from_vec(kept),
-        links: Items::from_vec(beside),
+        keys: kept,
+        links: beside,
     })
 }
 
 /// Puts the key at a place of a table into another, where a row keeps its number.
 fn put_kept(
-    kept: &mut [u64],
-    beside: &mut [u64],
-    keys: &Items<u64>,
-    links: &WordRow,
+    kept: &mut PagedRow,
+    beside: &mut PagedRow,
+    keys: &PagedRow,
+    links: &PagedRow,
     place: usize,
     row: &[bool],
 )
@@ -52,9 +52,9 @@ fn put_kept(
     requires so_far { IsKeptSoFar keys.now links.now row.now kept.old beside.old place }
     ensures { IsKeptSoFar keys.now links.now row.now kept.new beside.new (place + 1) }
 {
-    let key = word(keys, place);
+    let key = keys.get(place);
     let link = links.get(place);
     if key != 0 && is_link_in_row(link, row) {
-        put(kept, beside, (key - 1) as u32, (link - 1) as u32);
+        put_in(kept, beside, (key - 1) as u32, (link - 1) as u32);
     }
 }

@@ -7,6 +7,7 @@ ghost use Rattle.sg_store.specs.steps.KeptWords.{in_row, kept_link, AreKeptBits,
 use crate::mask::mark;
 use crate::node::bit;
 use crate::word_row::WordRow;
+use sg_hash::PagedRow;
 use sg_words::Memory;
 use std::alloc::Global;
 
@@ -40,18 +41,20 @@ fn keep_bit(kept: &mut WordRow, masks: &WordRow, row: &[bool], slot: usize)
 }
 
 /// The links with those alone whose numbers are kept, and 0 in the place of the others.
-pub(crate) fn kept_links(alloc: Global, links: &WordRow, row: &[bool]) -> Result<WordRow, Memory>
+pub(crate) fn kept_links(alloc: Global, links: &PagedRow, row: &[bool]) -> Result<PagedRow, Memory>
     ensures { IfOk result (λ kept. AreKeptLinks links.now kept row.now (length links.now)) }
 {
     let mut kept = links.copy(alloc)?;
-    for slot in 0..links.standing().len() {
-        keep_link(&mut kept, row, slot);
+    let mut slot = 0;
+    while let Some(next) = links.next(slot) {
+        keep_link(&mut kept, row, next);
+        slot = next + 1;
     }
     Ok(kept)
 }
 
 /// Makes a link 0, where its number is not kept.
-fn keep_link(kept: &mut WordRow, row: &[bool], slot: usize)
+fn keep_link(kept: &mut PagedRow, row: &[bool], slot: usize)
     requires { slot < length kept.old }
     ensures { kept.new ≡ slice_set kept.old slot (kept_link (in_row row.now) (slice_index kept.old slot)) }
 {

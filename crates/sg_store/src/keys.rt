@@ -14,6 +14,7 @@ ghost use Rattle.sg_store.specs.steps.Sorting.{keys_in, AreSortedKeys};
 ghost use Rattle.sg_store.specs.Opening.{keys_of, link_words_of, CanSettleHash, FitsCap, WantedHaveKeys, NewKeysAreWanted, OpensNode};
 
 use crate::store::Store;
+use sg_hash::PagedRow;
 use sg_layout::{paths_tell, rules_decide};
 use sg_words::{Items, Memory};
 use std::alloc::{AllocError, Global};
@@ -30,13 +31,15 @@ fn push_key(keys: &mut Vec<u32>, word: u64) -> Result<(), AllocError>
 }
 
 /// The keys that words of a table hold, ascending.
-fn keys_in_order(alloc: Global, words: &[u64]) -> Result<Items<u32>, Memory>
+fn keys_in_order(alloc: Global, words: &PagedRow) -> Result<Items<u32>, Memory>
     requires { All (λ word. word ≤ 2 ^ 32) words.now }
     ensures { IfOk result (AreSortedKeys words.now) }
 {
     let mut keys = Vec::new(alloc);
-    for word in words {
-        push_key(&mut keys, *word)?;
+    let mut place = 0;
+    while let Some(next) = words.next(place) {
+        push_key(&mut keys, words.get(next))?;
+        place = next + 1;
     }
     keys.sort()?;
     Ok(Items::from_vec(keys))
@@ -55,11 +58,11 @@ impl Store {
         // for the law that it ensures
         rules_decide();
         let kept = &self.nodes.as_slice()[0];
-        Ok(Items::from_slice(alloc, kept.keys.as_slice())?)
+        Ok(Items::from_vec(kept.keys.whole(alloc)?))
     }
 
-    /// The keys of a hash node, which is the first, ascending: the offsets over which the root leads on. Time by the
-    /// places of its table.
+    /// The keys of a hash node, which is the first, ascending: the offsets over which the root leads on. In time by the keys, with a
+    /// logarithm, and one step for each 64 places of its table.
     pub fn sorted_keys(&self, alloc: Global) -> Result<Items<u32>, Memory>
         requires hash { kind_at self.now.shape.nodes 1 ≡ Hash }
         ensures { IfOk result (λ keys. keys ≡ root_offsets self.now) }
@@ -67,7 +70,7 @@ impl Store {
         // for the invariant that it ensures
         self.layout();
         let kept = &self.nodes.as_slice()[0];
-        keys_in_order(alloc, kept.keys.as_slice())
+        keys_in_order(alloc, &kept.keys)
     }
 
     /// Gives a hash node, which is the first, these keys and links, and makes the numbers live that they take from the

@@ -9,6 +9,7 @@ mod dense_node;
 mod dynamic;
 mod field_cells;
 pub mod field_row;
+mod following;
 mod frame;
 mod fresh;
 mod front;

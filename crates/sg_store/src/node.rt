@@ -7,11 +7,10 @@ ghost use Rattle.sg_store.specs.steps.Walking.{step_of_walk, unless_unset, CanFi
 
 use crate::word_row::WordRow;
 use sg_coord::{count, wide_quotient, wide_remainder};
-use sg_hash::place_of;
+use sg_hash::{PagedRow, place_in};
 use sg_layout::{Kind, NodeShape};
 use sg_links::Links;
 use sg_pool::Pool;
-use sg_words::Items;
 
 /// The words of one node, over all copies of its segment: for a pointer node a link for each slot, which is 0 or one
 /// more than the number of the slot's container, and the pool of these numbers; for a hash node a table of keys, which are
@@ -19,8 +18,8 @@ use sg_words::Items;
 /// dynamic node the length of each parent and a chain of chunks for each, and the pool of the chunks.
 #[derive(Debug, Drop)]
 pub struct NodeWords {
-    pub keys: Items<u64>,
-    pub links: WordRow,
+    pub keys: PagedRow,
+    pub links: PagedRow,
     pub masks: WordRow,
     pub lengths: WordRow,
     pub chains: Links,
@@ -78,7 +77,7 @@ fn past_bit(masks: &WordRow, slot: usize, bits: bool) -> Option<usize>
 }
 
 /// The number that the link at an index has. None if there is no link.
-fn link_at(links: &WordRow, index: usize) -> Option<usize>
+fn link_at(links: &PagedRow, index: usize) -> Option<usize>
     ensures { result ≡ linked (slice_index links.now index) }
 {
     let link = links.get(index);
@@ -108,22 +107,14 @@ pub(crate) fn chunk_of(node: &NodeShape) -> u32
 }
 
 /// The number that stands beside a slot's number as a key. None if it is no key.
-pub(crate) fn beside(keys: &Items<u64>, links: &WordRow, slot: usize) -> Option<usize>
+pub(crate) fn beside(keys: &PagedRow, links: &PagedRow, slot: usize) -> Option<usize>
     requires { IsTableFor keys.now links.now slot }
     ensures { result ≡ beside keys.now links.now slot }
 {
-    match place_of(keys.as_slice(), slot as u32) {
+    match place_in(keys, slot as u32) {
         Some(place) => Some((links.get(place) - 1) as usize),
         None => None,
     }
-}
-
-/// The word at an index; 0 past the last.
-pub(crate) fn word(words: &Items<u64>, index: usize) -> u64
-    ensures { result ≡ slice_index words.now index }
-{
-    let words = words.as_slice();
-    if index < words.len() { words[index] } else { 0 }
 }
 
 /// The bit with this number; not set past the last word.
@@ -131,14 +122,4 @@ pub(crate) fn bit(masks: &WordRow, number: usize) -> bool
     ensures { result ≡ mask_bit masks.now number }
 {
     (masks.get(number / 64) >> (number % 64)) & 1 == 1
-}
-
-/// Gives words other values, as many.
-pub(crate) fn overwrite(words: &mut Items<u64>, values: &[u64])
-    requires { length values.now ≡ length words.old }
-    ensures { words.new ≡ values.now }
-{
-    for (index, value) in values.iter().enumerate() {
-        words.set(index, *value);
-    }
 }

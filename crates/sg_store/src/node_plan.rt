@@ -15,9 +15,10 @@ use crate::cutting::give_back_cut;
 use crate::kept_lengths::kept_lengths;
 use crate::kept_table::{KeptTable, kept_table};
 use crate::kept_words::{kept_links, kept_masks};
-use crate::node::{NodeWords, chunk_of, overwrite};
+use crate::node::{NodeWords, chunk_of};
 use crate::shorten::shorten_all;
 use crate::word_row::WordRow;
+use sg_hash::PagedRow;
 use sg_layout::{Kind, NodeShape};
 use sg_words::{Items, Memory};
 use std::alloc::Global;
@@ -34,8 +35,8 @@ pub(crate) struct NodePlan {
 pub(crate) enum StayingWords {
     Whole,
     Masks(WordRow),
-    Linked(WordRow),
-    Table(WordRow, KeptTable),
+    Linked(PagedRow),
+    Table(PagedRow, KeptTable),
     Lengths(WordRow),
 }
 
@@ -120,7 +121,7 @@ impl NodeWords {
     }
 
     /// Gives a pointer node those of its links that stay, and gives back the numbers of the others.
-    fn cut_links(&mut self, links: &WordRow)
+    fn cut_links(&mut self, links: &PagedRow)
         requires as_many { length links.now ≡ length self.old.links }
         requires linked { HasLinks self.old.pool self.old.links }
         requires once { IsLinkedOnce self.old.links }
@@ -134,7 +135,7 @@ impl NodeWords {
     }
 
     /// Gives a hash node its new table, and gives back the numbers of the links of its old one that don't stay.
-    fn cut_table(&mut self, links: &WordRow, table: &KeptTable)
+    fn cut_table(&mut self, links: &PagedRow, table: &KeptTable)
         requires as_many { length links.now ≡ length self.old.links }
         requires keys_many { length table.now.keys ≡ length self.old.keys }
         requires links_many { length table.now.links ≡ length self.old.links }
@@ -146,8 +147,8 @@ impl NodeWords {
         // for the bound that it ensures
         self.pool.places();
         give_back_cut(&mut self.pool, &self.links, links);
-        overwrite(&mut self.keys, table.keys.as_slice());
-        self.links.overwrite(table.links.as_slice());
+        self.keys.become_like(&table.keys);
+        self.links.become_like(&table.links);
     }
 
     /// Gives a dynamic node other lengths, and cuts its chains to them.

@@ -10,8 +10,8 @@ ghost use Rattle.sg_store.specs.steps.Levels.{IsPointerOf, OpensNext, IsPastCap,
 use crate::node::NodeWords;
 use crate::reach::Full;
 use crate::store::Store;
-use crate::word_row::WordRow;
 use sg_coord::Coord;
+use sg_hash::PagedRow;
 use sg_layout::{need_counts_live, paths_tell};
 use sg_words::{Items, Memory, Stop};
 use std::alloc::Global;
@@ -20,7 +20,7 @@ use std::alloc::Global;
 /// stock, of which a front is here. There is room for `room` more numbers; `taken` is one past it where they are not enough.
 #[derive(Debug, Drop)]
 pub(crate) struct Plan {
-    pub(crate) links: WordRow,
+    pub(crate) links: PagedRow,
     pub(crate) stock: Items<u32>,
     pub(crate) room: usize,
     pub(crate) taken: usize,
@@ -28,7 +28,7 @@ pub(crate) struct Plan {
 
 /// Fills the slots that are empty with numbers of the stock, in order, until there are no more slots or one number more
 /// than the room is taken. How many are taken.
-fn fill(links: &mut WordRow, stock: &[u32], room: usize, slots: &[usize]) -> usize
+fn fill(links: &mut PagedRow, stock: &[u32], room: usize, slots: &[usize]) -> usize
     requires enough { HasEnough stock.now room slots.now }
     requires fresh { IsUnlinkedStock links.old stock.now }
     requires within { All (λ slot. slot < length links.old) slots.now }
@@ -82,7 +82,7 @@ impl NodeWords {
     }
 
     /// The same with a row of links, in time by the numbers taken and the pool's free list.
-    fn relink_row(&mut self, links: WordRow, taken: &[u32])
+    fn relink_row(&mut self, links: PagedRow, taken: &[u32])
         requires { CanRelink links taken.now self.old }
         ensures { IsRelinked links taken.now self.old self.new }
     {
@@ -105,7 +105,7 @@ fn relink_at(nodes: &mut Vec<NodeWords>, index: usize, links: &[u64], taken: &[u
 }
 
 /// The same with a row of links.
-fn relink_row_at(nodes: &mut Vec<NodeWords>, index: usize, links: WordRow, taken: &[u32])
+fn relink_row_at(nodes: &mut Vec<NodeWords>, index: usize, links: PagedRow, taken: &[u32])
     requires there { index < length nodes.old.items }
     requires can { (kept : NodeWords) → slice_get nodes.old.items index ≡ Some kept →
         CanRelink links taken.now kept }
@@ -127,7 +127,7 @@ impl Store {
     }
 
     /// The same with a row of links.
-    fn settle_row(&mut self, index: usize, links: WordRow, taken: &[u32])
+    fn settle_row(&mut self, index: usize, links: PagedRow, taken: &[u32])
         requires there { index < length self.old.nodes }
         requires can { AtNodeOf (CanSettleLinks links taken.now) self.old index }
         ensures { ChangesNode (IsRelinked links taken.now) self.old self.new index }

@@ -9,7 +9,7 @@ use std::alloc::Global;
 use std::marker::Model;
 
 /// A word for each slot of a row, with room for all of them; past the last that was given all are 0. Slots of a row are those of the
-/// node, 64 of them together, its parents, or the places of its table. Contracts see the words of all slots.
+/// node, 64 of them together, or its parents. Contracts see the words of all slots.
 #[derive(Debug, Drop)]
 pub struct WordRow {
     words: Vec<u64>,
@@ -34,14 +34,6 @@ impl WordRow {
     {
         let words = Vec::with_capacity(alloc, slots)?;
         Ok(WordRow { words, slots })
-    }
-
-    /// A row in which all these words stand.
-    pub(crate) fn of(words: Vec<u64>) -> WordRow
-        ensures { result ≡ words.items }
-    {
-        let slots = words.len();
-        WordRow { words, slots }
     }
 
     /// A copy of the row.

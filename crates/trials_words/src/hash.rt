@@ -2,7 +2,7 @@ ghost use Rattle.std.specs.Prelude.{◌≡◌, [], ◌∷◌, IfOk};
 ghost use Rattle.sg_words.specs.RaceMachine.{newcomer};
 ghost use Rattle.sg_hash.specs.Seats.{worker_of, IsSeatOf};
 
-use sg_hash::{Ask, HashLinked, HashPass, HashSeat};
+use sg_hash::{Ask, HashLinked, HashPass, HashSeat, PagedRow};
 use sg_words::{Items, Memory};
 use std::alloc::Global;
 use std::test::Fail;
@@ -97,5 +97,27 @@ fn two_workers_contend(rt: HostRuntime) -> Result<(), Fail> {
             "pass {pass}"
         );
     }
+    Ok(())
+}
+
+#[test]
+fn rows_are_kept_by_pages(rt: HostRuntime) -> Result<(), Fail> {
+    let mut row = PagedRow::zeros(rt.alloc(), 200)?;
+    assert_eq!(rt; row.next(0), None);
+    row.set(130, 7);
+    row.set(3, 9);
+    row.set(70, 0);
+    assert_eq!(rt; (row.get(3), row.get(70), row.get(130)), (9, 0, 7));
+    assert_eq!(rt;
+        (row.next(0), row.next(4), row.next(131)),
+        (Some(3), Some(130), None)
+    );
+    let mut like = PagedRow::zeros(rt.alloc(), 200)?;
+    like.set(70, 1);
+    like.become_like(&row);
+    assert_eq!(rt;
+        (like.get(3), like.get(70), like.next(4)),
+        (9, 0, Some(130))
+    );
     Ok(())
 }

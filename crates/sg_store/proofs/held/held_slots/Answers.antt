@@ -1,10 +1,9 @@
-use Rattle.std.proofs.Common.{◌≡◌, ℕ, ◌-◌, List, length, inl, inr, sym, ap, subst, arith}
-use Rattle.std.specs.Prelude.{slice_index}
+use Rattle.std.proofs.Common.{◌≡◌, ℕ, List, length, inl, inr, sym, ap, subst, arith}
 use Rattle.std.proofs.lemmas.List.{length-replicate}
 use Rattle.std.proofs.lemmas.Option.{none-some}
 use Rattle.sg_layout.specs.declared.shape.Kind.TheVariants.{Dense, Bitmasked, Pointer, Hash, Dynamic}
 use Rattle.sg_pool.specs.Numbers.{place_count}
-use Rattle.sg_store.specs.steps.Noting.{HeldSoFar, ChainsNoted, HasSlots}
+use Rattle.sg_store.specs.steps.Noting.{ChainsNoted, HasSlots}
 use Rattle.sg_store.proofs.NotedNodes.{as_kind, pointer_below, pointer_slots, hash_below, hash_once, hash_slots, chains_short, dynamic_slots, no_slots}
 use Rattle.sg_store.proofs.held.held_slots.Goals.{in-Dense, in-Pointer, in-Hash, in-Dynamic}
 use Rattle.sg_store.proofs.held.held_slots.Goals as goal
@@ -47,7 +46,7 @@ returns c =
           let own = as_kind node kept Hash w.in-Hash.is c.requires.node in
           subst (HasSlots node kept) (sym w.slots-is)
           (hash_slots node kept own.0 own.1 old w.note_keys.new.slots w.in-Hash.is own.2 many
-          (subst (λ (ks : List ℕ). HeldSoFar (λ place. slice_index ks place - 1) kept.links old w.note_keys.new.slots (length kept.links)) w.as_slice.ensures w.note_keys.ensures))
+          w.note_keys.ensures)
       | in-Dynamic w ↦ subst (HasSlots node kept) (sym w.slots-is)
           (dynamic_slots node kept old w.note_chains.new.slots w.in-Dynamic.is many
           (subst (λ full. ChainsNoted kept.chains full (length kept.chains.lists) old w.note_chains.new.slots) c.requires.full w.note_chains.ensures))

@@ -1,16 +1,27 @@
-use Rattle.std.proofs.Common.{◌≡◌, ◌-◌, ◌≤◌, ℕ, suc, length, sym, ◌∙◌, arith}
+use Rattle.std.proofs.Common.{◌≡◌, ◌-◌, ℕ, suc, ap, ◌∙◌, subst, arith}
 use Rattle.std.specs.Prelude.{slice_index}
-use Rattle.sg_store.proofs.StandingWords.{held_all}
+use Rattle.sg_store.specs.steps.Noting.{IsNoted}
+use Rattle.sg_store.proofs.Noted.{held_more}
+use Rattle.sg_store.proofs.WordsInUse.{held_to, held_all}
 use Rattle.sg_store.proofs.held.note_keys.Goals as goal
 
 pub note-requires : goal.note-requires
 note-requires c = λ some.
-    let word : ℕ = slice_index c.standing-link-items.result.now c.loop-place.place in
-    let holds : slice_index c.standing-link-items.result.now c.loop-place.place ≡ suc (word - 1) = omega (arith, some) in
-    let below = c.requires.within c.loop-place.place (word - 1) (sym (c.standing-link-items.ensures.words c.loop-place.place) ∙ holds) in
-    omega (arith, below, c.loop-place.invariant.as_many)
+    let at = c.in-Some.ensures.next in
+    let word : ℕ = slice_index c.args.links.now c.in-Some.next in
+    let holds : slice_index c.args.links.now c.in-Some.next ≡ suc (word - 1) = omega (arith, at.2) in
+    let below = c.requires.within c.in-Some.next (word - 1) holds in
+    omega (arith, c.get.ensures, below, c.loop-next.invariant.0.as_many)
+
+pub loop-next-preserved : goal.loop-next-preserved
+loop-next-preserved c =
+    let at = c.in-Some.ensures.next in
+    let before = held_to (λ place. slice_index c.args.keys.now place - 1) c.args.links.now c.args.slots.now c.loop-next.slots c.loop-next.place c.in-Some.next at.3 c.loop-next.invariant.0 in (
+      held_more (λ place. slice_index c.args.keys.now place - 1) c.args.links.now c.args.slots.now c.loop-next.slots c.note.new.slots c.in-Some.next c.requires.once before
+          (subst (λ word. IsNoted word (slice_index c.args.keys.now c.in-Some.next - 1) c.loop-next.slots c.note.new.slots) c.get.ensures
+          (subst (λ slot. IsNoted c.get.result slot c.loop-next.slots c.note.new.slots) (c.saturating_sub.ensures ∙ ap (λ k. k - 1) c.get-in-Some.ensures) c.note.ensures)),
+      omega (arith, at.1),
+    )
 
 pub returns : goal.returns
-returns c =
-    let end : length c.standing-link-items.result.now ≤ c.loop-place.place = omega (arith, c.loop-place-test.false) in
-    held_all (λ place. slice_index c.args.keys.now place - 1) c.standing-link-items.result.now c.args.links.now c.args.slots.now c.loop-place.slots c.loop-place.place c.standing-link-items.ensures.words end c.loop-place.invariant
+returns c = held_all (λ place. slice_index c.args.keys.now place - 1) c.args.links.now c.args.slots.now c.loop-next.slots c.loop-next.place c.in_default.ensures.next c.loop-next.invariant.0

@@ -1,5 +1,9 @@
+use Rattle.std.proofs.Common.{◌-◌, ◌≤◌, length}
 use Rattle.sg_store.specs.steps.Noting.{HeldSoFar}
 use Rattle.sg_store.proofs.held.note_links.Given as goal
 
-abbrev pub invariant-loop-place : goal.invariant-loop-place
-invariant-loop-place l = HeldSoFar (λ place. place) l.links l.fn.slots l.slots l.place
+abbrev pub invariant-loop-next : goal.invariant-loop-next
+invariant-loop-next l = HeldSoFar (λ place. place) l.links l.fn.slots l.slots l.place × (l.place ≤ length l.links)
+
+abbrev pub decreases-loop-next : goal.decreases-loop-next
+decreases-loop-next l = length l.links - l.place

@@ -1,6 +1,9 @@
-use Rattle.std.proofs.Common.{◌≡◌, take}
+use Rattle.std.proofs.Common.{◌≡◌, ◌-◌, ◌≤◌, length, take}
 use Rattle.sg_store.specs.steps.Sorting.{keys_in}
 use Rattle.sg_store.proofs.keys.keys_in_order.Given as goal
 
-abbrev pub invariant-loop-word : goal.invariant-loop-word
-invariant-loop-word l = l.keys.items ≡ keys_in (take l.word-index l.words)
+abbrev pub invariant-loop-next : goal.invariant-loop-next
+invariant-loop-next l = (l.keys.items ≡ keys_in (take l.place l.words)) × (l.place ≤ length l.words)
+
+abbrev pub decreases-loop-next : goal.decreases-loop-next
+decreases-loop-next l = length l.words - l.place

@@ -21,7 +21,7 @@ bounds-as_slice-0 c =
     let nodes = c.as_slice.ensures.value ∙ ap (λ (s : StoreWords). s.nodes) c.self.view_is in
     subst (λ (words : List NodeWords). 0 < length words) (sym nodes) (slice_get_within store.nodes 0 at.1 at.2.has)
 
-read : (c : goal.In_ok-from_slice) → c.in_ok-from_slice.field-0 ≡ keys_of c.args.self.now 1
+read : (c : goal.After-from_vec) → c.from_vec.result ≡ keys_of c.args.self.now 1
 read c =
     let store : StoreWords = c.args.self.now in
     let well : IsWellFormed store = subst IsWellFormed c.self.view_is c.self.invariant in
@@ -29,7 +29,7 @@ read c =
     let same : c.index-as_slice-0.result ≡ at.1 =
     read_as c.as_slice.result.now store.nodes 0 c.index-as_slice-0.result at.1 (c.as_slice.ensures.value ∙ ap (λ (s : StoreWords). s.nodes) c.self.view_is)
     c.index-as_slice-0.is at.2.has in
-    c.in_ok-from_slice.ensures ∙ c.as_slice-2.ensures ∙ ap (λ (k : NodeWords). k.keys) same
+    c.from_vec.ensures ∙ c.in_ok-whole.ensures ∙ ap (λ (k : NodeWords). k.keys) same
     ∙ sym (keys_are store 1 0 at.0 at.1 at.2)
 
 pub returns-clause-words : goal.returns-clause-words

@@ -2,7 +2,6 @@ use Rattle.std.proofs.Common.{◌≡◌, ℕ, suc, ◌+◌, ◌-◌, Bool, subst
 use Rattle.sg_store.specs.StoreWords.{StoreWords}
 use Rattle.sg_store.specs.steps.KeptWords.{in_row}
 use Rattle.sg_store.specs.steps.StorePlans.{IsRowAt, ArePlansFrom}
-use Rattle.sg_store.proofs.StorePlans as lemmas
 use Rattle.sg_store.proofs.store.Store.plans.Goals as goal
 
 pub plan_above-requires-clause-row : goal.plan_above-requires-clause-row

@@ -28,7 +28,7 @@ keys_in_order-requires c =
     let same : c.index-as_slice-0.result ≡ at.1 =
     read_as c.as_slice.result.now store.nodes 0 c.index-as_slice-0.result at.1 (c.as_slice.ensures.value ∙ ap (λ (s : StoreWords). s.nodes) c.self.view_is)
     c.index-as_slice-0.is at.2.has in
-    let words = c.as_slice-2.ensures ∙ ap (λ (k : NodeWords). k.keys) same in
+    let words = ap (λ (k : NodeWords). k.keys) same in
     subst (λ (list : List ℕ). All (λ word. word ≤ 2 ^ 32) list) (sym words) (keys_small store at.0 at.1 at.2 (sym at.3 ∙ c.requires.hash))
 
 offsets_ok : (store : StoreWords) (words : List ℕ) {E : Type 0} (r : Result (List ℕ) E) → ((keys : List ℕ) → AreSortedKeys words keys → keys ≡ root_offsets store) → IfOk r (AreSortedKeys words) → IfOk r (λ keys. keys ≡ root_offsets store)
@@ -43,7 +43,7 @@ returns c =
     let same : c.index-as_slice-0.result ≡ at.1 =
     read_as c.as_slice.result.now store.nodes 0 c.index-as_slice-0.result at.1 (c.as_slice.ensures.value ∙ ap (λ (s : StoreWords). s.nodes) c.self.view_is)
     c.index-as_slice-0.is at.2.has in
-    let words = c.as_slice-2.ensures ∙ ap (λ (k : NodeWords). k.keys) same in
-    offsets_ok c.args.self.now c.as_slice-2.result.now c.keys_in_order.result
+    let words = ap (λ (k : NodeWords). k.keys) same in
+    offsets_ok c.args.self.now c.index-as_slice-0.result.keys c.keys_in_order.result
     (λ keys are. sorted_offsets store at.0 at.1 keys at.2 (sym at.3 ∙ c.requires.hash) (subst (λ (list : List ℕ). AreSortedKeys list keys) words are))
     c.keys_in_order.ensures
