@@ -1,6 +1,6 @@
 -- A seat cut in two, and two seats made one: spares and flags.
 use Rattle.std.proofs.Common.{◌≡◌, ℕ, zero, suc, ◌+◌, ◌<◌, ◌≤◌, ◌⊎◌, inl, inr, Bool, false, ◌||◌, ◌&&◌, ◌==◌, nat_lt, List, [], ◌∷◌, ◌++◌, length, replicate, refl, sym, ap, ◌∙◌, subst, arith}
-use Rattle.std.specs.Prelude.{slice_index, slice_index_or}
+use Rattle.std.specs.Prelude.{slice_index_or}
 use Rattle.std.proofs.lemmas.Bool.Decides.{nat_tests}
 use Rattle.std.proofs.lemmas.List.{get_or_past}
 use Rattle.atomic_table.specs.Table.{Splits, Joins}
@@ -18,6 +18,7 @@ use Rattle.sg_activate.specs.Descending.{IsSlotFor, IsBitFor}
 use Rattle.sg_activate.specs.Descents.{AreInside}
 use Rattle.sg_activate.specs.steps.DescentSeats.{AreSpares, AreDry}
 use Rattle.sg_activate.proofs.DescentAnswered.{slot_for_more, bit_for_more}
+use Rattle.sg_activate.proofs.DescentViews.{zeros}
 use Rattle.sg_activate.proofs.DescentMoves.{Holds, splits-allowed, joins-allowed}
 
 pub split-allowed : (p : DescentPass) (id : ℕ) (v : Worker) → 2 ≤ v.share → Splits (Holds p.table.shared.key) id v (after_split v) (other_half v)
@@ -25,11 +26,6 @@ split-allowed p id v share = subst (λ k. Splits (Holds k) id v (after_split v) 
 
 pub join-allowed : (p : DescentPass) (id : ℕ) (v : Worker) (other : ℕ) (w : Worker) → 0 < v.share → 0 < w.share → Joins (Holds p.table.shared.key) id v other w (after_join v w) nobody
 join-allowed p id v other w live live' = subst (λ k. Joins (Holds k) id v other w (after_join v w) nobody) (sym p.told) (joins-allowed p.start p.laid id v other w live live')
-
-zeros : (n i : ℕ) → slice_index (replicate n 0) i ≡ 0
-zeros zero i = refl
-zeros (suc n) zero = refl
-zeros (suc n) (suc i) = zeros n i
 
 -- a new seat has no spare and isn't dry
 pub new-spares : (v w : Worker) → w ≡ other_half v → AreSpares (replicate 6 0) w

@@ -1,12 +1,17 @@
 -- A seat after an event knows all that it did before.
-use Rattle.std.proofs.Common.{◌≡◌, ℕ, ◌+◌, ◌-◌, ◌<◌, ◌≢◌, ◌⊎◌, inl, inr, ◌&&◌, ◌==◌, List, [], ◌∷◌, ◌++◌, refl, sym, ap, ◌∙◌, subst, arith}
+use Rattle.std.proofs.Common.{◌≡◌, ℕ, ◌+◌, ◌-◌, ◌<◌, ◌≢◌, ◌⊎◌, inl, inr, ◌&&◌, ◌==◌, List, [], ◌∷◌, ◌++◌, length, replicate, set, refl, sym, ap, ◌∙◌, subst, arith}
+use Rattle.std.specs.Prelude.{slice_index}
+use Rattle.std.proofs.lemmas.List.{get_or-set_same, get_or-set_other}
+use mathlib.Core.Logic.{dite}
+use native.Mathlib.Decide.{ℕ_discrete}
 use Rattle.sg_words.specs.declared.race.Worker.{Worker}
 use Rattle.sg_words.specs.Counts.{one, pairs, firsts, times_in}
-use Rattle.sg_words.specs.RaceMachine.{after_see, after_miss, after_link, after_draw, after_mark}
+use Rattle.sg_words.specs.RaceMachine.{after_see, after_miss, after_link, after_draw, after_mark, after_split, after_join}
 use Rattle.sg_words.specs.steps.RaceSteps.{after_look, after_try}
 use Rattle.sg_words.proofs.Uses.{found_case, total-append, pairs-snoc, pair_cases, first_cases, total-snoc}
 use Rattle.sg_activate.specs.Descending.{KnowsMore}
-use Rattle.sg_activate.proofs.DescentViews.{draw_case}
+use Rattle.sg_activate.specs.steps.DescentSeats.{AreRemembered}
+use Rattle.sg_activate.proofs.DescentViews.{draw_case, zeros}
 
 pairs-more : (i n : ℕ) (xs ys : List (ℕ × ℕ)) → 0 < pairs i n xs → 0 < pairs i n (xs ++ ys)
 pairs-more i n xs ys has = let a = total-append (λ (x : ℕ × ℕ). one ((x.0 == i) && (x.1 == n))) xs ys in omega arith
@@ -131,3 +136,33 @@ made-asked l limit i word t n word' v a b w looked provided tried j u has =
 pub marked-asked : (l limit i word t n word' : ℕ) (v a b w : Worker) → a ≡ after_look i word v → (b ≡ a) ⊎ ((m : ℕ) × (b ≡ after_draw l limit m a)) → w ≡ after_try l i t n word' b → w.marked ≡ v.marked
 marked-asked l limit i word t n word' v a b w looked provided tried =
     (made-tried l i t n word' b w tried).1 ∙ (made-provided l limit a b provided).1 ∙ (made-looked i word v a looked).1
+
+-- ---- the bits that a seat remembers
+pub bits-more : (bits : List ℕ) (v w : Worker) → KnowsMore v w → AreRemembered bits v → AreRemembered bits w
+bits-more bits v w more are k some = more.marked (slice_index bits k - 1) (are k some)
+
+pub bits-split : (bits : List ℕ) (v w : Worker) → w ≡ after_split v → AreRemembered bits v → AreRemembered bits w
+bits-split bits v w e are = subst (AreRemembered bits) (sym e) are
+
+pub bits-join : (bits : List ℕ) (v w u : Worker) → u ≡ after_join v w → AreRemembered bits v → AreRemembered bits u
+bits-join bits v w u e are = subst (AreRemembered bits) (sym e) (λ k some. times-more (slice_index bits k - 1) v.marked w.marked (are k some))
+
+-- a new seat remembers none
+pub new-bits : (v : Worker) → AreRemembered (replicate 6 0) v
+new-bits v k some = absurd (let none = zeros 6 k in omega arith)
+
+pub bit-is : (bits : List ℕ) (v : Worker) (k b : ℕ) → AreRemembered bits v → slice_index bits k ≡ b + 1 → 0 < times_in b v.marked
+bit-is bits v k b are is = let e : slice_index bits k - 1 ≡ b = omega arith in subst (λ b. 0 < times_in b v.marked) e (are k (omega arith))
+
+pub bits-set : (bits : List ℕ) (v : Worker) (k b : ℕ) → k < length bits → 0 < times_in b v.marked → AreRemembered bits v → AreRemembered (set bits k (b + 1)) v
+bits-set bits v k b below has are m some = dite (ℕ_discrete k m)
+    (λ same. let here : slice_index (set bits k (b + 1)) m ≡ b + 1 = subst (λ m. slice_index (set bits k (b + 1)) m ≡ b + 1) same (get_or-set_same bits k (b + 1) 0 below) in
+    let e : slice_index (set bits k (b + 1)) m - 1 ≡ b = omega arith in
+    subst (λ b. 0 < times_in b v.marked) (sym e) has)
+    (λ other. let there : slice_index (set bits k (b + 1)) m ≡ slice_index bits m = get_or-set_other bits k m (b + 1) 0 (λ h. other (sym h)) in
+    subst (λ n. 0 < times_in (n - 1) v.marked) (sym there) (are m (omega arith)))
+
+-- a bit that was marked, or is marked now
+pub once-more : (b : ℕ) (v w : Worker) → (w ≡ v) ⊎ (w ≡ after_mark b v) → KnowsMore v w
+once-more b v w (inl same) = subst (KnowsMore v) (sym same) (more-same v)
+once-more b v w (inr marked) = mark-more b v w marked

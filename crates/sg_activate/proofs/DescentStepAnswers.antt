@@ -15,7 +15,7 @@ use Rattle.sg_activate.specs.steps.DescentWalk.{level_at, places_at, IsSlotLevel
 use Rattle.sg_activate.specs.steps.DescentReaching.{IsOpenAt, IsMissedAt, StandsAt, GrewBy}
 use Rattle.sg_activate.proofs.DescentMores.{one_marked}
 use Rattle.sg_activate.proofs.DescentWalks.{slot-within, known-slot, known-bit}
-use Rattle.sg_activate.proofs.DescentSteps.{stands_more, knows_slot, stands_dense, stands_masked, stands_linked, slot_within, open_dense, open_masked, open_linked, slot_inside, bit_inside}
+use Rattle.sg_activate.proofs.DescentSteps.{stands_more, knows_slot, stands_dense, stands_masked, stands_linked, slot_within, open_dense, open_masked, open_linked, slot_inside, bit_inside, grew_not}
 
 -- what holds where a step begins
 pub record IsStep (start : Start) (levels : List Level) (from : ℕ) (offsets : List ℕ) (v : Worker) (k place : ℕ) (level : Level) (slot : ℕ) : Type 0 where
@@ -111,8 +111,9 @@ module _ (start : Start) (levels : List Level) (from : ℕ) (offsets : List ℕ)
         open_masked start levels from offsets w k place kind (subst (λ i. 0 < times_in i w.marked) at_is marked) here,
       )
 
-  pub mark_grew : (w : Worker) → level.kind ≡ Bitmasked → KnowsMore v w → w ≡ after_mark (level.first + slot) v → GrewBy levels from offsets v w
-  mark_grew w masked more is =
+  pub mark_grew : (w : Worker) → level.kind ≡ Bitmasked → KnowsMore v w → (w ≡ v) ⊎ (w ≡ after_mark (level.first + slot) v) → GrewBy levels from offsets v w
+  mark_grew w masked more (inl same) = subst (GrewBy levels from offsets v) (sym same) (grew_not start levels from offsets v)
+  mark_grew w masked more (inr is) =
       let kind = sym (ap (λ (l : Level). l.kind) s.level_is) ∙ masked in
       let here = stands_more start levels from offsets v w k place more s.stands in
       record {

@@ -1,5 +1,5 @@
 -- What an event leaves of a view, in the facts that a seat keeps.
-use Rattle.std.proofs.Common.{◌≡◌, ℕ, ◌+◌, ◌-◌, ◌<◌, ◌≤◌, ◌≢◌, Bool, true, false, cond, ◌&&◌, ◌==◌, nat_lt, List, [], ◌∷◌, ◌++◌, length, set, refl, sym, ap, ◌∙◌, subst, arith}
+use Rattle.std.proofs.Common.{◌≡◌, ℕ, zero, suc, ◌+◌, ◌-◌, ◌<◌, ◌≤◌, ◌≢◌, Bool, true, false, cond, ◌&&◌, ◌==◌, nat_lt, List, [], ◌∷◌, ◌++◌, length, replicate, set, refl, sym, ap, ◌∙◌, subst, arith}
 use Rattle.std.specs.Prelude.{slice_index, slice_index_or}
 use Rattle.std.proofs.lemmas.Bool.Decides.{nat_tests}
 use Rattle.std.proofs.lemmas.List.{get_or-set_same, get_or-set_other}
@@ -26,6 +26,12 @@ spares-same spares v w e are = record {
 
 pub dry-same : (dry : List Bool) (v w : Worker) → w.past ≡ v.past → AreDry dry v → AreDry dry w
 dry-same dry v w e are l = are l ∙ ap (λ p. nat_lt 0 (firsts l p)) (sym e)
+
+-- a row of zeros
+pub zeros : (n i : ℕ) → slice_index (replicate n 0) i ≡ 0
+zeros zero i = refl
+zeros (suc n) zero = refl
+zeros (suc n) (suc i) = zeros n i
 
 -- a seat without a spare
 pub no-spare : (spares : List ℕ) (v : Worker) (l : ℕ) → AreSpares spares v → slice_index spares l ≡ 0 → firsts l v.spare ≡ 0

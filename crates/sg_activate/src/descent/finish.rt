@@ -73,6 +73,7 @@ impl DescentPass {
             seat,
             spares: _,
             dry: _,
+            last_bits: _,
         } = seat;
         let closed = table.close_with(seat);
         copy_words(&closed, 0, &mut links);

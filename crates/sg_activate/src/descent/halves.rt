@@ -21,6 +21,7 @@ impl DescentPass {
             seat: other,
             spares: [0; 6],
             dry: [false; 6],
+            last_bits: [0; 6],
         }
     }
 
@@ -35,6 +36,7 @@ impl DescentPass {
             seat: joined,
             spares: _,
             dry,
+            last_bits: _,
         } = other;
         let flags = either_each(seat.dry, dry);
         self.table.shared.join_seat::<Half>(&mut seat.seat, joined);

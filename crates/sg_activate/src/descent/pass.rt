@@ -1,6 +1,6 @@
 //! The descent and its seats, and one function for each atomic step.
 ghost use Rattle.std.specs.Prelude.{◌≡◌, ℕ, ◌+◌, ◌-◌, ◌*◌, ◌/◌, ◌%◌, ◌^◌, ◌<◌, ◌≤◌, ◌≢◌, ◌⊎◌, true, false, MatchOption, [], ◌∷◌, length, slice_index, slice_index_or};
-ghost use Rattle.sg_words.specs.Counts.{pairs, firsts};
+ghost use Rattle.sg_words.specs.Counts.{pairs, firsts, times_in};
 ghost use Rattle.sg_words.specs.RaceMachine.{KnowsContainer, after_draw, after_mark};
 ghost use Rattle.sg_words.specs.steps.RaceSteps.{after_look, after_try};
 ghost use Rattle.sg_activate.specs.TableParts.{first_of, part_of};
@@ -23,8 +23,29 @@ impl DescentPass {
         self.table.shared.load::<Look>(&mut seat.seat, slot)
     }
 
+    // Sets a bit of a level, unless it is the last one that the seat set there: at the upper levels coordinates side by
+    // side mostly have the same bit.
+    pub(crate) fn mark_once(&self, seat: &mut DescentSeat, index: usize, bit: usize)
+        requires own { IsSeatAt self.now seat.old }
+        requires level { index < 6 }
+        requires inside { bit / 64 < length self.now.start.masks }
+        requires known { KnowsContainer (setting_of self.now.start) (worker_of seat.old)
+            (over_bit_at self.now.start bit) }
+        ensures own { IsSeatAt self.now seat.new }
+        ensures event { (worker_of seat.new ≡ worker_of seat.old) ⊎
+            (worker_of seat.new ≡ after_mark bit (worker_of seat.old)) }
+        ensures marked { 0 < times_in bit (worker_of seat.new).marked }
+    {
+        let number = bit + 1;
+        if seat.last_bits[index] == number {
+            return;
+        }
+        self.mark(seat, bit);
+        seat.last_bits[index] = number;
+    }
+
     // Sets a bit.
-    pub(crate) fn mark(&self, seat: &mut DescentSeat, bit: usize)
+    fn mark(&self, seat: &mut DescentSeat, bit: usize)
         requires own { IsSeatAt self.now seat.old }
         requires inside { bit / 64 < length self.now.start.masks }
         requires known { KnowsContainer (setting_of self.now.start) (worker_of seat.old)

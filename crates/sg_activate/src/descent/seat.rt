@@ -3,7 +3,7 @@ ghost use Rattle.std.specs.Prelude.{◌≡◌, ◌≢◌, ℕ, ◌+◌, ◌*◌,
 ghost use Rattle.sg_layout.specs.declared.shape.Kind.TheVariants.{Bitmasked, Pointer, Hash, Dynamic};
 ghost use Rattle.sg_activate.specs.Descending.{open_before, last_fused};
 ghost use Rattle.sg_activate.specs.steps.DescentParts.{IsLaidOut, AreHeads};
-ghost use Rattle.sg_activate.specs.steps.DescentSeats.{AreSpares, AreDry};
+ghost use Rattle.sg_activate.specs.steps.DescentSeats.{AreSpares, AreDry, AreRemembered};
 ghost use Rattle.sg_activate.specs.steps.DescentWalk.{level_at, places_at, IsLevelAt, IsSlotLevel, IsMaskLevel};
 
 use crate::descent::level::Level;
@@ -44,16 +44,19 @@ pub struct DescentPass {
 }
 
 /// One worker's seat in a descent. At each pointer node it holds at most one spare: one more than a ticket of the stock
-/// that it drew and hasn't linked.
+/// that it drew and hasn't linked. At each bitmasked level it remembers one more than the last bit that it set there.
 #[derive(Drop)]
 pub struct DescentSeat {
     pub(crate) seat: Seat<(), Worker>,
     pub(crate) spares: [u64; 6],
     pub(crate) dry: [bool; 6],
+    pub(crate) last_bits: [usize; 6],
     ghost empty_handed: { seat.me.1 ≡ [] },
     ghost working: { 0 < seat.me.0.share },
     ghost rows: { length spares ≡ 6 },
     ghost flags: { length dry ≡ 6 },
+    ghost bits: { length last_bits ≡ 6 },
     ghost spares_are: { AreSpares spares seat.me.0 },
     ghost dry_are: { AreDry dry seat.me.0 },
+    ghost bits_are: { AreRemembered last_bits seat.me.0 },
 }

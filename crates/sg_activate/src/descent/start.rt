@@ -131,6 +131,7 @@ fn seated(
         seat,
         spares: [0; 6],
         dry: [false; 6],
+        last_bits: [0; 6],
     };
     Ok((pass, seat))
 }

@@ -149,7 +149,7 @@ impl DescentPass {
         match level.kind {
             Kind::Dense => Some(slot),
             Kind::Bitmasked => {
-                self.mark(seat, (level.first + slot) as usize);
+                self.mark_once(seat, index, (level.first + slot) as usize);
                 Some(slot)
             }
             Kind::Pointer => {

@@ -3,6 +3,7 @@ use Rattle.std.proofs.lemmas.List.{length-set}
 use Rattle.sg_words.specs.Counts.{pairs}
 use Rattle.sg_activate.specs.DescentRace.{stock_at}
 use Rattle.sg_activate.proofs.DescentPasses.{draw-allowed, draw-told}
+use Rattle.sg_activate.proofs.DescentMores.{bits-more, draw-more}
 use Rattle.sg_activate.proofs.DescentViews.{no-spare, not-past, drawn-spare, drawn-past, spares-more, spares-same, dry-more, dry-same, spares-below}
 use Rattle.sg_activate.proofs.descent.seat.DescentPass.draw.Goals as goal
 
@@ -37,8 +38,10 @@ invariant_of-seat c =
       working = omega arith;
       rows = length-set c.args.seat.now.spares c.args.node (c.fetch_add-ticket.result + 1) ∙ c.args.seat.now.rows;
       flags = c.args.seat.now.flags;
+      bits = c.args.seat.now.bits;
       spares_are = spares-more c.args.seat.now.spares c.args.seat.now.seat.me.0 c.fetch_add-ticket.new.seat.me.0 c.args.node c.fetch_add-ticket.result (omega arith) c.requires.none d.2 c.args.seat.now.spares_are;
       dry_are = dry-same c.args.seat.now.dry c.args.seat.now.seat.me.0 c.fetch_add-ticket.new.seat.me.0 d.3 c.args.seat.now.dry_are;
+      bits_are = bits-more c.args.seat.now.last_bits c.args.seat.now.seat.me.0 c.fetch_add-ticket.new.seat.me.0 (draw-more c.args.node (length (stock_at c.args.self.now.start c.args.node)) c.fetch_add-ticket.result c.args.seat.now.seat.me.0 c.fetch_add-ticket.new.seat.me.0 (ap (λ m. m.0) me)) c.args.seat.now.bits_are;
     }
 
 pub invariant_of-seat-else-ticket-limit : goal.invariant_of-seat-else-ticket-limit
@@ -59,8 +62,10 @@ invariant_of-seat-else-ticket-limit c =
       working = omega arith;
       rows = c.args.seat.now.rows;
       flags = length-set c.args.seat.now.dry c.args.node true ∙ c.args.seat.now.flags;
+      bits = c.args.seat.now.bits;
       spares_are = spares-same c.args.seat.now.spares c.args.seat.now.seat.me.0 c.fetch_add-ticket.new.seat.me.0 d.2 c.args.seat.now.spares_are;
       dry_are = dry-more c.args.seat.now.dry c.args.seat.now.seat.me.0 c.fetch_add-ticket.new.seat.me.0 c.args.node c.fetch_add-ticket.result (omega arith) d.3 c.args.seat.now.dry_are;
+      bits_are = bits-more c.args.seat.now.last_bits c.args.seat.now.seat.me.0 c.fetch_add-ticket.new.seat.me.0 (draw-more c.args.node (length (stock_at c.args.self.now.start c.args.node)) c.fetch_add-ticket.result c.args.seat.now.seat.me.0 c.fetch_add-ticket.new.seat.me.0 (ap (λ m. m.0) me)) c.args.seat.now.bits_are;
     }
 
 pub returns-then-ticket-limit-clause-own : goal.returns-then-ticket-limit-clause-own

@@ -2,6 +2,7 @@ use Rattle.std.proofs.Common.{rules, ◌≡◌, ◌<◌, ap, ◌∙◌, subst, a
 use Rattle.sg_words.specs.declared.race.Worker.{Worker}
 use Rattle.sg_words.specs.Counts.{pairs}
 use Rattle.sg_words.specs.RaceMachine.{after_join}
+use Rattle.sg_activate.proofs.DescentMores.{bits-join}
 use Rattle.sg_activate.proofs.DescentViews.{spares-same}
 use Rattle.sg_activate.proofs.DescentCuts.{join-allowed, dry-join, inside_join}
 use Rattle.sg_activate.proofs.descent.seat.DescentPass.join.Goals as goal
@@ -26,8 +27,10 @@ invariant_of-seat c =
       working = omega arith;
       rows = c.args.seat.now.rows;
       flags = c.either_each-flags.ensures.rows;
+      bits = c.args.seat.now.bits;
       spares_are = spares-same c.args.seat.now.spares v u (ap (λ (u : Worker). u.spare) is) c.args.seat.now.spares_are;
       dry_are = dry-join c.args.seat.now.dry c.args.other.dry c.either_each-flags.result v w u is c.args.seat.now.dry_are c.args.other.dry_are c.either_each-flags.ensures.each;
+      bits_are = bits-join c.args.seat.now.last_bits v w u is c.args.seat.now.bits_are;
     }
 
 pub returns-clause-own : goal.returns-clause-own

@@ -4,6 +4,7 @@ use Rattle.std.proofs.lemmas.List.{length-set}
 use Rattle.sg_words.specs.Counts.{pairs}
 use Rattle.sg_activate.specs.DescentRace.{stock_at}
 use Rattle.sg_activate.proofs.DescentPasses.{try-allowed, try-told}
+use Rattle.sg_activate.proofs.DescentMores.{bits-more, try-more}
 use Rattle.sg_activate.proofs.DescentViews.{spare-stands, tried-link, tried-see, spares-fewer, spares-same, dry-same, without-less}
 use Rattle.sg_activate.proofs.descent.seat.DescentPass.place.Goals as goal
 
@@ -32,8 +33,10 @@ invariant_of-seat c =
       working = omega arith;
       rows = length-set c.args.seat.now.spares c.args.node 0 ∙ c.args.seat.now.rows;
       flags = c.args.seat.now.flags;
+      bits = c.args.seat.now.bits;
       spares_are = spares-fewer c.args.seat.now.spares c.args.seat.now.seat.me.0 c.compare_exchange-found.new.seat.me.0 c.args.node (omega arith) d.2 c.args.seat.now.spares_are;
       dry_are = dry-same c.args.seat.now.dry c.args.seat.now.seat.me.0 c.compare_exchange-found.new.seat.me.0 d.3 c.args.seat.now.dry_are;
+      bits_are = bits-more c.args.seat.now.last_bits c.args.seat.now.seat.me.0 c.compare_exchange-found.new.seat.me.0 (try-more c.args.node c.args.slot c.args.ticket (slice_index (stock_at c.args.self.now.start c.args.node) c.args.ticket) c.compare_exchange-found.result c.args.seat.now.seat.me.0 c.compare_exchange-found.new.seat.me.0 (ap (λ m. m.0) me)) c.args.seat.now.bits_are;
     }
 
 pub invariant_of-seat-else-found-eq0 : goal.invariant_of-seat-else-found-eq0
@@ -48,8 +51,10 @@ invariant_of-seat-else-found-eq0 c =
       working = omega arith;
       rows = c.args.seat.now.rows;
       flags = c.args.seat.now.flags;
+      bits = c.args.seat.now.bits;
       spares_are = spares-same c.args.seat.now.spares c.args.seat.now.seat.me.0 c.compare_exchange-found.new.seat.me.0 d.2 c.args.seat.now.spares_are;
       dry_are = dry-same c.args.seat.now.dry c.args.seat.now.seat.me.0 c.compare_exchange-found.new.seat.me.0 d.3 c.args.seat.now.dry_are;
+      bits_are = bits-more c.args.seat.now.last_bits c.args.seat.now.seat.me.0 c.compare_exchange-found.new.seat.me.0 (try-more c.args.node c.args.slot c.args.ticket (slice_index (stock_at c.args.self.now.start c.args.node) c.args.ticket) c.compare_exchange-found.result c.args.seat.now.seat.me.0 c.compare_exchange-found.new.seat.me.0 (ap (λ m. m.0) me)) c.args.seat.now.bits_are;
     }
 
 pub overflow_cast-result : goal.overflow_cast-result

@@ -5,21 +5,24 @@ use Rattle.sg_activate.specs.declared.descent.level.Level.{Level}
 use Rattle.sg_activate.specs.DescentRace.{places_each}
 use Rattle.sg_activate.specs.steps.DescentReaching.{offsets_below, place_from}
 use Rattle.sg_activate.proofs.DescentAnswered.{long_below}
-use Rattle.sg_activate.proofs.DescentMores.{mark-more, marked-here}
+use Rattle.sg_activate.proofs.DescentMores.{once-more}
 use Rattle.sg_activate.proofs.DescentSteps.{grew_not}
 use Rattle.sg_activate.proofs.DescentStepAnswers.{IsStep, ask_inside, ask_here, ask_known, ask_answer, ask_missed, mark_inside, ask_grew, mark_known, mark_answer, mark_grew, dense_answer}
 use Rattle.sg_activate.proofs.descent.seat.DescentPass.step.Goals as goal
 
-pub mark-requires-clause-inside : goal.mark-requires-clause-inside
-mark-requires-clause-inside c =
+pub mark_once-requires-clause-inside : goal.mark_once-requires-clause-inside
+mark_once-requires-clause-inside c =
     let p = c.args.self.now in
     let s : IsStep p.start p.levels (place_from p.start p.base c.args.at) (offsets_below p.start p.base c.args.at) c.args.seat.now.seat.me.0 c.args.index c.args.place c.level-level.result c.slot_at-slot.result =
     record { level_is = c.level-level.ensures; slot_is = c.slot_at-slot.ensures.value; there = c.requires.there; long = long_below p c.args.at; below = c.slot_at-slot.ensures.below; stands = c.requires.stands; laid = p.laid } in
     let kind = sym (ap (λ (l : Level). l.kind) c.level-level.ensures) ∙ c.in-Bitmasked.is in
     mark_inside p.start p.levels (place_from p.start p.base c.args.at) (offsets_below p.start p.base c.args.at) c.args.seat.now.seat.me.0 c.args.index c.args.place c.level-level.result c.slot_at-slot.result s (p.mask_levels c.args.index c.requires.there kind)
 
-pub mark-requires-clause-known : goal.mark-requires-clause-known
-mark-requires-clause-known c =
+pub mark_once-requires-clause-level : goal.mark_once-requires-clause-level
+mark_once-requires-clause-level c = let short = c.args.self.now.short in let there = c.requires.there in omega arith
+
+pub mark_once-requires-clause-known : goal.mark_once-requires-clause-known
+mark_once-requires-clause-known c =
     let p = c.args.self.now in
     let s : IsStep p.start p.levels (place_from p.start p.base c.args.at) (offsets_below p.start p.base c.args.at) c.args.seat.now.seat.me.0 c.args.index c.args.place c.level-level.result c.slot_at-slot.result =
     record { level_is = c.level-level.ensures; slot_is = c.slot_at-slot.ensures.value; there = c.requires.there; long = long_below p c.args.at; below = c.slot_at-slot.ensures.below; stands = c.requires.stands; laid = p.laid } in
@@ -89,8 +92,8 @@ returns-in-Bitmasked-clause-grew c =
     let offs = offsets_below p.start p.base c.args.at in
     let s : IsStep p.start p.levels from offs c.args.seat.now.seat.me.0 c.args.index c.args.place c.level-level.result c.slot_at-slot.result =
     record { level_is = c.level-level.ensures; slot_is = c.slot_at-slot.ensures.value; there = c.requires.there; long = long_below p c.args.at; below = c.slot_at-slot.ensures.below; stands = c.requires.stands; laid = p.laid } in
-    mark_grew p.start p.levels from offs c.args.seat.now.seat.me.0 c.args.index c.args.place c.level-level.result c.slot_at-slot.result s c.mark.new.seat.seat.me.0 c.in-Bitmasked.is
-    (mark-more (c.level-level.result.first + c.slot_at-slot.result) c.args.seat.now.seat.me.0 c.mark.new.seat.seat.me.0 c.mark.ensures.event) c.mark.ensures.event
+    mark_grew p.start p.levels from offs c.args.seat.now.seat.me.0 c.args.index c.args.place c.level-level.result c.slot_at-slot.result s c.mark_once.new.seat.seat.me.0 c.in-Bitmasked.is
+    (once-more (c.level-level.result.first + c.slot_at-slot.result) c.args.seat.now.seat.me.0 c.mark_once.new.seat.seat.me.0 c.mark_once.ensures.event) c.mark_once.ensures.event
 
 pub returns-in-Some-clause-grew : goal.returns-in-Some-clause-grew
 returns-in-Some-clause-grew c =
@@ -113,7 +116,7 @@ returns-in-None-clause-grew c =
     c.ask.ensures.more c.ask.ensures.made c.ask.ensures.marked
 
 pub returns-in-Bitmasked-clause-more : goal.returns-in-Bitmasked-clause-more
-returns-in-Bitmasked-clause-more c = mark-more (c.level-level.result.first + c.slot_at-slot.result) c.args.seat.now.seat.me.0 c.mark.new.seat.seat.me.0 c.mark.ensures.event
+returns-in-Bitmasked-clause-more c = once-more (c.level-level.result.first + c.slot_at-slot.result) c.args.seat.now.seat.me.0 c.mark_once.new.seat.seat.me.0 c.mark_once.ensures.event
 
 pub returns-in-Bitmasked-clause-answer : goal.returns-in-Bitmasked-clause-answer
 returns-in-Bitmasked-clause-answer c =
@@ -121,8 +124,8 @@ returns-in-Bitmasked-clause-answer c =
     let s : IsStep p.start p.levels (place_from p.start p.base c.args.at) (offsets_below p.start p.base c.args.at) c.args.seat.now.seat.me.0 c.args.index c.args.place c.level-level.result c.slot_at-slot.result =
     record { level_is = c.level-level.ensures; slot_is = c.slot_at-slot.ensures.value; there = c.requires.there; long = long_below p c.args.at; below = c.slot_at-slot.ensures.below; stands = c.requires.stands; laid = p.laid } in
     let b = c.level-level.result.first + c.slot_at-slot.result in
-    mark_answer p.start p.levels (place_from p.start p.base c.args.at) (offsets_below p.start p.base c.args.at) c.args.seat.now.seat.me.0 c.args.index c.args.place c.level-level.result c.slot_at-slot.result s c.mark.new.seat.seat.me.0 c.in-Bitmasked.is
-    (mark-more b c.args.seat.now.seat.me.0 c.mark.new.seat.seat.me.0 c.mark.ensures.event) (marked-here b c.args.seat.now.seat.me.0 c.mark.new.seat.seat.me.0 c.mark.ensures.event)
+    mark_answer p.start p.levels (place_from p.start p.base c.args.at) (offsets_below p.start p.base c.args.at) c.args.seat.now.seat.me.0 c.args.index c.args.place c.level-level.result c.slot_at-slot.result s c.mark_once.new.seat.seat.me.0 c.in-Bitmasked.is
+    (once-more b c.args.seat.now.seat.me.0 c.mark_once.new.seat.seat.me.0 c.mark_once.ensures.event) c.mark_once.ensures.marked
 
 pub returns-in-Some-clause-answer : goal.returns-in-Some-clause-answer
 returns-in-Some-clause-answer c =
