@@ -16,17 +16,18 @@ use Rattle.sg_admit.specs.Lines.{kernel_lines}
 use Rattle.sg_admit.specs.Clean.{Unclean, unclean_in}
 use Rattle.sg_admit.specs.Slices.{walked_by, block_slice}
 use Rattle.sg_admit.specs.Bounds.{constant_domain, box_size}
-use Rattle.sg_admit.specs.Rules.{Facts, ways_in, first_way, has_own, has_acc, facts_of}
+use Rattle.sg_admit.specs.Rules.{Facts, ways_in, first_way, has_own, has_acc, writes_layout, facts_of}
 use Rattle.sg_admit.specs.Admission.{first_fault, turns_var, clean_vars, kept_of, box_answer, admission}
 use Rattle.sg_words.specs.Spread.{bears_mark}
 use Rattle.sg_admit.specs.steps.Hanging.{IsLeastGiven}
 use Rattle.sg_admit.specs.steps.Noting.{AreAlike, loops_in}
 use Rattle.sg_admit.specs.steps.Marked.{unclean_of, marked_facts}
 use Rattle.sg_admit.proofs.Ties.{unclean_is, written_is, noted_alike, turns_is}
+use Rattle.sg_admit.proofs.Asked.{layouts_alike}
 use Rattle.sg_admit.proofs.Guards.{each_same}
 
-abbrev facts_with : (ℕ → ℕ → Option Way) → (ℕ → ℕ → Bool) → (ℕ → ℕ → Bool) → ℕ → Option ℕ → Unclean → Facts
-facts_with first own acc vars walked unclean = record { first = first; own = own; acc = acc; vars = vars; walked = walked; unclean = unclean }
+abbrev facts_with : (ℕ → ℕ → Option Way) → (ℕ → ℕ → Bool) → (ℕ → ℕ → Bool) → (ℕ → Bool) → ℕ → Option ℕ → Unclean → Facts
+facts_with first own acc written vars walked unclean = record { first = first; own = own; acc = acc; written = written; vars = vars; walked = walked; unclean = unclean }
 
 pub facts_are : (kernel : TypedKernel) (marks : Marks) → AreAlike marks.ways (ways_in (kernel_lines kernel)) → marks.vars ≡ kernel.vars → marks.walked ≡ walked_by kernel.domain
     → IsLeastGiven marks.ways (kernel_lines kernel) marks.dirty → marked_facts marks ≡ facts_of kernel
@@ -34,12 +35,13 @@ facts_are kernel marks alike vars walked least =
     let noted = ways_in (kernel_lines kernel) in
     let unclean : unclean_of marks ≡ unclean_in (kernel_lines kernel) =
     unclean_is (kernel_lines kernel) marks.ways marks.dirty (λ layout place. noted_alike marks.ways noted alike layout place ∙ written_is (kernel_lines kernel) layout place) least in
-    ap (λ (it : ℕ → ℕ → Option Way). facts_with it (has_own marks.ways) (has_acc marks.ways) marks.vars marks.walked (unclean_of marks)) (fun_ext (λ layout. fun_ext (λ place. alike.first layout place)))
-    ∙ (ap (λ (it : ℕ → ℕ → Bool). facts_with (first_way noted) it (has_acc marks.ways) marks.vars marks.walked (unclean_of marks)) (fun_ext (λ layout. fun_ext (λ place. alike.own layout place)))
-    ∙ (ap (λ (it : ℕ → ℕ → Bool). facts_with (first_way noted) (has_own noted) it marks.vars marks.walked (unclean_of marks)) (fun_ext (λ layout. fun_ext (λ place. alike.acc layout place)))
-    ∙ (ap (λ (it : ℕ). facts_with (first_way noted) (has_own noted) (has_acc noted) it marks.walked (unclean_of marks)) vars
-    ∙ (ap (λ (it : Option ℕ). facts_with (first_way noted) (has_own noted) (has_acc noted) kernel.vars it (unclean_of marks)) walked
-    ∙ ap (facts_with (first_way noted) (has_own noted) (has_acc noted) kernel.vars (walked_by kernel.domain)) unclean))))
+    ap (λ (it : ℕ → ℕ → Option Way). facts_with it (has_own marks.ways) (has_acc marks.ways) (writes_layout marks.ways) marks.vars marks.walked (unclean_of marks)) (fun_ext (λ layout. fun_ext (λ place. alike.first layout place)))
+    ∙ (ap (λ (it : ℕ → ℕ → Bool). facts_with (first_way noted) it (has_acc marks.ways) (writes_layout marks.ways) marks.vars marks.walked (unclean_of marks)) (fun_ext (λ layout. fun_ext (λ place. alike.own layout place)))
+    ∙ (ap (λ (it : ℕ → ℕ → Bool). facts_with (first_way noted) (has_own noted) it (writes_layout marks.ways) marks.vars marks.walked (unclean_of marks)) (fun_ext (λ layout. fun_ext (λ place. alike.acc layout place)))
+    ∙ (ap (λ (it : ℕ → Bool). facts_with (first_way noted) (has_own noted) (has_acc noted) it marks.vars marks.walked (unclean_of marks)) (fun_ext (λ layout. layouts_alike marks.ways noted (noted_alike marks.ways noted alike) layout))
+    ∙ (ap (λ (it : ℕ). facts_with (first_way noted) (has_own noted) (has_acc noted) (writes_layout noted) it marks.walked (unclean_of marks)) vars
+    ∙ (ap (λ (it : Option ℕ). facts_with (first_way noted) (has_own noted) (has_acc noted) (writes_layout noted) kernel.vars it (unclean_of marks)) walked
+    ∙ ap (facts_with (first_way noted) (has_own noted) (has_acc noted) (writes_layout noted) kernel.vars (walked_by kernel.domain)) unclean)))))
 
 module _ (kernel : TypedKernel) (marks : Marks) (are : marked_facts marks ≡ facts_of kernel) where
   same_fault : first_fault (marked_facts marks) (kernel_lines kernel) ≡ first_fault (facts_of kernel) (kernel_lines kernel)

@@ -5,18 +5,19 @@ use Rattle.std.proofs.lemmas.Bool.{and_parts, and_from, both_ways, eqb-true, ne_
 use Rattle.std.proofs.lemmas.List.{map-append, reverse-append}
 use Rattle.std.proofs.lemmas.List.Folds.{list_all-append}
 use Rattle.std.proofs.lemmas.List.Elements.{filter-append}
-use Rattle.sg_words.specs.Words.{applied, applied_un, mulq_of}
+use Rattle.sg_words.specs.Words.{flag, applied, applied_un, mulq_of}
+use Rattle.sg_flat.specs.Domain.{is_active}
 use Rattle.sg_coord.specs.declared.coord.Coord.{Coord}
 use Rattle.sg_flat.specs.declared.effects.Write.{Write}
 use Rattle.sg_flat.specs.State as flat
 use Rattle.sg_types.specs.declared.typed.TypedExpr.{TypedExpr}
 use Rattle.sg_types.specs.Values.{World, Moment, is_own, own_write, value_or_own, read_word, coord_of, expr_word}
 use Rattle.sg_types.specs.Iterations.{set_var, add_write}
-use Rattle.sg_types.proofs.Uses.{value-Literal, value-Constant, value-Var, value-Read, value-Paren, value-Un, value-Bin, value-Mulq, value-Convert}
+use Rattle.sg_types.proofs.Uses.{value-Literal, value-Constant, value-Var, value-Read, value-Paren, value-Un, value-Bin, value-Mulq, value-Convert, value-Active}
 use Rattle.sg_admit.specs.Clean.{Unclean, is_clean}
 use Rattle.sg_admit.specs.Slices.{may_activate}
 use Rattle.sg_admit.specs.Laws.{without_value}
-use Rattle.sg_admit.proofs.CleanWords.{clean-Var, clean-Read, clean-Paren, clean-Un, clean-Bin, clean-Mulq, clean-Convert}
+use Rattle.sg_admit.proofs.CleanWords.{clean-Var, clean-Read, clean-Paren, clean-Un, clean-Bin, clean-Mulq, clean-Convert, clean-Active}
 use Rattle.sg_types.proofs.Uses.{by_exprs}
 
 reverse-cons : {X : Type 0} (x : X) (xs : List X) → reverse (x ∷ xs) ≡ reverse xs ++ x ∷ []
@@ -116,6 +117,10 @@ module _ (walked : Option ℕ) (unclean : Unclean) where
         ∙ (ap (λ (word : ℕ). mulq_of (expr_word world beside a) word (expr_word world now shift)) (hb q.0)
         ∙ (ap (λ (word : ℕ). mulq_of (expr_word world beside a) (expr_word world beside b) word) (hs q.1) ∙ sym (value-Mulq world beside ty a b shift)))))
         (λ ty inner hi h. value-Convert world now ty inner ∙ (hi (sym (clean-Convert unclean ty inner) ∙ h) ∙ sym (value-Convert world beside ty inner)))
+        (λ ty layout index all h.
+        value-Active world now ty layout index
+        ∙ (ap (λ (words : List ℕ). flag (is_active world.state layout (coord_of words))) (same_words index all (sym (clean-Active unclean ty layout index) ∙ h))
+        ∙ sym (value-Active world beside ty layout index)))
 
     pub same_all : (exprs : List TypedExpr) → list_all (is_clean unclean) exprs ≡ true → map (expr_word world now) exprs ≡ map (expr_word world beside) exprs
     same_all exprs h = same_words exprs (all_exprs' exprs) h

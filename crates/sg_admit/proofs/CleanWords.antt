@@ -44,6 +44,9 @@ module _ (unclean : Unclean) where
   pub clean-Convert : (ty : Ty) (inner : TypedExpr) → is_clean unclean (record { ty = ty; form = form.Convert inner }) ≡ is_clean unclean inner
   clean-Convert ty inner = folds.fold-Convert (clean_step unclean) its_form ty inner
 
+  pub clean-Active : (ty : Ty) (layout : ℕ) (index : List TypedExpr) → is_clean unclean (record { ty = ty; form = form.Active layout index }) ≡ list_all (is_clean unclean) index
+  clean-Active ty layout index = folds.fold-Active (clean_step unclean) its_form ty layout index ∙ list_all-map (λ (clean : Bool). clean) (is_clean unclean) index
+
 -- whether it is constant
 pub constant-Literal : (ty : Ty) (word : ℕ) → is_constant (record { ty = ty; form = form.Literal word }) ≡ true
 constant-Literal ty word = folds.fold-Literal constant_step its_form ty word
@@ -72,9 +75,18 @@ constant-Mulq ty a b shift = folds.fold-Mulq constant_step its_form ty a b shift
 pub constant-Convert : (ty : Ty) (inner : TypedExpr) → is_constant (record { ty = ty; form = form.Convert inner }) ≡ is_constant inner
 constant-Convert ty inner = folds.fold-Convert constant_step its_form ty inner
 
+pub constant-Active : (ty : Ty) (layout : ℕ) (index : List TypedExpr) → is_constant (record { ty = ty; form = form.Active layout index }) ≡ false
+constant-Active ty layout index = folds.fold-Active constant_step its_form ty layout index
+
 -- a read, by its form, of a field that counts as unwritten
 pub clean_read : (unclean : Unclean) (expr : TypedExpr) (layout place : ℕ) (index : List TypedExpr) → expr.form ≡ form.Read layout place index → unclean.fields layout place ≡ false
     → is_clean unclean expr ≡ list_all (is_clean unclean) index
 clean_read unclean expr layout place index is unwritten =
     ap (λ (it : Form). is_clean unclean (record { ty = expr.ty; form = it })) is
     ∙ (clean-Read unclean expr.ty layout place index ∙ ap (λ (written : Bool). not written && list_all (is_clean unclean) index) unwritten)
+
+-- a question, by its form
+pub clean_active : (unclean : Unclean) (expr : TypedExpr) (layout : ℕ) (index : List TypedExpr) → expr.form ≡ form.Active layout index
+    → is_clean unclean expr ≡ list_all (is_clean unclean) index
+clean_active unclean expr layout index is =
+    ap (λ (it : Form). is_clean unclean (record { ty = expr.ty; form = it })) is ∙ clean-Active unclean expr.ty layout index

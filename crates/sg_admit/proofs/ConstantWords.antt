@@ -12,7 +12,7 @@ use Rattle.sg_types.specs.Iterations.{before_all, domain_of}
 use Rattle.sg_types.proofs.Uses.{value-Literal, value-Constant, value-Paren, value-Un, value-Bin, value-Mulq, value-Convert}
 use Rattle.sg_admit.specs.Clean.{Unclean, is_clean}
 use Rattle.sg_admit.specs.Bounds.{is_constant, is_constant_range}
-use Rattle.sg_admit.proofs.CleanWords.{clean-Literal, clean-Constant, clean-Paren, clean-Un, clean-Bin, clean-Mulq, clean-Convert, constant-Var, constant-Read, constant-Paren, constant-Un, constant-Bin, constant-Mulq, constant-Convert}
+use Rattle.sg_admit.proofs.CleanWords.{clean-Literal, clean-Constant, clean-Paren, clean-Un, clean-Bin, clean-Mulq, clean-Convert, constant-Var, constant-Read, constant-Paren, constant-Un, constant-Bin, constant-Mulq, constant-Convert, constant-Active}
 use Rattle.sg_types.proofs.Uses.{by_exprs}
 
 pub constant_is_clean : (unclean : Unclean) (expr : TypedExpr) → is_constant expr ≡ true → is_clean unclean expr ≡ true
@@ -32,6 +32,7 @@ constant_is_clean unclean = by_exprs (λ expr. is_constant expr ≡ true → is_
     clean-Mulq unclean ty a b shift
     ∙ and_from (is_clean unclean a) (is_clean unclean b && is_clean unclean shift) (ha p.0) (and_from (is_clean unclean b) (is_clean unclean shift) (hb q.0) (hs q.1)))
     (λ ty inner hi h. clean-Convert unclean ty inner ∙ hi (sym (constant-Convert ty inner) ∙ h))
+    (λ ty layout index all h. absurd (both_ways false refl (sym (constant-Active ty layout index) ∙ h)))
 
 module _ (world other : World) (now then_now : Moment) where
   pub constant_word_same : (expr : TypedExpr) → is_constant expr ≡ true → expr_word world now expr ≡ expr_word other then_now expr
@@ -55,6 +56,7 @@ module _ (world other : World) (now then_now : Moment) where
       ∙ (ap (λ (word : ℕ). mulq_of (expr_word other then_now a) word (expr_word world now shift)) (hb q.0)
       ∙ (ap (λ (word : ℕ). mulq_of (expr_word other then_now a) (expr_word other then_now b) word) (hs q.1) ∙ sym (value-Mulq other then_now ty a b shift)))))
       (λ ty inner hi h. value-Convert world now ty inner ∙ (hi (sym (constant-Convert ty inner) ∙ h) ∙ sym (value-Convert other then_now ty inner)))
+      (λ ty layout index all h. absurd (both_ways false refl (sym (constant-Active ty layout index) ∙ h)))
 
 module _ (world other : World) where
   bounds_same : (bound : TypedRange → TypedExpr) (ranges : List TypedRange) → AllByRecursion (λ range. is_constant (bound range) ≡ true) ranges

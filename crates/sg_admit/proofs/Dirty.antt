@@ -6,7 +6,7 @@ use Rattle.std.proofs.lemmas.Bool.{and_parts, and_from, both_ways, eqb-true, eq-
 use Rattle.sg_types.specs.declared.typed.TypedExpr.{TypedExpr}
 use Rattle.sg_admit.specs.Clean.{Unclean, is_clean, Giving, unclean_with, is_clean_giving, next_dirty, times_over, dirty_among}
 use Rattle.sg_admit.specs.Laws.{IsClosed, DirtyIsClosed, DirtyIsLeast}
-use Rattle.sg_admit.proofs.CleanWords.{clean-Literal, clean-Constant, clean-Var, clean-Read, clean-Paren, clean-Un, clean-Bin, clean-Mulq, clean-Convert}
+use Rattle.sg_admit.proofs.CleanWords.{clean-Literal, clean-Constant, clean-Var, clean-Read, clean-Paren, clean-Un, clean-Bin, clean-Mulq, clean-Convert, clean-Active}
 use Rattle.sg_types.proofs.Uses.{by_exprs}
 
 -- ---- what is clean beside more is clean beside less
@@ -51,6 +51,7 @@ module _ (fields : ℕ → ℕ → Bool) (fewer more : ℕ → Bool) (within : W
       let p = and_parts (is_clean beside_more a) (is_clean beside_more b && is_clean beside_more shift) (sym (clean-Mulq beside_more ty a b shift) ∙ h) in
       clean-Mulq beside_fewer ty a b shift ∙ and_from (is_clean beside_fewer a) (is_clean beside_fewer b && is_clean beside_fewer shift) (ha p.0) (two_stay b shift hb hs p.1))
       (λ ty inner hi h. clean-Convert beside_fewer ty inner ∙ hi (sym (clean-Convert beside_more ty inner) ∙ h))
+      (λ ty layout index all h. clean-Active beside_fewer ty layout index ∙ all_stay index all (sym (clean-Active beside_more ty layout index) ∙ h))
 
   each_stays : (exprs : List TypedExpr) → AllByRecursion Stays exprs
   each_stays [] = tt

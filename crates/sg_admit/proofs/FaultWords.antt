@@ -22,13 +22,14 @@ use Rattle.sg_admit.specs.Clean.{is_clean}
 use Rattle.sg_admit.specs.Slices.{stmt_of, may_activate}
 use Rattle.sg_admit.specs.Bounds.{is_constant_range, turns_of, turns_over}
 use Rattle.sg_admit.specs.Limits.{most_loops, most_loop_turns}
-use Rattle.sg_admit.specs.Rules.{Facts, name_step, name_of, are_names, SeenPart, seen_step, reads_in, has_good_reads, range_exprs, is_first, is_own_read, is_unaccumulated, is_bounded}
+use Rattle.sg_admit.specs.Rules.{Facts, name_step, name_of, are_names, SeenPart, seen_step, reads_in, has_good_reads, range_exprs, is_first, is_own_read, is_unaccumulated, is_bounded, is_foreseen, has_good_asks, is_unwritten}
 use Rattle.sg_admit.specs.Admission.{first_broken, line_fault, first_fault}
-use Rattle.sg_admit.specs.steps.Reading.{turns_if_constant, turns_if_few, IsRound, is_good_range}
+use Rattle.sg_admit.specs.steps.Reading.{turns_if_constant, turns_if_few, IsRound, is_good_range, is_askable_range}
 use Rattle.sg_admit.specs.steps.Marked.{unclean_of}
 use Rattle.sg_admit.specs.declared.marks.Marks.{Marks}
 use Rattle.sg_types.proofs.Uses as folds
 use Rattle.sg_types.proofs.Uses.{by_exprs}
+use Rattle.sg_admit.proofs.Asked.{ranges_ask}
 use Rattle.sg_admit.proofs.StmtWords.{lines-Let, lines-Assign, lines-Write, lines-If, lines-For}
 
 and_true : (a : Bool) → (a && true) ≡ a
@@ -71,6 +72,7 @@ module _ (vars : ℕ) (good : ℕ → ℕ → Bool → Bool) where
       (λ ty op left right h k. name (folds.fold-Bin (seen_step vars good) its_reads ty op left right) ∙ sym (folds.fold-Bin name_step its_name ty op left right))
       (λ ty a b shift h k l. name (folds.fold-Mulq (seen_step vars good) its_reads ty a b shift) ∙ sym (folds.fold-Mulq name_step its_name ty a b shift))
       (λ ty inner h. name (folds.fold-Convert (seen_step vars good) its_reads ty inner) ∙ sym (folds.fold-Convert name_step its_name ty inner))
+      (λ ty layout index h. name (folds.fold-Active (seen_step vars good) its_reads ty layout index) ∙ sym (folds.fold-Active name_step its_name ty layout index))
     where
       name : {x y : SeenPart} → x ≡ y → x.0 ≡ y.0
       name e = ap (λ (seen : SeenPart). seen.0) e
@@ -84,6 +86,14 @@ module _ (vars : ℕ) (good : ℕ → ℕ → Bool → Bool) where
       ∙ (ap (λ (names : List (Option ℕ)). good layout place (are_names vars 0 names) && list_all (λ (part : SeenPart). part.1) (map (reads_in vars good) index))
       (map_twice (λ (part : SeenPart). part.0) (reads_in vars good) index ∙ each_same (λ (x : TypedExpr). (reads_in vars good x).0) name_of reads_name index)
       ∙ ap (λ (b : Bool). good layout place (are_names vars 0 (map name_of index)) && b) (list_all-map (λ (part : SeenPart). part.1) (reads_in vars good) index)))
+
+  -- a question is good by its indices: it reads no field
+  pub asked_reads : (expr : TypedExpr) (layout : ℕ) (index : List TypedExpr) → expr.form ≡ form.Active layout index
+      → has_good_reads vars good expr ≡ list_all (has_good_reads vars good) index
+  asked_reads expr layout index is =
+      ap (λ (it : Form). has_good_reads vars good (record { ty = expr.ty; form = it })) is
+      ∙ (ap (λ (seen : SeenPart). seen.1) (folds.fold-Active (seen_step vars good) its_reads expr.ty layout index)
+      ∙ list_all-map (λ (part : SeenPart). part.1) (reads_in vars good) index)
 
   pub ranges_good : (ranges : List TypedRange) → list_all (has_good_reads vars good) (flat_map range_exprs ranges) ≡ list_all (is_good_range vars good) ranges
   ranges_good [] = refl
@@ -101,18 +111,22 @@ module _ (facts : Facts) where
   abbrev acc : TypedExpr → Bool
   acc = has_good_reads facts.vars (is_unaccumulated facts)
 
+  abbrev asks : TypedExpr → Bool
+  asks = has_good_asks (is_unwritten facts)
+
   pub first_append : (xs ys : List Line) → first_fault facts (xs ++ ys) ≡ option_or (first_fault facts xs) (first_fault facts ys)
   first_append [] ys = refl
   first_append (x ∷ xs) ys = ap (option_or (line_fault facts x)) (first_append xs ys) ∙ sym (or_assoc (line_fault facts x) (first_fault facts xs) (first_fault facts ys))
 
-  -- the fault of a line with one expression, which only the rules on reads look at
+  -- the fault of a line with one expression, which only the rules on reads and questions look at
   abbrev pub expr_fault : ℕ → TypedExpr → Option AdmitFault
-  expr_fault number expr = first_broken number 1 (true ∷ own expr ∷ acc expr ∷ true ∷ true ∷ [])
+  expr_fault number expr = first_broken number 1 (true ∷ own expr ∷ acc expr ∷ true ∷ true ∷ asks expr ∷ [])
 
-  alone : (number : ℕ) (expr : TypedExpr) → first_broken number 1 (true ∷ (own expr && true) ∷ (acc expr && true) ∷ true ∷ true ∷ []) ≡ expr_fault number expr
+  alone : (number : ℕ) (expr : TypedExpr) → first_broken number 1 (true ∷ (own expr && true) ∷ (acc expr && true) ∷ true ∷ true ∷ (asks expr && true) ∷ []) ≡ expr_fault number expr
   alone number expr =
-      ap (λ (b : Bool). first_broken number 1 (true ∷ b ∷ (acc expr && true) ∷ true ∷ true ∷ [])) (and_true (own expr))
-      ∙ ap (λ (b : Bool). first_broken number 1 (true ∷ own expr ∷ b ∷ true ∷ true ∷ [])) (and_true (acc expr))
+      ap (λ (b : Bool). first_broken number 1 (true ∷ b ∷ (acc expr && true) ∷ true ∷ true ∷ (asks expr && true) ∷ [])) (and_true (own expr))
+      ∙ (ap (λ (b : Bool). first_broken number 1 (true ∷ own expr ∷ b ∷ true ∷ true ∷ (asks expr && true) ∷ [])) (and_true (acc expr))
+      ∙ ap (λ (b : Bool). first_broken number 1 (true ∷ own expr ∷ acc expr ∷ true ∷ true ∷ b ∷ [])) (and_true (asks expr)))
 
   pub fault-Let : (stmt : TypedStmt) (var : ℕ) (value : TypedExpr) → stmt.kind ≡ kind.Let var value → (around : Around) → first_fault facts (stmt_lines stmt around) ≡ expr_fault stmt.number value
   fault-Let stmt var value is around =
@@ -142,13 +156,15 @@ module _ (facts : Facts) where
 
   -- the fault of an inner loop, where it is known whether it is bounded
   abbrev pub range_fault : ℕ → TypedRange → Bool → Option AdmitFault
-  range_fault number range bounded = first_broken number 1 (true ∷ is_good_range facts.vars (is_own_read facts) range ∷ is_good_range facts.vars (is_unaccumulated facts) range ∷ true ∷ bounded ∷ [])
+  range_fault number range bounded =
+      first_broken number 1 (true ∷ is_good_range facts.vars (is_own_read facts) range ∷ is_good_range facts.vars (is_unaccumulated facts) range ∷ true ∷ bounded ∷ is_askable_range (is_unwritten facts) range ∷ [])
 
   both_alone : (number : ℕ) (range : TypedRange) (bounded : Bool)
-      → first_broken number 1 (true ∷ (own range.lo && (own range.hi && true)) ∷ (acc range.lo && (acc range.hi && true)) ∷ true ∷ bounded ∷ []) ≡ range_fault number range bounded
+      → first_broken number 1 (true ∷ (own range.lo && (own range.hi && true)) ∷ (acc range.lo && (acc range.hi && true)) ∷ true ∷ bounded ∷ (asks range.lo && (asks range.hi && true)) ∷ []) ≡ range_fault number range bounded
   both_alone number range bounded =
-      ap (λ (b : Bool). first_broken number 1 (true ∷ (own range.lo && b) ∷ (acc range.lo && (acc range.hi && true)) ∷ true ∷ bounded ∷ [])) (and_true (own range.hi))
-      ∙ ap (λ (b : Bool). first_broken number 1 (true ∷ is_good_range facts.vars (is_own_read facts) range ∷ (acc range.lo && b) ∷ true ∷ bounded ∷ [])) (and_true (acc range.hi))
+      ap (λ (b : Bool). first_broken number 1 (true ∷ (own range.lo && b) ∷ (acc range.lo && (acc range.hi && true)) ∷ true ∷ bounded ∷ (asks range.lo && (asks range.hi && true)) ∷ [])) (and_true (own range.hi))
+      ∙ (ap (λ (b : Bool). first_broken number 1 (true ∷ is_good_range facts.vars (is_own_read facts) range ∷ (acc range.lo && b) ∷ true ∷ bounded ∷ (asks range.lo && (asks range.hi && true)) ∷ [])) (and_true (acc range.hi))
+      ∙ ap (λ (b : Bool). first_broken number 1 (true ∷ is_good_range facts.vars (is_own_read facts) range ∷ is_good_range facts.vars (is_unaccumulated facts) range ∷ true ∷ bounded ∷ (asks range.lo && b) ∷ [])) (and_true (asks range.hi)))
 
   pub fault-For : (stmt : TypedStmt) (var : ℕ) (range : TypedRange) (body : List TypedStmt) → stmt.kind ≡ kind.For var range body → (around : Around)
       → first_fault facts (stmt_lines stmt around) ≡ option_or (range_fault stmt.number range (is_bounded around (Turns var range))) (first_fault facts (block_lines body (within_loop range around)))
@@ -157,12 +173,19 @@ module _ (facts : Facts) where
       ∙ (ap (first_fault facts) (lines-For stmt.number var range body around)
       ∙ ap (λ (o : Option AdmitFault). option_or o (first_fault facts (block_lines body (within_loop range around)))) (both_alone stmt.number range (is_bounded around (Turns var range))))
 
-  pub fault-Opens : (ranges : List TypedRange)
-      → line_fault facts (line_of 0 nothing_round (Opens ranges))
-      ≡ first_broken 0 1 (true ∷ list_all (is_good_range facts.vars (is_own_read facts)) ranges ∷ list_all (is_good_range facts.vars (is_unaccumulated facts)) ranges ∷ true ∷ list_all is_constant_range ranges ∷ [])
+  -- the fault of the kernel's loop, by its ranges
+  abbrev pub opens_fault : List TypedRange → Option AdmitFault
+  opens_fault ranges = first_broken 0 1 (true
+      ∷ list_all (is_good_range facts.vars (is_own_read facts)) ranges
+      ∷ list_all (is_good_range facts.vars (is_unaccumulated facts)) ranges
+      ∷ true ∷ list_all is_constant_range ranges
+      ∷ list_all (is_askable_range (is_unwritten facts)) ranges ∷ [])
+
+  pub fault-Opens : (ranges : List TypedRange) → line_fault facts (line_of 0 nothing_round (Opens ranges)) ≡ opens_fault ranges
   fault-Opens ranges =
-      ap (λ (b : Bool). first_broken 0 1 (true ∷ b ∷ list_all acc (flat_map range_exprs ranges) ∷ true ∷ list_all is_constant_range ranges ∷ [])) (ranges_good facts.vars (is_own_read facts) ranges)
-      ∙ ap (λ (b : Bool). first_broken 0 1 (true ∷ list_all (is_good_range facts.vars (is_own_read facts)) ranges ∷ b ∷ true ∷ list_all is_constant_range ranges ∷ [])) (ranges_good facts.vars (is_unaccumulated facts) ranges)
+      ap (λ (b : Bool). first_broken 0 1 (true ∷ b ∷ list_all acc (flat_map range_exprs ranges) ∷ true ∷ list_all is_constant_range ranges ∷ list_all asks (flat_map range_exprs ranges) ∷ [])) (ranges_good facts.vars (is_own_read facts) ranges)
+      ∙ (ap (λ (b : Bool). first_broken 0 1 (true ∷ list_all (is_good_range facts.vars (is_own_read facts)) ranges ∷ b ∷ true ∷ list_all is_constant_range ranges ∷ list_all asks (flat_map range_exprs ranges) ∷ [])) (ranges_good facts.vars (is_unaccumulated facts) ranges)
+      ∙ ap (λ (b : Bool). first_broken 0 1 (true ∷ list_all (is_good_range facts.vars (is_own_read facts)) ranges ∷ list_all (is_good_range facts.vars (is_unaccumulated facts)) ranges ∷ true ∷ list_all is_constant_range ranges ∷ b ∷ [])) (ranges_ask (is_unwritten facts) ranges))
 
 abbrev pub is_there : Option ℕ → Bool
 is_there None = false
@@ -193,24 +216,34 @@ read_good_is vars good expr layout place index given other is eg eo named hit re
     ∙ ap (λ (b : Bool). hit && b) (sym (r ∙ ap (list_all (has_good_reads vars good)) eo))))
 
 -- a write, by what is known of it
-pub write_is : (facts : Facts) (number layout place : ℕ) (index : List TypedExpr) (way : Way) (value : TypedExpr) (around : Around) (one_way own_good acc_good foreseen clean : Bool)
+pub write_is : (facts : Facts) (number layout place : ℕ) (index : List TypedExpr) (way : Way) (value : TypedExpr) (around : Around) (one_way own_good acc_good foreseen asks_good clean : Bool)
     → one_way ≡ is_first (facts.first layout place) way
     → own_good ≡ ((not (is_own way) || are_names facts.vars 0 (map name_of index)) && (list_all (has_good_reads facts.vars (is_own_read facts)) index && has_good_reads facts.vars (is_own_read facts) value))
     → acc_good ≡ (list_all (has_good_reads facts.vars (is_unaccumulated facts)) index && has_good_reads facts.vars (is_unaccumulated facts) value)
     → foreseen ≡ (not (may_activate facts.walked layout way) || (list_all (is_clean facts.unclean) index && clean))
+    → asks_good ≡ (list_all (has_good_asks (is_unwritten facts)) index && has_good_asks (is_unwritten facts) value)
     → list_all (is_clean facts.unclean) around.conditions ≡ clean
-    → first_broken number 1 (one_way ∷ own_good ∷ acc_good ∷ foreseen ∷ true ∷ []) ≡ line_fault facts (line_of number around (Writes layout place index way value))
-write_is facts number layout place index way value around one_way own_good acc_good foreseen clean w o a f c =
-    ap (λ (b : Bool). first_broken number 1 (b ∷ own_good ∷ acc_good ∷ foreseen ∷ true ∷ [])) w
-    ∙ (ap (λ (b : Bool). first_broken number 1 (is_first (facts.first layout place) way ∷ b ∷ acc_good ∷ foreseen ∷ true ∷ []))
-    (o ∙ ap (λ (b : Bool). (not (is_own way) || are_names facts.vars 0 (map name_of index)) && b) (whole (is_own_read facts)))
-    ∙ (ap (λ (b : Bool). first_broken number 1 (is_first (facts.first layout place) way ∷ ((not (is_own way) || are_names facts.vars 0 (map name_of index)) && list_all (has_good_reads facts.vars (is_own_read facts)) (index ++ value ∷ [])) ∷ b ∷ foreseen ∷ true ∷ []))
-    (a ∙ whole (is_unaccumulated facts))
-    ∙ ap (λ (b : Bool). first_broken number 1 (is_first (facts.first layout place) way ∷ ((not (is_own way) || are_names facts.vars 0 (map name_of index)) && list_all (has_good_reads facts.vars (is_own_read facts)) (index ++ value ∷ [])) ∷ list_all (has_good_reads facts.vars (is_unaccumulated facts)) (index ++ value ∷ []) ∷ b ∷ true ∷ []))
-    (f ∙ ap (λ (b : Bool). not (may_activate facts.walked layout way) || (list_all (is_clean facts.unclean) index && b)) (sym c))))
+    → first_broken number 1 (one_way ∷ own_good ∷ acc_good ∷ foreseen ∷ true ∷ asks_good ∷ []) ≡ line_fault facts (line_of number around (Writes layout place index way value))
+write_is facts number layout place index way value around one_way own_good acc_good foreseen asks_good clean w o a f g c =
+    ap (λ (b : Bool). first_broken number 1 (b ∷ own_good ∷ acc_good ∷ foreseen ∷ true ∷ asks_good ∷ [])) w
+    ∙ (ap (λ (b : Bool). first_broken number 1 (first ∷ b ∷ acc_good ∷ foreseen ∷ true ∷ asks_good ∷ []))
+    (o ∙ ap (λ (b : Bool). (not (is_own way) || are_names facts.vars 0 (map name_of index)) && b) (whole (has_good_reads facts.vars (is_own_read facts))))
+    ∙ (ap (λ (b : Bool). first_broken number 1 (first ∷ placed ∷ b ∷ foreseen ∷ true ∷ asks_good ∷ [])) (a ∙ whole (has_good_reads facts.vars (is_unaccumulated facts)))
+    ∙ (ap (λ (b : Bool). first_broken number 1 (first ∷ placed ∷ unread ∷ b ∷ true ∷ asks_good ∷ []))
+    (f ∙ ap (λ (b : Bool). not (may_activate facts.walked layout way) || (list_all (is_clean facts.unclean) index && b)) (sym c))
+    ∙ ap (λ (b : Bool). first_broken number 1 (first ∷ placed ∷ unread ∷ is_foreseen facts around (Writes layout place index way value) ∷ true ∷ b ∷ [])) (g ∙ whole (has_good_asks (is_unwritten facts))))))
   where
-    whole : (good : ℕ → ℕ → Bool → Bool) → (list_all (has_good_reads facts.vars good) index && has_good_reads facts.vars good value) ≡ list_all (has_good_reads facts.vars good) (index ++ value ∷ [])
-    whole good = sym (list_all-append (has_good_reads facts.vars good) index (value ∷ []) ∙ ap (λ (b : Bool). list_all (has_good_reads facts.vars good) index && b) (and_true (has_good_reads facts.vars good value)))
+    first : Bool
+    first = is_first (facts.first layout place) way
+
+    placed : Bool
+    placed = (not (is_own way) || are_names facts.vars 0 (map name_of index)) && list_all (has_good_reads facts.vars (is_own_read facts)) (index ++ value ∷ [])
+
+    unread : Bool
+    unread = list_all (has_good_reads facts.vars (is_unaccumulated facts)) (index ++ value ∷ [])
+
+    whole : (good : TypedExpr → Bool) → (list_all good index && good value) ≡ list_all good (index ++ value ∷ [])
+    whole good = sym (list_all-append good index (value ∷ []) ∙ ap (λ (b : Bool). list_all good index && b) (and_true (good value)))
 
 -- the statement of a block that comes next
 pub block_more : (facts : Facts) (block : List TypedStmt) (i : ℕ) (stmt : TypedStmt) → i < length block → stmt ≡ get_or block i stmt → (around : Around) (here : Option AdmitFault)
@@ -242,15 +275,10 @@ for_found facts stmt var range body is around depth turns d t inside i bounded b
     ap (λ (o : Option AdmitFault). option_or o more) (h ∙ ap (range_fault facts stmt.number range) (b ∙ (ap is_there i ∙ sym (bounded_is around var range depth turns d t))))
     ∙ (ap (option_or (range_fault facts stmt.number range (is_bounded around (Turns var range)))) m ∙ sym (fault-For facts stmt var range body is around))
 
--- the fault of the kernel's loop, by its ranges
-abbrev pub loop_fault : Facts → List TypedRange → Option AdmitFault
-loop_fault facts ranges =
-    first_broken 0 1 (true ∷ list_all (is_good_range facts.vars (is_own_read facts)) ranges ∷ list_all (is_good_range facts.vars (is_unaccumulated facts)) ranges ∷ true ∷ list_all is_constant_range ranges ∷ [])
-
-pub opens_found : (facts : Facts) (given : TypedDomain) (ranges slice : List TypedRange) → given ≡ domain.Ranges ranges → slice ≡ ranges → (found : Option AdmitFault) → found ≡ loop_fault facts slice
+pub opens_found : (facts : Facts) (given : TypedDomain) (ranges slice : List TypedRange) → given ≡ domain.Ranges ranges → slice ≡ ranges → (found : Option AdmitFault) → found ≡ opens_fault facts slice
     → found ≡ line_fault facts (line_of 0 nothing_round (Opens (domain_ranges given)))
 opens_found facts given ranges slice is e found h =
-    h ∙ (ap (loop_fault facts) e ∙ (sym (fault-Opens facts ranges) ∙ ap (λ (it : TypedDomain). line_fault facts (line_of 0 nothing_round (Opens (domain_ranges it)))) (sym is)))
+    h ∙ (ap (opens_fault facts) e ∙ (sym (fault-Opens facts ranges) ∙ ap (λ (it : TypedDomain). line_fault facts (line_of 0 nothing_round (Opens (domain_ranges it)))) (sym is)))
 
 -- what stands round a statement in an `if`,
 pub round_within_if : (marks : Marks) (clean inside : Bool) (depth turns : ℕ) (around : Around) (condition : TypedExpr) → IsRound marks clean depth turns around

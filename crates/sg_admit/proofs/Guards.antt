@@ -38,6 +38,7 @@ module _ (walked vars : ℕ) where
       (λ ty op left right h k. name (folds.fold-Bin (guard_step walked vars) its_guard ty op left right) ∙ sym (folds.fold-Bin name_step its_name ty op left right))
       (λ ty a b shift h k l. name (folds.fold-Mulq (guard_step walked vars) its_guard ty a b shift) ∙ sym (folds.fold-Mulq name_step its_name ty a b shift))
       (λ ty inner h. name (folds.fold-Convert (guard_step walked vars) its_guard ty inner) ∙ sym (folds.fold-Convert name_step its_name ty inner))
+      (λ ty layout index h. name (folds.fold-Active (guard_step walked vars) its_guard ty layout index) ∙ sym (folds.fold-Active name_step its_name ty layout index))
     where
       name : {x y : Guard} → x ≡ y → x.name ≡ y.name
       name e = ap (λ (guard : Guard). guard.name) e

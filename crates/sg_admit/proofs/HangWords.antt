@@ -18,7 +18,7 @@ use Rattle.sg_admit.specs.Slices.{stmt_of}
 use Rattle.sg_admit.specs.steps.Noting.{tests_in, deed_tests}
 use Rattle.sg_words.specs.Spread.{has_spread}
 use Rattle.sg_admit.specs.steps.Hanging.{PlaceSet, Test, unclean_beside, is_noted_in, vars_in, is_clean_by, are_clean_by, is_in_set, SpreadWhereTested, IsSpread, has_givings, has_given, AreSettled, AddsLinks}
-use Rattle.sg_admit.proofs.CleanWords.{clean-Read, clean-Mulq}
+use Rattle.sg_admit.proofs.CleanWords.{clean-Read, clean-Mulq, clean-Active}
 use Rattle.sg_admit.proofs.StmtWords.{lines-If}
 use Rattle.sg_admit.proofs.TextWords.{flat_append, one_more}
 
@@ -79,6 +79,12 @@ module _ (text : Text) (to : ℕ) where
       ∙ ap (λ (x : Bool). x || places to) (ap (λ (xs : List TypedExpr). not (is_noted_in text.writes layout place) && are_clean_by text places xs) same
       ∙ sym (at_form places expr (form.Read layout place index) is ∙ clean-Read (beside_text places) expr.ty layout place index)))
       (given_both (λ places. not (is_noted_in text.writes layout place) || places to) (λ places. are_clean_by text places given || places to) a b c h k)
+
+  pub hang-Active : (expr : TypedExpr) (layout : ℕ) (index given : List TypedExpr) → expr.form ≡ form.Active layout index → given ≡ index → (a b : Links) → HangAll given a b → Hang expr a b
+  hang-Active expr layout index given is same a b h =
+      given_like (λ places. are_clean_by text places given || places to) (λ places. is_clean_by text places expr || places to) a b
+      (λ places. ap (λ (x : Bool). x || places to) (ap (λ xs. are_clean_by text places xs) same
+      ∙ sym (at_form places expr (form.Active layout index) is ∙ clean-Active (beside_text places) expr.ty layout index))) h
 
   pub hang-Mulq : (expr x y z gx gy gz : TypedExpr) → expr.form ≡ form.Mulq x y z → gx ≡ x → gy ≡ y → gz ≡ z → (a b c d : Links) → Hang gx a b → Hang gy b c → Hang gz c d → Hang expr a d
   hang-Mulq expr x y z gx gy gz is ex ey ez a b c d h k l =

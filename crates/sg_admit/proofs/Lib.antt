@@ -2,6 +2,7 @@ pub mod CleanWords
 pub mod Dirty
 pub mod StmtWords
 pub mod Agree
+pub mod Asked
 pub mod Follow
 pub mod FirstFaults
 pub mod ConstantWords
@@ -13,6 +14,7 @@ pub mod HangWords
 pub mod LeastGiven
 pub mod Ties
 pub mod FaultWords
+pub mod Silent
 pub mod TextWords
 pub mod Admitting
 pub mod Corners

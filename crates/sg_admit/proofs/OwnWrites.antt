@@ -54,6 +54,7 @@ module _ (world : World) (now : Moment) (var : ℕ) where
       (λ ty op left right h k. other _ (folds.fold-Bin name_step its_name ty op left right))
       (λ ty a b shift h k l. other _ (folds.fold-Mulq name_step its_name ty a b shift))
       (λ ty inner h. other _ (folds.fold-Convert name_step its_name ty inner))
+      (λ ty layout index all. other _ (folds.fold-Active name_step its_name ty layout index))
 
 names_reach : (vars var : ℕ) (names : List (Option ℕ)) → are_names vars var names ≡ true → var ≤ vars
 names_reach vars var [] h = let e = eqb-true var vars h in omega (arith, e)

@@ -10,7 +10,7 @@ use Rattle.sg_admit.specs.Lines.{Deed, Sets, Writes, Tests, Turns, Opens, Around
 use Rattle.sg_admit.specs.Clean.{Unclean, is_clean, deed_writes, writes_field, Giving, givings_of, givings, is_clean_giving, unclean_in}
 use Rattle.sg_admit.specs.Slices.{walked_by, may_activate}
 use Rattle.sg_admit.specs.Bounds.{is_constant, is_constant_range, nowhere}
-use Rattle.sg_admit.specs.Rules.{Facts, facts_of, keeps_one_way, is_own_in_place, are_good_reads, is_own_read, is_unaccumulated, is_foreseen, is_bounded}
+use Rattle.sg_admit.specs.Rules.{Facts, facts_of, keeps_one_way, is_own_in_place, are_good_reads, is_own_read, is_unaccumulated, is_foreseen, is_bounded, asks_unwritten}
 use Rattle.sg_admit.specs.Laws.{IsClosed, KeepsAll, SliceWantsWhatIsWritten, DomainIsConstant}
 use Rattle.sg_admit.proofs.Dirty.{dirty_is_closed}
 use Rattle.sg_admit.proofs.FirstFaults.{admitted_is}
@@ -34,6 +34,7 @@ pub record Keeps (facts : Facts) (line : Line) : Type 0 where
   pub unaccumulated : are_good_reads facts (is_unaccumulated facts) line.deed ≡ true
   pub foreseen : is_foreseen facts line.around line.deed ≡ true
   pub bounded : is_bounded line.around line.deed ≡ true
+  pub asks : asks_unwritten facts line.deed ≡ true
 
 pub rules_kept : (facts : Facts) (line : Line) → KeepsAll facts line → Keeps facts line
 rules_kept facts line h =
@@ -42,12 +43,14 @@ rules_kept facts line h =
     let acc = are_good_reads facts (is_unaccumulated facts) line.deed in
     let foreseen = is_foreseen facts line.around line.deed in
     let bounded = is_bounded line.around line.deed in
-    let a = and_parts (keeps_one_way facts line.deed) ((own && reads) && (acc && (foreseen && (bounded && true)))) h in
-    let b = and_parts (own && reads) (acc && (foreseen && (bounded && true))) a.1 in
-    let c = and_parts acc (foreseen && (bounded && true)) b.1 in
-    let d = and_parts foreseen (bounded && true) c.1 in
+    let asks = asks_unwritten facts line.deed in
+    let a = and_parts (keeps_one_way facts line.deed) ((own && reads) && (acc && (foreseen && (bounded && (asks && true))))) h in
+    let b = and_parts (own && reads) (acc && (foreseen && (bounded && (asks && true)))) a.1 in
+    let c = and_parts acc (foreseen && (bounded && (asks && true))) b.1 in
+    let d = and_parts foreseen (bounded && (asks && true)) c.1 in
+    let e = and_parts bounded (asks && true) d.1 in
     let o = and_parts own reads b.0 in
-    record { one_way = a.0; own_in_place = o.0; own_reads = o.1; unaccumulated = c.0; foreseen = d.0; bounded = (and_parts bounded true d.1).0 }
+    record { one_way = a.0; own_in_place = o.0; own_reads = o.1; unaccumulated = c.0; foreseen = d.0; bounded = e.0; asks = (and_parts asks true e.1).0 }
 
 -- ---- the field that a line writes is one that the lines write
 

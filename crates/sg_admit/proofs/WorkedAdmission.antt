@@ -24,11 +24,11 @@ use Rattle.sg_admit.specs.Lines.{Deed, Sets, Writes, Tests, Turns, Opens, Line, 
 use Rattle.sg_admit.specs.Clean.{unclean_in}
 use Rattle.sg_admit.specs.Bounds.{nowhere}
 use Rattle.sg_admit.specs.Slices.{walked_by, block_slice, slice_of}
-use Rattle.sg_admit.specs.Rules.{Facts, name_of, are_names, SeenPart, seen_step, has_good_reads, ways_in, first_way, has_own, has_acc}
+use Rattle.sg_admit.specs.Rules.{Facts, name_of, are_names, SeenPart, seen_step, has_good_reads, ways_in, first_way, has_own, has_acc, writes_layout}
 use Rattle.sg_admit.specs.Admission.{first_fault, box_answer, admission}
 use Rattle.sg_admit.specs.Neutral.{guard_of}
 use Rattle.sg_types.proofs.Uses.{expr_folds, fold-Literal, fold-Var, fold-Bin, value-Literal}
-use Rattle.sg_admit.proofs.FaultWords.{read_good}
+use Rattle.sg_admit.proofs.FaultWords.{read_good, asked_reads}
 use Rattle.sg_admit.proofs.StmtWords.{line_equations, slice_equations}
 
 -- ---- small kernels over the layout 0 with the field 0, and the layout 1 with the field 0
@@ -87,7 +87,11 @@ module _ (vars : ℕ) (good : ℕ → ℕ → Bool → Bool) where
       → has_good_reads vars good (record { ty = given; form = form.Read layout place index }) ≡ (good layout place (are_names vars 0 (map name_of index)) && list_all (has_good_reads vars good) index)
   good-Read given layout place index = read_good vars good (record { ty = given; form = form.Read layout place index }) layout place index refl
 
-pub ruleset read_equations = (good-Literal, good-Var, good-Bin, good-Read)
+  pub good-Active : (given : Ty) (layout : ℕ) (index : List TypedExpr)
+      → has_good_reads vars good (record { ty = given; form = form.Active layout index }) ≡ list_all (has_good_reads vars good) index
+  good-Active given layout index = asked_reads vars good (record { ty = given; form = form.Active layout index }) layout index refl
+
+pub ruleset read_equations = (good-Literal, good-Var, good-Bin, good-Read, good-Active)
 
 -- ---- the fault of plain lines is that of the kernel
 
@@ -96,6 +100,7 @@ facts_from vars walked lines = record {
   first = first_way (ways_in lines);
   own = has_own (ways_in lines);
   acc = has_acc (ways_in lines);
+  written = writes_layout (ways_in lines);
   vars = vars;
   walked = walked;
   unclean = unclean_in lines;
@@ -169,6 +174,21 @@ unfolding inner
 many_turns = refused walk (inner 1 64 (inner 2 65 [] ∷ []) ∷ [])
     (loop walk ∷ line_of 1 nothing_round (Turns 1 (range 0 64)) ∷ line_of 2 (within_loop (range 0 64) nothing_round) (Turns 2 (range 0 65)) ∷ [])
     (Rule 2 5) (simp line_equations) (simp (read_equations, expr_folds, value-Literal nowhere))
+
+-- `for i in A { if active(x[i]) { x[i] = 1; } }`: a layout into which the kernel writes is asked
+abbrev pub asking : TypedExpr
+asking = record { ty = ty.Bool; form = form.Active 0 (name 0 ∷ []) }
+
+asking_body : List TypedStmt
+asking_body = record { number = 1; kind = kind.If asking (write 2 0 (name 0) Own (literal 1) ∷ []) [] false } ∷ []
+
+asking_lines : List Line
+asking_lines =
+    loop walk ∷ line_of 1 nothing_round (Tests asking) ∷ line_of 2 (within_if asking nothing_round) (writes 0 (name 0) Own (literal 1)) ∷ []
+
+written_is_asked : admission (kernel walk asking_body) ≡ Err (Rule 1 6)
+unfolding asking_body asking_lines
+written_is_asked = refused walk asking_body asking_lines (Rule 1 6) (simp line_equations) (simp (read_equations, expr_folds))
 
 -- `for i in 0..x[0] {}`: a bound that isn't constant, at the kernel's loop
 open_box : TypedDomain

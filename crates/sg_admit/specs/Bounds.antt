@@ -24,8 +24,9 @@ constant_step (f.Un op operand) = operand
 constant_step (f.Bin op left right) = left && right
 constant_step (f.Mulq a b s) = a && (b && s)
 constant_step (f.Convert inner) = inner
+constant_step (f.Active layout index) = false
 
--- an expression without variables and reads
+-- an expression without variables, reads and questions
 abbrev pub is_constant : TypedExpr → Bool
 is_constant = fold-TypedExpr Bool Bool constant_step (λ expr. expr.form)
 

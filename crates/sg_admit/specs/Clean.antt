@@ -22,8 +22,9 @@ clean_step unclean (f.Un op operand) = operand
 clean_step unclean (f.Bin op left right) = left && right
 clean_step unclean (f.Mulq a b s) = a && (b && s)
 clean_step unclean (f.Convert inner) = inner
+clean_step unclean (f.Active layout index) = list_all (λ clean. clean) index
 
--- an expression that reads no field and no variable which isn't clean
+-- An expression that reads no field and no variable which isn't clean. Any layout may be asked by `active`: no write changes the answer.
 abbrev pub is_clean : Unclean → TypedExpr → Bool
 is_clean unclean = fold-TypedExpr Bool Bool (clean_step unclean) (λ expr. expr.form)
 

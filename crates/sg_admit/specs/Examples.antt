@@ -1,5 +1,5 @@
 -- Worked equations of what the rules look at. What needs expressions is worked in `Worked` files of proofs/.
-use Rattle.std.specs.Prelude.{◌≡◌, ℕ, true, false, List, [], ◌∷◌, nat_lt, Some, None, refl}
+use Rattle.std.specs.Prelude.{◌≡◌, ℕ, true, false, List, [], ◌∷◌, map, nat_lt, Some, None, refl}
 use Rattle.sg_words.specs.declared.operators.AccOp.TheVariants as acc
 use Rattle.sg_words.specs.declared.operators.BinOp.TheVariants as bin
 use Rattle.sg_layout.specs.Examples.{at1, at2}
@@ -11,7 +11,7 @@ use Rattle.sg_admit.specs.declared.ways.FieldWay.{FieldWay}
 use Rattle.sg_admit.specs.Limits.{most_box_points}
 use Rattle.sg_admit.specs.Slices.{may_activate}
 use Rattle.sg_admit.specs.Bounds.{box_size}
-use Rattle.sg_admit.specs.Rules.{first_way, has_own, has_acc, is_first, are_names}
+use Rattle.sg_admit.specs.Rules.{first_way, has_own, has_acc, writes_layout, is_first, are_names}
 use Rattle.sg_admit.specs.Admission.{first_broken}
 use Rattle.sg_admit.specs.Neutral.{Guard, no_guard, bin_guard}
 
@@ -39,6 +39,9 @@ not_own = refl
 
 pub accumulated : has_acc three_ways 1 0 ≡ true
 accumulated = refl
+
+pub layout_written : map (writes_layout three_ways) (0 ∷ 1 ∷ 2 ∷ []) ≡ true ∷ true ∷ false ∷ []
+layout_written = refl
 
 pub other_operator : is_first (Some (Acc acc.Add)) (Acc acc.Min) ≡ false
 other_operator = refl
@@ -76,8 +79,11 @@ pub own_over_a_box : may_activate None 0 Own ≡ true
 own_over_a_box = refl
 
 -- ---- of the rules that statement 7 breaks, the smallest
-pub rule_two_before_four : first_broken 7 1 (true ∷ false ∷ true ∷ false ∷ true ∷ []) ≡ Some (Rule 7 2)
+pub rule_two_before_four : first_broken 7 1 (true ∷ false ∷ true ∷ false ∷ true ∷ true ∷ []) ≡ Some (Rule 7 2)
 rule_two_before_four = refl
+
+pub rule_six_last : first_broken 7 1 (true ∷ true ∷ true ∷ true ∷ true ∷ false ∷ []) ≡ Some (Rule 7 6)
+rule_six_last = refl
 
 -- ---- 2^20 points are no more than a box may have, and one more are; a walk counts none
 pub at_the_limit : nat_lt most_box_points (box_size (Range (at2 0 5) (at2 1024 1029))) ≡ false

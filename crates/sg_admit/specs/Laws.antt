@@ -52,7 +52,7 @@ abbrev pub SliceWantsWhatIsWritten : Type 0
 SliceWantsWhatIsWritten = (world : World) (kernel : TypedKernel) (kept : Admitted) (at : Coord) → admission kernel ≡ Ok kept
     → slice_writes world kept.slice at ≡ map without_value (filter (λ write. may_activate (walked_by kernel.domain) write.layout write.way) (writes_at world kernel at))
 
--- a line that keeps all five rules
+-- a line that keeps all six rules
 abbrev pub KeepsAll : Facts → Line → Type 0
 KeepsAll facts line = list_all (λ kept. kept) (kept_by facts line) ≡ true
 

@@ -12,7 +12,9 @@ use Rattle.sg_types.specs.declared.typed.TypedStmt.{TypedStmt}
 use Rattle.sg_types.specs.declared.typed.TypedDomain.TheVariants as domain
 use Rattle.sg_types.specs.declared.typed.TypedDomain.{TypedDomain}
 use Rattle.sg_types.specs.declared.typed.TypedKernel.{TypedKernel}
-use Rattle.sg_admit.specs.Rules.{are_names}
+use Rattle.std.specs.List.{list_all}
+use Rattle.sg_admit.specs.Lines.{Line, kernel_lines}
+use Rattle.sg_admit.specs.Rules.{are_names, deed_exprs, has_good_asks}
 
 -- What an expression is: the bare name of a variable, the literal 0, the own cell of a field of the walked layout, or guarded: a test
 -- that this cell isn't 0, alone or as the leftmost operand of a chain of `&&`.
@@ -44,6 +46,7 @@ guard_step walked vars (f.Un op operand) = no_guard
 guard_step walked vars (f.Bin op left right) = record { name = None; is_zero = false; is_cell = false; is_guarded = bin_guard op left right }
 guard_step walked vars (f.Mulq a b s) = no_guard
 guard_step walked vars (f.Convert inner) = no_guard
+guard_step walked vars (f.Active layout index) = no_guard
 
 -- what an expression is in a kernel that walks this layout with so many variables
 abbrev pub guard_of : ℕ → ℕ → TypedExpr → Guard
@@ -68,6 +71,15 @@ abbrev pub is_neutral_over : TypedKernel → TypedDomain → Bool
 is_neutral_over kernel (domain.Walk layout) = is_guarded_body layout kernel.vars kernel.body
 is_neutral_over kernel (domain.Ranges ranges) = true
 
--- a kernel over a box, or whose body is one `if` without `else` that is guarded by the own cell of a field of the walked layout
+-- no `active` stands in the expressions of a line
+abbrev pub asks_nothing_in : Line → Bool
+asks_nothing_in line = list_all (has_good_asks (λ layout. false)) (deed_exprs line.deed)
+
+-- no `active` stands in a kernel, neither in its statements nor in its bounds
+abbrev pub asks_nothing : TypedKernel → Bool
+asks_nothing kernel = list_all asks_nothing_in (kernel_lines kernel)
+
+-- A kernel in which no `active` stands, and which goes over a box, or whose body is one `if` without `else` that is guarded by the own
+-- cell of a field of the walked layout.
 abbrev pub is_neutral_kernel : TypedKernel → Bool
-is_neutral_kernel kernel = is_neutral_over kernel kernel.domain
+is_neutral_kernel kernel = asks_nothing kernel && is_neutral_over kernel kernel.domain

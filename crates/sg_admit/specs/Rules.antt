@@ -1,4 +1,4 @@
--- The five rules of admission, each as a test of one line.
+-- The six rules of admission, each as a test of one line.
 use Rattle.std.specs.Prelude.{ℕ, ◌+◌, ◌*◌, Bool, true, false, not, ◌&&◌, ◌||◌, ◌==◌, nat_le, List, [], ◌∷◌, ◌++◌, map, length, find, Option, Some, None, option_map}
 use Rattle.std.specs.List.{list_all, list_any, flat_map}
 use Rattle.sg_flat.specs.declared.effects.Way.{Way}
@@ -46,12 +46,17 @@ has_own ways layout place = list_any (λ it. is_of_field layout place it && is_o
 abbrev pub has_acc : List FieldWay → ℕ → ℕ → Bool
 has_acc ways layout place = list_any (λ it. is_of_field layout place it && not (is_own it.way)) ways
 
--- What the rules look at: how each field is written, how many variables the kernel's loop has, the layout that it walks, and what
--- isn't clean.
+-- some field of a layout is written by one of the writes
+abbrev pub writes_layout : List FieldWay → ℕ → Bool
+writes_layout ways layout = list_any (λ (it : FieldWay). it.layout == layout) ways
+
+-- What the rules look at: how each field is written, which layouts are written into, how many variables the kernel's loop has, the layout
+-- that it walks, and what isn't clean.
 pub record Facts : Type 0 where
   pub first : ℕ → ℕ → Option Way
   pub own : ℕ → ℕ → Bool
   pub acc : ℕ → ℕ → Bool
+  pub written : ℕ → Bool
   pub vars : ℕ
   pub walked : Option ℕ
   pub unclean : Unclean
@@ -62,6 +67,7 @@ facts_of kernel = record {
   first = first_way (ways_in (kernel_lines kernel));
   own = has_own (ways_in (kernel_lines kernel));
   acc = has_acc (ways_in (kernel_lines kernel));
+  written = writes_layout (ways_in (kernel_lines kernel));
   vars = kernel.vars;
   walked = walked_by kernel.domain;
   unclean = unclean_in (kernel_lines kernel);
@@ -80,6 +86,7 @@ name_step (f.Un op operand) = None
 name_step (f.Bin op left right) = None
 name_step (f.Mulq a b s) = None
 name_step (f.Convert inner) = None
+name_step (f.Active layout index) = None
 
 -- the variable that an expression is the bare name of; parentheses round it make it another expression
 abbrev pub name_of : TypedExpr → Option ℕ
@@ -111,6 +118,7 @@ seen_step vars good (f.Un op operand) = (None, operand.1)
 seen_step vars good (f.Bin op left right) = (None, left.1 && right.1)
 seen_step vars good (f.Mulq a b s) = (None, a.1 && (b.1 && s.1))
 seen_step vars good (f.Convert inner) = (None, inner.1)
+seen_step vars good (f.Active layout index) = (None, list_all (λ part. part.1) index)
 
 -- the variable that an expression is the bare name of, or none, and whether each read in it is good
 abbrev pub reads_in : ℕ → (ℕ → ℕ → Bool → Bool) → TypedExpr → SeenPart
@@ -186,6 +194,31 @@ is_bounded around (Turns var range) =
     is_constant_range range && (nat_le (length around.ranges + 1) most_loops && nat_le (turns_of range * turns_over around.ranges) most_loop_turns)
 is_bounded around (Opens ranges) = list_all is_constant_range ranges
 
+-- one layer of an expression, where it is known of each part whether every layout that it asks may be asked
+abbrev pub asks_step : (ℕ → Bool) → Form-F Bool Bool → Bool
+asks_step good (f.Literal word) = true
+asks_step good (f.Constant word) = true
+asks_step good (f.Var var) = true
+asks_step good (f.Read layout place index) = list_all (λ part. part) index
+asks_step good (f.Paren inner) = inner
+asks_step good (f.Un op operand) = operand
+asks_step good (f.Bin op left right) = left && right
+asks_step good (f.Mulq a b s) = a && (b && s)
+asks_step good (f.Convert inner) = inner
+asks_step good (f.Active layout index) = good layout && list_all (λ part. part) index
+
+-- each `active` in an expression, those in indices too, asks a layout that may be asked; true if it has none
+abbrev pub has_good_asks : (ℕ → Bool) → TypedExpr → Bool
+has_good_asks good = fold-TypedExpr Bool Bool (asks_step good) (λ expr. expr.form)
+
+-- a layout into which the kernel doesn't write
+abbrev pub is_unwritten : Facts → ℕ → Bool
+is_unwritten facts layout = not (facts.written layout)
+
+-- Rule 6: a layout into which the kernel writes isn't asked by `active`.
+abbrev pub asks_unwritten : Facts → Deed → Bool
+asks_unwritten facts deed = list_all (has_good_asks (is_unwritten facts)) (deed_exprs deed)
+
 -- which rules a line keeps, in their order
 abbrev pub kept_by : Facts → Line → List Bool
 kept_by facts line =
@@ -193,4 +226,5 @@ kept_by facts line =
     ∷ (is_own_in_place facts line.deed && are_good_reads facts (is_own_read facts) line.deed)
     ∷ are_good_reads facts (is_unaccumulated facts) line.deed
     ∷ is_foreseen facts line.around line.deed
-    ∷ is_bounded line.around line.deed ∷ []
+    ∷ is_bounded line.around line.deed
+    ∷ asks_unwritten facts line.deed ∷ []

@@ -14,7 +14,7 @@ pub struct Admitted {
     pub domain: Domain,
 }
 
-/// Why a kernel is not admitted: the first statement that breaks a rule and the smallest rule that it breaks, from 1 to 5; or a box of
+/// Why a kernel is not admitted: the first statement that breaks a rule and the smallest rule that it breaks, from 1 to 6; or a box of
 /// more than 2^20 points.
 #[derive(Clone, Copy, Debug, PartialEq, Eq)]
 pub enum AdmitFault {

@@ -32,6 +32,10 @@ impl Marks {
                 self.is_clean(a.get()) && (self.is_clean(b.get()) && self.is_clean(s.get()))
             }
             Form::Convert(inner) => self.is_clean(inner.get()),
+            Form::Active {
+                layout: _layout,
+                index,
+            } => self.all_clean(index.as_slice()),
         }
     }
 

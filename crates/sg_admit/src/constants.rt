@@ -35,5 +35,9 @@ pub(crate) fn constant(expr: &TypedExpr) -> Option<u32>
             Some(mulq(a, b, s))
         }
         Form::Convert(inner) => constant(inner.get()),
+        Form::Active {
+            layout: _layout,
+            index: _index,
+        } => None,
     }
 }

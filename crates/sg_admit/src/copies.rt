@@ -49,6 +49,10 @@ fn copy_form(alloc: Global, form: &Form) -> Result<Form, Memory>
             s: copy_boxed(alloc, s)?,
         },
         Form::Convert(inner) => Form::Convert(copy_boxed(alloc, inner)?),
+        Form::Active { layout, index } => Form::Active {
+            layout: *layout,
+            index: copy_exprs(alloc, index.as_slice())?,
+        },
     })
 }
 

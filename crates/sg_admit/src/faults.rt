@@ -9,10 +9,10 @@ ghost use Rattle.sg_admit.specs.Clean.{is_clean};
 ghost use Rattle.sg_admit.specs.Bounds.{is_constant_range};
 ghost use Rattle.sg_types.specs.Values.{is_own as spec_is_own};
 ghost use Rattle.sg_admit.specs.Slices.{may_activate};
-ghost use Rattle.sg_admit.specs.Rules.{has_good_reads, is_first, name_of, are_names as spec_are_names};
+ghost use Rattle.sg_admit.specs.Rules.{has_good_asks, has_good_reads, is_first, is_unwritten, name_of, are_names as spec_are_names};
 ghost use Rattle.sg_admit.specs.Admission.{first_broken, line_fault, first_fault};
 ghost use Rattle.sg_admit.specs.steps.Marked.{unclean_of, marked_facts};
-ghost use Rattle.sg_admit.specs.steps.Reading.{IsRound, good_by, is_good_range};
+ghost use Rattle.sg_admit.specs.steps.Reading.{IsRound, good_by, is_askable_range, is_good_range};
 
 use crate::admitted::AdmitFault;
 use crate::bounds::{are_constant, turns_of, turns_within};
@@ -69,6 +69,10 @@ impl Marks {
                     && (self.good_reads(reading, b.get()) && self.good_reads(reading, s.get()))
             }
             Form::Convert(inner) => self.good_reads(reading, inner.get()),
+            Form::Active {
+                layout: _layout,
+                index,
+            } => self.all_good(reading, index.as_slice()),
         }
     }
 
@@ -89,11 +93,13 @@ impl Marks {
         ensures { result ≡ first_broken number 1 (true
             ∷ has_good_reads self.now.vars (good_by (marked_facts self.now) looks.Own) expr.now
             ∷ has_good_reads self.now.vars (good_by (marked_facts self.now) looks.Accumulated) expr.now
-            ∷ true ∷ true ∷ []) }
+            ∷ true ∷ true
+            ∷ has_good_asks (is_unwritten (marked_facts self.now)) expr.now ∷ []) }
     {
         let own = self.good_reads(Reading::Own, expr);
         let acc = self.good_reads(Reading::Accumulated, expr);
-        broken(number, true, own, acc, true, true)
+        let unwritten = self.asks_unwritten(expr);
+        broken(number, true, own, acc, true, true, unwritten)
     }
 
     /// Whether a write is in the way in which its field is written first.
@@ -159,7 +165,8 @@ impl Marks {
         let own = self.is_own_good(way, index, value);
         let acc = self.is_good_write(Reading::Accumulated, index, value);
         let foreseen = self.is_foreseen(layout, way, index, clean);
-        broken(number, one_way, own, acc, foreseen, true)
+        let unwritten = self.is_askable_write(index, value);
+        broken(number, one_way, own, acc, foreseen, true, unwritten)
     }
 
     fn is_good_range(&self, reading: Reading, range: &TypedRange) -> bool
@@ -184,11 +191,13 @@ impl Marks {
         ensures { result ≡ first_broken number 1 (true
             ∷ is_good_range self.now.vars (good_by (marked_facts self.now) looks.Own) range.now
             ∷ is_good_range self.now.vars (good_by (marked_facts self.now) looks.Accumulated) range.now
-            ∷ true ∷ bounded ∷ []) }
+            ∷ true ∷ bounded
+            ∷ is_askable_range (is_unwritten (marked_facts self.now)) range.now ∷ []) }
     {
         let own = self.is_good_range(Reading::Own, range);
         let acc = self.is_good_range(Reading::Accumulated, range);
-        broken(number, true, own, acc, true, bounded)
+        let unwritten = self.is_askable_range(range);
+        broken(number, true, own, acc, true, bounded, unwritten)
     }
 
     /// The fault of the kernel's loop.
@@ -196,11 +205,13 @@ impl Marks {
         ensures { result ≡ first_broken 0 1 (true
             ∷ list_all (is_good_range self.now.vars (good_by (marked_facts self.now) looks.Own)) ranges.now
             ∷ list_all (is_good_range self.now.vars (good_by (marked_facts self.now) looks.Accumulated)) ranges.now
-            ∷ true ∷ list_all is_constant_range ranges.now ∷ []) }
+            ∷ true ∷ list_all is_constant_range ranges.now
+            ∷ list_all (is_askable_range (is_unwritten (marked_facts self.now))) ranges.now ∷ []) }
     {
         let own = self.are_good_ranges(Reading::Own, ranges);
         let acc = self.are_good_ranges(Reading::Accumulated, ranges);
-        broken(0, true, own, acc, true, are_constant(ranges))
+        let unwritten = self.are_askable_ranges(ranges);
+        broken(0, true, own, acc, true, are_constant(ranges), unwritten)
     }
 }
 
@@ -212,8 +223,9 @@ fn broken(
     unaccumulated: bool,
     foreseen: bool,
     bounded: bool,
+    unwritten: bool,
 ) -> Option<AdmitFault>
-    ensures { result ≡ first_broken stmt 1 (one_way ∷ own ∷ unaccumulated ∷ foreseen ∷ bounded ∷ []) }
+    ensures { result ≡ first_broken stmt 1 (one_way ∷ own ∷ unaccumulated ∷ foreseen ∷ bounded ∷ unwritten ∷ []) }
 {
     let rule = if !one_way {
         1
@@ -225,6 +237,8 @@ fn broken(
         4
     } else if !bounded {
         5
+    } else if !unwritten {
+        6
     } else {
         return None;
     };

@@ -88,6 +88,10 @@ impl Links {
                 self.hang(text, to, s.get())
             }
             Form::Convert(inner) => self.hang(text, to, inner.get()),
+            Form::Active {
+                layout: _layout,
+                index,
+            } => self.hang_all(text, to, index.as_slice()),
         }
     }
 

@@ -3,6 +3,7 @@
 
 mod admission;
 pub mod admitted;
+mod asks;
 mod bounds;
 mod boxes;
 mod clean;

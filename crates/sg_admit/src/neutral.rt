@@ -4,15 +4,21 @@ ghost use Rattle.sg_admit.specs.Rules as rules;
 ghost use Rattle.sg_admit.specs.Neutral as spec;
 
 use crate::admitted::Admitted;
-use sg_types::{Form, TypedDomain, TypedExpr, TypedKind, TypedStmt};
+use crate::asks::asks_nothing;
+use sg_types::{Form, TypedDomain, TypedExpr, TypedKernel, TypedKind, TypedStmt};
 use sg_words::BinOp;
 
-/// Whether an admitted kernel is neutral: its loop goes over a box, or its body is one `if` without `else` that is guarded by the own
-/// cell of a field of the walked layout. Every other kernel is layout-bound.
+/// Whether an admitted kernel is neutral: no `active` stands in it, and its loop goes over a box, or its body is one `if` without
+/// `else` that is guarded by the own cell of a field of the walked layout. Every other kernel is layout-bound.
 pub fn is_neutral(kernel: &Admitted) -> bool
     ensures { result ≡ spec.is_neutral_kernel kernel.now.kernel }
 {
-    let kernel = &kernel.kernel;
+    asks_nothing(&kernel.kernel) && is_neutral_over(&kernel.kernel)
+}
+
+fn is_neutral_over(kernel: &TypedKernel) -> bool
+    ensures { result ≡ spec.is_neutral_over kernel.now kernel.now.domain }
+{
     match &kernel.domain {
         TypedDomain::Walk(layout) => {
             is_guarded_body(*layout, kernel.vars, kernel.body.as_slice())

@@ -21,7 +21,7 @@ use Rattle.sg_ast.specs.declared.stmt.RangeDecl.{RangeDecl}
 use Rattle.sg_ast.specs.declared.stmt.Stmt.{Stmt}
 use Rattle.sg_ast.specs.Expr.{tokens_of, with_commas, each_more, op_token, un_token, callee_token, truth_token, access_tokens}
 use Rattle.sg_ast.specs.Stmt.{joined_lists, in_braces, stmt_tokens, block_tokens, way_tokens, range_tokens, else_tokens}
-use Rattle.sg_ast.proofs.Uses.Exprs.{by_exprs, tokens_of-Number, tokens_of-Truth, tokens_of-Name, tokens_of-Read, tokens_of-Paren, tokens_of-Un, tokens_of-Bin, tokens_of-Call}
+use Rattle.sg_ast.proofs.Uses.Exprs.{by_exprs, tokens_of-Number, tokens_of-Truth, tokens_of-Name, tokens_of-Read, tokens_of-Paren, tokens_of-Un, tokens_of-Bin, tokens_of-Call, tokens_of-Active}
 use Rattle.sg_ast.proofs.Uses.Stmts.{AllInElse, by_statements, stmt_tokens-Let, stmt_tokens-Assign, stmt_tokens-Write, stmt_tokens-If, stmt_tokens-For}
 use Rattle.sg_ast.proofs.Cuts.{braces_after, braces_after-append}
 
@@ -109,6 +109,8 @@ plain_expr = by_exprs IsPlainExpr
     (λ callee arguments h. rw (tokens_of-Call callee arguments) (plain-callee callee (t.Sign s.OpenParen ∷ (with_commas (map tokens_of arguments) ++ t.Sign s.CloseParen ∷ []))
     (plain-append (with_commas (map tokens_of arguments)) (t.Sign s.CloseParen ∷ [])
     (plain-separated (map tokens_of arguments) (all_mapped IsPlain tokens_of arguments h)) (λ n. refl))))
+    (λ field index h. rw (tokens_of-Active field index) (plain-append (access_tokens field (map tokens_of index)) (t.Sign s.CloseParen ∷ [])
+    (plain-access field (map tokens_of index) (all_mapped IsPlain tokens_of index h)) (λ n. refl)))
 
 pub plain_exprs : (exprs : List Expr) → ArePlain (map tokens_of exprs)
 plain_exprs = each_mapped IsPlain tokens_of plain_expr

@@ -117,6 +117,21 @@ no_index : is_formed (e.Read (name (codes "x")) []) ≡ false
 unfolding is_name is_reserved
 no_index = simp expr_equations
 
+-- `active(x[i])`, whose access is no node of its own
+abbrev asked : Expr
+asked = e.Active (name (codes "x")) (named (codes "i") ∷ [])
+
+tokens-asked : tokens_of asked
+    ≡ t.Word w.Active ∷ t.Sign s.OpenParen ∷ letters (codes "x") ∷ t.Sign s.OpenBracket ∷ letters (codes "i") ∷ t.Sign s.CloseBracket ∷ t.Sign s.CloseParen ∷ []
+tokens-asked = simp expr_equations
+
+is_expr-asked : is_expr asked ≡ true
+unfolding is_name is_reserved
+is_expr-asked = simp expr_equations
+
+depth-asked : depth asked ≡ 2
+depth-asked = simp expr_equations
+
 -- `!(a < b)`, and `!a < b`, which is no `!` of a comparison
 abbrev less : Expr
 less = e.Bin b.Lt (named (codes "a")) (named (codes "b"))

@@ -83,6 +83,7 @@ tokens_step (f.Paren inner) = t.Sign s.OpenParen ∷ (inner ++ t.Sign s.ClosePar
 tokens_step (f.Un op operand) = un_token op ∷ operand
 tokens_step (f.Bin op left right) = left ++ op_token op ∷ right
 tokens_step (f.Call callee arguments) = callee_token callee ∷ t.Sign s.OpenParen ∷ (with_commas arguments ++ t.Sign s.CloseParen ∷ [])
+tokens_step (f.Active field index) = t.Word w.Active ∷ t.Sign s.OpenParen ∷ (access_tokens field index ++ t.Sign s.CloseParen ∷ [])
 
 -- the tokens of an expression
 abbrev pub tokens_of : Expr → List Token
@@ -103,6 +104,7 @@ depth_step (f.Paren inner) = inner + 1
 depth_step (f.Un op operand) = operand + 1
 depth_step (f.Bin op left right) = max left right + 1
 depth_step (f.Call callee arguments) = largest arguments + 1
+depth_step (f.Active field index) = largest index + 1
 
 -- a number, truth value or name has depth 1, and every other node one more than its deepest part
 abbrev pub depth : Expr → ℕ
@@ -168,6 +170,7 @@ levelled_step (f.Un op operand) = nat_le un_level (level operand.0) && operand.1
 levelled_step (f.Bin op left right) =
     (nat_le (left_needs op) (level left.0) && nat_le (right_needs op) (level right.0)) && (left.1 && right.1)
 levelled_step (f.Call callee arguments) = list_all (λ part. part.1) arguments
+levelled_step (f.Active field index) = list_all (λ part. part.1) index
 
 -- Every operator has operands that hold tightly enough: operators of one level group to the left,
 -- comparisons do not chain, and what is grouped otherwise stands in parentheses.

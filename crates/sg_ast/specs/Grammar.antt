@@ -70,6 +70,7 @@ formed_step (fe.Paren inner) = inner
 formed_step (fe.Un op operand) = operand
 formed_step (fe.Bin op left right) = is_infix op && (left && right)
 formed_step (fe.Call callee arguments) = (length arguments == arity callee) && list_all (λ part. part) arguments
+formed_step (fe.Active field index) = is_name field && one_or_more (λ part. part) index
 
 -- Every node of an expression is one of the grammar's.
 abbrev pub is_formed : Expr → Bool

@@ -28,6 +28,10 @@ pub enum Expr {
         callee: Callee,
         args: Items<Expr>,
     },
+    Active {
+        field: Name,
+        index: Items<Expr>,
+    },
 }
 
 /// What is called: `Min` and `Max` take two arguments, `Mulq` three, and the conversions `I32` and `U32` one.

@@ -24,7 +24,7 @@ use Rattle.sg_ast.specs.Expr.{tokens_of, with_commas, each_more, op_token, un_to
 use Rattle.sg_ast.specs.Stmt.{way_tokens, range_tokens}
 use Rattle.sg_ast.specs.Layout.{names_tokens}
 use Rattle.sg_ast.specs.Kernel.{domain_tokens}
-use Rattle.sg_ast.proofs.Uses.{by_exprs, tokens_of-Number, tokens_of-Truth, tokens_of-Name, tokens_of-Read, tokens_of-Paren, tokens_of-Un, tokens_of-Bin, tokens_of-Call}
+use Rattle.sg_ast.proofs.Uses.{by_exprs, tokens_of-Number, tokens_of-Truth, tokens_of-Name, tokens_of-Read, tokens_of-Paren, tokens_of-Un, tokens_of-Bin, tokens_of-Call, tokens_of-Active}
 use Rattle.sg_explain.specs.Parts.{parts_from}
 
 -- no part begins or ends in the list, where none may begin at its front
@@ -111,6 +111,8 @@ inert_expr = by_exprs IsInertExpr
     (λ callee arguments h. rw (tokens_of-Call callee arguments) (inert-callee callee (t.Sign s.OpenParen ∷ (with_commas (map tokens_of arguments) ++ t.Sign s.CloseParen ∷ []))
     (inert-append (with_commas (map tokens_of arguments)) (t.Sign s.CloseParen ∷ [])
     (inert-separated (map tokens_of arguments) (all_mapped tokens_of arguments h)) (λ rest. refl))))
+    (λ field index h. rw (tokens_of-Active field index) (inert-append (access_tokens field (map tokens_of index)) (t.Sign s.CloseParen ∷ [])
+    (inert-access field (map tokens_of index) (all_mapped tokens_of index h)) (λ rest. refl)))
 
 pub inert_range : (range : RangeDecl) → IsInert (range_tokens range)
 inert_range range = inert-append (tokens_of range.lo) (t.Sign s.DotDot ∷ tokens_of range.hi) (inert_expr range.lo) (inert_expr range.hi)

@@ -104,6 +104,17 @@ impl Wants {
             Token::Word(Word::I32 | Word::U32) => self.call(0),
             Token::Word(Word::Min | Word::Max) => self.call(1),
             Token::Word(Word::Mulq) => self.call(2),
+            Token::Word(Word::Active) => self.open(
+                &[
+                    Want::Sign(Sign::OpenParen),
+                    Want::Name,
+                    Want::Sign(Sign::OpenBracket),
+                    Want::Expr,
+                    Want::MoreIndices,
+                    Want::Sign(Sign::CloseParen),
+                ],
+                Step::Taken,
+            ),
             _ => Ok(Step::Stopped),
         }
     }

@@ -198,6 +198,13 @@ pub(crate) const CONSTANT: Rule = Rule {
     instead: "for n in 0..8 { if n < x[i] { .. } }",
 };
 
+pub(crate) const ASKED: Rule = Rule {
+    line: "admission: kernel K statement S rule 6",
+    sentence: "a kernel that writes into a layout doesn't ask what is active in it",
+    breaks: "if active(v[i]) { v[i] += 1; }",
+    instead: "if active(v[i]) { y[i] = 1; } of another layout, and a second kernel with if y[i] > 0 { v[i] += 1; }",
+};
+
 pub(crate) const BOX: Rule = Rule {
     line: "limit: box K",
     sentence: "a box has at most 1,048,576 points",
@@ -333,6 +340,7 @@ pub(crate) static RULES: &[Rule] = &[
     NOT_READ,
     CLEAN,
     CONSTANT,
+    ASKED,
     BOX,
     COMMAND,
     TIMES,

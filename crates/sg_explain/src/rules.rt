@@ -92,7 +92,8 @@ fn admit_rule(fault: AdmitFault) -> Rule {
             2 => texts::OWN_PLACE,
             3 => texts::NOT_READ,
             4 => texts::CLEAN,
-            _ => texts::CONSTANT,
+            5 => texts::CONSTANT,
+            _ => texts::ASKED,
         },
         AdmitFault::BoxTooLarge => texts::BOX,
     }

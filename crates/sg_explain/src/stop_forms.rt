@@ -151,7 +151,7 @@ pub(crate) fn operand_advice(at: &Token) -> Advice {
         },
         _ => Advice {
             sentence: "an expression is missing before this",
-            instead: "a number, a name, a read, a call, or one in parentheses",
+            instead: "a number, a name, a read, `active(x[i])`, a call, or one in parentheses",
         },
     }
 }

@@ -5,6 +5,7 @@ pub mod Slotted
 pub mod Reaches
 pub mod Needs
 pub mod Actives
+pub mod Asked
 pub mod Neighbours
 pub mod FieldWords
 pub mod MapWords

@@ -7,3 +7,5 @@ pub use Rattle.sg_flat.proofs.Landings.{field_after-nil, field_after-append, fie
 pub use Rattle.sg_flat.proofs.FlatLayouts.{RunLaws, layout_after_is, layout_after_is_flat, word_is_active, coords_inside}
 -- writes of which none is outside stay inside each layout
 pub use Rattle.sg_flat.proofs.Insides.{is_inside_its, inside_from_none, all_inside, stay_inside_each}
+-- that a coordinate is active, as a test and as a fact
+pub use Rattle.sg_flat.proofs.Asked.{same_is, same_itself, active_is, active_not}

@@ -20,19 +20,23 @@ use Rattle.sg_ir.specs.WellTyped.{KnownPlace, Scope, Frame, Way_down, ByChild, B
 use Rattle.sg_ir.specs.Apt.{Use, uses_step, uses_in}
 use Rattle.sg_ir.specs.Emits.{NamesGrow, PutsReg, PutsPlace}
 use Rattle.sg_ir.specs.StepDown.{child_inst}
+use Rattle.sg_ir.specs.Trimmed.{Ways}
+use Rattle.sg_ir.specs.Trails.{trail, asked_by, ways_after}
 use Rattle.sg_ir.specs.EmitTypes.{KeepsVarsAndUses, AddsSteps, KeepsScope, CanRead, HasPassed, AddsWord, AddsChecks, AddsDescent}
 use Rattle.sg_ir.specs.Places.{extents_in}
 use Rattle.sg_ir.proofs.Folds.{fold-Root, fold-Check, fold-Extract, fold-Offset, fold-Child, fold-HashChild, fold-MaskBit, fold-DynCell}
 use Rattle.sg_ir.proofs.Judging.{judges-Root, judges-Check, judges-Extract, judges-Offset, judges-Child, judges-HashChild, judges-MaskBit, judges-DynCell, set_vars-append, uses-append}
+use Rattle.sg_ir.proofs.Trailing.{trail-Extract, trail-Offset, trail-Root, trail-Check, trail-step, asked-more}
 use Rattle.sg_ir.proofs.Emitting.{put-same, put-other}
 use Rattle.sg_ir.proofs.Extending.{rest-whole, rest-shorter, all_rest, empty_from}
 use Rattle.sg_ir.proofs.Leading.{slice_get-past}
 use Rattle.sg_ir.proofs.Adding.{adds-reg, adds-place, adds-same, adds-trans, can_read-kept}
 
-plain-one : (inst : Inst) (before after : List Inst) → after ≡ before ++ inst ∷ [] → set_vars (inst ∷ []) ≡ [] → uses_in (inst ∷ []) ≡ [] → KeepsVarsAndUses before after
-plain-one inst before after more vars uses = record {
+plain-one : (inst : Inst) (before after : List Inst) → after ≡ before ++ inst ∷ [] → set_vars (inst ∷ []) ≡ [] → uses_in (inst ∷ []) ≡ [] → ((ways : Ways) → (trail inst ways).0 ≡ []) → KeepsVarsAndUses before after
+plain-one inst before after more vars uses asks = record {
   vars = ap set_vars more ∙ set_vars-append before (inst ∷ []) ∙ ap (λ l. set_vars before ++ l) vars ∙ append-nil (set_vars before);
   uses = ap uses_in more ∙ uses-append before (inst ∷ []) ∙ ap (λ l. uses_in before ++ l) uses ∙ append-nil (uses_in before);
+  asks = λ ways. ap (λ block. asked_by block ways) more ∙ asked-more before inst ways ∙ ap (λ l. asked_by before ways ++ l) (asks (ways_after before ways)) ∙ append-nil (asked_by before ways);
 }
 
 pub steps-trans : (shapes : List Shape) (needs middle asks gains : Frame → Scope → Type 0) (old mid new : Names) (a b c : List Inst) →
@@ -41,14 +45,14 @@ pub steps-trans : (shapes : List Shape) (needs middle asks gains : Frame → Sco
     AddsSteps shapes needs gains old new a c
 steps-trans shapes needs middle asks gains old mid new a b c first second bridge = record {
   adds = adds-trans shapes needs middle asks gains old mid new a b c first.adds second.adds bridge;
-  plain = record { vars = second.plain.vars ∙ first.plain.vars; uses = second.plain.uses ∙ first.plain.uses };
+  plain = record { vars = second.plain.vars ∙ first.plain.vars; uses = second.plain.uses ∙ first.plain.uses; asks = λ ways. second.plain.asks ways ∙ first.plain.asks ways };
 }
 
 pub steps-same : (shapes : List Shape) (needs gains : Frame → Scope → Type 0) (names : Names) (block : List Inst) →
     ((at : Frame) (scope : Scope) → needs at scope → gains at scope) → AddsSteps shapes needs gains names names block block
 steps-same shapes needs gains names block gained = record {
   adds = adds-same shapes needs gains names block gained;
-  plain = record { vars = refl; uses = refl };
+  plain = record { vars = refl; uses = refl; asks = λ ways. refl };
 }
 
 pub extract-adds : (shapes : List Shape) (div size from to : ℕ) (old new : Names) (a b : List Inst) → PutsReg ty.U32 (λ r. v.Extract r div size from) to old new a b → 1 ≤ div → 1 ≤ size →
@@ -59,7 +63,8 @@ extract-adds shapes div size from to old new a b puts div_some size_some = recor
       (λ at scope same typed need. and_from (ltb 0 div) _ (lt-ltb 0 div (omega arith)) (and_from (ltb 0 size) _ (lt-ltb 0 size (omega arith)) (and_from (reads at scope false from) _ need (ap (is_truth_as false) typed))))
       (λ at scope same typed need. and_from (put to true scope.regs to) _ (put-same to true scope.regs) (ap (is_truth_as false) typed));
   plain = plain-one (v.Extract to div size from) a b puts.block
-      (ap (λ ss. flat_map var_number (ss ++ [])) (fold-Extract sets_step to div size from)) (ap (λ us. us ++ []) (fold-Extract uses_step to div size from));
+      (ap (λ ss. flat_map var_number (ss ++ [])) (fold-Extract sets_step to div size from)) (ap (λ us. us ++ []) (fold-Extract uses_step to div size from))
+      (λ ways. ap (λ (t : List ℕ × Ways). t.0) (trail-Extract to div size from ways));
 }
 
 pub offset-adds : (shapes : List Shape) (high size low to : ℕ) (old new : Names) (a b : List Inst) → PutsReg ty.U32 (λ r. v.Offset r high size low) to old new a b → 1 ≤ size →
@@ -70,7 +75,8 @@ offset-adds shapes high size low to old new a b puts size_some = record {
       (λ at scope same typed need. and_from (ltb 0 size) _ (lt-ltb 0 size (omega arith)) (and_from (reads at scope false high) _ need.0 (and_from (reads at scope false low) _ need.1 (ap (is_truth_as false) typed))))
       (λ at scope same typed need. and_from (put to true scope.regs to) _ (put-same to true scope.regs) (ap (is_truth_as false) typed));
   plain = plain-one (v.Offset to high size low) a b puts.block
-      (ap (λ ss. flat_map var_number (ss ++ [])) (fold-Offset sets_step to high size low)) (ap (λ us. us ++ []) (fold-Offset uses_step to high size low));
+      (ap (λ ss. flat_map var_number (ss ++ [])) (fold-Offset sets_step to high size low)) (ap (λ us. us ++ []) (fold-Offset uses_step to high size low))
+      (λ ways. ap (λ (t : List ℕ × Ways). t.0) (trail-Offset to high size low ways));
 }
 
 pub root-adds : (shapes : List Shape) (layout to : ℕ) (old new : Names) (a b : List Inst) → PutsPlace (λ p. v.Root p layout) to old new a b → layout < length shapes →
@@ -82,7 +88,8 @@ root-adds shapes layout to old new a b puts there = record {
       (λ at scope same room need. and_from (ltb to at.places) _ (lt-ltb to at.places room) (ap (λ ss. ltb layout (length ss)) same ∙ lt-ltb layout (length shapes) there))
       (λ at scope same need. put-same to (Some (record { layout = layout; passed = 0 })) scope.places);
   plain = plain-one (v.Root to layout) a b puts.block
-      (ap (λ ss. flat_map var_number (ss ++ [])) (fold-Root sets_step to layout)) (ap (λ us. us ++ []) (fold-Root uses_step to layout));
+      (ap (λ ss. flat_map var_number (ss ++ [])) (fold-Root sets_step to layout)) (ap (λ us. us ++ []) (fold-Root uses_step to layout))
+      (λ ways. ap (λ (t : List ℕ × Ways). t.0) (trail-Root to layout ways));
 }
 
 -- what comes after a place that goes on from one that is known
@@ -112,7 +119,8 @@ check-adds shapes shape layout place axis extent index to old new a b puts there
       (ap (holds_of (checkable at axis extent)) need.0 ∙ is_checkable at shape layout axis extent (ap (λ ss. slice_get ss layout) same ∙ there) below is) need.1)))
       (λ at scope same need. goes_on-known to 0 layout 0 (scope.places place) scope need.0);
   plain = plain-one (v.Check to place axis extent index) a b puts.block
-      (ap (λ ss. flat_map var_number (ss ++ [])) (fold-Check sets_step to place axis extent index)) (ap (λ us. us ++ []) (fold-Check uses_step to place axis extent index));
+      (ap (λ ss. flat_map var_number (ss ++ [])) (fold-Check sets_step to place axis extent index)) (ap (λ us. us ++ []) (fold-Check uses_step to place axis extent index))
+      (λ ways. ap (λ (t : List ℕ × Ways). t.0) (trail-Check to place axis extent index ways));
 }
 
 -- the instruction for one step down, whatever the node's kind
@@ -174,7 +182,8 @@ step-adds shapes kind shape node layout place number passed offset to old new a 
       (ap (holds_of (descends at (way_of kind) number)) need.0 ∙ may_descend at kind shape node layout number passed (ap (λ ss. slice_get ss layout) same ∙ there) found kinds next) need.1))
       (λ at scope same need. goes_on-known to number layout passed (scope.places place) scope need.0);
   plain = plain-one (child_inst kind to place number offset) a b puts.block
-      (ap (λ ss. flat_map var_number (ss ++ [])) (sets-step kind to place number offset)) (ap (λ us. us ++ []) (uses-step kind to place number offset));
+      (ap (λ ss. flat_map var_number (ss ++ [])) (sets-step kind to place number offset)) (ap (λ us. us ++ []) (uses-step kind to place number offset))
+      (λ ways. ap (λ (t : List ℕ × Ways). t.0) (trail-step kind to place number offset ways));
 }
 
 -- ---- one after another

@@ -6,7 +6,7 @@ use Rattle.sg_words.specs.declared.operators.UnOp.{UnOp}
 use Rattle.sg_words.specs.declared.operators.AccOp.{AccOp}
 use Rattle.sg_ir.specs.declared.code.Inst.{Inst, out-Inst, roll-Inst, roll-out-Inst}
 use Rattle.sg_ir.specs.declared.code.Inst.TheVariants as v
-use Rattle.sg_ir.specs.declared.code.Inst.TheVariants.{rolls-Const, rolls-Var, rolls-Set, rolls-Bin, rolls-Un, rolls-Mulq, rolls-Root, rolls-Check, rolls-Extract, rolls-Offset, rolls-Child, rolls-HashChild, rolls-MaskBit, rolls-DynCell, rolls-ReadCell, rolls-OwnRead, rolls-OwnWrite, rolls-Acc, rolls-Want, rolls-If, rolls-For}
+use Rattle.sg_ir.specs.declared.code.Inst.TheVariants.{rolls-Const, rolls-Var, rolls-Set, rolls-Bin, rolls-Un, rolls-Mulq, rolls-Root, rolls-Check, rolls-Extract, rolls-Offset, rolls-Child, rolls-HashChild, rolls-MaskBit, rolls-DynCell, rolls-ReadCell, rolls-IsActive, rolls-OwnRead, rolls-OwnWrite, rolls-Acc, rolls-Want, rolls-If, rolls-For}
 use Rattle.sg_ir.specs.declared.code.Inst.TheOpen as i
 use Rattle.sg_ir.specs.declared.code.Inst.TheOpen.{Inst-F}
 
@@ -26,6 +26,7 @@ module _ (P : Inst → Type 0)
     (on_maskbit : (to place node offset : ℕ) → P (v.MaskBit to place node offset))
     (on_dyncell : (to place node offset : ℕ) → P (v.DynCell to place node offset))
     (on_readcell : (to place layout field : ℕ) (index : List ℕ) → P (v.ReadCell to place layout field index))
+    (on_isactive : (to place : ℕ) (index : List ℕ) → P (v.IsActive to place index))
     (on_ownread : (to layout field : ℕ) → P (v.OwnRead to layout field))
     (on_ownwrite : (layout field from stmt : ℕ) → P (v.OwnWrite layout field from stmt))
     (on_acc : (op : AccOp) (layout field place from : ℕ) (index : List ℕ) (stmt : ℕ) → P (v.Acc op layout field place from index stmt))
@@ -48,6 +49,7 @@ module _ (P : Inst → Type 0)
   by_layer (i.MaskBit to place node offset) = rw (rolls-MaskBit to place node offset) (on_maskbit to place node offset)
   by_layer (i.DynCell to place node offset) = rw (rolls-DynCell to place node offset) (on_dyncell to place node offset)
   by_layer (i.ReadCell to place layout field index) = rw (rolls-ReadCell to place layout field index) (on_readcell to place layout field index)
+  by_layer (i.IsActive to place index) = rw (rolls-IsActive to place index) (on_isactive to place index)
   by_layer (i.OwnRead to layout field) = rw (rolls-OwnRead to layout field) (on_ownread to layout field)
   by_layer (i.OwnWrite layout field from stmt) = rw (rolls-OwnWrite layout field from stmt) (on_ownwrite layout field from stmt)
   by_layer (i.Acc op layout field place from index stmt) = rw (rolls-Acc op layout field place from index stmt) (on_acc op layout field place from index stmt)

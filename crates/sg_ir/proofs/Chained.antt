@@ -5,13 +5,13 @@ use Rattle.sg_words.specs.declared.operators.Ty.{Ty}
 use Rattle.sg_words.specs.Words.{word_of}
 use Rattle.sg_flat.specs.Domain.{numbers}
 use Rattle.sg_ir.specs.declared.code.Inst.{Inst, fold-Inst, out-Inst, roll-Inst, roll-out-Inst}
-use Rattle.sg_ir.specs.declared.code.Inst.TheVariants.{rolls-Const, rolls-Var, rolls-Set, rolls-Bin, rolls-Un, rolls-Mulq, rolls-Root, rolls-Check, rolls-Extract, rolls-Offset, rolls-Child, rolls-HashChild, rolls-MaskBit, rolls-DynCell, rolls-ReadCell, rolls-OwnRead, rolls-OwnWrite, rolls-Acc, rolls-Want, rolls-If, rolls-For}
+use Rattle.sg_ir.specs.declared.code.Inst.TheVariants.{rolls-Const, rolls-Var, rolls-Set, rolls-Bin, rolls-Un, rolls-Mulq, rolls-Root, rolls-Check, rolls-Extract, rolls-Offset, rolls-Child, rolls-HashChild, rolls-MaskBit, rolls-DynCell, rolls-ReadCell, rolls-IsActive, rolls-OwnRead, rolls-OwnWrite, rolls-Acc, rolls-Want, rolls-If, rolls-For}
 use Rattle.sg_ir.specs.declared.code.Inst.TheOpen as i
 use Rattle.sg_ir.specs.declared.code.Inst.TheOpen.{Inst-F}
 use Rattle.sg_ir.specs.Runs.{Seen, Moved, InstAction, set_var_word, actions_in_turn, inst_step, does, runs}
 use Rattle.sg_ir.specs.Blocks.{Block, End, Link, chained, link_step, link, block_of}
 use Rattle.sg_ir.specs.Flat.{goes}
-use Rattle.sg_ir.proofs.Folds.{fold-Const, fold-Var, fold-Set, fold-Bin, fold-Un, fold-Mulq, fold-Root, fold-Check, fold-Extract, fold-Offset, fold-Child, fold-HashChild, fold-MaskBit, fold-DynCell, fold-ReadCell, fold-OwnRead, fold-OwnWrite, fold-Acc, fold-Want, fold-If, fold-For}
+use Rattle.sg_ir.proofs.Folds.{fold-Const, fold-Var, fold-Set, fold-Bin, fold-Un, fold-Mulq, fold-Root, fold-Check, fold-Extract, fold-Offset, fold-Child, fold-HashChild, fold-MaskBit, fold-DynCell, fold-ReadCell, fold-IsActive, fold-OwnRead, fold-OwnWrite, fold-Acc, fold-Want, fold-If, fold-For}
 
 -- how deep blocks nest in an instruction
 abbrev pub largest : List ℕ → ℕ
@@ -80,6 +80,7 @@ module _ (seen : Seen) (regs : List Ty) where
     by_layer (i.MaskBit to place node offset) = rw (rolls-MaskBit to place node offset) (λ below. leaf _ _ _ (fold-MaskBit (link_step regs) to place node offset) (fold-MaskBit (inst_step seen) to place node offset) (λ rest now. refl))
     by_layer (i.DynCell to place node offset) = rw (rolls-DynCell to place node offset) (λ below. leaf _ _ _ (fold-DynCell (link_step regs) to place node offset) (fold-DynCell (inst_step seen) to place node offset) (λ rest now. refl))
     by_layer (i.ReadCell to place layout field index) = rw (rolls-ReadCell to place layout field index) (λ below. leaf _ _ _ (fold-ReadCell (link_step regs) to place layout field index) (fold-ReadCell (inst_step seen) to place layout field index) (λ rest now. refl))
+    by_layer (i.IsActive to place index) = rw (rolls-IsActive to place index) (λ below. leaf _ _ _ (fold-IsActive (link_step regs) to place index) (fold-IsActive (inst_step seen) to place index) (λ rest now. refl))
     by_layer (i.OwnRead to layout field) = rw (rolls-OwnRead to layout field) (λ below. leaf _ _ _ (fold-OwnRead (link_step regs) to layout field) (fold-OwnRead (inst_step seen) to layout field) (λ rest now. refl))
     by_layer (i.OwnWrite layout field from stmt) = rw (rolls-OwnWrite layout field from stmt) (λ below. leaf _ _ _ (fold-OwnWrite (link_step regs) layout field from stmt) (fold-OwnWrite (inst_step seen) layout field from stmt) (λ rest now. refl))
     by_layer (i.Acc how layout field place from index stmt) = rw (rolls-Acc how layout field place from index stmt) (λ below. leaf _ _ _ (fold-Acc (link_step regs) how layout field place from index stmt) (fold-Acc (inst_step seen) how layout field place from index stmt) (λ rest now. refl))

@@ -8,7 +8,7 @@ use Rattle.sg_ir.specs.declared.code.Inst.{Inst}
 use Rattle.sg_ir.specs.declared.code.Inst.TheVariants as v
 use Rattle.sg_ir.specs.declared.code.Inst.TheOpen as i
 use Rattle.sg_ir.specs.Runs.{Seen, Moved, InstAction, actions_in_turn, inst_step, does, runs}
-use Rattle.sg_ir.proofs.Folds.{fold-Const, fold-Var, fold-Set, fold-Bin, fold-Un, fold-Mulq, fold-Root, fold-Check, fold-Extract, fold-Offset, fold-Child, fold-HashChild, fold-MaskBit, fold-DynCell, fold-ReadCell, fold-OwnRead, fold-OwnWrite, fold-Acc, fold-Want, fold-If, fold-For}
+use Rattle.sg_ir.proofs.Folds.{fold-Const, fold-Var, fold-Set, fold-Bin, fold-Un, fold-Mulq, fold-Root, fold-Check, fold-Extract, fold-Offset, fold-Child, fold-HashChild, fold-MaskBit, fold-DynCell, fold-ReadCell, fold-IsActive, fold-OwnRead, fold-OwnWrite, fold-Acc, fold-Want, fold-If, fold-For}
 
 module _ (seen : Seen) where
   pub does-Const : (to word : ℕ) (now : Moved) → does seen (v.Const to word) now ≡ inst_step seen (i.Const to word) now
@@ -55,6 +55,9 @@ module _ (seen : Seen) where
 
   pub does-ReadCell : (to place layout field : ℕ) (index : List ℕ) (now : Moved) → does seen (v.ReadCell to place layout field index) now ≡ inst_step seen (i.ReadCell to place layout field index) now
   does-ReadCell to place layout field index now = ap (λ (act : InstAction). act now) (fold-ReadCell (inst_step seen) to place layout field index)
+
+  pub does-IsActive : (to place : ℕ) (index : List ℕ) (now : Moved) → does seen (v.IsActive to place index) now ≡ inst_step seen (i.IsActive to place index) now
+  does-IsActive to place index now = ap (λ (act : InstAction). act now) (fold-IsActive (inst_step seen) to place index)
 
   pub does-OwnRead : (to layout field : ℕ) (now : Moved) → does seen (v.OwnRead to layout field) now ≡ inst_step seen (i.OwnRead to layout field) now
   does-OwnRead to layout field now = ap (λ (act : InstAction). act now) (fold-OwnRead (inst_step seen) to layout field)

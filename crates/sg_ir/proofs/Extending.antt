@@ -6,13 +6,16 @@ use Rattle.sg_layout.specs.declared.shape.Shape.{Shape}
 use Rattle.sg_ir.specs.declared.code.Inst.{Inst}
 use Rattle.sg_ir.specs.declared.names.Names.{Names}
 use Rattle.sg_ir.specs.Runs.{Seen, Place, Moved, runs}
-use Rattle.sg_ir.specs.Emits.{Keeps, NamesGrow, Extends, IsQuiet, Computes, Reaches}
+use Rattle.sg_ir.specs.Trimmed.{Ways}
+use Rattle.sg_ir.specs.Trails.{ways_after}
+use Rattle.sg_ir.specs.Emits.{From, root_in, root_along, Keeps, NamesGrow, Extends, IsQuiet, Computes, Reaches}
 
 module _ (shapes : List Shape) where
   pub extends-same : (names : Names) (block : List Inst) → Extends shapes names names block block
   extends-same names block = record {
     grows = record { regs = omega arith; places = omega arith };
-    keeps = λ seen same start. record { regs = λ r below. refl; places = λ p below. refl; vars = refl; writes = refl; wants = refl };
+    ways = λ ways p below. refl;
+    keeps = λ seen same start. record { regs = λ r below. refl; places = λ p below. refl; roots = λ p below. refl; vars = refl; writes = refl; wants = refl };
   }
 
   pub extends-trans : (old mid new : Names) (a b c : List Inst) → Extends shapes old mid a b → Extends shapes mid new b c → Extends shapes old new a c
@@ -21,12 +24,14 @@ module _ (shapes : List Shape) where
       let two = second.grows in
       record {
         grows = record { regs = omega arith; places = omega arith };
+        ways = λ ways p below. second.ways ways p (omega arith) ∙ first.ways ways p below;
         keeps = λ seen same start.
             let before = first.keeps seen same start in
             let after = second.keeps seen same start in
             record {
               regs = λ r below. after.regs r (omega arith) ∙ before.regs r below;
               places = λ p below. after.places p (omega arith) ∙ before.places p below;
+              roots = λ p below. after.roots p (omega arith) ∙ before.roots p below;
               vars = after.vars ∙ before.vars;
               writes = after.writes ∙ before.writes;
               wants = after.wants ∙ before.wants;
@@ -37,13 +42,17 @@ module _ (shapes : List Shape) where
   quiet-trans a b c first second = λ seen same start. second seen same start ∙ first seen same start
 
   -- what is reached or computed after more was emitted, told by what was there before it
-  pub reaches-then : (f g : Seen → Moved → Option Place) (to : ℕ) (old mid new : Names) (a b c : List Inst) → Extends shapes old mid a b → IsQuiet shapes a b →
-      Reaches shapes g to mid new b c → ((seen : Seen) → seen.shapes ≡ shapes → (start : Moved) → g seen (runs seen b start) ≡ f seen (runs seen a start)) → Reaches shapes f to old new a c
-  reaches-then f g to old mid new a b c extends quiet second same_place = record {
+  pub reaches-then : (f g : Seen → Moved → Option Place) (r s : From) (to : ℕ) (old mid new : Names) (a b c : List Inst) → Extends shapes old mid a b → IsQuiet shapes a b →
+      Reaches shapes g s to mid new b c → ((seen : Seen) → seen.shapes ≡ shapes → (start : Moved) → g seen (runs seen b start) ≡ f seen (runs seen a start)) →
+      ((seen : Seen) → seen.shapes ≡ shapes → (start : Moved) → root_in s (runs seen b start) ≡ root_in r (runs seen a start)) →
+      ((ways : Ways) → root_along s (ways_after b ways) ≡ root_along r (ways_after a ways)) → Reaches shapes f r to old new a c
+  reaches-then f g r s to old mid new a b c extends quiet second same_place same_root same_way = record {
     extends = extends-trans old mid new a b c extends second.extends;
     quiet = quiet-trans a b c quiet second.quiet;
     named = second.named;
     value = λ seen same start. second.value seen same start ∙ same_place seen same start;
+    rooted = λ seen same start. second.rooted seen same start ∙ same_root seen same start;
+    comes = λ ways. second.comes ways ∙ same_way ways;
   }
 
   pub computes-then : (f g : Seen → Moved → ℕ) (to : ℕ) (old mid new : Names) (a b c : List Inst) → Extends shapes old mid a b → IsQuiet shapes a b →

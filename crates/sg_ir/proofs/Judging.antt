@@ -10,7 +10,7 @@ use Rattle.sg_ir.specs.declared.code.Inst.TheVariants as v
 use Rattle.sg_ir.specs.declared.code.Inst.TheOpen as i
 use Rattle.sg_ir.specs.WellTyped.{Frame, Scope, Judge, judge_step, judge_all, inst_fits, judges, judged, SetName, sets_step, settings, reg_number, place_number, var_number, set_regs, set_places, set_vars}
 use Rattle.sg_ir.specs.Apt.{Use, uses_step, uses_in}
-use Rattle.sg_ir.proofs.Folds.{fold-Const, fold-Var, fold-Set, fold-Bin, fold-Un, fold-Mulq, fold-Root, fold-Check, fold-Extract, fold-Offset, fold-Child, fold-HashChild, fold-MaskBit, fold-DynCell, fold-ReadCell, fold-OwnRead, fold-OwnWrite, fold-Acc, fold-Want, fold-If, fold-For}
+use Rattle.sg_ir.proofs.Folds.{fold-Const, fold-Var, fold-Set, fold-Bin, fold-Un, fold-Mulq, fold-Root, fold-Check, fold-Extract, fold-Offset, fold-Child, fold-HashChild, fold-MaskBit, fold-DynCell, fold-ReadCell, fold-IsActive, fold-OwnRead, fold-OwnWrite, fold-Acc, fold-Want, fold-If, fold-For}
 
 module _ (at : Frame) where
   pub judges-Const : (to word : ℕ) (scope : Scope) → judges at (v.Const to word) scope ≡ inst_fits at (i.Const to word) scope
@@ -57,6 +57,9 @@ module _ (at : Frame) where
 
   pub judges-ReadCell : (to place layout field : ℕ) (index : List ℕ) (scope : Scope) → judges at (v.ReadCell to place layout field index) scope ≡ inst_fits at (i.ReadCell to place layout field index) scope
   judges-ReadCell to place layout field index scope = ap (λ (judge : Judge). judge scope) (fold-ReadCell (inst_fits at) to place layout field index)
+
+  pub judges-IsActive : (to place : ℕ) (index : List ℕ) (scope : Scope) → judges at (v.IsActive to place index) scope ≡ inst_fits at (i.IsActive to place index) scope
+  judges-IsActive to place index scope = ap (λ (judge : Judge). judge scope) (fold-IsActive (inst_fits at) to place index)
 
   pub judges-OwnRead : (to layout field : ℕ) (scope : Scope) → judges at (v.OwnRead to layout field) scope ≡ inst_fits at (i.OwnRead to layout field) scope
   judges-OwnRead to layout field scope = ap (λ (judge : Judge). judge scope) (fold-OwnRead (inst_fits at) to layout field)

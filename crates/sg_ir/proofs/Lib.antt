@@ -24,8 +24,12 @@ pub mod SpanWords
 pub mod SpanSound
 pub mod SpanStart
 pub mod Chained
+pub mod Trailing
 pub mod FormsAlike
 pub mod ReadsDecide
+pub mod SameStates
+pub mod PlacesSet
+pub mod AskedRuns
 pub mod Uses
 pub mod WorkedRuns
 pub mod WorkedTypes

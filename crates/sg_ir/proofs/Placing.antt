@@ -18,7 +18,7 @@ use Rattle.sg_ir.specs.declared.code.Inst.{Inst}
 use Rattle.sg_ir.specs.declared.names.Names.{Names}
 use Rattle.sg_ir.specs.Runs.{Place, Moved, named_by, runs}
 use Rattle.sg_ir.specs.Places.{place_at, extents_in}
-use Rattle.sg_ir.specs.Emits.{Extends, Reaches, LeadsToPlace}
+use Rattle.sg_ir.specs.Emits.{AtPlace, AtRoot, Extends, Reaches, LeadsToPlace}
 use Rattle.sg_ir.specs.steps.Walks.{AreWalkable, checks, led}
 use Rattle.sg_ir.proofs.Extending.{extends-trans, quiet-trans, words-kept}
 use Rattle.sg_ir.proofs.Leading.{walk-leads}
@@ -43,10 +43,10 @@ whole_slot shape accepted is_slot whole at =
 pub place-leads : (shapes : List Shape) (layout : ℕ) (shape : Shape) (bounds : Bounds) (nodes : List NodeShape) (index : List ℕ) (start inside to : ℕ) (old mid1 mid2 new : Names) (a b c d : List Inst) →
     bounds ≡ bounds_of_shape shape → nodes ≡ shape.nodes → IsAccepted shape → IsBounds (bounds_of_shape shape) → InsideTest → PathIsSlot shape → WholePathIsOffsets shape →
     length index ≡ shape.axes → All (λ r. r < length old.regs) index → slice_get shapes layout ≡ Some shape →
-    Reaches shapes (λ seen now. Some (record { layout = layout; path = [] })) start old mid1 a b →
-    Reaches shapes (λ seen now. checks (drop 0 (extents_in bounds)) (map now.regs index) (now.places start)) inside mid1 mid2 b c →
-    Reaches shapes (λ seen now. led shapes 1 nodes (map now.regs index) (now.places inside)) to mid2 new c d →
-    LeadsToPlace shapes index (λ seen now. place_at shapes layout (named_by index now)) to old new a d
+    Reaches shapes (λ seen now. Some (record { layout = layout; path = [] })) (AtRoot layout) start old mid1 a b →
+    Reaches shapes (λ seen now. checks (drop 0 (extents_in bounds)) (map now.regs index) (now.places start)) (AtPlace start) inside mid1 mid2 b c →
+    Reaches shapes (λ seen now. led shapes 1 nodes (map now.regs index) (now.places inside)) (AtPlace inside) to mid2 new c d →
+    LeadsToPlace shapes index (λ seen now. place_at shapes layout (named_by index now)) layout to old new a d
 place-leads shapes layout shape bounds nodes index start inside to old mid1 mid2 new a b c d same_bounds same_nodes accepted good test is_slot whole long named there first second third =
     let two : Extends shapes old mid2 a c = extends-trans shapes old mid1 mid2 a b c first.extends second.extends in
     record {
@@ -72,4 +72,6 @@ place-leads shapes layout shape bounds nodes index start inside to old mid1 mid2
           ∙ ap (λ ws. led shapes 1 shape.nodes ws (C.places inside)) at_c
           ∙ ap (λ p. led shapes 1 shape.nodes words p) checked
           ∙ walk-leads shapes layout shape words there accepted good test (whole_slot shape accepted is_slot whole) (length-map index A.regs ∙ long) (All-map (λ w. w < 2 ^ 32) A.regs index small);
+      rooted = λ seen same from. third.rooted seen same from ∙ (second.rooted seen same from ∙ first.rooted seen same from);
+      comes = λ ways. third.comes ways ∙ (second.comes ways ∙ first.comes ways);
     }

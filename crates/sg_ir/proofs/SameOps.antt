@@ -112,6 +112,7 @@ op_exact (op.Read a b s) (op.Read a' b' s') e =
     let first = and_parts (a == a') ((b == b') && (s == s')) e in
     let second = and_parts (b == b') (s == s') first.1 in
     ap (λ x. op.Read x b s) (eqb-true a a' first.0) ∙ ap (λ x. op.Read a' x s) (eqb-true b b' second.0) ∙ ap (λ x. op.Read a' b' x) (eqb-true s s' second.1)
+op_exact (op.Active a) (op.Active a') e = ap (λ n. op.Active n) (eqb-true a a' e)
 op_exact (op.OwnRead a b) (op.OwnRead a' b') e =
     let first = and_parts (a == a') (b == b') e in
     ap (λ x. op.OwnRead x b) (eqb-true a a' first.0) ∙ ap (λ x. op.OwnRead a' x) (eqb-true b b' first.1)

@@ -24,8 +24,8 @@ use Rattle.sg_ir.specs.Runs.{put}
 use Rattle.sg_ir.specs.WellTyped.{Frame, Scope, KnownPlace, Judge, judge_step, judges, judged, with_reg, with_place, with_var, goes_on, holds_of, is_i32}
 use Rattle.sg_ir.specs.steps.Targets.{is_setting, set_name_of, settings_of, left_step, left, leaves}
 use Rattle.sg_ir.specs.steps.Scopes.{KnownPlaces, origin_step, origin, known_from, settled, passed_on, places_then, place_step, places_after, known_by_check, scope_with, scope_at, set_step, set_before, before_step, places_before}
-use Rattle.sg_ir.proofs.Folds.{fold-Const, fold-Var, fold-Set, fold-Bin, fold-Un, fold-Mulq, fold-Root, fold-Check, fold-Extract, fold-Offset, fold-Child, fold-HashChild, fold-MaskBit, fold-DynCell, fold-ReadCell, fold-OwnRead, fold-OwnWrite, fold-Acc, fold-Want, fold-If, fold-For}
-use Rattle.sg_ir.proofs.Judging.{judged-more, judges-Const, judges-Var, judges-Set, judges-Bin, judges-Un, judges-Mulq, judges-Root, judges-Check, judges-Extract, judges-Offset, judges-Child, judges-HashChild, judges-MaskBit, judges-DynCell, judges-ReadCell, judges-OwnRead, judges-OwnWrite, judges-Acc, judges-Want, judges-If, judges-For}
+use Rattle.sg_ir.proofs.Folds.{fold-Const, fold-Var, fold-Set, fold-Bin, fold-Un, fold-Mulq, fold-Root, fold-Check, fold-Extract, fold-Offset, fold-Child, fold-HashChild, fold-MaskBit, fold-DynCell, fold-ReadCell, fold-IsActive, fold-OwnRead, fold-OwnWrite, fold-Acc, fold-Want, fold-If, fold-For}
+use Rattle.sg_ir.proofs.Judging.{judged-more, judges-Const, judges-Var, judges-Set, judges-Bin, judges-Un, judges-Mulq, judges-Root, judges-Check, judges-Extract, judges-Offset, judges-Child, judges-HashChild, judges-MaskBit, judges-DynCell, judges-ReadCell, judges-IsActive, judges-OwnRead, judges-OwnWrite, judges-Acc, judges-Want, judges-If, judges-For}
 use Rattle.sg_ir.proofs.Cases.{by_inst}
 
 -- the scope after an instruction that leaves this, where a place comes from there
@@ -156,6 +156,11 @@ module _ (at : Frame) (regs : ℕ → Bool) (places : KnownPlaces) (vars : ℕ �
       ∙ ap (λ (set : Option Target). after regs places vars set None) (sym (fold-ReadCell {A = Option Target} left_step to place layout field index))
       ∙ ap (λ (came : Option Origin). after regs places vars (left (v.ReadCell to place layout field index)) came) (sym (fold-ReadCell {A = Option Origin} origin_step to place layout field index))
 
+  on_isactive : (to place : ℕ) (index : List ℕ) → Behind (v.IsActive to place index)
+  on_isactive to place index = ap (λ (reached : Bool × Scope). reached.1) (judges-IsActive at to place index (scope_with regs places vars)) ∙ after-reg regs places vars to
+      ∙ ap (λ (set : Option Target). after regs places vars set None) (sym (fold-IsActive {A = Option Target} left_step to place index))
+      ∙ ap (λ (came : Option Origin). after regs places vars (left (v.IsActive to place index)) came) (sym (fold-IsActive {A = Option Origin} origin_step to place index))
+
   on_ownread : (to layout field : ℕ) → Behind (v.OwnRead to layout field)
   on_ownread to layout field = ap (λ (reached : Bool × Scope). reached.1) (judges-OwnRead at to layout field (scope_with regs places vars)) ∙ after-reg regs places vars to
       ∙ ap (λ (set : Option Target). after regs places vars set None) (sym (fold-OwnRead {A = Option Target} left_step to layout field))
@@ -187,7 +192,7 @@ module _ (at : Frame) (regs : ℕ → Bool) (places : KnownPlaces) (vars : ℕ �
       ∙ ap (λ (came : Option Origin). after regs places vars (left (v.For var lo hi body)) came) (sym (fold-For {A = Option Origin} origin_step var lo hi body))
 
   pub behind : (inst : Inst) → Behind inst
-  behind inst = by_inst Behind on_const on_var on_set on_bin on_un on_mulq on_root on_check on_extract on_offset on_child on_hashchild on_maskbit on_dyncell on_readcell on_ownread on_ownwrite on_acc on_want on_if on_for inst
+  behind inst = by_inst Behind on_const on_var on_set on_bin on_un on_mulq on_root on_check on_extract on_offset on_child on_hashchild on_maskbit on_dyncell on_readcell on_isactive on_ownread on_ownwrite on_acc on_want on_if on_for inst
 
 -- the scope after a block, and after what stands before a point of code
 fold-scope : (judges_of : List Judge) (good other : Bool) (scope : Scope) → (fold judge_step (good, scope) judges_of).1 ≡ (fold judge_step (other, scope) judges_of).1

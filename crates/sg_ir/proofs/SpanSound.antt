@@ -16,11 +16,11 @@ use Rattle.sg_flat.specs.declared.effects.Way.TheVariants.{Own, Acc}
 use Rattle.sg_ir.specs.declared.op.Op.{Op}
 use Rattle.sg_ir.specs.declared.op.Op.TheVariants as op
 use Rattle.sg_ir.specs.Runs.{Seen, CodeWrite, put, at_of}
-use Rattle.sg_ir.specs.Blocks.{Block, End, Word, Spot, Cell, Do, Branch, Loop, SetVar, WriteOwn, Contribute, Wish}
+use Rattle.sg_ir.specs.Blocks.{Sight, Value, Activity, sight_op, Block, End, Word, Spot, Cell, Do, Branch, Loop, SetVar, WriteOwn, Contribute, Wish}
 use Rattle.sg_ir.specs.declared.span.Span.{Span}
 use Rattle.sg_ir.specs.Span.{whole_i32, range_span, Spans, reg_span, var_span, op_span, with_span, in_loop}
 use Rattle.sg_ir.specs.SpanLaws.{Lies, HasConstantWord, WhereTest, EachTurn, SpansHold, IsSpanned, StateIsWords, RoomFits, FitsSpans}
-use Rattle.sg_ir.specs.Scoped.{RunMoment, Room, room_reg, room_place, op_word, step_place, moment_after_act, at_turn, run}
+use Rattle.sg_ir.specs.Scoped.{RunMoment, Room, room_reg, room_place, op_word, step_root, step_place, moment_after_act, at_turn, run}
 use Rattle.sg_ir.proofs.SpanWords.{lies_whole, range_lies, op_lies, all_one}
 
 -- the spans hold along a run, and what is known holds after it
@@ -99,6 +99,11 @@ module _
       let more = turns_sound spans var lo hi body room all each (start + 1) count (omega arith) (run seen body room (at_turn var (lo +ℤ pos start) now)) (left any_word spans var lo hi _ all turn.fits) in
       ((turn.holds, more.0), more.1)
 
+  -- what is seen at a place lies in all of I32
+  seen_lies : (spans : Spans) (room : Room) (now : RunMoment) → RoomFits spans room → FitsSpans spans now → (place : ℕ) (sight : Sight) → Lies whole_i32 (op_word seen room now (sight_op place sight))
+  seen_lies spans room now regs fits place (Value layout field) = gives spans room now regs fits (op.Read place layout field) tt
+  seen_lies spans room now regs fits place Activity = gives spans room now regs fits (op.Active place) tt
+
   pub sound : (block : Block) (spans : Spans) (room : Room) (now : RunMoment) → IsSpanned spans block → RoomFits spans room → FitsSpans spans now → Sound seen spans block room now
   sound End spans room now good regs fits = record { holds = tt; fits = fits }
   sound (Word to how rest) spans room now good regs fits =
@@ -107,12 +112,12 @@ module _
       (room_with spans room to (op_span spans how) (op_word seen room now how) regs lies) (record { vars = fits.vars; writes = fits.writes }) in
       record { holds = (lies, more.holds); fits = record { vars = more.fits.vars; writes = more.fits.writes } }
   sound (Spot to how rest) spans room now good regs fits =
-      let more = sound rest spans (room_place to (step_place seen room how) room) now good regs fits in
+      let more = sound rest spans (room_place to (step_root room how) (step_place seen room how) room) now good regs fits in
       record { holds = more.holds; fits = more.fits }
-  sound (Cell to place layout field index rest) spans room now good regs fits =
-      let lies : Lies whole_i32 (op_word seen room now (op.Read place layout field)) = gives spans room now regs fits (op.Read place layout field) tt in
-      let more = sound rest (with_span to whole_i32 spans) (room_reg to (op_word seen room now (op.Read place layout field)) room) now good
-      (room_with spans room to whole_i32 (op_word seen room now (op.Read place layout field)) regs lies) (record { vars = fits.vars; writes = fits.writes }) in
+  sound (Cell to place sight index rest) spans room now good regs fits =
+      let lies : Lies whole_i32 (op_word seen room now (sight_op place sight)) = seen_lies spans room now regs fits place sight in
+      let more = sound rest (with_span to whole_i32 spans) (room_reg to (op_word seen room now (sight_op place sight)) room) now good
+      (room_with spans room to whole_i32 (op_word seen room now (sight_op place sight)) regs lies) (record { vars = fits.vars; writes = fits.writes }) in
       record { holds = (lies, more.holds); fits = record { vars = more.fits.vars; writes = more.fits.writes } }
   sound (Do (SetVar var from) rest) spans room now good regs fits =
       let more = sound rest spans room (moment_after_act seen room (SetVar var from) now) good.1 regs

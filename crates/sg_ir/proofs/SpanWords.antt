@@ -12,12 +12,12 @@ use Rattle.sg_words.specs.declared.operators.Ty.TheVariants as ty
 use Rattle.sg_words.specs.declared.operators.BinOp.{BinOp}
 use Rattle.sg_words.specs.declared.operators.BinOp.TheVariants as bin
 use Rattle.sg_words.specs.declared.operators.UnOp.{UnOp}
-use Rattle.sg_words.specs.Words.{number, word_of, applied}
+use Rattle.sg_words.specs.Words.{number, flag, word_of, applied}
 use Rattle.sg_words.specs.WordLaws.{IsWord, WordHasNumber, NumberHasWord, SumIsModular, DifferenceIsModular, ProductIsModular, AppliedIsWord, AppliedUnIsWord, MulqIsWord}
 use Rattle.sg_coord.specs.declared.coord.Coord.{Coord}
 use Rattle.sg_ir.specs.declared.op.Op.{Op}
 use Rattle.sg_ir.specs.declared.op.Op.TheVariants as op
-use Rattle.sg_ir.specs.Runs.{Seen, CodeWrite, at_of, cell_value, is_own, value_or_own}
+use Rattle.sg_ir.specs.Runs.{Seen, CodeWrite, at_of, cell_value, is_active_place, is_own, value_or_own}
 use Rattle.sg_ir.specs.declared.span.Span.{Span}
 use Rattle.sg_ir.specs.Span.{whole_i32, only, fits_i32, cut_to_i32, bin_span, range_span, Spans, reg_span, op_span}
 use Rattle.sg_ir.specs.SpanLaws.{Lies, HasConstantWord, StateIsWords, RoomFits, FitsSpans}
@@ -127,6 +127,10 @@ module _
   cell_word seen words layout field None = omega arith
   cell_word seen words layout field (Some at) = words layout field at
 
+  flag_word : (b : Bool) → IsWord (flag b)
+  flag_word true = omega arith
+  flag_word false = omega arith
+
   -- the word that an operation gives lies in its span
   pub op_lies : (seen : Seen) → StateIsWords seen → (spans : Spans) (room : Room) (now : RunMoment) → RoomFits spans room → FitsSpans spans now → (how : Op) → HasConstantWord how → Lies (op_span spans how) (op_word seen room now how)
   op_lies seen words spans room now regs fits_i32 (op.Const word truth) h = record { is_word = h; low = ≤ℤ_refl (number ty.I32 word); high = ≤ℤ_refl (number ty.I32 word) }
@@ -137,5 +141,6 @@ module _
   op_lies seen words spans room now regs fits_i32 (op.Extract div size from) h = lies_whole _ (quotient_word (room.regs from) div size (regs from).is_word)
   op_lies seen words spans room now regs fits_i32 (op.Offset high size low) h = lies_whole _ (offset_word (room.regs high * size + room.regs low))
   op_lies seen words spans room now regs fits_i32 (op.Read place layout field) h = lies_whole _ (cell_word seen words layout field (at_of seen.shapes (room.places place)))
+  op_lies seen words spans room now regs fits_i32 (op.Active place) h = lies_whole _ (flag_word (is_active_place seen (at_of seen.shapes (room.places place)) (room.places place)))
   op_lies seen words spans room now regs fits_i32 (op.OwnRead layout field) h =
       lies_whole _ (found_word (λ write. is_own write.way && ((write.layout == layout) && (write.field == field))) (reverse now.writes) _ (all_reverse (λ (w : CodeWrite). IsWord w.value) now.writes fits_i32.writes) (words layout field seen.at))

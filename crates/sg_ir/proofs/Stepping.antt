@@ -6,7 +6,7 @@ use Rattle.sg_ir.specs.Runs.{Seen, Moved, set_place, down, does}
 use Rattle.sg_ir.specs.StepDown.{child_inst}
 use Rattle.sg_ir.proofs.Equations.{does-Child, does-HashChild, does-MaskBit, does-DynCell}
 
-pub does-step : (seen : Seen) (kind : Kind) (to place node offset : ℕ) (now : Moved) → does seen (child_inst kind to place node offset) now ≡ set_place to (down seen.shapes node (now.regs offset) (now.places place)) now
+pub does-step : (seen : Seen) (kind : Kind) (to place node offset : ℕ) (now : Moved) → does seen (child_inst kind to place node offset) now ≡ set_place to (now.roots place) (down seen.shapes node (now.regs offset) (now.places place)) now
 does-step seen Dense to place node offset now = does-Child seen to place node offset now
 does-step seen Pointer to place node offset now = does-Child seen to place node offset now
 does-step seen Hash to place node offset now = does-HashChild seen to place node offset now

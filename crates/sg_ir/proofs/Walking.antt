@@ -7,7 +7,8 @@ use Rattle.sg_layout.specs.Axes.{extent_in, extent_over}
 use Rattle.sg_ir.specs.declared.code.Inst.{Inst}
 use Rattle.sg_ir.specs.declared.names.Names.{Names}
 use Rattle.sg_ir.specs.Runs.{Place, Moved, check, down, runs}
-use Rattle.sg_ir.specs.Emits.{Keeps, Extends, Computes, Reaches}
+use Rattle.sg_ir.specs.Trimmed.{Way}
+use Rattle.sg_ir.specs.Emits.{AtPlace, Keeps, Extends, Computes, Reaches}
 use Rattle.sg_ir.specs.steps.Walks.{checks, digit, offset_from, node_offset, led}
 use Rattle.sg_ir.proofs.Extending.{extends-same, extends-trans, quiet-trans, reaches-then, computes-then, words-kept, first_rest, rest-whole, all_rest, empty_from}
 
@@ -28,23 +29,25 @@ checks-more extents axis extent word words place there = ap (λ es. checks es (w
 
 -- no axis is left
 pub checks-done : (shapes : List Shape) (extents index : List ℕ) (place : ℕ) (names : Names) (block : List Inst) → length index < 1 → place < names.places →
-    Reaches shapes (λ seen now. checks extents (map now.regs index) (now.places place)) place names names block block
+    Reaches shapes (λ seen now. checks extents (map now.regs index) (now.places place)) (AtPlace place) place names names block block
 checks-done shapes extents index place names block none named = record {
   extends = extends-same shapes names block;
   quiet = λ seen same start. refl;
   named = named;
   value = λ seen same start.
       sym (ap (λ xs. checks extents (map (runs seen block start).regs xs) ((runs seen block start).places place)) (empty_from index none) ∙ checks-none extents ((runs seen block start).places place));
+  rooted = λ seen same start. refl;
+  comes = λ ways. refl;
 }
 
 -- one axis is checked, and then those that are left
 pub checks-next : (shapes : List Shape) (extents : List ℕ) (axis extent : ℕ) (index : List ℕ) (place next to : ℕ) (old mid new : Names) (a b c : List Inst) →
     Some extent ≡ slice_get extents axis → 1 ≤ length index → All (λ r. r < length old.regs) index →
-    Reaches shapes (λ seen now. check extent (now.regs (get_or index 0 0)) (now.places place)) next old mid a b →
-    Reaches shapes (λ seen now. checks (drop (axis + 1) extents) (map now.regs (take (length index - 1) (drop 1 index))) (now.places next)) to mid new b c →
-    Reaches shapes (λ seen now. checks (drop axis extents) (map now.regs index) (now.places place)) to old new a c
+    Reaches shapes (λ seen now. check extent (now.regs (get_or index 0 0)) (now.places place)) (AtPlace place) next old mid a b →
+    Reaches shapes (λ seen now. checks (drop (axis + 1) extents) (map now.regs (take (length index - 1) (drop 1 index))) (now.places next)) (AtPlace next) to mid new b c →
+    Reaches shapes (λ seen now. checks (drop axis extents) (map now.regs index) (now.places place)) (AtPlace place) to old new a c
 checks-next shapes extents axis extent index place next to old mid new a b c there some named first second =
-    reaches-then shapes _ _ to old mid new a b c first.extends first.quiet second (λ seen same start.
+    reaches-then shapes _ _ _ _ to old mid new a b c first.extends first.quiet second (λ seen same start.
     let before : Moved = runs seen a start in
     let after : Moved = runs seen b start in
     let keeps : Keeps (length old.regs) old.places before after = first.extends.keeps seen same start in
@@ -54,6 +57,7 @@ checks-next shapes extents axis extent index place next to old mid new a b c the
     ∙ ap (λ p. checks (drop (axis + 1) extents) (map before.regs (drop 1 index)) p) (first.value seen same start)
     ∙ sym (checks-more extents axis extent (before.regs (get_or index 0 0)) (map before.regs (drop 1 index)) (before.places place) there)
     ∙ ap (λ xs. checks (drop axis extents) (map before.regs xs) (before.places place)) (sym (first_rest index 0 some)))
+    first.rooted first.comes
 
 -- no axis is left of an offset
 pub offset-done : (shapes : List Shape) (node : NodeShape) (later : List NodeShape) (axis : ℕ) (index : List ℕ) (high : ℕ) (names : Names) (block : List Inst) → length index < 1 → high < length names.regs →
@@ -115,25 +119,27 @@ offset-first shapes node later index high to old mid new a b c some named first 
 
 -- no node is left
 pub led-done : (shapes : List Shape) (number : ℕ) (nodes : List NodeShape) (index : List ℕ) (place : ℕ) (names : Names) (block : List Inst) → length nodes < 1 → place < names.places →
-    Reaches shapes (λ seen now. led shapes number nodes (map now.regs index) (now.places place)) place names names block block
+    Reaches shapes (λ seen now. led shapes number nodes (map now.regs index) (now.places place)) (AtPlace place) place names names block block
 led-done shapes number nodes index place names block none named = record {
   extends = extends-same shapes names block;
   quiet = λ seen same start. refl;
   named = named;
   value = λ seen same start.
       sym (ap (λ ns. led shapes number ns (map (runs seen block start).regs index) ((runs seen block start).places place)) (empty_from nodes none));
+  rooted = λ seen same start. refl;
+  comes = λ ways. refl;
 }
 
 -- one node, and then those that are left
 pub led-next : (shapes : List Shape) (number : ℕ) (nodes : List NodeShape) (node : NodeShape) (index : List ℕ) (place offset next to : ℕ) (old mid1 mid2 new : Names) (a b c d : List Inst) →
     nodes ≡ node ∷ drop 1 nodes → place < old.places → All (λ r. r < length old.regs) index →
     Computes shapes (λ seen now. node_offset node (take (length nodes - 1) (drop 1 nodes)) (map now.regs index)) offset old mid1 a b →
-    Reaches shapes (λ seen now. down seen.shapes number (now.regs offset) (now.places place)) next mid1 mid2 b c →
-    Reaches shapes (λ seen now. led shapes (number + 1) (take (length nodes - 1) (drop 1 nodes)) (map now.regs index) (now.places next)) to mid2 new c d →
-    Reaches shapes (λ seen now. led shapes number nodes (map now.regs index) (now.places place)) to old new a d
+    Reaches shapes (λ seen now. down seen.shapes number (now.regs offset) (now.places place)) (AtPlace place) next mid1 mid2 b c →
+    Reaches shapes (λ seen now. led shapes (number + 1) (take (length nodes - 1) (drop 1 nodes)) (map now.regs index) (now.places next)) (AtPlace next) to mid2 new c d →
+    Reaches shapes (λ seen now. led shapes number nodes (map now.regs index) (now.places place)) (AtPlace place) to old new a d
 led-next shapes number nodes node index place offset next to old mid1 mid2 new a b c d split place_named named first second third =
     let both : Extends shapes old mid2 a c = extends-trans shapes old mid1 mid2 a b c first.extends second.extends in
-    reaches-then shapes _ _ to old mid2 new a c d both (quiet-trans shapes a b c first.quiet second.quiet) third (λ seen same start.
+    reaches-then shapes _ _ _ _ to old mid2 new a c d both (quiet-trans shapes a b c first.quiet second.quiet) third (λ seen same start.
     let before : Moved = runs seen a start in
     let mid : Moved = runs seen b start in
     let after : Moved = runs seen c start in
@@ -154,6 +160,8 @@ led-next shapes number nodes node index place offset next to old mid1 mid2 new a
     ∙ ap (λ p. led shapes (number + 1) later (map before.regs index) p) reached
     ∙ ap (λ k. led shapes k later (map before.regs index) (down shapes number (node_offset node later (map before.regs index)) (before.places place))) further
     ∙ ap (λ ns. led shapes number ns (map before.regs index) (before.places place)) (sym split))
+    (λ seen same start. second.rooted seen same start ∙ (first.extends.keeps seen same start).roots place place_named)
+    (λ ways. second.comes ways ∙ ap (λ (it : Way). it.root) (first.extends.ways ways place place_named))
 
 -- a part of a word, where divisor and size are those of the node
 pub digit-from : (shapes : List Shape) (node : NodeShape) (later : List NodeShape) (axis div size from to : ℕ) (old new : Names) (a b : List Inst) →

@@ -22,12 +22,15 @@ use Rattle.sg_ir.specs.Runs.{Seen, Moved, Place, Access, CodeWrite, CodeWant, it
 use Rattle.sg_ir.specs.Places.{place_at}
 use Rattle.sg_ir.specs.Named.{AreNamed, IsNamed}
 use Rattle.sg_ir.specs.Apt.{Use, Writes, Reads, ReadsOwn, IsWantOf, KeepsItsWays, IsApt, WantsItsWrites, may_activate, uses_in, uses_step}
-use Rattle.sg_ir.specs.Touches.{layouts_written, layouts_touched, wanted_step}
+use Rattle.sg_ir.specs.Touches.{layouts_written, layouts_touched, wanted_step, rooted_step}
 use Rattle.sg_ir.specs.WellTyped.{Frame, frame_of, sets_step, is_well_typed}
+use Rattle.sg_ir.specs.Trimmed.{asked_in}
+use Rattle.sg_ir.specs.Trails.{asked_by}
 use Rattle.sg_ir.proofs.Judging.{judges-Const, judges-Bin, judges-OwnRead, judges-OwnWrite}
 use Rattle.sg_flat.specs.Domain.{domain_points}
 use Rattle.sg_ir.proofs.Equations.{does-Const, does-Bin, does-Root, does-ReadCell, does-OwnRead, does-OwnWrite, does-Want}
-use Rattle.sg_ir.proofs.Folds.{fold-Const, fold-Bin, fold-OwnRead, fold-OwnWrite, fold-Want}
+use Rattle.sg_ir.proofs.Trailing.{trail-OwnRead, trail-Const, trail-Bin, trail-OwnWrite, asked-row}
+use Rattle.sg_ir.proofs.Folds.{fold-Const, fold-Bin, fold-Root, fold-IsActive, fold-OwnRead, fold-OwnWrite, fold-Want}
 
 -- one layout of four points with one field
 abbrev shapes : List Shape
@@ -101,6 +104,12 @@ ways = record {
   own_axes = λ layout field has. ap (λ (n : ℕ). option_map (λ (shape : Shape). shape.axes) (slice_get shapes n)) (each_use (Writes layout field Own) has).0;
 }
 
+-- it asks nothing
+asks_none : asked_in adds_one ≡ []
+asks_none =
+    let along : asked_by adds_one [] ≡ [] = simp (trail-OwnRead, trail-Const, trail-Bin, trail-OwnWrite) in
+    asked-row adds_one ∙ along
+
 none_named : AreNamed shapes []
 none_named k d below = absurd (omega (arith, below))
 
@@ -112,6 +121,7 @@ increments_is_apt = record {
   code_named = λ state fine at has. subst (AreNamed shapes) (sym (sym (accessed-is _) ∙ accesses_none (seen_in state at))) none_named;
   wants = λ state fine at has. subst (λ (writes : List CodeWrite). AllZip (IsWantOf shapes) [] writes) (sym (sym (activating-is _) ∙ activates_none (seen_in state at))) tt;
   ways = ways;
+  asks = λ layout field way has asked. let there = subst (λ (layouts : List ℕ). Contains layouts layout) asks_none asked in absurd (omega (arith, there.1));
 }
 
 -- well typed; and where the sum is of a register that nothing sets it isn't
@@ -151,7 +161,7 @@ there = (0, lit< tt, refl)
 abbrev reads_root : List Inst
 reads_root = v.Root 0 0 ∷ v.Const 0 0 ∷ v.ReadCell 1 0 0 0 (0 ∷ []) ∷ []
 
-root_accessed : accessed (iteration seen_first reads_root) ≡ record { layout = 0; place = Some (record { layout = 0; path = [] }); at = at1 0 } ∷ []
+root_accessed : accessed (iteration seen_first reads_root) ≡ record { asks = false; layout = 0; place = Some (record { layout = 0; path = [] }); at = at1 0 } ∷ []
 root_accessed = simp (does-Root seen_first, does-Const seen_first, does-ReadCell seen_first) (accessed-is _)
 
 abbrev HasNoPath : Option Place → Type 0
@@ -165,7 +175,7 @@ IsEmpty (x ∷ xs) = ⊥
 root_is_not_named : IsNamed shapes (Walk 0) reads_root → ⊥
 root_is_not_named named =
     let accesses = subst (AreNamed shapes) (sym (accessed-is _) ∙ root_accessed) (named opened opened_is_flat (at1 0) there) in
-    let place : HasNoPath (place_at shapes 0 (at1 0)) = subst HasNoPath (accesses 0 (record { layout = 0; place = None; at = at1 0 }) (lit< tt)) refl in
+    let place : HasNoPath (place_at shapes 0 (at1 0)) = subst HasNoPath (accesses 0 (record { asks = false; layout = 0; place = None; at = at1 0 }) (lit< tt)) refl in
     subst IsEmpty (sym place) tt
 
 -- a want that no write has
@@ -196,7 +206,7 @@ increments_write =
 
 increments_touch : layouts_touched increments ≡ 0 ∷ 0 ∷ 0 ∷ []
 increments_touch =
-    simp (fold-Const wanted_step, fold-Bin wanted_step, fold-OwnRead wanted_step, fold-OwnWrite wanted_step, fold-Const uses_step, fold-Bin uses_step, fold-OwnRead uses_step, fold-OwnWrite uses_step)
+    simp (fold-Const rooted_step, fold-Bin rooted_step, fold-OwnRead rooted_step, fold-OwnWrite rooted_step, fold-Const wanted_step, fold-Bin wanted_step, fold-OwnRead wanted_step, fold-OwnWrite wanted_step, fold-Const uses_step, fold-Bin uses_step, fold-OwnRead uses_step, fold-OwnWrite uses_step)
 
 -- a slice that wants a coordinate writes its layout
 wanting : KernelCode
@@ -205,3 +215,16 @@ wanting = record { slice = code_of (ty.I32 ∷ []) (v.Const 0 0 ∷ v.Want 3 (0 
 wanting_writes : layouts_written wanting ≡ 3 ∷ []
 unfolding wanting
 wanting_writes = simp (fold-Const wanted_step, fold-Want wanted_step, fold-Const uses_step, fold-Want uses_step)
+
+-- a kernel that asks touches the layout of the place
+asking : KernelCode
+asking = record { slice = code_of [] []; code = code_of (ty.I32 ∷ ty.Bool ∷ []) (v.Const 0 4 ∷ v.Root 0 2 ∷ v.IsActive 1 0 (0 ∷ []) ∷ []); domain = Range (at1 0) (at1 4) }
+
+asking_touches : layouts_touched asking ≡ 2 ∷ []
+unfolding asking
+asking_touches =
+    simp (fold-Const rooted_step, fold-Root rooted_step, fold-IsActive rooted_step, fold-Const wanted_step, fold-Root wanted_step, fold-IsActive wanted_step, fold-Const uses_step, fold-Root uses_step, fold-IsActive uses_step)
+
+asking_writes : layouts_written asking ≡ []
+unfolding asking
+asking_writes = simp (fold-Const wanted_step, fold-Root wanted_step, fold-IsActive wanted_step, fold-Const uses_step, fold-Root uses_step, fold-IsActive uses_step)

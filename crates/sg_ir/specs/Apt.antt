@@ -18,6 +18,7 @@ use Rattle.sg_ir.specs.declared.code.Inst.TheOpen.{Inst-F}
 use Rattle.sg_ir.specs.declared.code.KernelCode.{KernelCode}
 use Rattle.sg_ir.specs.Runs.{Seen, CodeWrite, CodeWant, is_own, iteration}
 use Rattle.sg_ir.specs.Named.{IsNamed}
+use Rattle.sg_ir.specs.Trimmed.{asked_in}
 
 -- the most iterations of a box: 2^20
 abbrev pub most_iterations : ℕ
@@ -83,6 +84,10 @@ pub record KeepsItsWays (shapes : List Shape) (domain : Domain) (uses : List Use
   pub no_own_read : (layout field : ℕ) (op : AccOp) → Contains uses (Writes layout field (Acc op)) → Contains uses (ReadsOwn layout field) → ⊥
   pub own_axes : (layout field : ℕ) → Contains uses (Writes layout field Own) → option_map (λ (shape : Shape). shape.axes) (slice_get shapes layout) ≡ loop_vars shapes domain
 
+-- no layout that is written is asked by `active`
+abbrev pub AsksUnwritten : List Use → List ℕ → Type 0
+AsksUnwritten uses asked = (layout field : ℕ) (way : Way) → Contains uses (Writes layout field way) → Contains asked layout → ⊥
+
 -- apt kernel code for layouts of these shapes
 pub record IsApt (shapes : List Shape) (kernel : KernelCode) : Type 0 where
   pub domain : IsDomain shapes kernel.domain
@@ -90,3 +95,4 @@ pub record IsApt (shapes : List Shape) (kernel : KernelCode) : Type 0 where
   pub code_named : IsNamed shapes kernel.domain kernel.code.body
   pub wants : WantsItsWrites shapes kernel.domain kernel.slice.body kernel.code.body
   pub ways : KeepsItsWays shapes kernel.domain (uses_in kernel.code.body)
+  pub asks : AsksUnwritten (uses_in kernel.code.body) (asked_in kernel.code.body)

@@ -8,7 +8,7 @@ use Rattle.sg_flat.specs.declared.effects.Domain.TheVariants.{Walk, Range}
 use Rattle.sg_ir.specs.declared.op.Op.TheVariants as op
 use Rattle.sg_ir.specs.declared.op.Step.TheVariants as step
 use Rattle.sg_ir.specs.declared.op.Descent.TheVariants as by
-use Rattle.sg_ir.specs.Blocks.{Block, End, Word, Spot, Cell, Do, Branch, SetVar}
+use Rattle.sg_ir.specs.Blocks.{Value, Block, End, Word, Spot, Cell, Do, Branch, SetVar}
 use Rattle.sg_ir.specs.declared.span.Span.{Span}
 use Rattle.sg_ir.specs.Span.{whole_i32, only, bin_span, range_span, op_span, var_span, first_spans}
 use Rattle.sg_ir.specs.Shared.{is_shared}
@@ -89,8 +89,8 @@ led_down place index to rest = Word (10 + to) (op.Extract 1 8 index) (Spot to (s
 -- reads at i, and at i - 1 after the check of its axis
 abbrev pub two_reads : Block
 two_reads =
-    Word 0 (op.Var 0) (Spot 0 (step.Root 0) (led_down 0 0 1 (Cell 1 1 0 0 (0 ∷ [])
-    (Word 2 (op.Const 1 false) (Word 3 (op.Bin bin.Sub ty.I32 0 2) (Spot 2 (step.Check 0 0 8 3) (led_down 2 3 3 (Cell 4 3 0 0 (3 ∷ []) End))))))))
+    Word 0 (op.Var 0) (Spot 0 (step.Root 0) (led_down 0 0 1 (Cell 1 1 (Value 0 0) (0 ∷ [])
+    (Word 2 (op.Const 1 false) (Word 3 (op.Bin bin.Sub ty.I32 0 2) (Spot 2 (step.Check 0 0 8 3) (led_down 2 3 3 (Cell 4 3 (Value 0 0) (3 ∷ []) End))))))))
 
 only_what_is_needed : is_trimmed (row_of_eight ∷ []) (Walk 0) two_reads ≡ true
 only_what_is_needed = refl

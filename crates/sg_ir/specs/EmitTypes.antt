@@ -10,6 +10,8 @@ use Rattle.sg_ir.specs.declared.code.Inst.{Inst}
 use Rattle.sg_ir.specs.declared.names.Names.{Names}
 use Rattle.sg_ir.specs.WellTyped.{Scope, Frame, reads, judged, set_regs, set_places, set_vars}
 use Rattle.sg_ir.specs.Apt.{uses_in}
+use Rattle.sg_ir.specs.Trimmed.{Ways}
+use Rattle.sg_ir.specs.Trails.{asked_by}
 
 -- the list goes on by the numbers from one up to below another
 pub record GoesOn (from to : ℕ) (before after : List ℕ) : Type 0 where
@@ -43,10 +45,11 @@ pub record Adds (shapes : List Shape) (needs gains : Frame → Scope → Type 0)
   pub good : (at : Frame) → at.shapes ≡ shapes → IsFinal new at → (scope : Scope) → (judged at before scope).0 ≡ true → needs at (judged at before scope).1 →
       ((judged at after scope).0 ≡ true) × gains at (judged at after scope).1
 
--- the block after sets no variable and uses no field that the block before doesn't
+-- the block after sets no variable, uses no field and asks no layout that the block before doesn't
 pub record KeepsVarsAndUses (before after : List Inst) : Type 0 where
   pub vars : set_vars after ≡ set_vars before
   pub uses : uses_in after ≡ uses_in before
+  pub asks : (ways : Ways) → asked_by after ways ≡ asked_by before ways
 
 -- index registers that may be read, and hold no truth values
 abbrev pub CanRead : List ℕ → Frame → Scope → Type 0

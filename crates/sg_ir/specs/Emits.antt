@@ -1,15 +1,18 @@
 -- What emitting does: runs of the whole block before and after, from every start, over layouts of these shapes.
-use Rattle.std.specs.Prelude.{◌≡◌, ℕ, ◌<◌, ◌≤◌, ◌+◌, ◌^◌, ◌++◌, [], ◌∷◌, List, length, All, Option}
+use Rattle.std.specs.Prelude.{◌≡◌, ℕ, ◌<◌, ◌≤◌, ◌+◌, ◌^◌, ◌++◌, [], ◌∷◌, List, length, All, Option, Some}
 use Rattle.sg_words.specs.declared.operators.Ty.{Ty}
 use Rattle.sg_layout.specs.declared.shape.Shape.{Shape}
 use Rattle.sg_ir.specs.declared.code.Inst.{Inst}
 use Rattle.sg_ir.specs.declared.names.Names.{Names}
 use Rattle.sg_ir.specs.Runs.{Seen, Place, Access, Moved, runs}
+use Rattle.sg_ir.specs.Trimmed.{Ways, way_of}
+use Rattle.sg_ir.specs.Trails.{ways_after}
 
 -- what has a name before has it unchanged, and nothing is written or wanted, and no variable is set
 pub record Keeps (r_end p_end : ℕ) (before after : Moved) : Type 0 where
   pub regs : (r : ℕ) → r < r_end → after.regs r ≡ before.regs r
   pub places : (p : ℕ) → p < p_end → after.places p ≡ before.places p
+  pub roots : (p : ℕ) → p < p_end → after.roots p ≡ before.roots p
   pub vars : after.vars ≡ before.vars
   pub writes : after.writes ≡ before.writes
   pub wants : after.wants ≡ before.wants
@@ -40,9 +43,10 @@ pub record StandInFront (old new : Names) (before after : List Inst) : Type 0 wh
   pub insts : List Inst
   pub block : after ≡ before ++ insts
 
--- the block after keeps what the block before made
+-- the block after keeps what the block before made, and the ways to places that have a name before it
 pub record Extends (shapes : List Shape) (old new : Names) (before after : List Inst) : Type 0 where
   pub grows : NamesGrow old new
+  pub ways : (ways : Ways) (p : ℕ) → p < old.places → way_of (ways_after after ways) p ≡ way_of (ways_after before ways) p
   pub keeps : (seen : Seen) → seen.shapes ≡ shapes → (start : Moved) → Keeps (length old.regs) old.places (runs seen before start) (runs seen after start)
 
 -- the block after accesses nothing that the block before doesn't
@@ -56,20 +60,39 @@ pub record Computes (shapes : List Shape) (word : Seen → Moved → ℕ) (to : 
   pub named : to < length new.regs
   pub value : (seen : Seen) → seen.shapes ≡ shapes → (start : Moved) → (runs seen after start).regs to ≡ word seen (runs seen before start)
 
--- a new place is one that depends on what was there before
-pub record Reaches (shapes : List Shape) (place : Seen → Moved → Option Place) (to : ℕ) (old new : Names) (before after : List Inst) : Type 0 where
+-- from where a new place comes: the root of a layout, or another place
+pub data From : Type 0 where
+  AtRoot : (layout : ℕ) → From
+  AtPlace : (place : ℕ) → From
+
+-- the layout of the root of a place that comes from there, in a run and by the ways to places
+abbrev pub root_in : From → Moved → ℕ
+root_in (AtRoot layout) now = layout
+root_in (AtPlace place) now = now.roots place
+
+abbrev pub root_along : From → Ways → Option ℕ
+root_along (AtRoot layout) ways = Some layout
+root_along (AtPlace place) ways = (way_of ways place).root
+
+-- a new place, which comes from there, depends on what was there before
+pub record Reaches (shapes : List Shape) (place : Seen → Moved → Option Place) (from : From) (to : ℕ) (old new : Names) (before after : List Inst) : Type 0 where
   pub extends : Extends shapes old new before after
   pub quiet : IsQuiet shapes before after
   pub named : to < new.places
   pub value : (seen : Seen) → seen.shapes ≡ shapes → (start : Moved) → (runs seen after start).places to ≡ place seen (runs seen before start)
+  pub rooted : (seen : Seen) → seen.shapes ≡ shapes → (start : Moved) → (runs seen after start).roots to ≡ root_in from (runs seen before start)
+  pub comes : (ways : Ways) → (way_of (ways_after after ways) to).root ≡ root_along from (ways_after before ways)
 
--- a new place is one that depends on what was there before, in each run where the index registers then held words, below 2^32
-pub record LeadsToPlace (shapes : List Shape) (index : List ℕ) (place : Seen → Moved → Option Place) (to : ℕ) (old new : Names) (before after : List Inst) : Type 0 where
+-- a new place, which comes from the root of a layout, depends on what was there before, in each run where the index registers then held
+-- words, below 2^32
+pub record LeadsToPlace (shapes : List Shape) (index : List ℕ) (place : Seen → Moved → Option Place) (layout : ℕ) (to : ℕ) (old new : Names) (before after : List Inst) : Type 0 where
   pub extends : Extends shapes old new before after
   pub quiet : IsQuiet shapes before after
   pub named : to < new.places
   pub value : (seen : Seen) → seen.shapes ≡ shapes → (start : Moved) → All (λ r. (runs seen before start).regs r < 2 ^ 32) index
       → (runs seen after start).places to ≡ place seen (runs seen before start)
+  pub rooted : (seen : Seen) → seen.shapes ≡ shapes → (start : Moved) → (runs seen after start).roots to ≡ layout
+  pub comes : (ways : Ways) → (way_of (ways_after after ways) to).root ≡ Some layout
 
 -- a new register holds a word, by one access
 pub record Fetches (shapes : List Shape) (word : Seen → Moved → ℕ) (access : Moved → Access) (to : ℕ) (old new : Names) (before after : List Inst) : Type 0 where

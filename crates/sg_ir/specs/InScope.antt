@@ -35,11 +35,13 @@ op_regs (op.Mulq a b s) = a ∷ b ∷ s ∷ []
 op_regs (op.Extract div size from) = from ∷ []
 op_regs (op.Offset high size low) = high ∷ low ∷ []
 op_regs (op.Read place layout field) = []
+op_regs (op.Active place) = []
 op_regs (op.OwnRead layout field) = []
 
--- the place that an operation reads: that of a read of a cell; no other operation reads one
+-- the place that an operation reads: that of which something is seen; no other operation reads one
 abbrev pub op_places : Op → List ℕ
 op_places (op.Read place layout field) = place ∷ []
+op_places (op.Active place) = place ∷ []
 op_places _ = []
 
 -- the register that a step reads: the index of a check, or the offset of a step down; none for a root
@@ -78,7 +80,7 @@ abbrev pub IsScoped : InScope → Block → Type 0
 IsScoped scope End = Unit {0}
 IsScoped scope (Word to how rest) = AreSet scope.regs (op_regs how) × AreSet scope.places (op_places how) × (scope.regs to ≡ false) × IsScoped (and_reg to scope) rest
 IsScoped scope (Spot to how rest) = AreSet scope.regs (step_regs how) × AreSet scope.places (step_places how) × (scope.places to ≡ false) × IsScoped (and_place to scope) rest
-IsScoped scope (Cell to place layout field index rest) = AreSet scope.places (place ∷ []) × (scope.regs to ≡ false) × IsScoped (and_reg to scope) rest × AreSet scope.regs index
+IsScoped scope (Cell to place sight index rest) = AreSet scope.places (place ∷ []) × (scope.regs to ≡ false) × IsScoped (and_reg to scope) rest × AreSet scope.regs index
 IsScoped scope (Do what rest) = AreSet scope.regs (act_regs what) × AreSet scope.places (act_places what) × IsScoped scope rest
 IsScoped scope (Branch cond block otherwise rest) = (scope.regs cond ≡ true) × IsScoped scope block × IsScoped scope otherwise × IsScoped scope rest
 IsScoped scope (Loop var lo hi body rest) = IsScoped scope body × IsScoped scope rest
@@ -87,6 +89,7 @@ IsScoped scope (Loop var lo hi body rest) = IsScoped scope body × IsScoped scop
 pub record AgreesInScope (scope : InScope) (room : Room) (moment : RunMoment) (moved : Moved) : Type 0 where
   pub regs : (r : ℕ) → scope.regs r ≡ true → moved.regs r ≡ room.regs r
   pub places : (p : ℕ) → scope.places p ≡ true → moved.places p ≡ room.places p
+  pub roots : (p : ℕ) → scope.places p ≡ true → moved.roots p ≡ room.roots p
   pub vars : (var : ℕ) → moved.vars var ≡ moment.vars var
   pub writes : moved.writes ≡ moment.writes
   pub wants : moved.wants ≡ moment.wants

@@ -14,6 +14,7 @@ pub mod Blocks
 pub mod Span
 pub mod Shared
 pub mod Trimmed
+pub mod Trails
 pub mod BlockExamples
 pub mod Scoped
 pub mod Flat

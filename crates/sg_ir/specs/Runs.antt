@@ -1,7 +1,7 @@
 -- The meaning of access code over a flat state: what a run of a block makes of registers, places and variables, and what it tells.
 use Rattle.std.specs.Prelude.{ℕ, zero, suc, ◌+◌, ◌*◌, ◌/◌, ◌%◌, ◌^◌, Bool, true, false, ◌&&◌, ◌==◌, nat_lt, if◌then◌else◌, List, [], ◌∷◌, ◌++◌, map, length, reverse, find, fold, get_or, take, slice_get, Option, Some, None, option_and_then, option_map}
 use Rattle.sg_words.specs.declared.operators.Ty.TheVariants as ty
-use Rattle.sg_words.specs.Words.{number, word_of, applied, applied_un, mulq_of}
+use Rattle.sg_words.specs.Words.{number, flag, word_of, applied, applied_un, mulq_of}
 use Rattle.sg_coord.specs.declared.coord.Coord.{Coord}
 use Rattle.sg_coord.specs.Coord.{is_on_axis}
 use Rattle.sg_layout.specs.declared.shape.NodeShape.{NodeShape}
@@ -12,7 +12,7 @@ use Rattle.sg_flat.specs.declared.effects.Way.{Way}
 use Rattle.sg_flat.specs.declared.effects.Way.TheVariants.{Own, Acc}
 use Rattle.sg_flat.specs.declared.state.FlatState.{FlatState}
 use Rattle.sg_flat.specs.State as flat
-use Rattle.sg_flat.specs.Domain.{numbers}
+use Rattle.sg_flat.specs.Domain.{numbers, is_active}
 use Rattle.sg_ir.specs.declared.code.Inst.{Inst, fold-Inst}
 use Rattle.sg_ir.specs.declared.code.Inst.TheOpen as i
 use Rattle.sg_ir.specs.declared.code.Inst.TheOpen.{Inst-F}
@@ -43,17 +43,21 @@ pub record CodeWant : Type 0 where
   pub stmt : ℕ
   pub at : Coord
 
--- a read or a contribution that was executed: its place, and the coordinate that its index registers named
+-- a read, a contribution or a question that was executed: whether it asked only if its place is active, its layout, its place, and the
+-- coordinate that its index registers named
 pub record Access : Type 0 where
+  pub asks : Bool
   pub layout : ℕ
   pub place : Option Place
   pub at : Coord
 
--- How far a run has come: the word of each register and of each variable, each place, and what was told so far, in order. A register
--- that isn't set yet has 0 and a place none; in a loop they have what the turn before left.
+-- How far a run has come: the word of each register and of each variable, each place, the layout from whose root each place comes (which
+-- it keeps when it is none), and what was told so far, in order. A register that isn't set yet has 0 and a place none; in a loop they have
+-- what the turn before left.
 pub record Moved : Type 0 where
   pub regs : ℕ → ℕ
   pub places : ℕ → Option Place
+  pub roots : ℕ → ℕ
   pub vars : ℕ → ℕ
   pub writes : List CodeWrite
   pub wants : List CodeWant
@@ -65,27 +69,27 @@ put to new old other = if other == to then new else old other
 
 -- how far a run has come once this register holds this word; all else is as it was
 abbrev pub set_reg : ℕ → ℕ → Moved → Moved
-set_reg to word now = record { regs = put to word now.regs; places = now.places; vars = now.vars; writes = now.writes; wants = now.wants; accesses = now.accesses }
+set_reg to word now = record { regs = put to word now.regs; places = now.places; roots = now.roots; vars = now.vars; writes = now.writes; wants = now.wants; accesses = now.accesses }
 
--- how far a run has come once this place is that one, or none; all else is as it was
-abbrev pub set_place : ℕ → Option Place → Moved → Moved
-set_place to place now = record { regs = now.regs; places = put to place now.places; vars = now.vars; writes = now.writes; wants = now.wants; accesses = now.accesses }
+-- how far a run has come once this place is that one, or none, below the root of this layout; all else is as it was
+abbrev pub set_place : ℕ → ℕ → Option Place → Moved → Moved
+set_place to root place now = record { regs = now.regs; places = put to place now.places; roots = put to root now.roots; vars = now.vars; writes = now.writes; wants = now.wants; accesses = now.accesses }
 
 -- how far a run has come once this variable has this word; all else is as it was
 abbrev pub set_var_word : ℕ → ℕ → Moved → Moved
-set_var_word var word now = record { regs = now.regs; places = now.places; vars = put var word now.vars; writes = now.writes; wants = now.wants; accesses = now.accesses }
+set_var_word var word now = record { regs = now.regs; places = now.places; roots = now.roots; vars = put var word now.vars; writes = now.writes; wants = now.wants; accesses = now.accesses }
 
 -- how far a run has come once it has told this write too, after those so far; all else is as it was
 abbrev pub add_code_write : CodeWrite → Moved → Moved
-add_code_write write now = record { regs = now.regs; places = now.places; vars = now.vars; writes = now.writes ++ write ∷ []; wants = now.wants; accesses = now.accesses }
+add_code_write write now = record { regs = now.regs; places = now.places; roots = now.roots; vars = now.vars; writes = now.writes ++ write ∷ []; wants = now.wants; accesses = now.accesses }
 
 -- how far a run has come once it has told this want too, after those so far; all else is as it was
 abbrev pub add_want : CodeWant → Moved → Moved
-add_want want now = record { regs = now.regs; places = now.places; vars = now.vars; writes = now.writes; wants = now.wants ++ want ∷ []; accesses = now.accesses }
+add_want want now = record { regs = now.regs; places = now.places; roots = now.roots; vars = now.vars; writes = now.writes; wants = now.wants ++ want ∷ []; accesses = now.accesses }
 
 -- how far a run has come once it has told this access too, after those so far; all else is as it was
 abbrev pub add_access : Access → Moved → Moved
-add_access access now = record { regs = now.regs; places = now.places; vars = now.vars; writes = now.writes; wants = now.wants; accesses = now.accesses ++ access ∷ [] }
+add_access access now = record { regs = now.regs; places = now.places; roots = now.roots; vars = now.vars; writes = now.writes; wants = now.wants; accesses = now.accesses ++ access ∷ [] }
 
 -- the coordinate of index words, each read as I32; the parts that it doesn't use are 0
 abbrev pub coord_of : List ℕ → Coord
@@ -132,6 +136,12 @@ abbrev pub cell_value : Seen → ℕ → ℕ → Option Coord → ℕ
 cell_value seen layout field None = 0
 cell_value seen layout field (Some at) = flat.value_of seen.shapes seen.state layout field at
 
+-- the coordinate of a place is active in its layout at the start of the run; none isn't
+abbrev pub is_active_place : Seen → Option Coord → Option Place → Bool
+is_active_place seen None there = false
+is_active_place seen (Some at) None = false
+is_active_place seen (Some at) (Some there) = is_active seen.state there.layout at
+
 -- a write that is no contribution
 abbrev pub is_own : Way → Bool
 is_own Own = true
@@ -166,23 +176,26 @@ inst_step seen (i.Set var from) now = set_var_word var (now.regs from) now
 inst_step seen (i.Bin to op given a b) now = set_reg to (applied op given (now.regs a) (now.regs b)) now
 inst_step seen (i.Un to op given a) now = set_reg to (applied_un op (now.regs a)) now
 inst_step seen (i.Mulq to a b s) now = set_reg to (mulq_of (now.regs a) (now.regs b) (now.regs s)) now
-inst_step seen (i.Root to layout) now = set_place to (Some (record { layout = layout; path = [] })) now
-inst_step seen (i.Check to place axis extent index) now = set_place to (check extent (now.regs index) (now.places place)) now
+inst_step seen (i.Root to layout) now = set_place to layout (Some (record { layout = layout; path = [] })) now
+inst_step seen (i.Check to place axis extent index) now = set_place to (now.roots place) (check extent (now.regs index) (now.places place)) now
 inst_step seen (i.Extract to div size from) now = set_reg to (now.regs from / div % size) now
 inst_step seen (i.Offset to high size low) now = set_reg to ((now.regs high * size + now.regs low) % 2 ^ 32) now
-inst_step seen (i.Child to place node offset) now = set_place to (down seen.shapes node (now.regs offset) (now.places place)) now
-inst_step seen (i.HashChild to place node offset) now = set_place to (down seen.shapes node (now.regs offset) (now.places place)) now
-inst_step seen (i.MaskBit to place node offset) now = set_place to (down seen.shapes node (now.regs offset) (now.places place)) now
-inst_step seen (i.DynCell to place node offset) now = set_place to (down seen.shapes node (now.regs offset) (now.places place)) now
+inst_step seen (i.Child to place node offset) now = set_place to (now.roots place) (down seen.shapes node (now.regs offset) (now.places place)) now
+inst_step seen (i.HashChild to place node offset) now = set_place to (now.roots place) (down seen.shapes node (now.regs offset) (now.places place)) now
+inst_step seen (i.MaskBit to place node offset) now = set_place to (now.roots place) (down seen.shapes node (now.regs offset) (now.places place)) now
+inst_step seen (i.DynCell to place node offset) now = set_place to (now.roots place) (down seen.shapes node (now.regs offset) (now.places place)) now
 inst_step seen (i.ReadCell to place layout field index) now =
     set_reg to (cell_value seen layout field (at_of seen.shapes (now.places place)))
-    (add_access (record { layout = layout; place = now.places place; at = named_by index now }) now)
+    (add_access (record { asks = false; layout = layout; place = now.places place; at = named_by index now }) now)
+inst_step seen (i.IsActive to place index) now =
+    set_reg to (flag (is_active_place seen (at_of seen.shapes (now.places place)) (now.places place)))
+    (add_access (record { asks = true; layout = now.roots place; place = now.places place; at = named_by index now }) now)
 inst_step seen (i.OwnRead to layout field) now = set_reg to (own_value seen layout field now) now
 inst_step seen (i.OwnWrite layout field from stmt) now =
     add_code_write (record { layout = layout; field = field; stmt = stmt; at = Some seen.at; way = Own; value = now.regs from }) now
 inst_step seen (i.Acc op layout field place from index stmt) now =
     add_code_write (record { layout = layout; field = field; stmt = stmt; at = at_of seen.shapes (now.places place); way = Acc op; value = now.regs from })
-    (add_access (record { layout = layout; place = now.places place; at = named_by index now }) now)
+    (add_access (record { asks = false; layout = layout; place = now.places place; at = named_by index now }) now)
 inst_step seen (i.Want layout index stmt) now = add_want (record { layout = layout; stmt = stmt; at = named_by index now }) now
 inst_step seen (i.If cond block otherwise) now = actions_in_turn (if now.regs cond == 0 then otherwise else block) now
 inst_step seen (i.For var lo hi body) now = fold (λ reached turn. actions_in_turn body (set_var_word var (word_of turn) reached)) now (numbers lo hi)
@@ -204,6 +217,7 @@ abbrev pub iteration_start : Seen → Moved
 iteration_start seen = record {
   regs = λ reg. 0;
   places = λ place. None;
+  roots = λ place. 0;
   vars = λ var. get_or (part_words seen.at) var 0;
   writes = [];
   wants = [];

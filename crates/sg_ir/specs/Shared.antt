@@ -6,7 +6,7 @@ use Rattle.sg_ir.specs.declared.op.Op.TheVariants as op
 use Rattle.sg_ir.specs.declared.op.Step.{Step}
 use Rattle.sg_ir.specs.contracts.op.OpPartialEq.TheImpl as op_eq
 use Rattle.sg_ir.specs.contracts.op.StepPartialEq.TheImpl as step_eq
-use Rattle.sg_ir.specs.Blocks.{Block, End, Word, Spot, Cell, Do, Branch, Loop}
+use Rattle.sg_ir.specs.Blocks.{sight_op, Block, End, Word, Spot, Cell, Do, Branch, Loop}
 use Rattle.sg_ir.specs.Span.{sets}
 
 -- two operations, and two steps to a place, are equal: their kinds and all their numbers are
@@ -29,15 +29,16 @@ is_pure single (op.Mulq a b s) = true
 is_pure single (op.Extract div size from) = true
 is_pure single (op.Offset high size low) = true
 is_pure single (op.Read place layout field) = true
+is_pure single (op.Active place) = true
 
--- In a block after these operations and steps, of which none is a pure one that an earlier one equals. Reads of cells are pure; two of
--- one field at one place are equal whatever registers name their coordinate. What a block inside has, is not after what follows it.
+-- In a block after these operations and steps, of which none is a pure one that an earlier one equals. What is seen at a place is pure; two
+-- that see the same at one place are equal whatever registers name their coordinate. What a block inside has, is not after what follows it.
 abbrev pub shares : (ℕ → Bool) → List Op → List Step → Block → Bool
 shares single ops steps End = true
 shares single ops steps (Word to how rest) = not (is_pure single how && list_any (same_op how) ops) && shares single (how ∷ ops) steps rest
 shares single ops steps (Spot to how rest) = not (list_any (same_step how) steps) && shares single ops (how ∷ steps) rest
-shares single ops steps (Cell to place layout field index rest) =
-    not (list_any (same_op (op.Read place layout field)) ops) && shares single (op.Read place layout field ∷ ops) steps rest
+shares single ops steps (Cell to place sight index rest) =
+    not (list_any (same_op (sight_op place sight)) ops) && shares single (sight_op place sight ∷ ops) steps rest
 shares single ops steps (Do what rest) = shares single ops steps rest
 shares single ops steps (Branch cond block otherwise rest) =
     shares single ops steps block && (shares single ops steps otherwise && shares single ops steps rest)

@@ -87,6 +87,7 @@ op_span spans (op.Mulq a b s) = whole_i32
 op_span spans (op.Extract div size from) = whole_i32
 op_span spans (op.Offset high size low) = whole_i32
 op_span spans (op.Read place layout field) = whole_i32
+op_span spans (op.Active place) = whole_i32
 op_span spans (op.OwnRead layout field) = whole_i32
 
 -- what is known after a register that is set, and in an inner loop
@@ -102,7 +103,7 @@ abbrev pub sets : ℕ → Block → ℕ
 sets var End = 0
 sets var (Word to how rest) = sets var rest
 sets var (Spot to how rest) = sets var rest
-sets var (Cell to place layout field index rest) = sets var rest
+sets var (Cell to place sight index rest) = sets var rest
 sets var (Do what rest) = act_sets what + sets var rest
   where
     act_sets : Act → ℕ

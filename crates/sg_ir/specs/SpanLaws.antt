@@ -13,10 +13,10 @@ use Rattle.sg_flat.specs.State as flat
 use Rattle.sg_ir.specs.declared.op.Op.{Op}
 use Rattle.sg_ir.specs.declared.op.Op.TheVariants as op
 use Rattle.sg_ir.specs.Runs.{Seen, CodeWrite, iteration_start}
-use Rattle.sg_ir.specs.Blocks.{Block, End, Word, Spot, Cell, Do, Branch, Loop, Act, SetVar, WriteOwn, Contribute, Wish}
+use Rattle.sg_ir.specs.Blocks.{sight_op, Block, End, Word, Spot, Cell, Do, Branch, Loop, Act, SetVar, WriteOwn, Contribute, Wish}
 use Rattle.sg_ir.specs.declared.span.Span.{Span}
 use Rattle.sg_ir.specs.Span.{whole_i32, Spans, reg_span, var_span, op_span, with_span, in_loop, first_spans}
-use Rattle.sg_ir.specs.Scoped.{RunMoment, Room, room_reg, room_place, op_word, step_place, moment_after_act, at_turn, run, first_room}
+use Rattle.sg_ir.specs.Scoped.{RunMoment, Room, room_reg, room_place, op_word, step_root, step_place, moment_after_act, at_turn, run, first_room}
 use Rattle.sg_ir.specs.Flat.{moment_of}
 
 -- a word whose number, as I32, is in the span
@@ -40,9 +40,9 @@ abbrev pub SpansHold : Seen → Spans → Block → Room → RunMoment → Type 
 SpansHold seen spans End room now = Unit {0}
 SpansHold seen spans (Word to how rest) room now =
     Lies (op_span spans how) (op_word seen room now how) × SpansHold seen (with_span to (op_span spans how) spans) rest (room_reg to (op_word seen room now how) room) now
-SpansHold seen spans (Spot to how rest) room now = SpansHold seen spans rest (room_place to (step_place seen room how) room) now
-SpansHold seen spans (Cell to place layout field index rest) room now =
-    Lies whole_i32 (op_word seen room now (op.Read place layout field)) × SpansHold seen (with_span to whole_i32 spans) rest (room_reg to (op_word seen room now (op.Read place layout field)) room) now
+SpansHold seen spans (Spot to how rest) room now = SpansHold seen spans rest (room_place to (step_root room how) (step_place seen room how) room) now
+SpansHold seen spans (Cell to place sight index rest) room now =
+    Lies whole_i32 (op_word seen room now (sight_op place sight)) × SpansHold seen (with_span to whole_i32 spans) rest (room_reg to (op_word seen room now (sight_op place sight)) room) now
 SpansHold seen spans (Do what rest) room now = SpansHold seen spans rest room (moment_after_act seen room what now)
 SpansHold seen spans (Branch cond block otherwise rest) room now =
     WhereTest (room.regs cond == 0) (SpansHold seen spans otherwise room now) (SpansHold seen spans block room now)
@@ -61,6 +61,7 @@ HasConstantWord (op.Mulq a b s) = Unit {0}
 HasConstantWord (op.Extract div size from) = Unit {0}
 HasConstantWord (op.Offset high size low) = Unit {0}
 HasConstantWord (op.Read place layout field) = Unit {0}
+HasConstantWord (op.Active place) = Unit {0}
 HasConstantWord (op.OwnRead layout field) = Unit {0}
 
 -- constants of a block are words, and an instruction sets only a variable that has all of I32 there
@@ -68,7 +69,7 @@ abbrev pub IsSpanned : Spans → Block → Type 0
 IsSpanned spans End = Unit {0}
 IsSpanned spans (Word to how rest) = HasConstantWord how × IsSpanned (with_span to (op_span spans how) spans) rest
 IsSpanned spans (Spot to how rest) = IsSpanned spans rest
-IsSpanned spans (Cell to place layout field index rest) = IsSpanned (with_span to whole_i32 spans) rest
+IsSpanned spans (Cell to place sight index rest) = IsSpanned (with_span to whole_i32 spans) rest
 IsSpanned spans (Do what rest) = ActIsSpanned what × IsSpanned spans rest
   where
     ActIsSpanned : Act → Type 0

@@ -127,6 +127,10 @@ un_line to op given a = reg to ++ codes " = " ++ un_text op ++ 32 ∷ ty_text gi
 abbrev pub read_line : ℕ → ℕ → ℕ → ℕ → List ℕ → List ℕ
 read_line to from layout field index = reg to ++ codes " = read " ++ place_text from ++ then_number layout ++ then_number field ++ index_text index
 
+-- a question whether a place is active, without indent: the register that is set, the place and the index registers
+abbrev pub active_line : ℕ → ℕ → List ℕ → List ℕ
+active_line to from index = reg to ++ codes " = active " ++ place_text from ++ index_text index
+
 -- a contribution without indent: operator, layout, field, place, value's register, index registers; its statement isn't in the text
 abbrev pub acc_line : AccOp → ℕ → ℕ → ℕ → ℕ → List ℕ → List ℕ
 acc_line op layout field from value index = codes "acc " ++ acc_text op ++ then_number layout ++ then_number field ++ 32 ∷ place_text from ++ then_reg value ++ index_text index
@@ -165,6 +169,7 @@ text_step (i.HashChild to from node offset) indent = line indent (step_line (cod
 text_step (i.MaskBit to from node offset) indent = line indent (step_line (codes "maskbit") to from node offset)
 text_step (i.DynCell to from node offset) indent = line indent (step_line (codes "dyncell") to from node offset)
 text_step (i.ReadCell to from layout field index) indent = line indent (read_line to from layout field index)
+text_step (i.IsActive to from index) indent = line indent (active_line to from index)
 text_step (i.OwnRead to layout field) indent = line indent (own_read_line (codes "ownread") to layout field)
 text_step (i.OwnWrite layout field from stmt) indent = line indent (own_write_line layout field from)
 text_step (i.Acc op layout field from value index stmt) indent = line indent (acc_line op layout field from value index)

@@ -1,4 +1,4 @@
--- Which layouts kernel code writes, reads and walks, by the text of its slice and its code.
+-- Which layouts kernel code writes, reads, asks and walks, by the text of its slice and its code.
 use Rattle.std.specs.Prelude.{◌≡◌, ℕ, Bool, List, [], ◌∷◌, ◌++◌, ◌==◌, slice_get, Contains}
 use Rattle.std.specs.List.{flat_map, list_any}
 use Rattle.sg_coord.specs.declared.coord.Coord.{Coord}
@@ -44,13 +44,24 @@ layouts_wanted block = flat_map wanted_by block
 abbrev pub uses_by : Inst → List Use
 uses_by = fold-Inst (List Use) uses_step
 
+-- One layer: the layouts in which an instruction takes a place from the root, where those of the instructions in it are given
+abbrev pub rooted_step : Inst-F (List ℕ) → List ℕ
+rooted_step (i.Root to layout) = layout ∷ []
+rooted_step (i.If cond block otherwise) = flat_map (λ layouts. layouts) block ++ flat_map (λ layouts. layouts) otherwise
+rooted_step (i.For var lo hi body) = flat_map (λ layouts. layouts) body
+rooted_step _ = []
+
+-- The layouts in which an instruction takes a place. What is asked is asked at a place, and each place serves a question, a read or a contribution.
+abbrev pub rooted_by : Inst → List ℕ
+rooted_by = fold-Inst (List ℕ) rooted_step
+
 -- the layouts that an instruction writes: what a slice wants is what its code writes where that may activate, so a want counts as a write
 abbrev pub written_by : Inst → List ℕ
 written_by inst = wanted_by inst ++ flat_map layout_written (uses_by inst)
 
--- those that it writes or reads
+-- those that it writes, reads or asks
 abbrev pub touched_by : Inst → List ℕ
-touched_by inst = wanted_by inst ++ flat_map layout_touched (uses_by inst)
+touched_by inst = rooted_by inst ++ (wanted_by inst ++ flat_map layout_touched (uses_by inst))
 
 -- the layouts that a kernel writes, by the text of its slice and of its code
 abbrev pub layouts_written : KernelCode → List ℕ
@@ -61,7 +72,7 @@ abbrev pub layouts_walked : Domain → List ℕ
 layouts_walked (Walk layout) = layout ∷ []
 layouts_walked (Range lo hi) = []
 
--- the layouts that a kernel writes, reads or walks
+-- the layouts that a kernel writes, reads, asks or walks
 abbrev pub layouts_touched : KernelCode → List ℕ
 layouts_touched kernel = flat_map touched_by kernel.slice.body ++ (flat_map touched_by kernel.code.body ++ layouts_walked kernel.domain)
 
@@ -75,11 +86,12 @@ AreSameFor one other (Writes layout field way) = Unit {0}
 AreSameFor one other (Reads layout field) = slice_get one.layouts layout ≡ slice_get other.layouts layout
 AreSameFor one other (ReadsOwn layout field) = slice_get one.layouts layout ≡ slice_get other.layouts layout
 
--- at two states that have the same layouts wherever a block reads, an iteration writes and wants the same
+-- at two states that have the same layouts wherever a block reads or takes a place, an iteration writes and wants the same
 abbrev pub ReadsDecide : Type 0
 ReadsDecide =
     (shapes : List Shape) (block : List Inst) (one other : FlatState) →
-    ((it : Use) → Contains (uses_in block) it → AreSameFor one other it) → (at : Coord) →
+    ((it : Use) → Contains (uses_in block) it → AreSameFor one other it) →
+    ((layout : ℕ) → Contains (flat_map rooted_by block) layout → slice_get one.layouts layout ≡ slice_get other.layouts layout) → (at : Coord) →
     ((iteration (record { shapes = shapes; state = one; at = at }) block).writes
     ≡ (iteration (record { shapes = shapes; state = other; at = at }) block).writes)
     × ((iteration (record { shapes = shapes; state = one; at = at }) block).wants

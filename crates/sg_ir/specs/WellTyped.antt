@@ -191,6 +191,10 @@ inst_fits at (i.MaskBit to place node offset) scope = step_fits at ByBit to plac
 inst_fits at (i.DynCell to place node offset) scope = step_fits at ByLength to place node offset scope
 inst_fits at (i.ReadCell to place layout field index) scope =
     (holds_of (is_cell at layout) (scope.places place) && (joins (field_type_at at layout field) (slice_get at.regs to) && holds_of (λ shape. indexes at scope shape index) (slice_get at.shapes layout)), with_reg to scope)
+inst_fits at (i.IsActive to place index) scope = (
+  holds_of (λ known. is_cell at known.layout known && (holds_of (λ shape. indexes at scope shape index) (slice_get at.shapes known.layout) && is_truth_as true (slice_get at.regs to))) (scope.places place),
+  with_reg to scope,
+)
 inst_fits at (i.OwnRead to layout field) scope = (joins (field_type_at at layout field) (slice_get at.regs to), with_reg to scope)
 inst_fits at (i.OwnWrite layout field from stmt) scope = (scope.regs from && joins (field_type_at at layout field) (slice_get at.regs from), scope)
 inst_fits at (i.Acc op layout field place from index stmt) scope = (
@@ -238,6 +242,7 @@ sets_step (i.HashChild to place node offset) = SetsPlace to ∷ []
 sets_step (i.MaskBit to place node offset) = SetsPlace to ∷ []
 sets_step (i.DynCell to place node offset) = SetsPlace to ∷ []
 sets_step (i.ReadCell to place layout field index) = SetsReg to ∷ []
+sets_step (i.IsActive to place index) = SetsReg to ∷ []
 sets_step (i.OwnRead to layout field) = SetsReg to ∷ []
 sets_step (i.OwnWrite layout field from stmt) = []
 sets_step (i.Acc op layout field place from index stmt) = []

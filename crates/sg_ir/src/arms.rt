@@ -130,6 +130,21 @@ impl Typing<'_> {
         )
     }
 
+    pub(crate) fn active_fits(&self, before: &Before, to: u32, place: u32, index: &[u32]) -> bool
+        ensures { result ≡ (inst_fits (frame_in self.now) (i.IsActive to place index.now) (scope_in self.now before.now)).0 }
+    {
+        match passed_by(before, place) {
+            Some(known) => {
+                let last = both(
+                    self.indexes(before, known.layout, index),
+                    is_of(true, self.reg(to)),
+                );
+                both(self.is_cell(Some(known), known.layout), last)
+            }
+            None => false,
+        }
+    }
+
     /// Whether a place may go down a node.
     pub(crate) fn step_fits(
         &self,

@@ -123,6 +123,12 @@ pub enum Inst {
         field: u32,
         index: Items<u32>,
     },
+    /// 1 if the place isn't none and its coordinate is active at the kernel's start, else 0.
+    IsActive {
+        to: u32,
+        place: u32,
+        index: Items<u32>,
+    },
     /// The value of the field in the iteration's own cell.
     OwnRead {
         to: u32,

@@ -1,10 +1,10 @@
-ghost use Rattle.std.specs.Prelude.{◌≡◌, ◌+◌, ◌*◌, ◌/◌, ◌%◌, ◌^◌, ◌<◌, [], Some, IfOk, List};
+ghost use Rattle.std.specs.Prelude.{◌≡◌, ◌+◌, ◌*◌, ◌/◌, ◌%◌, ◌^◌, ◌<◌, [], Some, true, false, IfOk, List};
 ghost use Rattle.sg_words.specs.declared.operators.Ty.TheVariants as ty;
-ghost use Rattle.sg_words.specs.Words.{applied, applied_un, mulq_of};
+ghost use Rattle.sg_words.specs.Words.{applied, applied_un, flag, mulq_of};
 ghost use Rattle.sg_layout.specs.declared.shape.Shape.{Shape};
 ghost use Rattle.sg_ir.specs.declared.code.Inst.TheVariants as v;
-ghost use Rattle.sg_ir.specs.Runs.{check, down, at_of, cell_value, own_value, named_by};
-ghost use Rattle.sg_ir.specs.Emits.{Computes, Reaches, Fetches, PutsReg, PutsPlace, StandInFront};
+ghost use Rattle.sg_ir.specs.Runs.{check, down, at_of, cell_value, is_active_place, own_value, named_by};
+ghost use Rattle.sg_ir.specs.Emits.{AtPlace, AtRoot, Computes, Reaches, Fetches, PutsReg, PutsPlace, StandInFront};
 ghost use Rattle.sg_ir.specs.StepDown.{child_inst};
 
 use crate::code::Inst;
@@ -158,7 +158,7 @@ pub fn own_read(
 /// The root of a layout.
 pub fn root(names: &mut Names, block: &mut Items<Inst>, layout: u32) -> Result<u32, Memory>
     ensures puts { IfOk result (λ to. PutsPlace (λ place_to. v.Root place_to layout) to names.old names.new block.old block.new) }
-    ensures reaches { IfOk result (λ to. (shapes : List Shape) → Reaches shapes (λ seen now. Some (record { layout = layout; path = [] })) to names.old names.new block.old block.new) }
+    ensures reaches { IfOk result (λ to. (shapes : List Shape) → Reaches shapes (λ seen now. Some (record { layout = layout; path = [] })) (AtRoot layout) to names.old names.new block.old block.new) }
     ensures front { StandInFront names.old names.new block.old block.new }
 {
     let to = names.place()?;
@@ -176,7 +176,7 @@ pub fn checked(
     index: u32,
 ) -> Result<u32, Memory>
     ensures puts { IfOk result (λ to. PutsPlace (λ place_to. v.Check place_to place axis extent index) to names.old names.new block.old block.new) }
-    ensures reaches { IfOk result (λ to. (shapes : List Shape) → Reaches shapes (λ seen now. check extent (now.regs index) (now.places place)) to names.old names.new block.old block.new) }
+    ensures reaches { IfOk result (λ to. (shapes : List Shape) → Reaches shapes (λ seen now. check extent (now.regs index) (now.places place)) (AtPlace place) to names.old names.new block.old block.new) }
     ensures front { StandInFront names.old names.new block.old block.new }
 {
     let to = names.place()?;
@@ -200,7 +200,7 @@ pub fn stepped(
     offset: u32,
 ) -> Result<u32, Memory>
     ensures puts { IfOk result (λ to. PutsPlace (λ place_to. child_inst kind place_to place node offset) to names.old names.new block.old block.new) }
-    ensures reaches { IfOk result (λ to. (shapes : List Shape) → Reaches shapes (λ seen now. down seen.shapes node (now.regs offset) (now.places place)) to names.old names.new block.old block.new) }
+    ensures reaches { IfOk result (λ to. (shapes : List Shape) → Reaches shapes (λ seen now. down seen.shapes node (now.regs offset) (now.places place)) (AtPlace place) to names.old names.new block.old block.new) }
     ensures front { StandInFront names.old names.new block.old block.new }
 {
     let to = names.place()?;
@@ -251,7 +251,7 @@ pub fn read_cell(
     index: Items<u32>,
 ) -> Result<u32, Memory>
     ensures puts { IfOk result (λ to. PutsReg ty (λ reg. v.ReadCell reg place layout field index) to names.old names.new block.old block.new) }
-    ensures fetches { IfOk result (λ to. (shapes : List Shape) → Fetches shapes (λ seen now. cell_value seen layout field (at_of seen.shapes (now.places place))) (λ now. record { layout = layout; place = now.places place; at = named_by index now }) to names.old names.new block.old block.new) }
+    ensures fetches { IfOk result (λ to. (shapes : List Shape) → Fetches shapes (λ seen now. cell_value seen layout field (at_of seen.shapes (now.places place))) (λ now. record { asks = false; layout = layout; place = now.places place; at = named_by index now }) to names.old names.new block.old block.new) }
     ensures front { StandInFront names.old names.new block.old block.new }
 {
     let to = names.reg(ty)?;
@@ -262,5 +262,22 @@ pub fn read_cell(
         field,
         index,
     })?;
+    Ok(to)
+}
+
+/// A register, of type `ty`, that tells whether a place is active, where the index registers name the coordinate that is meant.
+pub fn is_active(
+    names: &mut Names,
+    block: &mut Items<Inst>,
+    ty: Ty,
+    place: u32,
+    index: Items<u32>,
+) -> Result<u32, Memory>
+    ensures puts { IfOk result (λ to. PutsReg ty (λ reg. v.IsActive reg place index) to names.old names.new block.old block.new) }
+    ensures fetches { IfOk result (λ to. (shapes : List Shape) → Fetches shapes (λ seen now. flag (is_active_place seen (at_of seen.shapes (now.places place)) (now.places place))) (λ now. record { asks = true; layout = now.roots place; place = now.places place; at = named_by index now }) to names.old names.new block.old block.new) }
+    ensures front { StandInFront names.old names.new block.old block.new }
+{
+    let to = names.reg(ty)?;
+    block.push(Inst::IsActive { to, place, index })?;
     Ok(to)
 }

@@ -43,7 +43,7 @@ pub fn words_lie_in_spans()
     box_in_order();
 }
 
-/// At two states that have the same layouts wherever code reads, each iteration writes and wants the same.
+/// At two states that have the same layouts wherever code reads or asks, each iteration writes and wants the same.
 pub fn reads_decide()
     ensures { ReadsDecide }
 {}

@@ -102,6 +102,9 @@ fn push_inst(alloc: Global, inst: &Inst, indent: &str, text: &mut String) -> Res
             field,
             index,
         } => { push_read(*to, *place, *layout, *field, index.as_slice(), indent, text) }
+        Inst::IsActive { to, place, index } => {
+            push_active(*to, *place, index.as_slice(), indent, text)
+        }
         Inst::OwnRead { to, layout, field } => push_own_read(
             "ownread", *to, *layout, *field, indent, text,
         ),
@@ -285,6 +288,20 @@ fn push_read(
     ensures { OnOk result (string_bytes text.new ≡ string_bytes text.old ++ spec.line indent.now (spec.read_line to place layout field index.now)) }
 {
     write!(text, "{indent}r{to} = read p{place} {layout} {field}")?;
+    push_index(index, text)?;
+    text.push_str("\n")
+}
+
+fn push_active(
+    to: u32,
+    place: u32,
+    index: &[u32],
+    indent: &str,
+    text: &mut String,
+) -> Result<(), AllocError>
+    ensures { OnOk result (string_bytes text.new ≡ string_bytes text.old ++ spec.line indent.now (spec.active_line to place index.now)) }
+{
+    write!(text, "{indent}r{to} = active p{place}")?;
     push_index(index, text)?;
     text.push_str("\n")
 }

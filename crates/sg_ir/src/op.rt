@@ -47,6 +47,9 @@ pub enum Op {
         layout: u32,
         field: u32,
     },
+    Active {
+        place: u32,
+    },
     OwnRead {
         layout: u32,
         field: u32,

@@ -8,7 +8,7 @@ ghost use Rattle.sg_layout.specs.Rules.{has_good_extents};
 ghost use Rattle.sg_ir.specs.Runs.{named_by};
 ghost use Rattle.sg_ir.specs.Places.{place_at, extents_in};
 ghost use Rattle.sg_ir.specs.WellTyped.{reads};
-ghost use Rattle.sg_ir.specs.Emits.{Computes, Reaches, NamesGrow, LeadsToPlace, StandInFront};
+ghost use Rattle.sg_ir.specs.Emits.{AtPlace, Computes, Reaches, NamesGrow, LeadsToPlace, StandInFront};
 ghost use Rattle.sg_ir.specs.EmitTypes.{AddsSteps, AddsWord, AddsChecks, AddsDescent, CanRead, HasPassed};
 ghost use Rattle.sg_ir.specs.steps.Walks.{AreWalkable, checks, digit, offset_from, node_offset, led};
 
@@ -32,7 +32,7 @@ pub fn place(
     requires named { All (λ r. r < length names.old.regs) index.now }
     ensures grows { IfOk result (λ to. NamesGrow names.old names.new × (to < names.new.places)) }
     ensures leads { IfOk result (λ to. (shapes : List Shape) → slice_get shapes number ≡ Some layout.now → LeadsToPlace shapes index.now
-        (λ seen now. place_at shapes number (named_by index.now now)) to names.old names.new block.old block.new) }
+        (λ seen now. place_at shapes number (named_by index.now now)) number to names.old names.new block.old block.new) }
     ensures typed { IfOk result (λ to. (shapes : List Shape) → slice_get shapes number ≡ Some layout.now → AddsSteps shapes (CanRead index.now)
         (HasPassed to number (length layout.now.nodes)) names.old names.new block.old block.new) }
     ensures front { StandInFront names.old names.new block.old block.new }
@@ -60,7 +60,7 @@ fn check_from(
     requires place { place < names.old.places }
     requires named { All (λ r. r < length names.old.regs) index.now }
     ensures reaches { IfOk result (λ to. (shapes : List Shape) → Reaches shapes
-        (λ seen now. checks (drop axis (extents_in (bounds_of extents))) (map now.regs index.now) (now.places place)) to names.old names.new block.old block.new) }
+        (λ seen now. checks (drop axis (extents_in (bounds_of extents))) (map now.regs index.now) (now.places place)) (AtPlace place) to names.old names.new block.old block.new) }
     ensures typed { IfOk result (λ to. (shapes : List Shape) → AddsChecks shapes (bounds_of extents) axis index.now place to names.old names.new block.old block.new) }
     ensures front { StandInFront names.old names.new block.old block.new }
 {
@@ -99,7 +99,7 @@ fn descend(
     requires place { place < names.old.places }
     requires named { All (λ r. r < length names.old.regs) index.now }
     ensures reaches { IfOk result (λ to. (shapes : List Shape) → Reaches shapes
-        (λ seen now. led shapes number nodes.now (map now.regs index.now) (now.places place)) to names.old names.new block.old block.new) }
+        (λ seen now. led shapes number nodes.now (map now.regs index.now) (now.places place)) (AtPlace place) to names.old names.new block.old block.new) }
     ensures typed { IfOk result (λ to. (shapes : List Shape) → AddsDescent shapes number nodes.now index.now place to names.old names.new block.old block.new) }
     ensures front { StandInFront names.old names.new block.old block.new }
 {

@@ -95,6 +95,11 @@ pub(crate) fn left_by(inst: &Inst) -> Option<Target>
             field: _field,
             index: _index,
         } => Some(Target::Reg(*to)),
+        Inst::IsActive {
+            to,
+            place: _place,
+            index: _index,
+        } => Some(Target::Reg(*to)),
         Inst::OwnRead {
             to,
             layout: _layout,

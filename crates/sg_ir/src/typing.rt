@@ -216,6 +216,9 @@ impl Typing<'_> {
                 let last = both(joined, self.indexes(before, *layout, index.as_slice()));
                 both(self.is_cell(passed_by(before, *place), *layout), last)
             }
+            Inst::IsActive { to, place, index } => {
+                self.active_fits(before, *to, *place, index.as_slice())
+            }
             Inst::OwnRead { to, layout, field } => joins(
                 self.field(*layout, *field),
                 self.reg(*to),

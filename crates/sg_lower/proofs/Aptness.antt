@@ -30,22 +30,27 @@ use Rattle.sg_admit.specs.Lines.{Around, nothing_round, block_lines, kernel_line
 use Rattle.sg_admit.specs.Slices as admit
 use Rattle.sg_admit.specs.Slices.{walked_by}
 use Rattle.sg_admit.specs.Bounds.{nowhere, box_size}
-use Rattle.sg_admit.specs.Rules.{facts_of, ways_in, has_own}
+use Rattle.sg_admit.specs.Rules.{facts_of, ways_in, has_own, writes_layout, is_unwritten}
 use Rattle.sg_admit.specs.Laws.{Says, FaultsAreFirst, BoxHasItsSize}
 use Rattle.sg_ir.specs.declared.code.Code.{Code}
 use Rattle.sg_ir.specs.declared.code.Inst.{Inst}
 use Rattle.sg_ir.specs.Runs.{CodeWrite, CodeWant, Seen, iteration}
 use Rattle.sg_ir.specs.Named.{IsNamed}
 use Rattle.sg_ir.specs.Apt as apt
-use Rattle.sg_ir.specs.Apt.{Use, uses_in, IsDomain, loop_vars, IsWantOf, WantsItsWrites, KeepsItsWays, IsApt}
+use Rattle.sg_ir.specs.Apt.{Use, Writes, uses_in, IsDomain, loop_vars, IsWantOf, WantsItsWrites, KeepsItsWays, AsksUnwritten, IsApt}
+use Rattle.sg_ir.specs.Trimmed.{asked_in}
+use Rattle.sg_ir.specs.Trails.{asked_by}
+use Rattle.sg_ir.proofs.Uses.{asked-row}
 use Rattle.sg_lower.specs.declared.lowering.Field.{Field}
 use Rattle.sg_lower.specs.Lowered.{PointsAreWhole, want_of, WritesAsKernel, WantsAsKernel, NamesItsAccesses}
 use Rattle.sg_lower.specs.steps.Basis.{Basis, is_owned, IsSmall}
 use Rattle.sg_lower.specs.steps.Fitting.{stmt_fits}
 use Rattle.sg_lower.specs.steps.Using.{line_uses, UsesBlock}
+use Rattle.sg_lower.specs.steps.Asking.{AsksBlock}
 use Rattle.sg_lower.proofs.Points.{box_whole, walk_whole}
 use Rattle.sg_lower.proofs.Wanting.{wants_stand}
-use Rattle.sg_lower.proofs.Ways.{keeps_ways}
+use Rattle.sg_lower.proofs.Ways.{use_of, keeps_ways}
+use Rattle.sg_lower.proofs.AskingLines.{lines_ask, has_written, each_good, not_both}
 use Rattle.sg_lower.proofs.Written.{uses_good}
 
 some_axes : (found : Option ℕ) (vars : ℕ) → equals_some found vars ≡ true → found ≡ Some vars
@@ -135,12 +140,23 @@ module _ (numbers_have_words : (z : ℤ) → NumberHasWord ty.I32 z) (closures :
         (keeps_ways shapes (facts_of kept.kernel) owned owned_is kept.domain (line_uses body (block_lines kept.kernel.body nothing_round))
         (ap (loop_vars shapes) domain_is ∙ loop_is shapes kept.kernel.vars kept.kernel.domain typed_domain) (uses_good kept.kernel body owned owned_is says.1.0 fit))
 
+    asks : (block : List Inst) → list_all (stmt_fits body) kept.kernel.body ≡ true → UsesBlock body kept.kernel.body [] block → AsksBlock kept.kernel.body [] block → AsksUnwritten (uses_in block) (asked_in block)
+    asks block fit uses asked layout field way writes there =
+        let facts = facts_of kept.kernel in
+        let lines = block_lines kept.kernel.body nothing_round in
+        let good = asked (is_unwritten facts) nothing_round (lines_ask facts lines says.1.0.1) [] refl in
+        let unwritten = each_good (is_unwritten facts) (asked_by block []) good layout (subst (λ (layouts : List ℕ). Contains layouts layout) (asked-row block) there) in
+        let used : Contains (line_uses body lines) (Writes layout field way) = subst (λ (us : List Use). Contains us (Writes layout field way)) (uses nothing_round) writes in
+        let first = (use_of shapes facts owned owned_is (line_uses body lines) (uses_good kept.kernel body owned owned_is says.1.0 fit) (Writes layout field way) used).0 in
+        not_both (writes_layout (ways_in (kernel_lines kept.kernel)) layout) (has_written (ways_in (kernel_lines kept.kernel)) layout field way first) unwritten
+
     pub code_apt : (slice code : Code) → list_all (stmt_fits body) kept.kernel.body ≡ true → WritesAsKernel shapes kept.kernel code.body → WantsAsKernel shapes kept.kernel slice.body
-        → NamesItsAccesses shapes kept.kernel slice.body → NamesItsAccesses shapes kept.kernel code.body → UsesBlock body kept.kernel.body [] code.body → IsApt shapes (record { slice = slice; code = code; domain = kept.domain })
-    code_apt slice code fit writes wanted slice_named code_named uses = record {
+        → NamesItsAccesses shapes kept.kernel slice.body → NamesItsAccesses shapes kept.kernel code.body → UsesBlock body kept.kernel.body [] code.body → AsksBlock kept.kernel.body [] code.body → IsApt shapes (record { slice = slice; code = code; domain = kept.domain })
+    code_apt slice code fit writes wanted slice_named code_named uses asked = record {
       domain = subst (IsDomain shapes) (sym domain_is) (good_domain kept.kernel.domain typed_domain says.1.1);
       slice_named = named slice.body slice_named;
       code_named = named code.body code_named;
       wants = wants slice.body code.body writes wanted;
       ways = ways code.body fit uses;
+      asks = asks code.body fit uses asked;
     }

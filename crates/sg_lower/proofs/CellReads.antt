@@ -1,15 +1,17 @@
 -- Reads: of the own cell, and where indices say.
-use Rattle.std.proofs.Common.{◌≡◌, ℕ, ◌^◌, ◌<◌, Bool, true, false, not, ◌&&◌, ◌||◌, if◌then◌else◌, slice_get, List, [], ◌∷◌, map, length, Option, Some, None, Result, Ok, Err, IfOk, All, refl, sym, ap, subst, ◌∙◌}
+use Rattle.std.proofs.Common.{◌≡◌, ℕ, ◌^◌, ◌<◌, Bool, true, false, not, ◌&&◌, ◌||◌, if◌then◌else◌, slice_get, List, [], ◌∷◌, map, length, Option, Some, None, Result, Ok, Err, IfOk, All, refl, sym, ap, subst, ◌∙◌, arith}
 use Rattle.std.specs.List.{list_all}
 use Rattle.std.proofs.lemmas.Bool.{and_parts, not-true}
 use Rattle.std.proofs.lemmas.List.Elements.{All-nil, All-cons, All-head, All-tail, All-push}
 use Rattle.sg_words.specs.declared.operators.Ty.{Ty}
 use Rattle.sg_words.specs.declared.memory.Memory.{Memory}
 use Rattle.sg_words.specs.WordLaws.{IsWord}
+use Rattle.sg_words.specs.Words.{flag}
 use Rattle.sg_coord.specs.declared.coord.Coord.{Coord}
 use Rattle.sg_coord.specs.Coord.{is_inside, row_of}
 use Rattle.sg_layout.specs.declared.shape.Shape.{Shape}
 use Rattle.sg_layout.specs.Axes.{bounds_of_shape}
+use Rattle.sg_layout.specs.Path.{offsets}
 use Rattle.sg_flat.specs.declared.state.FlatState.{FlatState}
 use Rattle.sg_flat.specs.declared.state.FlatLayout.{FlatLayout}
 use Rattle.sg_flat.specs.declared.effects.Write.{Write}
@@ -21,19 +23,20 @@ use Rattle.sg_types.specs.Values.{World, Moment, coord_of, own_write, value_or_o
 use Rattle.sg_types.specs.Iterations.{part_words}
 use Rattle.sg_types.specs.Expressions.{equals_some}
 use Rattle.sg_types.specs.WellTyped.{axes_in}
-use Rattle.sg_types.proofs.Uses.{value-Read}
+use Rattle.sg_types.proofs.Uses.{value-Active, value-Read}
 use Rattle.sg_ir.specs.declared.code.Inst.{Inst}
 use Rattle.sg_ir.specs.declared.names.Names.{Names}
 use Rattle.sg_ir.specs.Runs as ir
-use Rattle.sg_ir.specs.Runs.{Seen, Place, Access, CodeWrite, Moved, at_of, cell_value, own_value, named_by, runs}
-use Rattle.sg_ir.specs.Places.{place_at}
+use Rattle.sg_ir.specs.Runs.{Seen, Place, Access, CodeWrite, Moved, at_of, cell_value, is_active_place, own_value, named_by, runs}
+use Rattle.sg_ir.specs.Places.{place_at, place_of_coord}
 use Rattle.sg_ir.specs.Named.{IsNamedAccess, AreNamed}
 use Rattle.sg_ir.specs.Emits.{Computes, LeadsToPlace, Fetches}
 use Rattle.sg_lower.specs.Lowered.{code_write}
 use Rattle.sg_lower.specs.steps.Basis.{Basis, is_owned}
-use Rattle.sg_lower.specs.steps.Fitting.{fits_owned, can_be_lowered, is_own_index, typed_read}
+use Rattle.sg_lower.specs.steps.Fitting.{fits_owned, can_be_lowered, is_own_index, typed_active, typed_read}
 use Rattle.sg_lower.specs.steps.Agreeing.{inside_or_none, IsWorld, IsPoint, seen_of, AgreesWithIteration, ShowsAll, Values, AllValues}
-use Rattle.sg_lower.proofs.Fitted.{fits-Read}
+use Rattle.sg_flat.specs.Domain.{is_active}
+use Rattle.sg_lower.proofs.Fitted.{fits-Active, fits-Read}
 use Rattle.sg_lower.proofs.Simulating.{extends-trans, words_kept, agrees-kept, values-none, values-computed}
 use Rattle.sg_lower.proofs.OwnCells.{own_told, own_small, named_words}
 
@@ -65,6 +68,30 @@ value_inside shapes state seen_at layout place at = by_shape (slice_get shapes l
     by_shape (Some shape) there =
         ap (λ (it : Option Shape). cell_value (record { shapes = shapes; state = state; at = seen_at }) layout place (if is_inside_of it at then Some at else None)) there
         ∙ by_test shape there (is_inside (bounds_of_shape shape) at) refl
+
+-- what is outside isn't active
+active_inside : (shapes : List Shape) (state : FlatState) (seen_at : Coord) (layout : ℕ) (at : Coord) → at_of shapes (place_at shapes layout at) ≡ inside_or_none shapes layout at
+    → (is_inside_of (slice_get shapes layout) at ≡ false → is_active state layout at ≡ false)
+    → is_active_place (record { shapes = shapes; state = state; at = seen_at }) (at_of shapes (place_at shapes layout at)) (place_at shapes layout at) ≡ is_active state layout at
+active_inside shapes state seen_at layout at reached outside =
+    ap (λ (found : Option Coord). is_active_place seen found (place_at shapes layout at)) reached ∙ by_shape (slice_get shapes layout) refl
+  where
+    seen : Seen
+    seen = record { shapes = shapes; state = state; at = seen_at }
+
+    by_test : (shape : Shape) → slice_get shapes layout ≡ Some shape → (b : Bool) → is_inside (bounds_of_shape shape) at ≡ b
+        → is_active_place seen (if b then Some at else None) (if b then Some (record { layout = layout; path = offsets shape.nodes at }) else None) ≡ is_active state layout at
+    by_test shape there true inside = refl
+    by_test shape there false inside = sym (outside (ap (λ (it : Option Shape). is_inside_of it at) there ∙ inside))
+
+    by_shape : (found : Option Shape) → slice_get shapes layout ≡ found
+        → is_active_place seen (if is_inside_of found at then Some at else None) (place_of_coord layout at found) ≡ is_active state layout at
+    by_shape None there = sym (outside (ap (λ (it : Option Shape). is_inside_of it at) there))
+    by_shape (Some shape) there = by_test shape there (is_inside (bounds_of_shape shape) at) refl
+
+flag_small : (b : Bool) → IsWord (flag b)
+flag_small true = omega arith
+flag_small false = omega arith
 
 module _ (basis : Basis) where
   -- what a read of an owned field keeps to
@@ -104,9 +131,10 @@ module _ (basis : Basis) where
   pub record Placed (at : Coord) (now : Moment) (moved : Moved) (regs words : List ℕ) (layout p : ℕ) : Type 0 where
     pub shows : ShowsAll basis at now moved regs words
     pub place : moved.places p ≡ place_at basis.shapes layout (coord_of words)
+    pub root : moved.roots p ≡ layout
 
   pub placed : (exprs : List TypedExpr) (regs : List ℕ) (layout p : ℕ) (old mid new : Names) (a b c : List Inst) → AllValues basis exprs regs old mid a b
-      → LeadsToPlace basis.shapes regs (λ seen now. place_at basis.shapes layout (named_by regs now)) p mid new b c
+      → LeadsToPlace basis.shapes regs (λ seen now. place_at basis.shapes layout (named_by regs now)) layout p mid new b c
       → (world : World) → IsWorld basis.shapes world → (at : Coord) → IsPoint basis.vars at → (now : Moment) (start : Moved) → AgreesWithIteration basis at now (runs (seen_of world at) a start)
       → Placed at now (runs (seen_of world at) c start) regs (map (expr_word world now) exprs) layout p
   placed exprs regs layout p old mid new a b c all leads world is at point now start agrees =
@@ -122,17 +150,52 @@ module _ (basis : Basis) where
         };
         place = leads.value seen is.shapes_are start (words_small (runs seen b start).regs regs (map (expr_word world now) exprs) shows.hold shows.small)
             ∙ ap (λ (words : List ℕ). place_at basis.shapes layout (coord_of words)) shows.hold;
+        root = leads.rooted seen is.shapes_are start;
       }
 
   -- an access that means its coordinate
   pub access_named : (at : Coord) (now : Moment) (moved : Moved) (regs words : List ℕ) (layout p : ℕ) → Placed at now moved regs words layout p
-      → IsNamedAccess basis.shapes (record { layout = layout; place = moved.places p; at = named_by regs moved })
+      → IsNamedAccess basis.shapes (record { asks = false; layout = layout; place = moved.places p; at = named_by regs moved })
   access_named at now moved regs words layout p it = it.place ∙ ap (λ (words : List ℕ). place_at basis.shapes layout (coord_of words)) (sym it.shows.hold)
+
+  -- a question means its coordinate too
+  pub ask_named : (at : Coord) (now : Moment) (moved : Moved) (regs words : List ℕ) (layout p : ℕ) → Placed at now moved regs words layout p
+      → IsNamedAccess basis.shapes (record { asks = true; layout = moved.roots p; place = moved.places p; at = named_by regs moved })
+  ask_named at now moved regs words layout p it = access_named at now moved regs words layout p it ∙ ap (λ (l : ℕ). place_at basis.shapes l (named_by regs moved)) (sym it.root)
+
+  pub active_value : (given : Ty) (layout : ℕ) (index : List TypedExpr) (regs : List ℕ) (p to : ℕ) (old m n new : Names) (a b c z : List Inst)
+      → (list_all (can_be_lowered basis) index ≡ true → AllValues basis index regs old m a b)
+      → length regs ≡ length index → (equals_some (axes_in basis.shapes layout) (length regs) ≡ true → LeadsToPlace basis.shapes regs (λ seen now. place_at basis.shapes layout (named_by regs now)) layout p m n b c)
+      → ((shapes : List Shape) → Fetches shapes (λ seen now. flag (is_active_place seen (at_of seen.shapes (now.places p)) (now.places p))) (λ now. record { asks = true; layout = now.roots p; place = now.places p; at = named_by regs now }) to n new c z)
+      → can_be_lowered basis (typed_active given layout index) ≡ true → Values basis (typed_active given layout index) to old new a z
+  active_value given layout index regs p to old m n new a b c z has count to_place fetches h =
+      let parts = and_parts (equals_some (axes_in basis.shapes layout) (length index)) (list_all (can_be_lowered basis) index) (sym (fits-Active basis given layout index) ∙ h) in
+      let all = has parts.1 in
+      let leads = to_place (ap (equals_some (axes_in basis.shapes layout)) count ∙ parts.0) in
+      let fetched = fetches basis.shapes in
+      record {
+        extends = extends-trans basis old n new a c z (extends-trans basis old m n a b c all.extends leads.extends) fetched.extends;
+        named = fetched.named;
+        value = λ world is at point now start agrees.
+            let seen = seen_of world at in
+            let it = placed index regs layout p old m n a b c all leads world is at point now start agrees in
+            let reached = runs seen c start in
+            let words = map (expr_word world now) index in
+            let there : is_active_place seen (at_of seen.shapes (reached.places p)) (reached.places p) ≡ is_active world.state layout (coord_of words) =
+            ap (λ (found : Option Place). is_active_place seen (at_of seen.shapes found) found) (it.place ∙ ap (λ (shapes : List Shape). place_at shapes layout (coord_of words)) (sym is.shapes_are))
+            ∙ active_inside world.shapes world.state at layout (coord_of words) (is.reached layout (coord_of words)) (is.inside layout (coord_of words)) in
+            record {
+              agrees = agrees-kept basis at now (length n.regs) n.places reached (runs seen z start) (fetched.extends.keeps seen is.shapes_are start)
+                  (subst (AreNamed basis.shapes) (sym (fetched.accessed seen is.shapes_are start)) (All-push (IsNamedAccess basis.shapes) reached.accesses (record { asks = true; layout = reached.roots p; place = reached.places p; at = named_by regs reached }) it.shows.agrees.named (ask_named at now reached regs words layout p it))) it.shows.agrees;
+              holds = fetched.value seen is.shapes_are start ∙ (ap flag there ∙ sym (value-Active world now given layout index));
+              small = subst IsWord (sym (value-Active world now given layout index)) (flag_small (is_active world.state layout (coord_of words)));
+            };
+      }
 
   pub read_value : (given : Ty) (layout place : ℕ) (index : List TypedExpr) (regs : List ℕ) (p to : ℕ) (old m n new : Names) (a b c z : List Inst) → is_owned basis.owned layout place ≡ false
       → (list_all (can_be_lowered basis) index ≡ true → AllValues basis index regs old m a b)
-      → length regs ≡ length index → (equals_some (axes_in basis.shapes layout) (length regs) ≡ true → LeadsToPlace basis.shapes regs (λ seen now. place_at basis.shapes layout (named_by regs now)) p m n b c)
-      → ((shapes : List Shape) → Fetches shapes (λ seen now. cell_value seen layout place (at_of seen.shapes (now.places p))) (λ now. record { layout = layout; place = now.places p; at = named_by regs now }) to n new c z)
+      → length regs ≡ length index → (equals_some (axes_in basis.shapes layout) (length regs) ≡ true → LeadsToPlace basis.shapes regs (λ seen now. place_at basis.shapes layout (named_by regs now)) layout p m n b c)
+      → ((shapes : List Shape) → Fetches shapes (λ seen now. cell_value seen layout place (at_of seen.shapes (now.places p))) (λ now. record { asks = false; layout = layout; place = now.places p; at = named_by regs now }) to n new c z)
       → can_be_lowered basis (typed_read given layout place index) ≡ true → Values basis (typed_read given layout place index) to old new a z
   read_value given layout place index regs p to old m n new a b c z unowned has count to_place fetches h =
       let parts = and_parts (equals_some (axes_in basis.shapes layout) (length index)) (fits_owned basis layout place (is_own_index basis index) && list_all (can_be_lowered basis) index) (sym (fits-Read basis given layout place index) ∙ h) in
@@ -158,7 +221,7 @@ module _ (basis : Basis) where
             let is_word : flat.value_of world.shapes world.state layout place (coord_of words) ≡ expr_word world now (typed_read given layout place index) = sym none ∙ sym value in
             record {
               agrees = agrees-kept basis at now (length n.regs) n.places reached (runs seen z start) (fetched.extends.keeps seen is.shapes_are start)
-                  (subst (AreNamed basis.shapes) (sym (fetched.accessed seen is.shapes_are start)) (All-push (IsNamedAccess basis.shapes) reached.accesses (record { layout = layout; place = reached.places p; at = named_by regs reached }) it.shows.agrees.named (access_named at now reached regs words layout p it))) it.shows.agrees;
+                  (subst (AreNamed basis.shapes) (sym (fetched.accessed seen is.shapes_are start)) (All-push (IsNamedAccess basis.shapes) reached.accesses (record { asks = false; layout = layout; place = reached.places p; at = named_by regs reached }) it.shows.agrees.named (access_named at now reached regs words layout p it))) it.shows.agrees;
               holds = fetched.value seen is.shapes_are start ∙ (cell ∙ is_word);
               small = subst IsWord is_word (is.small layout place (coord_of words));
             };
@@ -174,8 +237,16 @@ module _ (basis : Basis) (old new : Names) (a z : List Inst) where
 
   pub read_ok : (result : Result ℕ Memory) (given : Ty) (layout place : ℕ) (index : List TypedExpr) (regs : List ℕ) (p : ℕ) (m n : Names) (b c : List Inst) → is_owned basis.owned layout place ≡ false
       → (list_all (can_be_lowered basis) index ≡ true → AllValues basis index regs old m a b)
-      → length regs ≡ length index → (equals_some (axes_in basis.shapes layout) (length regs) ≡ true → LeadsToPlace basis.shapes regs (λ seen now. place_at basis.shapes layout (named_by regs now)) p m n b c)
-      → IfOk result (λ to. (shapes : List Shape) → Fetches shapes (λ seen now. cell_value seen layout place (at_of seen.shapes (now.places p))) (λ now. record { layout = layout; place = now.places p; at = named_by regs now }) to n new c z)
+      → length regs ≡ length index → (equals_some (axes_in basis.shapes layout) (length regs) ≡ true → LeadsToPlace basis.shapes regs (λ seen now. place_at basis.shapes layout (named_by regs now)) layout p m n b c)
+      → IfOk result (λ to. (shapes : List Shape) → Fetches shapes (λ seen now. cell_value seen layout place (at_of seen.shapes (now.places p))) (λ now. record { asks = false; layout = layout; place = now.places p; at = named_by regs now }) to n new c z)
       → IfOk result (λ to. can_be_lowered basis (typed_read given layout place index) ≡ true → Values basis (typed_read given layout place index) to old new a z)
   read_ok (Ok to) given layout place index regs p m n b c unowned has count leads fetches = read_value basis given layout place index regs p to old m n new a b c z unowned has count leads fetches
   read_ok (Err e) given layout place index regs p m n b c unowned has count leads fetches = tt
+
+  pub active_ok : (result : Result ℕ Memory) (given : Ty) (layout : ℕ) (index : List TypedExpr) (regs : List ℕ) (p : ℕ) (m n : Names) (b c : List Inst)
+      → (list_all (can_be_lowered basis) index ≡ true → AllValues basis index regs old m a b)
+      → length regs ≡ length index → (equals_some (axes_in basis.shapes layout) (length regs) ≡ true → LeadsToPlace basis.shapes regs (λ seen now. place_at basis.shapes layout (named_by regs now)) layout p m n b c)
+      → IfOk result (λ to. (shapes : List Shape) → Fetches shapes (λ seen now. flag (is_active_place seen (at_of seen.shapes (now.places p)) (now.places p))) (λ now. record { asks = true; layout = now.roots p; place = now.places p; at = named_by regs now }) to n new c z)
+      → IfOk result (λ to. can_be_lowered basis (typed_active given layout index) ≡ true → Values basis (typed_active given layout index) to old new a z)
+  active_ok (Ok to) given layout index regs p m n b c has count leads fetches = active_value basis given layout index regs p to old m n new a b c z has count leads fetches
+  active_ok (Err e) given layout index regs p m n b c has count leads fetches = tt

@@ -35,3 +35,4 @@ module _ (world : World) (now : Moment) where
       ∙ (ap (λ (word : ℕ). mulq_of (constant_word a) word (expr_word world now shift)) (hb q.0)
       ∙ (ap (λ (word : ℕ). mulq_of (constant_word a) (constant_word b) word) (hs q.1) ∙ sym (value-Mulq nowhere before_all ty a b shift)))))
       (λ ty inner hi h. value-Convert world now ty inner ∙ (hi (sym (folds.fold-Convert constant_step its_form ty inner) ∙ h) ∙ sym (value-Convert nowhere before_all ty inner)))
+      (λ ty layout index all h. absurd (both_ways false refl (sym (folds.fold-Active constant_step its_form ty layout index) ∙ h)))

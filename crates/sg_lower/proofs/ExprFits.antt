@@ -8,7 +8,7 @@ use Rattle.sg_layout.specs.declared.shape.Shape.{Shape}
 use Rattle.sg_types.specs.declared.typed.TypedExpr.{TypedExpr}
 use Rattle.sg_types.specs.declared.typed.Form.TheOpen.{TypedExpr-F}
 use Rattle.sg_types.specs.Expressions.{equals_some}
-use Rattle.sg_types.specs.TypeTable.{is_numeric, is_signed, bin_ty, un_ty, same_ty}
+use Rattle.sg_types.specs.TypeTable.{is_numeric, is_signed, is_truth, bin_ty, un_ty, same_ty}
 use Rattle.sg_types.specs.WellTyped.{Surroundings, Judged, is_index, is_ty, field_in, axes_in, form_step, judged_expr, is_well_typed_expr}
 use Rattle.sg_types.proofs.Uses as folds
 use Rattle.sg_types.proofs.Uses.{by_exprs}
@@ -16,7 +16,7 @@ use Rattle.sg_admit.specs.Clean.{Unclean, clean_step, is_clean}
 use Rattle.sg_admit.specs.Rules.{SeenPart, are_names, seen_step, reads_in, has_good_reads}
 use Rattle.sg_lower.specs.steps.Basis.{Basis}
 use Rattle.sg_lower.specs.steps.Fitting.{Fitted, fits_owned, fit_step, fitted, can_be_lowered, is_own_index}
-use Rattle.sg_lower.proofs.Fitted.{fits-Read, fits-Paren, fits-Un, fits-Bin, fits-Mulq, fits-Convert}
+use Rattle.sg_lower.proofs.Fitted.{fits-Read, fits-Paren, fits-Un, fits-Bin, fits-Mulq, fits-Convert, fits-Active}
 
 abbrev pub its_fit : TypedExpr-F Fitted Fitted → Fitted
 its_fit expr = expr.form
@@ -115,6 +115,16 @@ module _ (basis : Basis) (at : Surroundings) (shapes_are : at.shapes ≡ basis.s
             let us = and_parts (is_numeric (judged_expr at inner).0) (is_well_typed_expr at inner) ws.1 in
             fits-Convert basis ty inner ∙ h.fit (sym (ap good_in (folds.fold-Convert (seen_step basis.vars good) its_seen ty inner)) ∙ g) us.1;
       })
+      (λ ty layout index all. record {
+        name = ap name_in (folds.fold-Active (seen_step basis.vars good) its_seen ty layout index) ∙ sym (ap name_in (folds.fold-Active (fit_step basis) its_fit ty layout index));
+        fit = λ g w.
+            let ws = and_parts (is_truth ty) (equals_some (axes_in at.shapes layout) (length (map (judged_expr at) index)) && list_all is_index (map (judged_expr at) index)) (sym (ap well_in (folds.fold-Active (form_step at) its_judged ty layout index)) ∙ w) in
+            let us = and_parts (equals_some (axes_in at.shapes layout) (length (map (judged_expr at) index))) (list_all is_index (map (judged_expr at) index)) ws.1 in
+            let axes = ap (λ (n : ℕ). equals_some (axes_in basis.shapes layout) n) (sym (length-map index (judged_expr at))) ∙ (ap (λ (shapes : List Shape). equals_some (axes_in shapes layout) (length (map (judged_expr at) index))) (sym shapes_are) ∙ us.0) in
+            fits-Active basis ty layout index
+            ∙ and_from (equals_some (axes_in basis.shapes layout) (length index)) (list_all (can_be_lowered basis) index) axes
+            (parts_fit index all (sym (ap good_in (folds.fold-Active (seen_step basis.vars good) its_seen ty layout index)) ∙ g) us.1);
+      })
     where
       indexed : (expr : TypedExpr) → is_index (judged_expr at expr) ≡ true → is_well_typed_expr at expr ≡ true
       indexed expr h = (and_parts (is_signed (judged_expr at expr).0) (is_well_typed_expr at expr) h).1
@@ -154,3 +164,4 @@ module _ (unclean : Unclean) (vars : ℕ) where
       ap good_in (folds.fold-Mulq (seen_step vars unwritten) its_seen ty a b shift)
       ∙ and_from (has_good_reads vars unwritten a) (has_good_reads vars unwritten b && has_good_reads vars unwritten shift) (k p.0) (and_from (has_good_reads vars unwritten b) (has_good_reads vars unwritten shift) (l q.0) (m q.1)))
       (λ ty inner k h. ap good_in (folds.fold-Convert (seen_step vars unwritten) its_seen ty inner) ∙ k (sym (folds.fold-Convert (clean_step unclean) its_clean ty inner) ∙ h))
+      (λ ty layout index all h. ap good_in (folds.fold-Active (seen_step vars unwritten) its_seen ty layout index) ∙ all_clean_reads index all (sym (folds.fold-Active (clean_step unclean) its_clean ty layout index) ∙ h))

@@ -20,7 +20,7 @@ use Rattle.sg_types.proofs.Uses as folds
 use Rattle.sg_admit.specs.Bounds.{is_constant_range}
 use Rattle.sg_admit.specs.Rules.{are_names}
 use Rattle.sg_lower.specs.steps.Basis.{Basis}
-use Rattle.sg_lower.specs.steps.Fitting.{Fitted, fits_owned, fit_step, fitted, can_be_lowered, is_own_index, write_fits, lowered_layer, stmt_fits, typed_read, write_stmt}
+use Rattle.sg_lower.specs.steps.Fitting.{Fitted, fits_owned, fit_step, fitted, can_be_lowered, is_own_index, write_fits, lowered_layer, stmt_fits, typed_active, typed_read, write_stmt}
 
 abbrev its_form : TypedExpr-F Fitted Fitted → Fitted
 its_form expr = expr.form
@@ -64,6 +64,13 @@ module _ (basis : Basis) where
       ap (λ (p : Fitted). p.1) (folds.fold-Read (fit_step basis) its_form ty layout place index)
       ∙ read_parts layout place (length index) (map (λ expr. (fitted basis expr).0) index) (list_all (can_be_lowered basis) index) index
       (length-map index (fitted basis)) (map-map (λ (part : Fitted). part.0) (fitted basis) index) (list_all-map (λ (part : Fitted). part.1) (fitted basis) index)
+
+  pub fits-Active : (ty : Ty) (layout : ℕ) (index : List TypedExpr) → can_be_lowered basis (typed_active ty layout index)
+      ≡ (equals_some (axes_in basis.shapes layout) (length index) && list_all (can_be_lowered basis) index)
+  fits-Active ty layout index =
+      ap (λ (p : Fitted). p.1) (folds.fold-Active (fit_step basis) its_form ty layout index)
+      ∙ (ap (λ (n : ℕ). equals_some (axes_in basis.shapes layout) n && list_all (λ (part : Fitted). part.1) (map (fitted basis) index)) (length-map index (fitted basis))
+      ∙ ap (λ (b : Bool). equals_some (axes_in basis.shapes layout) (length index) && b) (list_all-map (λ (part : Fitted). part.1) (fitted basis) index))
 
   pub fits-Let : (number var : ℕ) (value : TypedExpr) → stmt_fits basis (record { number = number; kind = kind.Let var value }) ≡ (nat_le basis.vars var && can_be_lowered basis value)
   fits-Let number var value = folds.fold-Let (lowered_layer basis) its_kind number var value

@@ -17,7 +17,7 @@ use Rattle.sg_ir.specs.declared.code.Inst.{Inst}
 use Rattle.sg_ir.specs.declared.names.Names.{Names}
 use Rattle.sg_ir.specs.Emits.{Computes}
 use Rattle.sg_lower.specs.steps.Basis.{Basis}
-use Rattle.sg_lower.specs.steps.Fitting.{can_be_lowered, typed_read}
+use Rattle.sg_lower.specs.steps.Fitting.{can_be_lowered, typed_active, typed_read}
 use Rattle.sg_lower.specs.steps.Agreeing.{Values}
 use Rattle.sg_lower.proofs.Fitted.{fits-Paren, fits-Un, fits-Bin, fits-Mulq, fits-Convert}
 use Rattle.sg_lower.proofs.Simulating.{values-none, values-more, values-computed, values-same}
@@ -128,6 +128,9 @@ module _ (basis : Basis) (old new : Names) (a z : List Inst) where
 
   pub read_form_ok : (result : Result ℕ Memory) (expr : TypedExpr) (layout place : ℕ) (index : List TypedExpr) → expr.form ≡ form.Read layout place index → HasValues result (typed_read expr.ty layout place index) → HasValues result expr
   read_form_ok result expr layout place index is has = of_form (HasValues result) expr (form.Read layout place index) is has
+
+  pub active_form_ok : (result : Result ℕ Memory) (expr : TypedExpr) (layout : ℕ) (index : List TypedExpr) → expr.form ≡ form.Active layout index → HasValues result (typed_active expr.ty layout index) → HasValues result expr
+  active_form_ok result expr layout index is has = of_form (HasValues result) expr (form.Active layout index) is has
 
   pub un_ok : (result : Result ℕ Memory) (expr : TypedExpr) (op : UnOp) (operand : TypedExpr) → expr.form ≡ form.Un op operand → (r : ℕ) (mid : Names) (b : List Inst)
       → (can_be_lowered basis operand ≡ true → Values basis operand r old mid a b) → IfOk result (λ to. (shapes : List Shape) → Computes shapes (λ seen now. applied_un op (now.regs r)) to mid new b z) → HasValues result expr

@@ -64,6 +64,7 @@ name_fitted basis = by_exprs (λ expr. (fitted basis expr).0 ≡ name_of expr)
     (λ ty op left right h k. ap first (folds.fold-Bin (fit_step basis) its_fit ty op left right) ∙ sym (folds.fold-Bin name_step its_name ty op left right))
     (λ ty a b shift h k l. ap first (folds.fold-Mulq (fit_step basis) its_fit ty a b shift) ∙ sym (folds.fold-Mulq name_step its_name ty a b shift))
     (λ ty inner h. ap first (folds.fold-Convert (fit_step basis) its_fit ty inner) ∙ sym (folds.fold-Convert name_step its_name ty inner))
+    (λ ty layout index all. ap first (folds.fold-Active (fit_step basis) its_fit ty layout index) ∙ sym (folds.fold-Active name_step its_name ty layout index))
 
 names_fitted : (basis : Basis) (index : List TypedExpr) → map (λ expr. (fitted basis expr).0) index ≡ map name_of index
 names_fitted basis [] = refl

@@ -17,6 +17,8 @@ pub mod Worlds
 pub mod Lowered
 pub mod UsingForms
 pub mod UsingLines
+pub mod AskingForms
+pub mod AskingLines
 pub mod UsedReads
 pub mod Ways
 pub mod Points

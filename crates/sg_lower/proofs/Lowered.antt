@@ -8,6 +8,7 @@ use Rattle.sg_words.specs.WordLaws.{AppliedIsWord, AppliedUnIsWord, MulqIsWord}
 use Rattle.sg_coord.specs.Laws.{InsideTest}
 use Rattle.sg_layout.specs.declared.shape.Shape.{Shape}
 use Rattle.sg_layout.specs.PathLaws.{CoordinateOfPath}
+use Rattle.sg_layout.specs.ClosureLaws.{ClosureIsInside}
 use Rattle.sg_flat.specs.declared.effects.Write.{Write}
 use Rattle.sg_types.specs.declared.typed.TypedKernel.{TypedKernel}
 use Rattle.sg_types.specs.declared.typed.TypedStmt.{TypedStmt}
@@ -33,22 +34,22 @@ wanted_without : (writes : List Write) → map want_of (map without_value writes
 wanted_without [] = refl
 wanted_without (write ∷ writes) = ap (λ rest. want_of write ∷ rest) (wanted_without writes)
 
-module _ (inside_test : InsideTest) (paths : (shape : Shape) → CoordinateOfPath shape) (applied : (op : BinOp) (given : Ty) (a b : ℕ) → AppliedIsWord op given a b)
+module _ (inside_test : InsideTest) (closures : (shape : Shape) → ClosureIsInside shape) (paths : (shape : Shape) → CoordinateOfPath shape) (applied : (op : BinOp) (given : Ty) (a b : ℕ) → AppliedIsWord op given a b)
     (applied_un : (op : UnOp) (a : ℕ) → AppliedUnIsWord op a) (mulq : (a b s : ℕ) → MulqIsWord a b s) (shapes : List Shape) (kernel : TypedKernel) (owned : List Field) where
   abbrev of_kernel : Bool → Basis
   of_kernel slicing = record { shapes = shapes; owned = owned; vars = kernel.vars; slicing = slicing }
 
   pub writes_told : (block : List Inst) → Tells (of_kernel false) kernel.body block → WritesAsKernel shapes kernel block
   writes_told block tells state flat at parts whole =
-      (tells (record { shapes = shapes; state = state }) (flat_world inside_test paths applied applied_un mulq shapes state flat) at (is_point kernel.vars at parts whole)).writes
+      (tells (record { shapes = shapes; state = state }) (flat_world inside_test closures paths applied applied_un mulq shapes state flat) at (is_point kernel.vars at parts whole)).writes
 
   pub named_told : (slicing : Bool) (stmts : List TypedStmt) (block : List Inst) → Tells (of_kernel slicing) stmts block → NamesItsAccesses shapes kernel block
   named_told slicing stmts block tells state flat at parts whole =
-      (tells (record { shapes = shapes; state = state }) (flat_world inside_test paths applied applied_un mulq shapes state flat) at (is_point kernel.vars at parts whole)).named
+      (tells (record { shapes = shapes; state = state }) (flat_world inside_test closures paths applied applied_un mulq shapes state flat) at (is_point kernel.vars at parts whole)).named
 
   pub wants_told : SliceWantsWhatIsWritten → (kept : Admitted) → admission kernel ≡ Ok kept → (block : List Inst) → Tells (of_kernel true) kept.slice block → WantsAsKernel shapes kernel block
   wants_told law kept admitted block tells state flat at parts whole =
-      let agrees = tells (record { shapes = shapes; state = state }) (flat_world inside_test paths applied applied_un mulq shapes state flat) at (is_point kernel.vars at parts whole) in
+      let agrees = tells (record { shapes = shapes; state = state }) (flat_world inside_test closures paths applied applied_un mulq shapes state flat) at (is_point kernel.vars at parts whole) in
       agrees.wants
       ∙ (ap (map want_of) (law (record { shapes = shapes; state = state }) kernel kept at admitted)
       ∙ wanted_without (filter (λ write. may_activate (walked_by kernel.domain) write.layout write.way) (writes_at (record { shapes = shapes; state = state }) kernel at)))

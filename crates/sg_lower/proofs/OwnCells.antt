@@ -119,6 +119,7 @@ module _ (basis : Basis) (world : World) (now : Moment) where
         (λ ty op left right h k. other _ (ap first (folds.fold-Bin (fit_step basis) its_form ty op left right)))
         (λ ty a b shift h k l. other _ (ap first (folds.fold-Mulq (fit_step basis) its_form ty a b shift)))
         (λ ty inner h. other _ (ap first (folds.fold-Convert (fit_step basis) its_form ty inner)))
+        (λ ty layout index all. other _ (ap first (folds.fold-Active (fit_step basis) its_form ty layout index)))
 
   names_reach : (vars var : ℕ) (names : List (Option ℕ)) → are_names vars var names ≡ true → var ≤ vars
   names_reach vars var [] h = let e = eqb-true var vars h in omega (arith, e)

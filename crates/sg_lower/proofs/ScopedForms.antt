@@ -9,7 +9,7 @@ use Rattle.sg_types.specs.declared.typed.TypedExpr.{TypedExpr}
 use Rattle.sg_types.specs.declared.typed.Form.TheOpen.{TypedExpr-F}
 use Rattle.sg_types.specs.declared.typed.TypedRange.{TypedRange}
 use Rattle.sg_types.specs.Expressions.{equals_some}
-use Rattle.sg_types.specs.TypeTable.{is_numeric, is_signed, same_ty, bin_ty, un_ty}
+use Rattle.sg_types.specs.TypeTable.{is_numeric, is_signed, is_truth, same_ty, bin_ty, un_ty}
 use Rattle.sg_types.specs.WellTyped.{Visible, Surroundings, setting, is_visible, is_ty, field_in, axes_in, Judged, is_index, form_step, judged_expr, is_well_typed_expr, is_well_typed_range}
 use Rattle.sg_types.proofs.Uses as folds
 use Rattle.sg_types.proofs.Uses.{by_exprs}
@@ -49,6 +49,7 @@ module _ (unclean : Unclean) where
       let q = and_parts (is_constant b) (is_constant shift) p.1 in
       folds.fold-Mulq (clean_step unclean) its_clean ty a b shift ∙ and_from (is_clean unclean a) (is_clean unclean b && is_clean unclean shift) (k p.0) (and_from (is_clean unclean b) (is_clean unclean shift) (l q.0) (m q.1)))
       (λ ty inner k h. folds.fold-Convert (clean_step unclean) its_clean ty inner ∙ k (sym (folds.fold-Convert constant_step its_constant ty inner) ∙ h))
+      (λ ty layout index all h. absurd (both_ways false refl (sym (folds.fold-Active constant_step its_constant ty layout index) ∙ h)))
 
 module _ (shapes : List Shape) (types : List Ty) (unclean : Unclean) (scope other : List Visible)
     (seen : (var : ℕ) → unclean.vars var ≡ false → is_visible scope var ≡ true → is_visible other var ≡ true) where
@@ -127,6 +128,16 @@ module _ (shapes : List Shape) (types : List Ty) (unclean : Unclean) (scope othe
       ap well_in (folds.fold-Convert (form_step there) its_judged ty inner)
       ∙ and_from (is_numeric ty) (is_numeric (judged_expr there inner).0 && (judged_expr there inner).1) p.0
       (and_from (is_numeric (judged_expr there inner).0) (judged_expr there inner).1 (ap is_numeric (sym (type_same inner)) ∙ q.0) (k (sym (folds.fold-Convert (clean_step unclean) its_clean ty inner) ∙ c) q.1)))
+      (λ ty layout index all c h.
+      let p = and_parts (is_truth ty) (equals_some (axes_in shapes layout) (length (map (judged_expr here) index)) && list_all is_index (map (judged_expr here) index))
+      (sym (ap well_in (folds.fold-Active (form_step here) its_judged ty layout index)) ∙ h) in
+      let q = and_parts (equals_some (axes_in shapes layout) (length (map (judged_expr here) index))) (list_all is_index (map (judged_expr here) index)) p.1 in
+      let count = length-map index (judged_expr here) ∙ sym (length-map index (judged_expr there)) in
+      ap well_in (folds.fold-Active (form_step there) its_judged ty layout index)
+      ∙ and_from (is_truth ty) (equals_some (axes_in shapes layout) (length (map (judged_expr there) index)) && list_all is_index (map (judged_expr there) index)) p.0
+      (and_from (equals_some (axes_in shapes layout) (length (map (judged_expr there) index))) (list_all is_index (map (judged_expr there) index))
+      (ap (equals_some (axes_in shapes layout)) (sym count) ∙ q.0)
+      (indices_move index all (sym (folds.fold-Active (clean_step unclean) its_clean ty layout index) ∙ c) q.1)))
 
   pub parts_move : (index : List TypedExpr) → list_all (is_clean unclean) index ≡ true → list_all (is_part here) index ≡ true → list_all (is_part there) index ≡ true
   parts_move [] c h = refl

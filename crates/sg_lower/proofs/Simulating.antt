@@ -11,34 +11,17 @@ use Rattle.sg_ir.specs.declared.names.Names.{Names}
 use Rattle.sg_ir.specs.Runs.{Seen, Moved, runs}
 use Rattle.sg_ir.specs.Named.{AreNamed}
 use Rattle.sg_ir.specs.Emits.{Keeps, Extends, Computes}
+use Rattle.sg_ir.proofs.Uses as emitted
 use Rattle.sg_lower.specs.steps.Basis.{Basis}
 use Rattle.sg_lower.specs.steps.Agreeing.{IsWorld, IsPoint, seen_of, AgreesWithIteration, ShowsAll, Values, AllValues}
 
 -- ---- one extension after another
 
 pub extends-same : (basis : Basis) (names : Names) (block : List Inst) → Extends basis.shapes names names block block
-extends-same basis names block = record {
-  grows = record { regs = omega arith; places = omega arith };
-  keeps = λ seen same start. record { regs = λ r below. refl; places = λ p below. refl; vars = refl; writes = refl; wants = refl };
-}
+extends-same basis names block = emitted.extends-same basis.shapes names block
 
 pub extends-trans : (basis : Basis) (old mid new : Names) (a b c : List Inst) → Extends basis.shapes old mid a b → Extends basis.shapes mid new b c → Extends basis.shapes old new a c
-extends-trans basis old mid new a b c first second =
-    let one = first.grows in
-    let two = second.grows in
-    record {
-      grows = record { regs = omega arith; places = omega arith };
-      keeps = λ seen same start.
-          let before = first.keeps seen same start in
-          let after = second.keeps seen same start in
-          record {
-            regs = λ r below. after.regs r (omega arith) ∙ before.regs r below;
-            places = λ p below. after.places p (omega arith) ∙ before.places p below;
-            vars = after.vars ∙ before.vars;
-            writes = after.writes ∙ before.writes;
-            wants = after.wants ∙ before.wants;
-          };
-    }
+extends-trans basis old mid new a b c first second = emitted.extends-trans basis.shapes old mid new a b c first second
 
 pub named-grows : (basis : Basis) (old new : Names) (a b : List Inst) (regs : List ℕ) → Extends basis.shapes old new a b → All (λ r. r < length old.regs) regs → All (λ r. r < length new.regs) regs
 named-grows basis old new a b regs extends named =

@@ -134,7 +134,7 @@ module _ (basis : Basis) where
       (agrees-written basis at now moved after write body (λ own. owned) shows.small refl refl refl shows.agrees.named shows.agrees)
 
   pub steps-acc : (stmt layout place : ℕ) (index : List TypedExpr) (op : AccOp) (value : TypedExpr) (r p : ℕ) (regs : List ℕ) (old k m n : Names) (a b c d z : List Inst) → basis.slicing ≡ false
-      → Values basis value r old k a b → AllValues basis index regs k m b c → LeadsToPlace basis.shapes regs (λ seen now. place_at basis.shapes layout (named_by regs now)) p m n c d
+      → Values basis value r old k a b → AllValues basis index regs k m b c → LeadsToPlace basis.shapes regs (λ seen now. place_at basis.shapes layout (named_by regs now)) layout p m n c d
       → z ≡ d ++ v.Acc op layout place p r regs stmt ∷ []
       → Steps basis (λ world now. add_write (write_of stmt layout place index (way.Acc op) value world now) now) a z
   steps-acc stmt layout place index op value r p regs old k m n a b c d z body values all leads pushed = λ world is at point now start agrees.
@@ -149,14 +149,14 @@ module _ (basis : Basis) where
       let went : at_of seen.shapes (moved.places p) ≡ inside_or_none basis.shapes layout (coord_of words) =
       ap (at_of seen.shapes) (it.place ∙ ap (λ (shapes : List Shape). place_at shapes layout (coord_of words)) (sym is.shapes_are))
       ∙ (is.reached layout (coord_of words) ∙ ap (λ (shapes : List Shape). inside_or_none shapes layout (coord_of words)) is.shapes_are) in
-      let after = ir.add_code_write (code_write basis.shapes write) (ir.add_access (record { layout = layout; place = moved.places p; at = named_by regs moved }) moved) in
+      let after = ir.add_code_write (code_write basis.shapes write) (ir.add_access (record { asks = false; layout = layout; place = moved.places p; at = named_by regs moved }) moved) in
       let done : runs seen z start ≡ after =
       ran d z (v.Acc op layout place p r regs stmt) pushed seen start ∙ (does-Acc seen op layout place p r regs stmt moved
-      ∙ (ap (λ (w : ℕ). ir.add_code_write (record { layout = layout; field = place; stmt = stmt; at = at_of seen.shapes (moved.places p); way = way.Acc op; value = w }) (ir.add_access (record { layout = layout; place = moved.places p; at = named_by regs moved }) moved)) held
-      ∙ ap (λ (found : Option Coord). ir.add_code_write (record { layout = layout; field = place; stmt = stmt; at = found; way = way.Acc op; value = expr_word world now value }) (ir.add_access (record { layout = layout; place = moved.places p; at = named_by regs moved }) moved)) went)) in
+      ∙ (ap (λ (w : ℕ). ir.add_code_write (record { layout = layout; field = place; stmt = stmt; at = at_of seen.shapes (moved.places p); way = way.Acc op; value = w }) (ir.add_access (record { asks = false; layout = layout; place = moved.places p; at = named_by regs moved }) moved)) held
+      ∙ ap (λ (found : Option Coord). ir.add_code_write (record { layout = layout; field = place; stmt = stmt; at = found; way = way.Acc op; value = expr_word world now value }) (ir.add_access (record { asks = false; layout = layout; place = moved.places p; at = named_by regs moved }) moved)) went)) in
       subst (λ (m : Moved). AgreesWithIteration basis at (add_write write now) m) (sym done)
       (agrees-written basis at now moved after write body (λ own. absurd (both_ways false refl own)) shows.small refl refl refl
-      (All-push (IsNamedAccess basis.shapes) moved.accesses (record { layout = layout; place = moved.places p; at = named_by regs moved }) it.shows.agrees.named (access_named basis at now moved regs words layout p it)) it.shows.agrees)
+      (All-push (IsNamedAccess basis.shapes) moved.accesses (record { asks = false; layout = layout; place = moved.places p; at = named_by regs moved }) it.shows.agrees.named (access_named basis at now moved regs words layout p it)) it.shows.agrees)
 
   pub steps-want : (stmt layout place : ℕ) (index : List TypedExpr) (given : Way) (value : TypedExpr) (regs : List ℕ) (old new : Names) (a b z : List Inst) → basis.slicing ≡ true
       → (is_own given ≡ true → is_owned basis.owned layout place ≡ true) → AllValues basis index regs old new a b → z ≡ b ++ v.Want layout regs stmt ∷ []
@@ -266,7 +266,7 @@ module _ (basis : Basis) where
 
   pub does_acc : (stmt layout place : ℕ) (index : List TypedExpr) (given : Way) (op : AccOp) → given ≡ way.Acc op → (value : TypedExpr) (r p : ℕ) (regs : List ℕ) (old k m n : Names) (a b c d z : List Inst) → basis.slicing ≡ false
       → (can_be_lowered basis value ≡ true → Values basis value r old k a b) → (list_all (can_be_lowered basis) index ≡ true → AllValues basis index regs k m b c)
-      → length regs ≡ length index → (equals_some (axes_in basis.shapes layout) (length regs) ≡ true → LeadsToPlace basis.shapes regs (λ seen now. place_at basis.shapes layout (named_by regs now)) p m n c d) → z ≡ d ++ v.Acc op layout place p r regs stmt ∷ [] → DoesWrite stmt layout place index given value a z
+      → length regs ≡ length index → (equals_some (axes_in basis.shapes layout) (length regs) ≡ true → LeadsToPlace basis.shapes regs (λ seen now. place_at basis.shapes layout (named_by regs now)) layout p m n c d) → z ≡ d ++ v.Acc op layout place p r regs stmt ∷ [] → DoesWrite stmt layout place index given value a z
   does_acc stmt layout place index given op is value r p regs old k m n a b c d z body has has_all count to_place pushed = subst (λ (it : Way). DoesWrite stmt layout place index it value a z) (sym is) (written stmt layout place index (way.Acc op) value a z (λ kept.
       let whole = kept.whole body in
       steps-acc stmt layout place index op value r p regs old k m n a b c d z body (has whole.0) (has_all kept.indices) (to_place (ap (equals_some (axes_in basis.shapes layout)) count ∙ kept.axes)) pushed))

@@ -43,7 +43,7 @@ signed_is ty.I32 h = refl
 signed_is ty.U32 h = absurd (cc)
 signed_is ty.Bool h = absurd (cc)
 
-truth_is : (x : Ty) → table.is_truth x ≡ true → is_truth x ≡ true
+pub truth_is : (x : Ty) → table.is_truth x ≡ true → is_truth x ≡ true
 truth_is ty.I32 h = absurd (cc)
 truth_is ty.U32 h = absurd (cc)
 truth_is ty.Bool h = refl
@@ -138,6 +138,7 @@ judged_ty at = by_exprs (λ expr. (judged_expr at expr).0 ≡ expr.ty)
     (λ ty op left right h k. ap type_in (folds.fold-Bin (form_step at) its_judged ty op left right))
     (λ ty x y w h k l. ap type_in (folds.fold-Mulq (form_step at) its_judged ty x y w))
     (λ ty inner h. ap type_in (folds.fold-Convert (form_step at) its_judged ty inner))
+    (λ ty layout index all. ap type_in (folds.fold-Active (form_step at) its_judged ty layout index))
 
 pub part_is : (at : Surroundings) (expr : TypedExpr) → is_index (judged_expr at expr) ≡ is_part at expr
 part_is at expr = ap (λ (t : Ty). is_signed t && (judged_expr at expr).1) (judged_ty at expr)

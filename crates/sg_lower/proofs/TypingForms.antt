@@ -15,20 +15,21 @@ use Rattle.sg_layout.specs.declared.shape.Shape.{Shape}
 use Rattle.sg_types.specs.declared.typed.TypedExpr.{TypedExpr}
 use Rattle.sg_types.specs.declared.typed.Form.TheVariants as form
 use Rattle.sg_types.specs.Expressions.{equals_some}
+use Rattle.sg_types.specs.TypeTable as table
 use Rattle.sg_types.specs.TypeTable.{is_numeric, is_signed, same_ty, bin_ty, un_ty}
 use Rattle.sg_types.specs.WellTyped.{Surroundings, Judged, is_visible, is_ty, axes_in, field_in, is_index, form_step, judged_expr, is_well_typed_expr}
 use Rattle.sg_types.proofs.Uses as folds
 use Rattle.sg_ir.specs.declared.code.Inst.{Inst}
 use Rattle.sg_ir.specs.declared.code.Inst.TheVariants as v
 use Rattle.sg_ir.specs.declared.names.Names.{Names}
-use Rattle.sg_ir.specs.WellTyped.{Frame, Scope, is_truth, is_truth_as, joins, reads, indexes, takes_truth, gives_truth, is_lnot, holds_of, is_cell, field_type_at, sets_step}
+use Rattle.sg_ir.specs.WellTyped.{KnownPlace, Frame, Scope, is_truth, is_truth_as, joins, reads, indexes, takes_truth, gives_truth, is_lnot, holds_of, is_cell, field_type_at, sets_step}
 use Rattle.sg_ir.specs.Emits.{PutsReg}
 use Rattle.sg_ir.specs.EmitTypes.{Adds, CanRead}
-use Rattle.sg_ir.proofs.Uses.{fold-Const, fold-Var, fold-Bin, fold-Un, fold-Mulq, fold-ReadCell, fold-OwnRead, judges-Const, judges-Var, judges-Bin, judges-Un, judges-Mulq, judges-ReadCell, judges-OwnRead, adds-reg, adds-trans, adds-same, can_read-kept}
-use Rattle.sg_lower.specs.steps.Fitting.{typed_read}
+use Rattle.sg_ir.proofs.Uses.{fold-Const, fold-Var, fold-Bin, fold-Un, fold-Mulq, fold-ReadCell, fold-IsActive, fold-OwnRead, judges-Const, judges-Var, judges-Bin, judges-Un, judges-Mulq, judges-ReadCell, judges-IsActive, judges-OwnRead, adds-reg, adds-trans, adds-same, can_read-kept}
+use Rattle.sg_lower.specs.steps.Fitting.{typed_active, typed_read}
 use Rattle.sg_lower.specs.steps.Typing.{IsCell, Ready, HoldsWordOf, AddsExpr, is_part, AddsIndex}
 use Rattle.sg_lower.proofs.Forms.{of_form}
-use Rattle.sg_lower.proofs.TypeWords.{ty_is, same_is, numeric_is, signed_is, of_itself, bin_truths, un_truths, its_judged, judged_ty, part_is, parts_are}
+use Rattle.sg_lower.proofs.TypeWords.{ty_is, same_is, numeric_is, signed_is, truth_is, of_itself, bin_truths, un_truths, its_judged, judged_ty, part_is, parts_are}
 use Rattle.sg_lower.proofs.AddingMore.{word-kept, new_word, adds-keeping, adds-gains, adds-both, adds-last}
 
 abbrev well_in : Judged → Bool
@@ -55,6 +56,26 @@ indexed at scope layout regs axes can = by_found (slice_get at.shapes layout) ax
     by_found (Some shape) h =
         let same = eqb-true shape.axes (length regs) h in
         and_from (length regs == shape.axes) (list_all (reads at scope false) regs) (eq-eqb (length regs) shape.axes (sym same)) (all_listed (reads at scope false) regs can)
+
+-- a question at a cell of a layout gives a truth value
+asked_fits : (at : Frame) (scope : Scope) (layout p to : ℕ) (given : Ty) (regs : List ℕ) → is_truth given ≡ true → slice_get at.regs to ≡ Some given → IsCell p layout at scope
+    → holds_of (λ (shape : Shape). indexes at scope shape regs) (slice_get at.shapes layout) ≡ true
+    → holds_of (λ (known : KnownPlace). is_cell at known.layout known && (holds_of (λ (shape : Shape). indexes at scope shape regs) (slice_get at.shapes known.layout) && is_truth_as true (slice_get at.regs to))) (scope.places p) ≡ true
+asked_fits at scope layout p to given regs truth there cell index = by_known (scope.places p) cell
+  where
+    fits : KnownPlace → ℕ → Bool
+    fits known l = is_cell at l known && (holds_of (λ (shape : Shape). indexes at scope shape regs) (slice_get at.shapes l) && is_truth_as true (slice_get at.regs to))
+
+    last : is_truth_as true (slice_get at.regs to) ≡ true
+    last = ap (is_truth_as true) there ∙ truth
+
+    by_known : (found : Option KnownPlace) → holds_of (is_cell at layout) found ≡ true → holds_of (λ (known : KnownPlace). fits known known.layout) found ≡ true
+    by_known None h = h
+    by_known (Some known) h =
+        let same = eqb-true known.layout layout (and_parts (known.layout == layout) (holds_of (λ (shape : Shape). known.passed == length shape.nodes) (slice_get at.shapes layout)) h).0 in
+        ap (fits known) same
+        ∙ and_from (is_cell at layout known) (holds_of (λ (shape : Shape). indexes at scope shape regs) (slice_get at.shapes layout) && is_truth_as true (slice_get at.regs to)) h
+        (and_from (holds_of (λ (shape : Shape). indexes at scope shape regs) (slice_get at.shapes layout)) (is_truth_as true (slice_get at.regs to)) index last)
 
 module _ (shapes : List Shape) (new : Names) (a z : List Inst) where
   abbrev IsTyped : Names → ℕ → TypedExpr → Type 0
@@ -165,6 +186,23 @@ module _ (shapes : List Shape) (new : Names) (a z : List Inst) where
         parts = sym (parts_are setting index) ∙ q.1;
       }
 
+  -- what a question keeps to
+  pub record ActiveParts (setting : Surroundings) (given : Ty) (layout : ℕ) (index : List TypedExpr) : Type 0 where
+    pub type : table.is_truth given ≡ true
+    pub axes : equals_some (axes_in setting.shapes layout) (length index) ≡ true
+    pub parts : list_all (is_part setting) index ≡ true
+
+  active_parts : (setting : Surroundings) (given : Ty) (layout : ℕ) (index : List TypedExpr) → is_well_typed_expr setting (typed_active given layout index) ≡ true → ActiveParts setting given layout index
+  active_parts setting given layout index typed =
+      let p = and_parts (table.is_truth given) (equals_some (axes_in setting.shapes layout) (length (map (judged_expr setting) index)) && list_all is_index (map (judged_expr setting) index))
+      (sym (ap well_in (folds.fold-Active (form_step setting) its_judged given layout index)) ∙ typed) in
+      let q = and_parts (equals_some (axes_in setting.shapes layout) (length (map (judged_expr setting) index))) (list_all is_index (map (judged_expr setting) index)) p.1 in
+      record {
+        type = p.0;
+        axes = ap (equals_some (axes_in setting.shapes layout)) (sym (length-map index (judged_expr setting))) ∙ q.0;
+        parts = sym (parts_are setting index) ∙ q.1;
+      }
+
   pub own_read_typed : (old : Names) (result : Result ℕ Memory) (given : Ty) (layout place : ℕ) (index : List TypedExpr) → IfOk result (λ to. PutsReg given (λ reg. v.OwnRead reg layout place) to old new a z)
       → IfOk result (λ to. IsTyped old to (typed_read given layout place index))
   own_read_typed old (Ok to) given layout place index puts = λ setting same typed.
@@ -173,13 +211,19 @@ module _ (shapes : List Shape) (new : Names) (a z : List Inst) where
       (λ at scope is there need. joined (field_type_at at layout place) (slice_get at.regs to) given (ap (λ (ss : List Shape). field_in ss layout place) (is ∙ sym same) ∙ it.type) there) (λ at scope is there need. new_word to given given at scope refl there)
   own_read_typed old (Err e) given layout place index puts = tt
 
+  both_places : (setting : Surroundings) (layout p : ℕ) (regs : List ℕ) (old m n : Names) (b c : List Inst) → All (λ r. r < length m.regs) regs → Adds shapes (Ready setting) (CanRead regs) old m a b
+      → Adds shapes (CanRead regs) (IsCell p layout) m n b c → Adds shapes (Ready setting) (λ at scope. IsCell p layout at scope × CanRead regs at scope) old n a c
+  both_places setting layout p regs old m n b c named first second =
+      adds-trans shapes (Ready setting) (CanRead regs) (λ at scope. CanRead regs at scope × CanRead regs at scope) (λ at scope. IsCell p layout at scope × CanRead regs at scope) old m n a b c first
+      (adds-keeping shapes (CanRead regs) (IsCell p layout) (CanRead regs) m n b c second (λ at f t can keeps. can_read-kept m at f t regs named keeps can)) (λ at s t ready got keeps. (got, got))
+
   pub cell_read_typed : (old m n : Names) (b c : List Inst) (result : Result ℕ Memory) (given : Ty) (layout place : ℕ) (index : List TypedExpr) (regs : List ℕ) (p : ℕ) → length regs ≡ length index → All (λ r. r < length m.regs) regs
       → AddsIndex shapes index regs old m a b → (equals_some (axes_in shapes layout) (length regs) ≡ true → Adds shapes (CanRead regs) (IsCell p layout) m n b c)
       → IfOk result (λ to. PutsReg given (λ reg. v.ReadCell reg p layout place regs) to n new c z) → IfOk result (λ to. IsTyped old to (typed_read given layout place index))
   cell_read_typed old m n b c (Ok to) given layout place index regs p count named has placed puts = λ setting same typed.
       let it = read_parts setting given layout place index typed in
       let axes : equals_some (axes_in shapes layout) (length regs) ≡ true = ap (equals_some (axes_in shapes layout)) count ∙ (ap (λ (ss : List Shape). equals_some (axes_in ss layout) (length index)) (sym same) ∙ it.axes) in
-      let cell = adds-both_places setting (has setting same it.parts) (placed axes) in
+      let cell = both_places setting layout p regs old m n b c named (has setting same it.parts) (placed axes) in
       adds-last shapes setting (λ at scope. IsCell p layout at scope × CanRead regs at scope) given given (λ reg. v.ReadCell reg p layout place regs)
       (λ at scope. holds_of (is_cell at layout) (scope.places p) && (joins (field_type_at at layout place) (slice_get at.regs to) && holds_of (λ (shape : Shape). indexes at scope shape regs) (slice_get at.shapes layout))) to old n new a c z cell puts
       (fold-ReadCell sets_step to p layout place regs) (λ at scope. judges-ReadCell at to p layout place regs scope)
@@ -187,12 +231,26 @@ module _ (shapes : List Shape) (new : Names) (a z : List Inst) where
       (and_from (joins (field_type_at at layout place) (slice_get at.regs to)) (holds_of (λ (shape : Shape). indexes at scope shape regs) (slice_get at.shapes layout))
       (joined (field_type_at at layout place) (slice_get at.regs to) given (ap (λ (ss : List Shape). field_in ss layout place) (is ∙ sym same) ∙ it.type) there)
       (indexed at scope layout regs (ap (λ (ss : List Shape). equals_some (axes_in ss layout) (length regs)) is ∙ axes) need.1))) refl
-    where
-      adds-both_places : (setting : Surroundings) → Adds shapes (Ready setting) (CanRead regs) old m a b → Adds shapes (CanRead regs) (IsCell p layout) m n b c → Adds shapes (Ready setting) (λ at scope. IsCell p layout at scope × CanRead regs at scope) old n a c
-      adds-both_places setting first second =
-          adds-trans shapes (Ready setting) (CanRead regs) (λ at scope. CanRead regs at scope × CanRead regs at scope) (λ at scope. IsCell p layout at scope × CanRead regs at scope) old m n a b c first
-          (adds-keeping shapes (CanRead regs) (IsCell p layout) (CanRead regs) m n b c second (λ at f t can keeps. can_read-kept m at f t regs named keeps can)) (λ at s t ready got keeps. (got, got))
   cell_read_typed old m n b c (Err e) given layout place index regs p count named has placed puts = tt
+
+  pub active_typed : (old m n : Names) (b c : List Inst) (result : Result ℕ Memory) (given : Ty) (layout : ℕ) (index : List TypedExpr) (regs : List ℕ) (p : ℕ) → length regs ≡ length index → All (λ r. r < length m.regs) regs
+      → AddsIndex shapes index regs old m a b → (equals_some (axes_in shapes layout) (length regs) ≡ true → Adds shapes (CanRead regs) (IsCell p layout) m n b c)
+      → IfOk result (λ to. PutsReg given (λ reg. v.IsActive reg p regs) to n new c z) → IfOk result (λ to. IsTyped old to (typed_active given layout index))
+  active_typed old m n b c (Ok to) given layout index regs p count named has placed puts = λ setting same typed.
+      let it = active_parts setting given layout index typed in
+      let axes : equals_some (axes_in shapes layout) (length regs) ≡ true = ap (equals_some (axes_in shapes layout)) count ∙ (ap (λ (ss : List Shape). equals_some (axes_in ss layout) (length index)) (sym same) ∙ it.axes) in
+      let cell = both_places setting layout p regs old m n b c named (has setting same it.parts) (placed axes) in
+      adds-last shapes setting (λ at scope. IsCell p layout at scope × CanRead regs at scope) given given (λ reg. v.IsActive reg p regs)
+      (λ at scope. holds_of (λ (known : KnownPlace). is_cell at known.layout known && (holds_of (λ (shape : Shape). indexes at scope shape regs) (slice_get at.shapes known.layout) && is_truth_as true (slice_get at.regs to))) (scope.places p)) to old n new a c z cell puts
+      (fold-IsActive sets_step to p regs) (λ at scope. judges-IsActive at to p regs scope)
+      (λ at scope is there need. asked_fits at scope layout p to given regs (truth_is given it.type) there need.0
+      (indexed at scope layout regs (ap (λ (ss : List Shape). equals_some (axes_in ss layout) (length regs)) is ∙ axes) need.1)) refl
+  active_typed old m n b c (Err e) given layout index regs p count named has placed puts = tt
+
+  pub active_form_typed : (old : Names) (result : Result ℕ Memory) (expr : TypedExpr) (layout : ℕ) (index given : List TypedExpr) → expr.form ≡ form.Active layout index → given ≡ index
+      → IfOk result (λ to. IsTyped old to (typed_active expr.ty layout given)) → IfOk result (λ to. IsTyped old to expr)
+  active_form_typed old result expr layout index given is same has = of_form (λ (e : TypedExpr). IfOk result (λ to. IsTyped old to e)) expr (form.Active layout index) is
+      (subst (λ (list : List TypedExpr). IfOk result (λ to. IsTyped old to (typed_active expr.ty layout list))) same has)
 
   pub read_form_typed : (old : Names) (result : Result ℕ Memory) (expr : TypedExpr) (layout place : ℕ) (index given : List TypedExpr) → expr.form ≡ form.Read layout place index → given ≡ index
       → IfOk result (λ to. IsTyped old to (typed_read expr.ty layout place given)) → IfOk result (λ to. IsTyped old to expr)

@@ -73,6 +73,7 @@ module _ (owned : List Field) (acc : ℕ → ℕ → Bool) (vars : ℕ) where
       subst AllGood (sym (folds.fold-Mulq (use_step owned) its_uses ty a b shift))
       (all_append GoodRead (expr_uses owned a) (expr_uses owned b ++ expr_uses owned shift) (k p.0) (all_append GoodRead (expr_uses owned b) (expr_uses owned shift) (l q.0) (m q.1))))
       (λ ty inner k h. subst AllGood (sym (folds.fold-Convert (use_step owned) its_uses ty inner)) (k (sym (ap good_in (folds.fold-Convert (seen_step vars unaccumulated) its_seen ty inner)) ∙ h)))
+      (λ ty layout index all h. subst AllGood (sym (folds.fold-Active (use_step owned) its_uses ty layout index)) (parts_well index all (sym (ap good_in (folds.fold-Active (seen_step vars unaccumulated) its_seen ty layout index)) ∙ h)))
 
   pub all_read_well : (index : List TypedExpr) → list_all (has_good_reads vars unaccumulated) index ≡ true → AllGood (all_uses owned index)
   all_read_well [] h = tt

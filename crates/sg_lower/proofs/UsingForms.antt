@@ -16,10 +16,10 @@ use Rattle.sg_ir.specs.declared.code.Inst.TheVariants as v
 use Rattle.sg_ir.specs.declared.names.Names.{Names}
 use Rattle.sg_ir.specs.Apt.{Use, Reads, ReadsOwn, uses_step, uses_in}
 use Rattle.sg_ir.specs.Emits.{PutsReg}
-use Rattle.sg_ir.proofs.Uses.{fold-Const, fold-Var, fold-Bin, fold-Un, fold-Mulq, fold-ReadCell, fold-OwnRead, uses-append}
+use Rattle.sg_ir.proofs.Uses.{fold-Const, fold-Var, fold-Bin, fold-Un, fold-Mulq, fold-ReadCell, fold-IsActive, fold-OwnRead, uses-append}
 use Rattle.sg_lower.specs.declared.lowering.Field.{Field}
 use Rattle.sg_lower.specs.steps.Basis.{is_owned}
-use Rattle.sg_lower.specs.steps.Fitting.{typed_read}
+use Rattle.sg_lower.specs.steps.Fitting.{typed_active, typed_read}
 use Rattle.sg_lower.specs.steps.Using.{read_uses, use_step, expr_uses, all_uses, Uses}
 use Rattle.sg_lower.proofs.Forms.{of_form}
 
@@ -55,6 +55,9 @@ module _ (owned : List Field) where
   uses-Read given layout place index =
       folds.fold-Read (use_step owned) its_form given layout place index
       ∙ ap (read_uses (is_owned owned layout place) layout place) (flat_map-map (λ (uses : List Use). uses) (expr_uses owned) index)
+
+  pub uses-Active : (given : Ty) (layout : ℕ) (index : List TypedExpr) → expr_uses owned (typed_active given layout index) ≡ all_uses owned index
+  uses-Active given layout index = folds.fold-Active (use_step owned) its_form given layout index ∙ flat_map-map (λ (uses : List Use). uses) (expr_uses owned) index
 
   pub all_uses-push : (exprs : List TypedExpr) (expr : TypedExpr) → all_uses owned (exprs ++ expr ∷ []) ≡ all_uses owned exprs ++ expr_uses owned expr
   all_uses-push exprs expr = flat_map-append (expr_uses owned) exprs (expr ∷ []) ∙ ap (λ (l : List Use). all_uses owned exprs ++ l) (append-nil (expr_uses owned expr))
@@ -115,6 +118,16 @@ module _ (owned : List Field) (result : Result ℕ Memory) (new : Names) (a z : 
   pub read_form_uses : (expr : TypedExpr) (layout place : ℕ) (index given : List TypedExpr) → expr.form ≡ form.Read layout place index → given ≡ index → IsUsedBy (typed_read expr.ty layout place given) → IsUsedBy expr
   read_form_uses expr layout place index given is same has = of_form IsUsedBy expr (form.Read layout place index) is
       (subst (λ (list : List TypedExpr). IsUsedBy (typed_read expr.ty layout place list)) same has)
+
+  pub active_form_uses : (expr : TypedExpr) (layout : ℕ) (index given : List TypedExpr) → expr.form ≡ form.Active layout index → given ≡ index → IsUsedBy (typed_active expr.ty layout given) → IsUsedBy expr
+  active_form_uses expr layout index given is same has = of_form IsUsedBy expr (form.Active layout index) is
+      (subst (λ (list : List TypedExpr). IsUsedBy (typed_active expr.ty layout list)) same has)
+
+  pub active_uses : (given : Ty) (layout : ℕ) (index : List TypedExpr) (regs : List ℕ) (p : ℕ) (mid : Names) (b c : List Inst) → Uses (all_uses owned index) a b → uses_in c ≡ uses_in b
+      → IfOk result (λ to. PutsReg given (λ reg. v.IsActive reg p regs) to mid new c z) → IsUsedBy (typed_active given layout index)
+  active_uses given layout index regs p mid b c has quiet puts =
+      same_uses (expr_uses owned (typed_active given layout index)) (all_uses owned index) (uses-Active owned given layout index)
+      (quiet_ok result (all_uses owned index) given (λ reg. v.IsActive reg p regs) mid new a c z (λ to. fold-IsActive uses_step to p regs) (uses-quiet (all_uses owned index) a b c has (uses-none b c quiet)) puts)
 
   pub own_read_uses : (given : Ty) (layout place : ℕ) (index : List TypedExpr) (old : Names) → is_owned owned layout place ≡ true → IfOk result (λ to. PutsReg given (λ reg. v.OwnRead reg layout place) to old new a z)
       → IsUsedBy (typed_read given layout place index)

@@ -111,7 +111,7 @@ module _ (shapes : List Shape) (facts : Facts) (owned : List Field) (owned_is : 
   lines_good [] reads is = tt
   lines_good (line ∷ some) reads is = all_append (GoodUse shapes facts) (deed_uses basis line.deed) (line_uses basis some) (deed_good line.deed reads.0 is.0) (lines_good some reads.1 is.1)
 
-  use_of : (uses : List Use) → AllByRecursion (GoodUse shapes facts) uses → (it : Use) → Contains uses it → GoodUse shapes facts it
+  pub use_of : (uses : List Use) → AllByRecursion (GoodUse shapes facts) uses → (it : Use) → Contains uses it → GoodUse shapes facts it
   use_of [] all it has = absurd (contains_none it has)
   use_of (first ∷ uses) all it has = elim (contains_cases it first uses has) [
     | inl same ↦ subst (GoodUse shapes facts) same all.0

@@ -1,7 +1,9 @@
 -- Flat states are worlds in which values are words, and coordinates of places are told.
-use Rattle.std.proofs.Common.{◌≡◌, ℕ, zero, suc, ◌^◌, Bool, true, false, ◌==◌, nat_lt, if◌then◌else◌, slice_get, List, [], ◌∷◌, length, get_or, take, Option, Some, None, All, refl, sym, ap, ◌∙◌, arith}
-use Rattle.std.proofs.lemmas.Bool.{and_parts, ltb-true}
-use Rattle.std.specs.Prelude.{option_map}
+use Rattle.std.proofs.Common.{◌≡◌, ℕ, zero, suc, ◌^◌, Bool, true, false, ◌==◌, nat_lt, if◌then◌else◌, slice_get, List, [], ◌∷◌, length, get_or, take, Option, Some, None, All, refl, sym, ap, ◌∙◌, subst, arith}
+use Rattle.std.proofs.lemmas.Bool.{and_parts, both_ways, ltb-true}
+use Rattle.std.proofs.lemmas.Map.Views.{Contains-from_any}
+use Rattle.std.specs.List.{list_any}
+use Rattle.std.specs.Prelude.{option_map, Contains}
 use Rattle.std.proofs.lemmas.List.Elements.{All-nil, All-cons, All-head, All-tail}
 use Rattle.sg_words.specs.declared.operators.Ty.{Ty}
 use Rattle.sg_words.specs.declared.operators.BinOp.{BinOp}
@@ -16,6 +18,9 @@ use Rattle.sg_layout.specs.Axes.{bounds_of_shape}
 use Rattle.sg_layout.specs.Path.{offsets}
 use Rattle.sg_layout.specs.Slots.{coordinate_of}
 use Rattle.sg_layout.specs.PathLaws.{CoordinateOfPath}
+use Rattle.sg_layout.specs.ClosureLaws.{ClosureIsInside}
+use Rattle.sg_flat.specs.Domain.{active_in, same_coord}
+use Rattle.sg_flat.proofs.Uses.{same_is}
 use Rattle.sg_flat.specs.declared.state.FlatState.{FlatState}
 use Rattle.sg_flat.specs.declared.state.FlatLayout.{FlatLayout}
 use Rattle.sg_flat.specs.Words.{are_words, word_at}
@@ -58,7 +63,27 @@ flat_small (shape ∷ shapes) [] fine layout place at = absurd fine
 flat_small (shape ∷ shapes) (first ∷ layouts) fine zero place at = value_small shape first fine.0 place at
 flat_small (shape ∷ shapes) (first ∷ layouts) fine (suc layout) place at = flat_small shapes layouts fine.1 layout place at
 
-module _ (inside_test : InsideTest) (paths : (shape : Shape) → CoordinateOfPath shape) where
+-- nothing outside is active
+module _ (inside_test : InsideTest) (closures : (shape : Shape) → ClosureIsInside shape) where
+  idle_outside : (shape : Shape) (layout : FlatLayout) → IsFlatLayout shape layout → (at : Coord) → is_inside (bounds_of_shape shape) at ≡ false → list_any (same_coord at) layout.active ≡ false
+  idle_outside shape layout fine at outside = by_test (list_any (same_coord at) layout.active) refl
+    where
+      by_test : (test : Bool) → list_any (same_coord at) layout.active ≡ test → list_any (same_coord at) layout.active ≡ false
+      by_test false e = e
+      by_test true e =
+          let there : Contains layout.active at = Contains-from_any same_is at layout.active e in
+          let inside = (closures shape layout.active at (subst (λ (cs : List Coord). Contains cs at) fine.closed there)).1 in
+          absurd (both_ways false refl (sym outside ∙ (inside_test (bounds_of_shape shape) at).1 inside))
+
+  none_outside : (shapes : List Shape) (layouts : List FlatLayout) → AreFlatLayouts shapes layouts → (layout : ℕ) (at : Coord) → is_inside_of (slice_get shapes layout) at ≡ false
+      → list_any (same_coord at) (active_in (slice_get layouts layout)) ≡ false
+  none_outside [] [] fine layout at outside = refl
+  none_outside [] (first ∷ layouts) fine layout at outside = absurd fine
+  none_outside (shape ∷ shapes) [] fine layout at outside = absurd fine
+  none_outside (shape ∷ shapes) (first ∷ layouts) fine zero at outside = idle_outside shape first fine.0 at outside
+  none_outside (shape ∷ shapes) (first ∷ layouts) fine (suc layout) at outside = none_outside shapes layouts fine.1 layout at outside
+
+module _ (inside_test : InsideTest) (closures : (shape : Shape) → ClosureIsInside shape) (paths : (shape : Shape) → CoordinateOfPath shape) where
   reached : (shapes : List Shape) (layout : ℕ) (at : Coord) → at_of shapes (place_at shapes layout at) ≡ inside_or_none shapes layout at
   reached shapes layout at = by_shape (slice_get shapes layout) refl
     where
@@ -87,6 +112,7 @@ module _ (inside_test : InsideTest) (paths : (shape : Shape) → CoordinateOfPat
     mulq = mulq;
     small = flat_small shapes state.layouts fine;
     reached = reached shapes;
+    inside = none_outside inside_test closures shapes state.layouts fine;
   }
 
 parts_small : (n : ℕ) (words : List ℕ) → All IsWord words → (var : ℕ) → IsWord (get_or (take n words) var 0)

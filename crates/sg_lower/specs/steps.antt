@@ -3,4 +3,5 @@ pub mod Basis
 pub mod Fitting
 pub mod Agreeing
 pub mod Using
+pub mod Asking
 pub mod Typing

@@ -13,7 +13,7 @@ pub(crate) fn constant_number(expr: &TypedExpr) -> i32
     number(Ty::I32, constant(expr)) as i32
 }
 
-/// The word of a constant expression; variables and reads count as 0.
+/// The word of a constant expression; variables, reads and questions count as 0.
 fn constant(expr: &TypedExpr) -> u32
     ensures { result ≡ constant_word expr.now }
 {
@@ -36,5 +36,9 @@ fn constant(expr: &TypedExpr) -> u32
         ),
         Form::Mulq { a, b, s } => mulq(constant(a.get()), constant(b.get()), constant(s.get())),
         Form::Convert(inner) => constant(inner.get()),
+        Form::Active {
+            layout: _layout,
+            index: _index,
+        } => 0,
     }
 }

@@ -10,6 +10,7 @@ ghost use Rattle.sg_lower.specs.steps.Basis.{basis_of};
 ghost use Rattle.sg_lower.specs.steps.Fitting.{stmt_fits};
 ghost use Rattle.sg_lower.specs.steps.Agreeing.{Tells};
 ghost use Rattle.sg_lower.specs.steps.Using.{UsesBlock};
+ghost use Rattle.sg_lower.specs.steps.Asking.{AsksBlock};
 ghost use Rattle.sg_lower.specs.steps.Typing.{AddsBlock, SetsBlock};
 
 use crate::domains::domain_bounds;
@@ -91,6 +92,7 @@ impl Lowering {
         ensures tells { IfOk result (λ code. list_all (stmt_fits (basis_of layouts.now self.now)) stmts.now ≡ true → Tells (basis_of layouts.now self.now) stmts.now code.body) }
         ensures vars { IfOk result (λ code. code.vars ≡ types.now) }
         ensures uses { IfOk result (λ code. UsesBlock (basis_of layouts.now self.now) stmts.now [] code.body) }
+        ensures asks { IfOk result (λ code. AsksBlock stmts.now [] code.body) }
         ensures typed { IfOk result (λ code. AddsBlock layouts.now.list stmts.now (record { regs = []; places = 0 }) (record { regs = code.regs; places = code.places }) [] code.body) }
         ensures sets { IfOk result (λ code. SetsBlock stmts.now [] code.body) }
     {

@@ -6,6 +6,8 @@ ghost use Rattle.sg_ir.specs.Runs.{named_by};
 ghost use Rattle.sg_ir.specs.Places.{place_at};
 ghost use Rattle.sg_ir.specs.WellTyped.{set_vars};
 ghost use Rattle.sg_ir.specs.Apt.{uses_in};
+ghost use Rattle.sg_ir.specs.Trimmed.{Ways, way_of};
+ghost use Rattle.sg_ir.specs.Trails.{asked_by, ways_after};
 ghost use Rattle.sg_ir.specs.Emits.{NamesGrow, LeadsToPlace};
 ghost use Rattle.sg_ir.specs.EmitTypes.{Adds, CanRead};
 ghost use Rattle.sg_lower.specs.steps.Typing.{IsCell};
@@ -28,8 +30,10 @@ pub(crate) fn named_place(
     requires named { All (λ r. r < length names.old.regs) index.now }
     ensures grows { IfOk result (λ to. NamesGrow names.old names.new × (to < names.new.places)) }
     ensures leads { IfOk result (λ to. equals_some (axes_in layouts.now.list layout) (length index.now) ≡ true → LeadsToPlace layouts.now.list index.now
-        (λ seen now. place_at layouts.now.list layout (named_by index.now now)) to names.old names.new block.old block.new) }
+        (λ seen now. place_at layouts.now.list layout (named_by index.now now)) layout to names.old names.new block.old block.new) }
     ensures uses { IfOk result (λ to. uses_in block.new ≡ uses_in block.old) }
+    ensures asks { IfOk result (λ to. (ways : Ways) → asked_by block.new ways ≡ asked_by block.old ways) }
+    ensures comes { IfOk result (λ to. (ways : Ways) → (way_of (ways_after block.new ways) to).root ≡ Some layout) }
     ensures vars { IfOk result (λ to. set_vars block.new ≡ set_vars block.old) }
     ensures typed { IfOk result (λ to. equals_some (axes_in layouts.now.list layout) (length index.now) ≡ true → Adds layouts.now.list (CanRead index.now)
         (IsCell to layout) names.old names.new block.old block.new) }

@@ -6,6 +6,7 @@ ghost use Rattle.sg_lower.specs.steps.Basis.{basis_of};
 ghost use Rattle.sg_lower.specs.steps.Fitting.{stmt_fits, write_stmt};
 ghost use Rattle.sg_lower.specs.steps.Agreeing.{Steps};
 ghost use Rattle.sg_lower.specs.steps.Using.{UsesStmt, UsesBlock};
+ghost use Rattle.sg_lower.specs.steps.Asking.{AsksStmt, AsksBlock};
 ghost use Rattle.sg_lower.specs.steps.Typing.{AddsStmt, AddsBlock, SetsStmt, SetsBlock};
 
 use crate::constants::constant_number;
@@ -32,6 +33,7 @@ impl Lowering {
         ensures steps { IfOk result (λ _. list_all (stmt_fits (basis_of layouts.now self.now)) stmts.now ≡ true →
             Steps (basis_of layouts.now self.now) (λ world now. run_all (map (action_of world) stmts.now) now) block.old block.new) }
         ensures uses { IfOk result (λ _. UsesBlock (basis_of layouts.now self.now) stmts.now block.old block.new) }
+        ensures asks { IfOk result (λ _. AsksBlock stmts.now block.old block.new) }
         ensures typed { IfOk result (λ _. AddsBlock layouts.now.list stmts.now names.old names.new block.old block.new) }
         ensures sets { IfOk result (λ _. SetsBlock stmts.now block.old block.new) }
     {
@@ -53,6 +55,7 @@ impl Lowering {
         ensures steps { IfOk result (λ block. list_all (stmt_fits (basis_of layouts.now self.now)) stmts.now ≡ true →
             Steps (basis_of layouts.now self.now) (λ world now. run_all (map (action_of world) stmts.now) now) [] block) }
         ensures uses { IfOk result (λ block. UsesBlock (basis_of layouts.now self.now) stmts.now [] block) }
+        ensures asks { IfOk result (λ block. AsksBlock stmts.now [] block) }
         ensures typed { IfOk result (λ block. AddsBlock layouts.now.list stmts.now names.old names.new [] block) }
         ensures sets { IfOk result (λ block. SetsBlock stmts.now [] block) }
     {
@@ -74,6 +77,7 @@ impl Lowering {
         ensures steps { IfOk result (λ _. stmt_fits (basis_of layouts.now self.now) stmt.now ≡ true →
             Steps (basis_of layouts.now self.now) (λ world now. action_of world stmt.now now) block.old block.new) }
         ensures uses { IfOk result (λ _. UsesStmt (basis_of layouts.now self.now) stmt.now block.old block.new) }
+        ensures asks { IfOk result (λ _. AsksStmt stmt.now block.old block.new) }
         ensures typed { IfOk result (λ _. AddsStmt layouts.now.list stmt.now names.old names.new block.old block.new) }
         ensures sets { IfOk result (λ _. SetsStmt stmt.now block.old block.new) }
     {
@@ -142,6 +146,7 @@ impl Lowering {
         ensures steps { IfOk result (λ _. stmt_fits (basis_of layouts.now self.now) (write_stmt stmt layout place index.now way value.now) ≡ true →
             Steps (basis_of layouts.now self.now) (λ world now. action_of world (write_stmt stmt layout place index.now way value.now) now) block.old block.new) }
         ensures uses { IfOk result (λ _. UsesStmt (basis_of layouts.now self.now) (write_stmt stmt layout place index.now way value.now) block.old block.new) }
+        ensures asks { IfOk result (λ _. AsksStmt (write_stmt stmt layout place index.now way value.now) block.old block.new) }
         ensures typed { IfOk result (λ _. AddsStmt layouts.now.list (write_stmt stmt layout place index.now way value.now) names.old names.new block.old block.new) }
         ensures sets { IfOk result (λ _. SetsStmt (write_stmt stmt layout place index.now way value.now) block.old block.new) }
     {

@@ -22,7 +22,7 @@ use Rattle.sg_ast.specs.declared.layout.LayoutDecl.{LayoutDecl}
 use Rattle.sg_ast.specs.declared.kernel.DomainDecl.{DomainDecl}
 use Rattle.sg_ast.specs.declared.kernel.KernelDecl.{KernelDecl}
 use Rattle.sg_ast.specs.declared.program.Item.TheVariants as item
-use Rattle.sg_ast.proofs.Uses.{fold-Read_expr, fold-Paren_expr, fold-Un_expr, fold-Bin_expr, fold-Call_expr, fold-Let_stmt, fold-Assign_stmt, fold-Write_stmt, fold-If_stmt, fold-If_else_stmt, fold-For_stmt, fold-Times_command}
+use Rattle.sg_ast.proofs.Uses.{fold-Read_expr, fold-Paren_expr, fold-Un_expr, fold-Bin_expr, fold-Call_expr, fold-Active_expr, fold-Let_stmt, fold-Assign_stmt, fold-Write_stmt, fold-If_stmt, fold-If_else_stmt, fold-For_stmt, fold-Times_command}
 use Rattle.sg_names.specs.Declares.{command_count, commands_step}
 use Rattle.sg_names.specs.Tables.{Tables}
 use Rattle.sg_names.specs.Names.{is_no_size, is_no_layout, is_no_field, uses_unknown}
@@ -61,6 +61,11 @@ module _ (test : Name → Bool) where
   reads_any-Call callee arguments =
       (ap (list_any test) (fold-Call_expr reads_step callee arguments)
       ∙ list_any-joined test reads_of arguments)
+
+  pub reads_any-Active : (field : Name) (index : List Expr) → reads_any (e.Active field index) ≡ (test field || list_any reads_any index)
+  reads_any-Active field index =
+      (ap (list_any test) (fold-Active_expr reads_step field index)
+      ∙ ap (λ more. test field || more) (list_any-joined test reads_of index))
 
   abbrev pub range_any : RangeDecl → Bool
   range_any range = reads_any range.lo || reads_any range.hi

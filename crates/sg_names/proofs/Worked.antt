@@ -36,6 +36,10 @@ reads_everywhere : reads_of (e.Bin b.Add (e.Read (named (codes "f")) (read (code
     ≡ map named (codes "f" ∷ codes "g" ∷ codes "h" ∷ codes "k" ∷ codes "m" ∷ [])
 reads_everywhere = simp fold_equations
 
+-- `active(f[g[0]])`: the field whose layout is asked, and what its indices read
+asked_too : reads_of (e.Active (named (codes "f")) (read (codes "g") ∷ [])) ≡ map named (codes "f" ∷ codes "g" ∷ [])
+asked_too = simp fold_equations
+
 -- `F[G[0]] += H[0];`
 abbrev accumulation : List ℕ → List ℕ → List ℕ → Stmt
 accumulation field index value = s.Write (named field) (read index ∷ []) (way.Acc acc.Add) (read value)

@@ -21,7 +21,7 @@ use Rattle.sg_ast.specs.declared.command.Command.TheOpen.{Command-F}
 use Rattle.sg_ast.specs.declared.program.Item.{Item}
 use Rattle.sg_ast.specs.declared.program.Item.TheVariants as item
 
--- one layer of an expression, where the fields that its parts read are given
+-- one layer of an expression, where the fields that its parts name are given
 abbrev pub reads_step : Expr-F (List Name) → List Name
 reads_step (e.Number value unsigned) = []
 reads_step (e.Truth truth) = []
@@ -31,8 +31,9 @@ reads_step (e.Paren inner) = inner
 reads_step (e.Un op operand) = operand
 reads_step (e.Bin op left right) = left ++ right
 reads_step (e.Call callee arguments) = joined_lists arguments
+reads_step (e.Active field index) = field ∷ joined_lists index
 
--- the fields that an expression reads, in indices too
+-- the fields that an expression reads, or whose layout it asks by `active`, in indices too
 abbrev pub reads_of : Expr → List Name
 reads_of = fold-Expr (List Name) reads_step
 

@@ -118,5 +118,8 @@ fn reads_unknown(names: &Names, expression: &Expr) -> bool
             reads_unknown(names, left.get()) || reads_unknown(names, right.get())
         }
         Expr::Call { args, .. } => any_reads_unknown(names, args.as_slice()),
+        Expr::Active { field, index } => {
+            names.lacks_field(field) || any_reads_unknown(names, index.as_slice())
+        }
     }
 }

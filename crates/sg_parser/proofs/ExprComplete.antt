@@ -21,10 +21,10 @@ use Rattle.sg_ast.specs.Token.{is_name, is_number}
 use Rattle.sg_ast.specs.Expr.{tokens_of, with_commas, op_token, un_token, callee_token, depth, largest, level, levelled, op_level, left_needs, right_needs, un_level}
 use Rattle.sg_ast.specs.Limits.{max_depth}
 use Rattle.sg_ast.specs.Grammar.{is_formed, is_infix, arity, is_expr, one_or_more}
-use Rattle.sg_ast.proofs.Uses.{by_variant, depth_some, tokens_of-Number, tokens_of-Truth, tokens_of-Name, tokens_of-Read, tokens_of-Paren, tokens_of-Un, tokens_of-Bin, tokens_of-Call, depth-Read, depth-Paren, depth-Un, depth-Bin, depth-Call, level-Number, level-Truth, level-Name, level-Read, level-Paren, level-Un, level-Bin, level-Call, levelled-Read, levelled-Paren, levelled-Un, levelled-Bin, levelled-Call, is_formed-Number, is_formed-Name, is_formed-Read, is_formed-Paren, is_formed-Un, is_formed-Bin, is_formed-Call, op_level-un_level, op_level-left_needs}
+use Rattle.sg_ast.proofs.Uses.{by_variant, depth_some, tokens_of-Number, tokens_of-Truth, tokens_of-Name, tokens_of-Read, tokens_of-Paren, tokens_of-Un, tokens_of-Bin, tokens_of-Call, tokens_of-Active, depth-Read, depth-Paren, depth-Un, depth-Bin, depth-Call, depth-Active, level-Number, level-Truth, level-Name, level-Read, level-Paren, level-Un, level-Bin, level-Call, level-Active, levelled-Read, levelled-Paren, levelled-Un, levelled-Bin, levelled-Call, levelled-Active, is_formed-Number, is_formed-Name, is_formed-Read, is_formed-Paren, is_formed-Un, is_formed-Bin, is_formed-Call, is_formed-Active, op_level-un_level, op_level-left_needs}
 use Rattle.sg_parser.specs.Front.{Reader, after_sign, next_op}
 use Rattle.sg_words.specs.Options.{◌>>=◌}
-use Rattle.sg_parser.specs.ReadExpr.{operator_goes_on, read_indices, read_name_expr, read_call_expr, paren_expr, unary_expr, prefix, climb, climb_on, expr_at}
+use Rattle.sg_parser.specs.ReadExpr.{operator_goes_on, read_indices, read_name_expr, read_call_expr, active_expr, paren_expr, unary_expr, prefix, climb, climb_on, expr_at}
 use Rattle.sg_parser.proofs.StepLemmas.{only_if_true, next_op-at, op-no_bracket, infix_level}
 use Rattle.sg_parser.proofs.ListLemmas.{listed_complete}
 use Rattle.sg_parser.proofs.ExprSound.{Fit}
@@ -80,6 +80,7 @@ cases_bin P on_high on_bin = by_variant P
     (λ op operand. on_high (e.Un op operand) (omega (arith, level-Un op operand)))
     on_bin
     (λ callee arguments. on_high (e.Call callee arguments) (omega (arith, level-Call callee arguments)))
+    (λ field index. on_high (e.Active field index) (omega (arith, level-Active field index)))
 
 -- the parts of what is formed and levelled, where an operator stands between two
 pub record Parts (limit : ℕ) (op : BinOp) (left right : Expr) : Type 0 where
@@ -144,6 +145,21 @@ module _ (d : ℕ) (expr : ℕ → Reader Expr) (complete : IsComplete d expr) w
       let below = fit.shallow in
       let good = all_fit d index g.1 (sym (levelled-Read field index) ∙ fit.even) (omega (arith, depth-Read field index)) in
       rw (tokens_of-Read field index, append_assoc (with_commas (map tokens_of index)) (t.Sign s.CloseBracket ∷ []) rest, f.0, indices_complete index rest (leb-true 1 (length index) g.0) good) refl
+
+  active_complete : (field : Name) (index : List Expr) (rest : List Token) → Fit un_level (suc d) (e.Active field index) → prefix expr (tokens_of (e.Active field index) ++ rest) ≡ Some (e.Active field index, rest)
+  unfolding prefix active_expr
+  active_complete field index rest fit =
+      let f = and_parts (is_name field) (one_or_more is_formed index) (sym (is_formed-Active field index) ∙ fit.formed) in
+      let g = and_parts (nat_le 1 (length index)) (list_all is_formed index) f.1 in
+      let below = fit.shallow in
+      let good = all_fit d index g.1 (sym (levelled-Active field index) ∙ fit.even) (omega (arith, depth-Active field index)) in
+      rw (
+        tokens_of-Active field index,
+        append_assoc (with_commas (map tokens_of index) ++ t.Sign s.CloseBracket ∷ []) (t.Sign s.CloseParen ∷ []) rest,
+        append_assoc (with_commas (map tokens_of index)) (t.Sign s.CloseBracket ∷ []) (t.Sign s.CloseParen ∷ rest),
+        f.0,
+        indices_complete index (t.Sign s.CloseParen ∷ rest) (leb-true 1 (length index) g.0) good,
+      ) refl
 
   name_complete : (name : Name) (rest : List Token) → Fit un_level (suc d) (e.Name name) → after_sign s.OpenBracket rest ≡ None → prefix expr (tokens_of (e.Name name) ++ rest) ≡ Some (e.Name name, rest)
   unfolding prefix read_name_expr
@@ -218,6 +234,7 @@ module _ (d : ℕ) (expr : ℕ → Reader Expr) (complete : IsComplete d expr) w
       (λ op operand rest high fit no_bracket. rw (tokens_of-Un op operand) (un_complete op operand rest fit no_bracket))
       (λ op left right rest high fit no_bracket. absurd (omega (arith, level-Bin op left right, op_level-un_level op)))
       (λ callee arguments rest high fit no_bracket. rw (tokens_of-Call callee arguments, append_assoc (with_commas (map tokens_of arguments)) (t.Sign s.CloseParen ∷ []) rest) (called callee arguments rest fit))
+      (λ field index rest high fit no_bracket. active_complete field index rest fit)
 
   -- reading comes to the place where the tree is what was read so far
   record Reached (least : ℕ) (tokens : List Token) (a : Expr) (rest : List Token) : Type 0 where

@@ -22,11 +22,11 @@ use Rattle.sg_ast.specs.Token.{is_name, is_number}
 use Rattle.sg_ast.specs.Expr.{tokens_of, with_commas, op_token, un_token, callee_token, depth, largest, level, levelled, op_level, left_needs, right_needs, un_level}
 use Rattle.sg_ast.specs.Limits.{max_depth}
 use Rattle.sg_ast.specs.Grammar.{is_formed, is_infix, arity, is_expr}
-use Rattle.sg_ast.proofs.Uses.{tokens_of-Number, tokens_of-Truth, tokens_of-Name, tokens_of-Read, tokens_of-Paren, tokens_of-Un, tokens_of-Bin, tokens_of-Call, depth-Number, depth-Truth, depth-Name, depth-Read, depth-Paren, depth-Un, depth-Bin, depth-Call, level-Number, level-Truth, level-Name, level-Read, level-Paren, level-Un, level-Bin, level-Call, levelled-Number, levelled-Truth, levelled-Name, levelled-Read, levelled-Paren, levelled-Un, levelled-Bin, levelled-Call, is_formed-Number, is_formed-Truth, is_formed-Name, is_formed-Read, is_formed-Paren, is_formed-Un, is_formed-Bin, is_formed-Call, op_level-un_level}
-use Rattle.sg_parser.specs.Front.{Reader, after_sign, next_op, comma_list}
+use Rattle.sg_ast.proofs.Uses.{tokens_of-Number, tokens_of-Truth, tokens_of-Name, tokens_of-Read, tokens_of-Paren, tokens_of-Un, tokens_of-Bin, tokens_of-Call, tokens_of-Active, depth-Number, depth-Truth, depth-Name, depth-Read, depth-Paren, depth-Un, depth-Bin, depth-Call, depth-Active, level-Number, level-Truth, level-Name, level-Read, level-Paren, level-Un, level-Bin, level-Call, level-Active, levelled-Number, levelled-Truth, levelled-Name, levelled-Read, levelled-Paren, levelled-Un, levelled-Bin, levelled-Call, levelled-Active, is_formed-Number, is_formed-Truth, is_formed-Name, is_formed-Read, is_formed-Paren, is_formed-Un, is_formed-Bin, is_formed-Call, is_formed-Active, op_level-un_level}
+use Rattle.sg_parser.specs.Front.{Reader, after_sign, next_name, next_op, comma_list}
 use Rattle.sg_words.specs.Options.{only_if, ◌>>=◌}
-use Rattle.sg_parser.specs.ReadExpr.{operator_goes_on, read_indices, read_name_expr, read_name_expr_on, read_call_expr, paren_expr, unary_expr, word_expr, sign_expr, prefix, climb, climb_on, expr_at}
-use Rattle.sg_parser.proofs.StepLemmas.{bind_some, only_if_some, after_sign_is, next_op_is}
+use Rattle.sg_parser.specs.ReadExpr.{operator_goes_on, read_indices, read_name_expr, read_name_expr_on, read_call_expr, active_expr, paren_expr, unary_expr, word_expr, sign_expr, prefix, climb, climb_on, expr_at}
+use Rattle.sg_parser.proofs.StepLemmas.{bind_some, only_if_some, after_sign_is, next_name_is, next_op_is}
 use Rattle.sg_parser.proofs.ListLemmas.{IsSoundReader, listed_sound}
 
 -- an expression of the grammar of at least a level and at most a depth
@@ -59,6 +59,23 @@ all_shallow least limit (a ∷ parts) h = let first = h.0.shallow in omega (arit
 -- what is read is what it was said to be
 pub given : (least limit : ℕ) (tokens : List Token) (made a : Expr) (left rest : List Token) → Taken least limit tokens made left → ◌≡◌ {A = Option (Expr × List Token)} (Some (made, left)) (Some (a, rest)) → Taken least limit tokens a rest
 given least limit tokens made a left rest taken h = subst (λ (q : Expr × List Token). Taken least limit tokens q.0 q.1) (same_Some {A = Expr × List Token} (made, left) (a, rest) h) taken
+
+-- the tokens of a question, from what was taken one after the other
+pub asked_parts : (field : Name) (index : List Expr) (tokens behind bracket inside close rest : List Token)
+    → tokens ≡ t.Sign s.OpenParen ∷ behind → behind ≡ t.Name field ∷ bracket → bracket ≡ t.Sign s.OpenBracket ∷ inside
+    → inside ≡ with_commas (map tokens_of index) ++ t.Sign s.CloseBracket ∷ close → close ≡ t.Sign s.CloseParen ∷ rest
+    → t.Word w.Active ∷ tokens ≡ tokens_of (e.Active field index) ++ rest
+asked_parts field index tokens behind bracket inside close rest first second third fourth fifth =
+    rw (
+      first,
+      second,
+      third,
+      fourth,
+      fifth,
+      tokens_of-Active field index,
+      append_assoc (with_commas (map tokens_of index) ++ t.Sign s.CloseBracket ∷ []) (t.Sign s.CloseParen ∷ []) rest,
+      append_assoc (with_commas (map tokens_of index)) (t.Sign s.CloseBracket ∷ []) (t.Sign s.CloseParen ∷ rest),
+    ) refl
 
 module _ (d : ℕ) (expr : ℕ → Reader Expr) (sound : IsSound d expr) where
   one_sound : IsSoundReader tokens_of (Fit 1 d) (expr 1)
@@ -124,6 +141,27 @@ module _ (d : ℕ) (expr : ℕ → Reader Expr) (sound : IsSound d expr) where
             ∙ ap (λ r. t.Sign s.OpenParen ∷ r) (taken.2 ∙ ap (λ r. with_commas (map tokens_of q.0.0) ++ r) (after_sign_is s.CloseParen q.0.1 r.0 r.1))));
       }) o.1
 
+  active_sound : (tokens : List Token) (a : Expr) (rest : List Token) → active_expr expr tokens ≡ Some (a, rest) → Taken un_level (suc d) (t.Word w.Active ∷ tokens) a rest
+  unfolding active_expr
+  active_sound tokens a rest h =
+      let p = bind_some (after_sign s.OpenParen tokens) _ (a, rest) h in
+      let q = bind_some (next_name p.0) _ (a, rest) p.2 in
+      let r = bind_some (after_sign s.OpenBracket q.0.1) _ (a, rest) q.2 in
+      let i = bind_some (read_indices expr r.0) _ (a, rest) r.2 in
+      let o = bind_some (after_sign s.CloseParen i.0.1) _ (a, rest) i.2 in
+      let field = next_name_is p.0 q.0.1 q.0.0 q.1 in
+      let taken = indices_sound r.0 i.0.0 i.0.1 i.1 in
+      given un_level (suc d) (t.Word w.Active ∷ tokens) (e.Active q.0.0 i.0.0) a o.0 rest (record {
+        fit = record {
+          formed = is_formed-Active q.0.0 i.0.0 ∙ and_from (is_name q.0.0) _ field.1 (and_from (nat_le 1 (length i.0.0)) _ (le-leb 1 (length i.0.0) taken.0) (all_formed 1 d i.0.0 taken.1));
+          even = levelled-Active q.0.0 i.0.0 ∙ all_even 1 d i.0.0 taken.1;
+          high = omega (arith, level-Active q.0.0 i.0.0);
+          shallow = omega (arith, depth-Active q.0.0 i.0.0, all_shallow 1 d i.0.0 taken.1);
+        };
+        parts = asked_parts q.0.0 i.0.0 tokens p.0 q.0.1 r.0 i.0.1 o.0
+            (after_sign_is s.OpenParen tokens p.0 p.1) field.0 (after_sign_is s.OpenBracket q.0.1 r.0 r.1) taken.2 (after_sign_is s.CloseParen i.0.1 o.0 o.1);
+      }) o.2
+
   paren_sound : (tokens : List Token) (a : Expr) (rest : List Token) → paren_expr expr tokens ≡ Some (a, rest) → Taken un_level (suc d) (t.Sign s.OpenParen ∷ tokens) a rest
   unfolding paren_expr
   paren_sound tokens a rest h =
@@ -176,6 +214,7 @@ module _ (d : ℕ) (expr : ℕ → Reader Expr) (sound : IsSound d expr) where
   worded_sound w.Mulq tokens a rest h = call_sound c.Mulq tokens a rest h
   worded_sound w.I32 tokens a rest h = call_sound c.I32 tokens a rest h
   worded_sound w.U32 tokens a rest h = call_sound c.U32 tokens a rest h
+  worded_sound w.Active tokens a rest h = active_sound tokens a rest h
   worded_sound _ tokens a rest h = absurd (cc)
 
   signed_sound : (sign : Sign) (tokens : List Token) (a : Expr) (rest : List Token) → sign_expr expr sign tokens ≡ Some (a, rest) → Taken un_level (suc d) (t.Sign sign ∷ tokens) a rest

@@ -18,7 +18,7 @@ use Rattle.sg_ast.specs.Token.{is_name, is_number}
 use Rattle.sg_ast.specs.Expr.{depth, level, op_level, left_needs, right_needs, un_level}
 use Rattle.sg_ast.specs.Limits.{max_depth}
 use Rattle.sg_ast.specs.Grammar.{arity}
-use Rattle.sg_parser.specs.Front.{Reader, after_sign, next_op, comma_list}
+use Rattle.sg_parser.specs.Front.{Reader, after_sign, next_name, next_op, comma_list}
 use Rattle.sg_words.specs.Options.{only_if, ◌>>=◌}
 
 -- whether an operator joins what was read so far to what follows, where its level is at least the given one
@@ -53,6 +53,16 @@ module _ (expr : ℕ → Reader Expr) where
     rest ← after_sign s.CloseParen arguments.1
     only_if (length arguments.0 == arity callee) (Some (e.Call callee arguments.0, rest))
 
+  -- `(NAME[INDEX, ..])`, after the word of a question whether a coordinate is active
+  unfoldable pub active_expr : Reader Expr
+  active_expr tokens = do
+    behind ← after_sign s.OpenParen tokens
+    field ← next_name behind
+    inside ← after_sign s.OpenBracket field.1
+    index ← read_indices inside
+    rest ← after_sign s.CloseParen index.1
+    Some (e.Active field.0 index.0, rest)
+
   -- an expression in parentheses, after the `(`
   unfoldable pub paren_expr : Reader Expr
   paren_expr tokens = do
@@ -66,7 +76,7 @@ module _ (expr : ℕ → Reader Expr) where
     operand ← expr un_level tokens
     Some (e.Un op operand.0, operand.1)
 
-  -- what a word begins
+  -- what a word begins: a truth value, a call, or a question
   abbrev pub word_expr : Word → Reader Expr
   word_expr w.True tokens = Some (e.Truth true, tokens)
   word_expr w.False tokens = Some (e.Truth false, tokens)
@@ -75,6 +85,7 @@ module _ (expr : ℕ → Reader Expr) where
   word_expr w.Mulq tokens = read_call_expr c.Mulq tokens
   word_expr w.I32 tokens = read_call_expr c.I32 tokens
   word_expr w.U32 tokens = read_call_expr c.U32 tokens
+  word_expr w.Active tokens = active_expr tokens
   word_expr _ tokens = None
 
   -- what a sign begins

@@ -1,19 +1,18 @@
 //! Expressions, read by the levels of their operators.
 
 ghost use Rattle.std.specs.Prelude.{◌≡◌, ◌+◌, ◌<◌, ◌≤◌, map, IfOk};
-ghost use Rattle.sg_ast.specs.declared.expr.Expr.TheVariants as e;
 ghost use Rattle.sg_ast.specs.Expr as spell;
-ghost use Rattle.sg_ast.specs.Grammar as grammar;
 ghost use Rattle.sg_ast.specs.Items.{kinds};
 ghost use Rattle.sg_ast.specs.Limits.{max_depth};
 ghost use Rattle.sg_parser.specs.Front.{comma_list, Gives};
 ghost use Rattle.sg_parser.specs.ReadExpr as read;
 
+use crate::levels::{UN_LEVEL, arity, goes_on, joined, op_level};
 use crate::names;
-use crate::take::{Unread, after_sign, is_number, next_op};
+use crate::take::{Unread, after_sign, is_number, next_name, next_op};
 use sg_ast::{Callee, Expr, Name, Sign, Spanned, Token, Word};
-use sg_words::{BinOp, Boxed, Items, Stop, UnOp};
-use std::alloc::{AllocError, Global};
+use sg_words::{Boxed, Items, Stop, UnOp};
+use std::alloc::Global;
 
 /// An expression with its depth, and the tokens after it.
 #[derive(Drop)]
@@ -29,77 +28,6 @@ pub(crate) struct Readings<'a> {
     pub trees: Items<Expr>,
     pub depth: usize,
     pub rest: &'a [Spanned],
-}
-
-/// How tightly an operator between two operands holds them, the loosest at 1.
-fn op_level(op: BinOp) -> u8
-    ensures value { result ≡ spell.op_level op }
-    ensures within { result ≤ 9 }
-{
-    match op {
-        BinOp::LOr => 1,
-        BinOp::LAnd => 2,
-        BinOp::Eq | BinOp::Ne | BinOp::Lt | BinOp::Le | BinOp::Gt | BinOp::Ge => 3,
-        BinOp::Or => 4,
-        BinOp::Xor => 5,
-        BinOp::And => 6,
-        BinOp::Shl | BinOp::Shr => 7,
-        BinOp::Add | BinOp::Sub => 8,
-        BinOp::Mul | BinOp::Div | BinOp::Rem => 9,
-        BinOp::Min | BinOp::Max => 0,
-    }
-}
-
-/// The level of an operator before its operand.
-const UN_LEVEL: u8 = 10;
-
-/// The level of an expression that no operator can take apart.
-const PRIMARY_LEVEL: u8 = 11;
-
-/// The least level of a left operand: comparisons do not chain.
-fn left_needs(op: BinOp) -> u8
-    ensures { result ≡ spell.left_needs op }
-{
-    let level = op_level(op);
-    if level == 3 { 4 } else { level }
-}
-
-fn level(tree: &Expr) -> u8
-    ensures { result ≡ spell.level tree.now }
-{
-    match tree {
-        Expr::Un { .. } => UN_LEVEL,
-        Expr::Bin { op, .. } => op_level(*op),
-        _ => PRIMARY_LEVEL,
-    }
-}
-
-/// Whether an operator joins what was read so far to what follows.
-fn goes_on(least: u8, left: &Expr, op: BinOp) -> bool
-    ensures { result ≡ read.operator_goes_on least left.now op }
-{
-    least <= op_level(op) && left_needs(op) <= level(left)
-}
-
-/// Two expressions with an operator between them. Fails if memory runs out.
-fn joined(alloc: Global, op: BinOp, left: Expr, right: Expr) -> Result<Expr, AllocError>
-    ensures { IfOk result (λ tree. tree ≡ e.Bin op left right) }
-{
-    Ok(Expr::Bin {
-        op,
-        left: Boxed::new(alloc, left)?,
-        right: Boxed::new(alloc, right)?,
-    })
-}
-
-fn arity(callee: Callee) -> usize
-    ensures { result ≡ grammar.arity callee }
-{
-    match callee {
-        Callee::Min | Callee::Max => 2,
-        Callee::Mulq => 3,
-        Callee::I32 | Callee::U32 => 1,
-    }
 }
 
 /// One expression or more, with a comma between each two.
@@ -229,6 +157,37 @@ fn read_call_expr(
     })
 }
 
+/// A question whether a coordinate is active, after its word.
+#[cycle(reading)]
+#[tactic(auto, unfolding(crate::specs::ReadExpr::active_expr))]
+fn active_expr(alloc: Global, inner: usize, tokens: &[Spanned]) -> Result<Reading<'_>, Stop<Unread>>
+    requires { inner < max_depth }
+    ensures value { Gives (λ x. (x.tree, kinds x.rest.now)) result
+        (read.active_expr (read.expr_at inner) (kinds tokens.now)) }
+    ensures depth { IfOk result (λ x. x.depth ≡ spell.depth x.tree) }
+    ensures within { IfOk result (λ x. x.depth ≤ inner + 1) }
+{
+    let Some(behind) = after_sign(tokens, Sign::OpenParen) else {
+        return Err(Stop::Refused(Unread));
+    };
+    let (field, bracket) = next_name(alloc, behind)?;
+    let Some(inside) = after_sign(bracket, Sign::OpenBracket) else {
+        return Err(Stop::Refused(Unread));
+    };
+    let index = read_indices(alloc, inner, inside)?;
+    let Some(rest) = after_sign(index.rest, Sign::CloseParen) else {
+        return Err(Stop::Refused(Unread));
+    };
+    Ok(Reading {
+        tree: Expr::Active {
+            field,
+            index: index.trees,
+        },
+        depth: index.depth + 1,
+        rest,
+    })
+}
+
 /// An expression in parentheses, after the `(`.
 #[cycle(reading)]
 #[tactic(auto, unfolding(crate::specs::ReadExpr::paren_expr))]
@@ -276,7 +235,7 @@ fn unary_expr(
     })
 }
 
-/// What a word begins: a truth value, or a call.
+/// What a word begins: a truth value, a call, or a question.
 #[cycle(reading)]
 fn word_expr(
     alloc: Global,
@@ -306,6 +265,7 @@ fn word_expr(
         Word::Mulq => read_call_expr(alloc, inner, Callee::Mulq, tokens),
         Word::I32 => read_call_expr(alloc, inner, Callee::I32, tokens),
         Word::U32 => read_call_expr(alloc, inner, Callee::U32, tokens),
+        Word::Active => active_expr(alloc, inner, tokens),
         _ => Err(Stop::Refused(Unread)),
     }
 }

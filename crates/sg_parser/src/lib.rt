@@ -7,6 +7,7 @@ mod item;
 mod kernel;
 pub mod laws;
 mod layout;
+mod levels;
 mod lists;
 mod names;
 pub mod program;

@@ -5,12 +5,11 @@ use Rattle.sg_words.specs.declared.operators.AccOp.{AccOp}
 use Rattle.sg_ir.specs.declared.code.Inst.{Inst}
 use Rattle.sg_ir.specs.declared.code.Inst.TheVariants as v
 use Rattle.sg_ir.specs.declared.op.Op.{Op}
-use Rattle.sg_ir.specs.declared.op.Op.TheVariants as op
-use Rattle.sg_ir.specs.Blocks.{Block, Link, Word, Cell, Do, SetVar, WriteOwn, Contribute, Wish, link_step, link}
+use Rattle.sg_ir.specs.Blocks.{Sight, sight_op, Block, Link, Word, Cell, Do, SetVar, WriteOwn, Contribute, Wish, link_step, link}
 use Rattle.sg_ir.specs.Shared.{is_pure}
 use Rattle.sg_ir.proofs.Uses.{fold-Set, fold-OwnWrite, fold-Acc, fold-Want}
 use Rattle.sg_simplify.specs.declared.made.Made.{Made}
-use Rattle.sg_simplify.specs.steps.Pass.{Given, Pass, Next, Making, put_in_front, made_name, given_type, renamed, with_name, taken, numbered, place_made, simplified}
+use Rattle.sg_simplify.specs.steps.Pass.{Given, Pass, Next, Making, put_in_front, made_name, given_type, renamed, with_name, taken, numbered, place_made, simplified, layout_seen}
 use Rattle.sg_simplify.specs.steps.Made.{pass_of, next_of, types_of, Goes, onward}
 use Rattle.sg_simplify.proofs.Making.{longer-none, goes-on, goes-from, goes-put}
 use Rattle.sg_simplify.proofs.Taking.{onward-goes}
@@ -63,19 +62,19 @@ contribute-goes given old new x y z how layout field there from index stmt named
     at_names : ℕ → List ℕ → Block × Next
     at_names r regs = place_made given layout regs (λ p now later. put_in_front (Do (Contribute how layout field p r regs stmt)) (simplified given rest now later)) (pass_of old) (next_of old)
 
-pub read-goes : (given : Given) (old mid last new : Made) (x y z : List Inst) (from there layout field : ℕ) (index names : List ℕ) (place to : ℕ) →
-    names ≡ map (made_name (next_of old)) index → ((go : ℕ → Making) → Goes old mid x y (place_made given layout names go) (go place)) →
-    ((go : ℕ → Making) → Goes mid last y z (taken given (given_type given from) (op.Read place layout field) names go) (go to)) →
-    next_of new ≡ with_name from to (next_of last) → pass_of new ≡ pass_of last → (rest : Block) → Goes old new x z (simplified given (Cell from there layout field index rest)) (simplified given rest)
-read-goes given old mid last new x y z from there layout field index names place to are goes takes next known rest =
+pub read-goes : (given : Given) (old mid last new : Made) (x y z : List Inst) (from there : ℕ) (sight : Sight) (index names : List ℕ) (place to : ℕ) →
+    names ≡ map (made_name (next_of old)) index → ((go : ℕ → Making) → Goes old mid x y (place_made given (layout_seen given there sight) names go) (go place)) →
+    ((go : ℕ → Making) → Goes mid last y z (taken given (given_type given from) (sight_op place sight) names go) (go to)) →
+    next_of new ≡ with_name from to (next_of last) → pass_of new ≡ pass_of last → (rest : Block) → Goes old new x z (simplified given (Cell from there sight index rest)) (simplified given rest)
+read-goes given old mid last new x y z from there sight index names place to are goes takes next known rest =
     onward-goes given from to rest old last new x z start next known
     (goes-on old mid last x y z start (behind names place) (onward given from rest to)
-    (goes-from old mid x y start (place_made given layout names (behind names)) (behind names place)
-    (ap (λ regs. place_made given layout regs (behind regs) (pass_of old) (next_of old)) (sym are)) (goes (behind names)))
+    (goes-from old mid x y start (place_made given (layout_seen given there sight) names (behind names)) (behind names place)
+    (ap (λ regs. place_made given (layout_seen given there sight) regs (behind regs) (pass_of old) (next_of old)) (sym are)) (goes (behind names)))
     (takes (onward given from rest)))
   where
     start : Making
-    start = simplified given (Cell from there layout field index rest)
+    start = simplified given (Cell from there sight index rest)
 
     behind : List ℕ → ℕ → Making
-    behind regs p = taken given (given_type given from) (op.Read p layout field) regs (onward given from rest)
+    behind regs p = taken given (given_type given from) (sight_op p sight) regs (onward given from rest)

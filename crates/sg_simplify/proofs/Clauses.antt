@@ -1,5 +1,5 @@
 -- Code that stands for what the pass puts out is simplified.
-use Rattle.std.specs.Prelude.{◌≡◌, ℕ, ◌≤◌, true, List, map, slice_get, Some}
+use Rattle.std.specs.Prelude.{◌≡◌, ℕ, ◌≤◌, true, List, [], map, slice_get, Some, Contains}
 use Rattle.std.specs.List.{list_all}
 use Rattle.std.proofs.Common.{sym, ap, subst, ◌∙◌}
 use Rattle.sg_words.specs.declared.operators.Ty.{Ty}
@@ -21,8 +21,9 @@ use Rattle.sg_ir.specs.Apt.{uses_in}
 use Rattle.sg_ir.specs.Blocks.{Block, block_in}
 use Rattle.sg_ir.specs.Named.{IsNamed}
 use Rattle.sg_ir.specs.Shared.{is_shared}
-use Rattle.sg_ir.specs.Trimmed.{is_trimmed}
+use Rattle.sg_ir.specs.Trimmed.{asked, is_trimmed}
 use Rattle.sg_ir.specs.WellTyped.{is_well_typed}
+use Rattle.sg_ir.proofs.Uses.{asked-code}
 use Rattle.sg_simplify.specs.steps.Pass.{Next, given_of, first_pass, first_next, simple, simplified}
 use Rattle.sg_simplify.specs.Simplified.{IsSimplified}
 use Rattle.sg_simplify.specs.steps.Left.{IsSimple, IsLeft}
@@ -36,7 +37,7 @@ use Rattle.sg_simplify.proofs.UsesKept.{only_given}
 use Rattle.sg_simplify.proofs.UsesOfCode.{simple_only}
 use Rattle.sg_simplify.proofs.Walked.{are_walked}
 use Rattle.sg_simplify.proofs.WellRuled.{well_typed_is_ruled}
-use Rattle.sg_simplify.proofs.WholeTrim.{simple_is_trimmed}
+use Rattle.sg_simplify.proofs.WholeTrim.{simple_is_trimmed, simple_asks}
 use Rattle.sg_simplify.proofs.Whole.{simple_scoped}
 use Rattle.sg_simplify.proofs.Numbering.{set_once}
 use Rattle.sg_simplify.proofs.KeptWhole.{left_is_simplified}
@@ -66,11 +67,13 @@ module _
       let tells = simple_tells number_law word_law sum_law difference_law product_law applied_law un_law mulq_law inside_law box_law shapes domain code.regs made.regs code.body made.body whole ruled named in
       record {
         same = λ state flat at has. let it = tells state flat at has in record { writes = it.writes; wants = it.wants };
-        typed = simple_well_typed shapes domain code made (are_walked shapes checked) good ruled.scoped out is same_block same_regs same_places same_vars;
+        typed = simple_well_typed shapes domain code made (are_walked shapes checked) good ruled.scoped ruled.rooted out is same_block same_regs same_places same_vars;
         named = λ state flat at has. (tells state flat at has).named;
         shared = ap is_shared whole ∙ simple_is_shared shapes domain code.regs (block_in code);
         trimmed = ap (is_trimmed shapes domain) whole ∙ simple_is_trimmed shapes domain code.regs (block_in code) ruled;
         only = only_given (uses_in code.body) (uses_in made.body) (simple_only shapes domain code.regs made.regs code.body made.body whole);
+        asks = λ layout has. subst (λ (xs : List ℕ). Contains xs layout) (asked-code code)
+            (simple_asks shapes domain code.regs (block_in code) ruled layout (subst (λ (xs : List ℕ). Contains xs layout) (sym (asked-code made) ∙ ap (asked []) whole) has));
       }
 
   -- what is left of it is simplified

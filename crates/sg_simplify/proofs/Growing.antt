@@ -12,14 +12,14 @@ use Rattle.sg_ir.specs.declared.op.Op.{Op}
 use Rattle.sg_ir.specs.declared.op.Op.TheVariants as op
 use Rattle.sg_ir.specs.declared.op.Step.{Step}
 use Rattle.sg_ir.specs.declared.op.Step.TheVariants as step
-use Rattle.sg_ir.specs.Blocks.{Block, End, Word, Spot, Cell, Do, Branch, Loop, SetVar, WriteOwn, Contribute, Wish}
+use Rattle.sg_ir.specs.Blocks.{sight_op, Block, End, Word, Spot, Cell, Do, Branch, Loop, SetVar, WriteOwn, Contribute, Wish}
 use Rattle.sg_ir.specs.declared.span.Span.{Span}
 use Rattle.sg_ir.specs.Span.{whole_i32}
 use Rattle.sg_ir.specs.Shared.{same_op, same_step, is_pure}
 use Rattle.sg_ir.specs.Trimmed.{is_within}
 use Rattle.sg_ir.specs.InScope.{InScope, and_reg, and_place, IsScoped}
 use Rattle.sg_ir.specs.Places.{extents_in}
-use Rattle.sg_simplify.specs.steps.Pass.{Given, Pass, Next, Making, made_name, with_name, next_with_reg, next_with_place, given_type, span_in, span_of, renamed, and_op, and_step, fresh, taken_at, looked_up, operand_again, plainest, taken_or, taken, numbered, stepped_at, stepped, check_at, checks_made, offset_made, offset, descent_of, descended, placed_in, place_made, looped, simplified}
+use Rattle.sg_simplify.specs.steps.Pass.{Given, Pass, Next, Making, made_name, with_name, next_with_reg, next_with_place, given_type, span_in, span_of, renamed, and_op, and_step, fresh, taken_at, looked_up, operand_again, plainest, taken_or, taken, numbered, stepped_at, stepped, check_at, checks_made, offset_made, offset, descent_of, descended, placed_in, place_made, looped, simplified, layout_seen}
 use Rattle.sg_simplify.specs.steps.Ruled.{Grown}
 use Rattle.sg_simplify.proofs.Tables.{length_push, get_kept, names_put}
 
@@ -160,10 +160,10 @@ module _ (given : Given) where
       (grown_fewer scope to (with_name to t later) (simplified given rest now (with_name to t later)).1 (simplified_grows rest (and_reg to scope) scoped.3 now (with_name to t later)))) pass next (grown_same scope next)
   simplified_grows (Spot to how rest) scope scoped pass next =
       let h = simplified_grows rest (and_place to scope) scoped.3 pass next in record { regs = h.regs; places = h.places; spans = h.spans; names = h.names }
-  simplified_grows (Cell to place layout field index rest) scope scoped pass next =
-      placed_grows given scope next layout (map (made_name next) index)
-      (λ p. taken given (given_type given to) (op.Read p layout field) (map (made_name next) index) (λ t now later. simplified given rest now (with_name to t later)))
-      (λ p now further k. taken_grows given scope next (given_type given to) (op.Read p layout field) (map (made_name next) index) (λ t now later. simplified given rest now (with_name to t later))
+  simplified_grows (Cell to place sight index rest) scope scoped pass next =
+      placed_grows given scope next (layout_seen given place sight) (map (made_name next) index)
+      (λ p. taken given (given_type given to) (sight_op p sight) (map (made_name next) index) (λ t now later. simplified given rest now (with_name to t later)))
+      (λ p now further k. taken_grows given scope next (given_type given to) (sight_op p sight) (map (made_name next) index) (λ t now later. simplified given rest now (with_name to t later))
       (λ t now' later h. grown_on scope next (with_name to t later) (simplified given rest now' (with_name to t later)).1 (grown_name scope next later to t scoped.1 h)
       (grown_fewer scope to (with_name to t later) (simplified given rest now' (with_name to t later)).1 (simplified_grows rest (and_reg to scope) scoped.2 now' (with_name to t later)))) now further k) pass next (grown_same scope next)
   simplified_grows (Do (SetVar var from) rest) scope scoped pass next = simplified_grows rest scope scoped.2 pass next

@@ -7,8 +7,8 @@ use Rattle.sg_words.specs.declared.operators.Ty.{Ty}
 use Rattle.sg_words.specs.declared.operators.Ty.TheVariants as ty
 use Rattle.sg_ir.specs.declared.code.Inst.{Inst}
 use Rattle.sg_ir.specs.Blocks.{Block, End, Link, chained, link_step, link, block_of}
-use Rattle.sg_ir.specs.WellTyped.{KnownPlace, Scope, Frame, is_truth, is_truth_as, joins, reads, is_i32, takes_truth, gives_truth, with_var, holds_of, is_cell, field_type_at, goes_on, Judge, judge_step, judge_all, inst_fits, judges, judged}
-use Rattle.sg_ir.proofs.Uses.{fold-Const, fold-Var, fold-Set, fold-Bin, fold-Un, fold-Mulq, fold-Root, fold-Check, fold-Extract, fold-Offset, fold-Child, fold-HashChild, fold-MaskBit, fold-DynCell, fold-ReadCell, fold-OwnRead, fold-OwnWrite, fold-Acc, fold-Want, fold-If, fold-For}
+use Rattle.sg_ir.specs.WellTyped.{KnownPlace, Scope, Frame, is_truth, is_truth_as, joins, reads, is_i32, takes_truth, gives_truth, with_var, holds_of, is_cell, field_type_at, goes_on, Judge, judge_step, judge_all, inst_fits, judges, judged, indexes}
+use Rattle.sg_ir.proofs.Uses.{fold-Const, fold-Var, fold-Set, fold-Bin, fold-Un, fold-Mulq, fold-Root, fold-Check, fold-Extract, fold-Offset, fold-Child, fold-HashChild, fold-MaskBit, fold-DynCell, fold-ReadCell, fold-IsActive, fold-OwnRead, fold-OwnWrite, fold-Acc, fold-Want, fold-If, fold-For}
 use Rattle.sg_simplify.specs.steps.Serves.{EachByRecursion}
 use Rattle.sg_simplify.specs.steps.Judged.{gives_type, and_known, index_fits, fits_scope}
 use Rattle.sg_simplify.proofs.Inducting.{inductively}
@@ -70,6 +70,20 @@ fold_from (judge ∷ more) b scope =
 judge_first : (judge : Judge) (more : List Judge) (scope : Scope) → judge_all (judge ∷ more) scope ≡ ((judge scope).0 && (judge_all more (judge scope).1).0, (judge_all more (judge scope).1).1)
 judge_first judge more scope = fold_from more (judge scope).0 (judge scope).1
 
+-- a question's tests, by what is known of its place: in code all at once, along a chain one after the other
+asks_apart : (at : Frame) (scope : Scope) (to : ℕ) (index : List ℕ) (found : Option KnownPlace)
+    → (holds_of (λ known. is_cell at known.layout known) found && (gives_type (Some true) (slice_get at.regs to) && holds_of (λ known. index_fits at scope known.layout index) found))
+    ≡ holds_of (λ known. is_cell at known.layout known && (holds_of (λ shape. indexes at scope shape index) (slice_get at.shapes known.layout) && is_truth_as true (slice_get at.regs to))) found
+asks_apart at scope to index None = refl
+asks_apart at scope to index (Some known) =
+    ap (λ (b : Bool). is_cell at known.layout known && b) (and_turned (is_truth_as true (slice_get at.regs to)) (holds_of (λ shape. indexes at scope shape index) (slice_get at.shapes known.layout)))
+  where
+    and_turned : (a b : Bool) → (a && b) ≡ (b && a)
+    and_turned true true = refl
+    and_turned true false = refl
+    and_turned false true = refl
+    and_turned false false = refl
+
 module _ (at : Frame) where
   abbrev Same : Link → Judge → Type 0
   Same l judge = (scope : Scope) (rest : Block) → fits_scope at scope (l rest) ≡ ((judge scope).0 && fits_scope at (judge scope).1 rest)
@@ -114,6 +128,8 @@ module _ (at : Frame) where
       (λ to place node offset. carry _ _ _ _ (fold-DynCell (link_step at.regs) to place node offset) (fold-DynCell (inst_fits at) to place node offset) (λ scope rest. both rest refl (goes_on_is to node (scope.places place) scope)))
       (λ to place layout field index. carry _ _ _ _ (fold-ReadCell (link_step at.regs) to place layout field index) (fold-ReadCell (inst_fits at) to place layout field index)
       (λ scope rest. both rest (ap (λ (b : Bool). holds_of (is_cell at layout) (scope.places place) && (b && index_fits at scope layout index)) (gives_joins (field_type_at at layout field) (slice_get at.regs to))) refl))
+      (λ to place index. carry _ _ _ _ (fold-IsActive (link_step at.regs) to place index) (fold-IsActive (inst_fits at) to place index)
+      (λ scope rest. both rest (asks_apart at scope to index (scope.places place)) refl))
       (λ to layout field. carry _ _ _ _ (fold-OwnRead (link_step at.regs) to layout field) (fold-OwnRead (inst_fits at) to layout field) (λ scope rest. both rest (gives_joins (field_type_at at layout field) (slice_get at.regs to)) refl))
       (λ layout field from stmt. carry _ _ _ _ (fold-OwnWrite (link_step at.regs) layout field from stmt) (fold-OwnWrite (inst_fits at) layout field from stmt)
       (λ scope rest. ap (λ (b : Bool). (scope.regs from && b) && fits_scope at scope rest) (gives_joins (field_type_at at layout field) (slice_get at.regs from))))

@@ -7,7 +7,7 @@ use Rattle.std.proofs.lemmas.List.Folds.{list_any-append}
 use Rattle.sg_ir.specs.declared.op.Op.{Op}
 use Rattle.sg_ir.specs.declared.op.Step.{Step}
 use Rattle.sg_ir.specs.declared.op.Step.TheVariants as step
-use Rattle.sg_ir.specs.Trimmed.{AxisCheck, Ways, way_to, way_behind, checks_of, passed_in}
+use Rattle.sg_ir.specs.Trimmed.{AxisCheck, Way, Ways, way_of, way_to, way_behind, checks_of, passed_in}
 use Rattle.sg_ir.specs.Blocks.{Block, End, Word, Spot, Cell, Do, Branch, Loop, Act, SetVar, WriteOwn, Contribute, Wish}
 use Rattle.sg_ir.specs.InScope.{InScope, and_reg, and_place, nothing, AreSet, IsScoped, op_regs, op_places, step_regs, step_places}
 use Rattle.sg_simplify.specs.steps.Counted.{one_where, places_set}
@@ -27,24 +27,24 @@ abbrev all_ways : Ways → Block → Ways
 all_ways ways End = ways
 all_ways ways (Word to how rest) = all_ways ways rest
 all_ways ways (Spot to how rest) = all_ways ((to, way_behind ways to how) ∷ ways) rest
-all_ways ways (Cell to place layout field index rest) = all_ways ways rest
+all_ways ways (Cell to place sight index rest) = all_ways ways rest
 all_ways ways (Do what rest) = all_ways ways rest
 all_ways ways (Branch cond block otherwise rest) = all_ways (all_ways (all_ways ways block) otherwise) rest
 all_ways ways (Loop var lo hi body rest) = all_ways (all_ways ways body) rest
 
 -- ---- a place that is set nowhere in a block has the way that it had
-other_way : (to p : ℕ) (w : List AxisCheck) (ways : Ways) → one_where (to == p) ≡ 0 → way_to ((to, w) ∷ ways) p ≡ way_to ways p
+other_way : (to p : ℕ) (w : Way) (ways : Ways) → one_where (to == p) ≡ 0 → way_of ((to, w) ∷ ways) p ≡ way_of ways p
 other_way to p w ways none = by_test (to == p) none
   where
-    by_test : (test : Bool) → one_where test ≡ 0 → (if test then w else way_to ways p) ≡ way_to ways p
+    by_test : (test : Bool) → one_where test ≡ 0 → (if test then w else way_of ways p) ≡ way_of ways p
     by_test true e = absurd (cc)
     by_test false e = refl
 
-ways_stay : (p : ℕ) (block : Block) (ways : Ways) → places_set p block ≡ 0 → way_to (all_ways ways block) p ≡ way_to ways p
+ways_stay : (p : ℕ) (block : Block) (ways : Ways) → places_set p block ≡ 0 → way_of (all_ways ways block) p ≡ way_of ways p
 ways_stay p End ways none = refl
 ways_stay p (Word to how rest) ways none = ways_stay p rest ways none
 ways_stay p (Spot to how rest) ways none = ways_stay p rest ((to, way_behind ways to how) ∷ ways) (omega (arith, none)) ∙ other_way to p (way_behind ways to how) ways (omega (arith, none))
-ways_stay p (Cell to place layout field index rest) ways none = ways_stay p rest ways none
+ways_stay p (Cell to place sight index rest) ways none = ways_stay p rest ways none
 ways_stay p (Do what rest) ways none = ways_stay p rest ways none
 ways_stay p (Branch cond block otherwise rest) ways none =
     ways_stay p rest (all_ways (all_ways ways block) otherwise) (omega (arith, none)) ∙ (ways_stay p otherwise (all_ways ways block) (omega (arith, none)) ∙ ways_stay p block ways (omega (arith, none)))
@@ -55,7 +55,7 @@ abbrev pub HasNoReads : Block → Type 0
 HasNoReads End = Unit {0}
 HasNoReads (Word to how rest) = (op_places how ≡ []) × HasNoReads rest
 HasNoReads (Spot to how rest) = HasNoReads rest
-HasNoReads (Cell to place layout field index rest) = HasNoReads rest
+HasNoReads (Cell to place sight index rest) = HasNoReads rest
 HasNoReads (Do what rest) = HasNoReads rest
 HasNoReads (Branch cond block otherwise rest) = HasNoReads block × HasNoReads otherwise × HasNoReads rest
 HasNoReads (Loop var lo hi body rest) = HasNoReads body × HasNoReads rest
@@ -65,8 +65,8 @@ module _ (c : ℕ) (tainted : ℕ → Bool) where
   abbrev Tells : Ways → Block → Type 0
   Tells ways End = Unit {0}
   Tells ways (Word to how rest) = Tells ways rest
-  Tells ways (Spot to how rest) = (tainted to ≡ has_check c (way_behind ways to how)) × Tells ((to, way_behind ways to how) ∷ ways) rest
-  Tells ways (Cell to place layout field index rest) = Tells ways rest
+  Tells ways (Spot to how rest) = (tainted to ≡ has_check c (way_behind ways to how).checks) × Tells ((to, way_behind ways to how) ∷ ways) rest
+  Tells ways (Cell to place sight index rest) = Tells ways rest
   Tells ways (Do what rest) = Tells ways rest
   Tells ways (Branch cond block otherwise rest) = Tells ways block × Tells ways otherwise × Tells ways rest
   Tells ways (Loop var lo hi body rest) = Tells ways body × Tells ways rest
@@ -78,10 +78,10 @@ module _ (c : ℕ) (tainted : ℕ → Bool) where
   abbrev TellsScope : InScope → Ways → Type 0
   TellsScope scope ways = (p : ℕ) → scope.places p ≡ true → tainted p ≡ has_check c (way_to ways p)
 
-  scope_on : (scope : InScope) (ways : Ways) (to : ℕ) (w : List AxisCheck) → tainted to ≡ has_check c w → TellsScope scope ways → TellsScope (and_place to scope) ((to, w) ∷ ways)
+  scope_on : (scope : InScope) (ways : Ways) (to : ℕ) (w : Way) → tainted to ≡ has_check c w.checks → TellsScope scope ways → TellsScope (and_place to scope) ((to, w) ∷ ways)
   scope_on scope ways to w is tells p on = by_test (to == p) refl
     where
-      by_test : (test : Bool) → (to == p) ≡ test → tainted p ≡ has_check c (if test then w else way_to ways p)
+      by_test : (test : Bool) → (to == p) ≡ test → tainted p ≡ has_check c (if test then w else way_of ways p).checks
       by_test true e = ap tainted (sym (eqb-true to p e)) ∙ is
       by_test false e = tells p (was (p == to) refl on)
         where
@@ -90,7 +90,7 @@ module _ (c : ℕ) (tainted : ℕ → Bool) where
           was false f h = h
 
   -- if a place's way has it not, that of the place before hasn't
-  before_free : (scope : InScope) (ways : Ways) (to : ℕ) (how : Step) → AreSet scope.places (step_places how) → TellsScope scope ways → has_check c (way_behind ways to how) ≡ false → AreSet untainted.places (step_places how)
+  before_free : (scope : InScope) (ways : Ways) (to : ℕ) (how : Step) → AreSet scope.places (step_places how) → TellsScope scope ways → has_check c (way_behind ways to how).checks ≡ false → AreSet untainted.places (step_places how)
   before_free scope ways to (step.Root layout) set tells none = tt
   before_free scope ways to (step.Check place axis extent index) set tells none =
       let parts = or_parts (has_check c (way_to ways place)) (has_check c (record { axis = axis; index = index; place = to } ∷ []))
@@ -142,7 +142,7 @@ module _ (c : ℕ) (tainted : ℕ → Bool) where
   is_free End plain = λ scope ways scoped tells told none. tt
   is_free (Word to how rest) plain = λ scope ways scoped tells told none. (all_on (op_regs how), places_free how plain.0, all_on (op_vars how), is_free rest plain.1 (and_reg to scope) ways scoped.3 tells told none)
   is_free (Spot to how rest) plain = spot_free to how rest (is_free rest plain)
-  is_free (Cell to place layout field index rest) plain = λ scope ways scoped tells told none.
+  is_free (Cell to place sight index rest) plain = λ scope ways scoped tells told none.
       let parts = access_free scope ways place (passed_in ways rest) scoped.0.0 tells none in
       (all_on index, parts.0, is_free rest plain (and_reg to scope) ways scoped.2 tells told parts.1)
   is_free (Do what rest) plain = do_free what rest (is_free rest plain)
@@ -156,7 +156,7 @@ module _ (c : ℕ) (tainted : ℕ → Bool) where
       (refl, is_free body plain.0 scope ways scoped.0 tells told.0 parts.0, is_free rest plain.1 scope ways scoped.1 tells told.1 parts.1)
 
   -- ---- the check itself is left out
-  check_gone : (to : ℕ) (how : Step) (ways : Ways) (kept : Block) → tainted to ≡ has_check c (way_behind ways to how) → list_any (λ q. q == c) (checks_of kept) ≡ false
+  check_gone : (to : ℕ) (how : Step) (ways : Ways) (kept : Block) → tainted to ≡ has_check c (way_behind ways to how).checks → list_any (λ q. q == c) (checks_of kept) ≡ false
       → (test : Bool) → tainted to ≡ test → list_any (λ q. q == c) (checks_of (behind_where (not test) (Spot to how) kept)) ≡ false
   check_gone to how ways kept is none true e = none
   check_gone to (step.Root layout) ways kept is none false e = none
@@ -187,7 +187,7 @@ module _ (c : ℕ) (tainted : ℕ → Bool) where
   is_gone End ways told = refl
   is_gone (Word to how rest) ways told = skips (Word to how) (kept_part untainted rest) true (λ b. refl) (is_gone rest ways told)
   is_gone (Spot to how rest) ways told = check_gone to how ways (kept_part untainted rest) told.0 (is_gone rest ((to, way_behind ways to how) ∷ ways) told.1) (tainted to) refl
-  is_gone (Cell to place layout field index rest) ways told = skips (Cell to place layout field index) (kept_part untainted rest) true (λ b. refl) (is_gone rest ways told)
+  is_gone (Cell to place sight index rest) ways told = skips (Cell to place sight index) (kept_part untainted rest) true (λ b. refl) (is_gone rest ways told)
   is_gone (Do what rest) ways told = skips (Do what) (kept_part untainted rest) (keeps_act untainted what) (λ b. refl) (is_gone rest ways told)
   is_gone (Branch cond block otherwise rest) ways told =
       branch_gone cond (kept_part untainted block) (kept_part untainted otherwise) (kept_part untainted rest) (not (is_end (kept_part untainted block) && is_end (kept_part untainted otherwise)))
@@ -201,19 +201,19 @@ module _ (c : ℕ) (whole : Ways) where
   by_ways p = has_check c (way_to whole p)
 
   abbrev Found : Block → Type 0
-  Found block = (scope : InScope) (ways known : Ways) → IsScoped scope block → ((p : ℕ) → scope.places p ≡ true → way_to known p ≡ way_to ways p) → ((p : ℕ) → scope.places p ≡ true → places_set p block ≡ 0)
-      → ((p : ℕ) → places_set p block ≤ 1) → ((p : ℕ) → 1 ≤ places_set p block → way_to whole p ≡ way_to (all_ways known block) p) → Tells c by_ways ways block
+  Found block = (scope : InScope) (ways known : Ways) → IsScoped scope block → ((p : ℕ) → scope.places p ≡ true → way_of known p ≡ way_of ways p) → ((p : ℕ) → scope.places p ≡ true → places_set p block ≡ 0)
+      → ((p : ℕ) → places_set p block ≤ 1) → ((p : ℕ) → 1 ≤ places_set p block → way_of whole p ≡ way_of (all_ways known block) p) → Tells c by_ways ways block
 
-  behind_same : (to : ℕ) (how : Step) (scope : InScope) (ways known : Ways) → AreSet scope.places (step_places how) → ((p : ℕ) → scope.places p ≡ true → way_to known p ≡ way_to ways p) → way_behind known to how ≡ way_behind ways to how
+  behind_same : (to : ℕ) (how : Step) (scope : InScope) (ways known : Ways) → AreSet scope.places (step_places how) → ((p : ℕ) → scope.places p ≡ true → way_of known p ≡ way_of ways p) → way_behind known to how ≡ way_behind ways to how
   behind_same to (step.Root layout) scope ways known set same = refl
-  behind_same to (step.Check place axis extent index) scope ways known set same = ap (λ (w : List AxisCheck). w ++ record { axis = axis; index = index; place = to } ∷ []) (same place set.0)
+  behind_same to (step.Check place axis extent index) scope ways known set same = ap (λ (w : Way). record { root = w.root; checks = w.checks ++ record { axis = axis; index = index; place = to } ∷ [] }) (same place set.0)
   behind_same to (step.Down descent place node offset) scope ways known set same = same place set.0
 
   same_to : (to : ℕ) → one_where (to == to) ≡ 1
   same_to to = ap one_where (eq-eqb to to refl)
 
-  first_way : (to : ℕ) (w : List AxisCheck) (ways : Ways) → way_to ((to, w) ∷ ways) to ≡ w
-  first_way to w ways = ap (λ (test : Bool). if test then w else way_to ways to) (eq-eqb to to refl)
+  first_way : (to : ℕ) (w : Way) (ways : Ways) → way_of ((to, w) ∷ ways) to ≡ w
+  first_way to w ways = ap (λ (test : Bool). if test then w else way_of ways to) (eq-eqb to to refl)
 
   spot_found : (to : ℕ) (how : Step) (rest : Block) → Found rest → Found (Spot to how rest)
   spot_found to how rest more scope ways known scoped same unset once final =
@@ -221,20 +221,20 @@ module _ (c : ℕ) (whole : Ways) where
       let all = once to in
       let gone : places_set to rest ≡ 0 = omega (arith, one, all) in
       let there = final to (omega (arith, one)) in
-      let at : way_to whole to ≡ way_behind known to how = there ∙ (ways_stay to rest ((to, way_behind known to how) ∷ known) gone ∙ first_way to (way_behind known to how) known) in (
-        ap (has_check c) (at ∙ behind_same to how scope ways known scoped.1 same),
+      let at : way_of whole to ≡ way_behind known to how = there ∙ (ways_stay to rest ((to, way_behind known to how) ∷ known) gone ∙ first_way to (way_behind known to how) known) in (
+        ap (λ (w : Way). has_check c w.checks) (at ∙ behind_same to how scope ways known scoped.1 same),
         more (and_place to scope) ((to, way_behind ways to how) ∷ ways) ((to, way_behind known to how) ∷ known) scoped.3
             (λ p on. both_first p on) (λ p on. rest_unset p (p == to) refl on) (λ p. rest_once p) (λ p some. final p (rest_some p some)),
       )
     where
-      both_first : (p : ℕ) → (and_place to scope).places p ≡ true → way_to ((to, way_behind known to how) ∷ known) p ≡ way_to ((to, way_behind ways to how) ∷ ways) p
+      both_first : (p : ℕ) → (and_place to scope).places p ≡ true → way_of ((to, way_behind known to how) ∷ known) p ≡ way_of ((to, way_behind ways to how) ∷ ways) p
       both_first p on = by_test (to == p) refl
         where
           was : (to == p) ≡ false → (other : Bool) → (p == to) ≡ other → (if other then true else scope.places p) ≡ true → scope.places p ≡ true
           was e true f h = clash (to == p) (eq-eqb to p (sym (eqb-true p to f))) e
           was e false f h = h
 
-          by_test : (first : Bool) → (to == p) ≡ first → (if first then way_behind known to how else way_to known p) ≡ (if first then way_behind ways to how else way_to ways p)
+          by_test : (first : Bool) → (to == p) ≡ first → (if first then way_behind known to how else way_of known p) ≡ (if first then way_behind ways to how else way_of ways p)
           by_test true e = behind_same to how scope ways known scoped.1 same
           by_test false e = same p (was e (p == to) refl on)
 
@@ -257,12 +257,12 @@ module _ (c : ℕ) (whole : Ways) where
         (λ p on. let all = unset p on in omega (arith, all)) (λ p. let all = once p in omega (arith, all)) (λ p some. final p (omega (arith, some))),
   )
     where
-      in_first : (p : ℕ) → 1 ≤ places_set p block → way_to whole p ≡ way_to (all_ways known block) p
+      in_first : (p : ℕ) → 1 ≤ places_set p block → way_of whole p ≡ way_of (all_ways known block) p
       in_first p some =
           let all = once p in
           final p (omega (arith, some)) ∙ (ways_stay p rest (all_ways (all_ways known block) otherwise) (omega (arith, all, some)) ∙ ways_stay p otherwise (all_ways known block) (omega (arith, all, some)))
 
-      in_second : (p : ℕ) → 1 ≤ places_set p otherwise → way_to whole p ≡ way_to (all_ways (all_ways known block) otherwise) p
+      in_second : (p : ℕ) → 1 ≤ places_set p otherwise → way_of whole p ≡ way_of (all_ways (all_ways known block) otherwise) p
       in_second p some = let all = once p in final p (omega (arith, some)) ∙ ways_stay p rest (all_ways (all_ways known block) otherwise) (omega (arith, all, some))
 
   loop_found : (var : ℕ) (lo hi : ℤ) (body rest : Block) → Found body → Found rest → Found (Loop var lo hi body rest)
@@ -272,14 +272,14 @@ module _ (c : ℕ) (whole : Ways) where
         (λ p on. let all = unset p on in omega (arith, all)) (λ p. let all = once p in omega (arith, all)) (λ p some. final p (omega (arith, some))),
   )
     where
-      in_body : (p : ℕ) → 1 ≤ places_set p body → way_to whole p ≡ way_to (all_ways known body) p
+      in_body : (p : ℕ) → 1 ≤ places_set p body → way_of whole p ≡ way_of (all_ways known body) p
       in_body p some = let all = once p in final p (omega (arith, some)) ∙ ways_stay p rest (all_ways known body) (omega (arith, all, some))
 
   is_found : (block : Block) → Found block
   is_found End = λ scope ways known scoped same unset once final. tt
   is_found (Word to how rest) = λ scope ways known scoped same unset once final. is_found rest (and_reg to scope) ways known scoped.3 same unset once final
   is_found (Spot to how rest) = spot_found to how rest (is_found rest)
-  is_found (Cell to place layout field index rest) = λ scope ways known scoped same unset once final. is_found rest (and_reg to scope) ways known scoped.2 same unset once final
+  is_found (Cell to place sight index rest) = λ scope ways known scoped same unset once final. is_found rest (and_reg to scope) ways known scoped.2 same unset once final
   is_found (Do what rest) = λ scope ways known scoped same unset once final. is_found rest scope ways known scoped.2 same unset once final
   is_found (Branch cond block otherwise rest) = branch_found cond block otherwise rest (is_found block) (is_found otherwise) (is_found rest)
   is_found (Loop var lo hi body rest) = loop_found var lo hi body rest (is_found body) (is_found rest)

@@ -3,7 +3,7 @@ use Rattle.std.specs.Prelude.{◌≡◌, refl, ℕ, ℤ, suc, ◌+◌, Bool, tru
 use Rattle.std.proofs.Common.{sym}
 use Rattle.sg_ir.specs.declared.op.Op.{Op}
 use Rattle.sg_ir.specs.declared.op.Step.{Step}
-use Rattle.sg_ir.specs.Blocks.{Block, End, Word, Spot, Cell, Do, Branch, Loop, Act, SetVar, WriteOwn, Contribute, Wish}
+use Rattle.sg_ir.specs.Blocks.{Sight, Block, End, Word, Spot, Cell, Do, Branch, Loop, Act, SetVar, WriteOwn, Contribute, Wish}
 use Rattle.sg_ir.specs.InScope.{op_regs, op_places, step_regs, step_places}
 use Rattle.sg_simplify.specs.Kept.{behind_where, is_end, kept_part, op_vars, ReadsKept}
 use Rattle.sg_simplify.specs.steps.Needed.{reg_node, place_node, var_node, block_node, outermost, link_all, blocks_in, act_needs, needs_of, kept_by}
@@ -48,12 +48,12 @@ module _ (marked : ℕ → Bool) (on : marked outermost ≡ true) where
           ((of_nodes marked reg_node (step_regs how) one.0, of_nodes marked place_node (step_places how) two.0, more.reads), λ e. two.1.0)
       at_all false is = (more.reads, more.here_on)
 
-  cell_closed : (here : ℕ) (to place layout field : ℕ) (index : List ℕ) (rest : Block)
-      → Along marked (link_all (reg_node to) (place_node place ∷ here ∷ [])) → Along marked (link_all (reg_node to) (map reg_node index)) → Closed here rest → Closed here (Cell to place layout field index rest)
-  cell_closed here to place layout field index rest along by_index more = let it = at_all (marked (reg_node to)) refl in record { reads = it.0; here_on = it.1 }
+  cell_closed : (here : ℕ) (to place : ℕ) (sight : Sight) (index : List ℕ) (rest : Block)
+      → Along marked (link_all (reg_node to) (place_node place ∷ here ∷ [])) → Along marked (link_all (reg_node to) (map reg_node index)) → Closed here rest → Closed here (Cell to place sight index rest)
+  cell_closed here to place sight index rest along by_index more = let it = at_all (marked (reg_node to)) refl in record { reads = it.0; here_on = it.1 }
     where
       left : Bool → Block
-      left test = behind_where test (Cell to place layout field index) (kept_part (kept_by marked) rest)
+      left test = behind_where test (Cell to place sight index) (kept_part (kept_by marked) rest)
 
       at_all : (test : Bool) → marked (reg_node to) ≡ test → ReadsKept (kept_by marked) (left test) × (is_end (left test) ≡ false → marked here ≡ true)
       at_all true is =
@@ -124,10 +124,10 @@ module _ (marked : ℕ → Bool) (on : marked outermost ≡ true) where
   needs_close here next (Spot to how rest) along =
       let parts = along_parts marked (link_all (place_node to) (map reg_node (step_regs how) ++ (map place_node (step_places how) ++ here ∷ []))) (needs_of here next rest) along in
       spot_closed here to how rest parts.0 (needs_close here next rest parts.1)
-  needs_close here next (Cell to place layout field index rest) along =
+  needs_close here next (Cell to place sight index rest) along =
       let first = along_parts marked (link_all (reg_node to) (place_node place ∷ here ∷ [])) (link_all (reg_node to) (map reg_node index) ++ needs_of here next rest) along in
       let second = along_parts marked (link_all (reg_node to) (map reg_node index)) (needs_of here next rest) first.1 in
-      cell_closed here to place layout field index rest first.0 second.0 (needs_close here next rest second.1)
+      cell_closed here to place sight index rest first.0 second.0 (needs_close here next rest second.1)
   needs_close here next (Do what rest) along =
       let parts = along_parts marked (act_needs here what) (needs_of here next rest) along in
       do_closed here what rest parts.0 (needs_close here next rest parts.1)

@@ -63,7 +63,7 @@ module _ (keep : Keep) (v : ℕ) (on : keep.vars v ≡ true) where
   kept_sets End = refl
   kept_sets (Word to how rest) = past_inst (sets v) (Word to how) (λ b. refl) (keep.regs to) (kept_part keep rest) rest (kept_sets rest)
   kept_sets (Spot to how rest) = past_inst (sets v) (Spot to how) (λ b. refl) (keep.places to) (kept_part keep rest) rest (kept_sets rest)
-  kept_sets (Cell to place layout field index rest) = past_inst (sets v) (Cell to place layout field index) (λ b. refl) (keep.regs to) (kept_part keep rest) rest (kept_sets rest)
+  kept_sets (Cell to place sight index rest) = past_inst (sets v) (Cell to place sight index) (λ b. refl) (keep.regs to) (kept_part keep rest) rest (kept_sets rest)
   kept_sets (Do what rest) = act_sets_same what rest (kept_part keep rest) (kept_sets rest) (keeps_act keep what) refl
   kept_sets (Branch cond a b rest) = branch_sets cond a b rest (kept_sets a) (kept_sets b) (kept_sets rest) (is_end (kept_part keep a) && is_end (kept_part keep b)) refl
   kept_sets (Loop var lo hi body rest) = loop_sets var lo hi body rest (kept_sets body) (kept_sets rest) (keep.vars var) (is_end (kept_part keep body)) refl refl
@@ -113,7 +113,7 @@ module _ (keep : Keep) (n : ℕ) where
   kept_regs End = omega arith
   kept_regs (Word to how rest) = fewer_inst (regs_set n) (Word to how) (one_where (to == n)) (λ b. refl) (keep.regs to) (kept_part keep rest) rest (kept_regs rest)
   kept_regs (Spot to how rest) = fewer_inst (regs_set n) (Spot to how) 0 (λ b. none_more (regs_set n b)) (keep.places to) (kept_part keep rest) rest (kept_regs rest)
-  kept_regs (Cell to place layout field index rest) = fewer_inst (regs_set n) (Cell to place layout field index) (one_where (to == n)) (λ b. refl) (keep.regs to) (kept_part keep rest) rest (kept_regs rest)
+  kept_regs (Cell to place sight index rest) = fewer_inst (regs_set n) (Cell to place sight index) (one_where (to == n)) (λ b. refl) (keep.regs to) (kept_part keep rest) rest (kept_regs rest)
   kept_regs (Do what rest) = fewer_inst (regs_set n) (Do what) 0 (λ b. none_more (regs_set n b)) (keeps_act keep what) (kept_part keep rest) rest (kept_regs rest)
   kept_regs (Branch cond a b rest) = branch_regs cond a b rest (kept_regs a) (kept_regs b) (kept_regs rest) (not (is_end (kept_part keep a) && is_end (kept_part keep b)))
   kept_regs (Loop var lo hi body rest) = loop_regs var lo hi body rest (kept_regs body) (kept_regs rest) (keep.vars var || not (is_end (kept_part keep body)))
@@ -122,7 +122,7 @@ module _ (keep : Keep) (n : ℕ) where
   kept_places End = omega arith
   kept_places (Word to how rest) = fewer_inst (places_set n) (Word to how) 0 (λ b. none_more (places_set n b)) (keep.regs to) (kept_part keep rest) rest (kept_places rest)
   kept_places (Spot to how rest) = fewer_inst (places_set n) (Spot to how) (one_where (to == n)) (λ b. refl) (keep.places to) (kept_part keep rest) rest (kept_places rest)
-  kept_places (Cell to place layout field index rest) = fewer_inst (places_set n) (Cell to place layout field index) 0 (λ b. none_more (places_set n b)) (keep.regs to) (kept_part keep rest) rest (kept_places rest)
+  kept_places (Cell to place sight index rest) = fewer_inst (places_set n) (Cell to place sight index) 0 (λ b. none_more (places_set n b)) (keep.regs to) (kept_part keep rest) rest (kept_places rest)
   kept_places (Do what rest) = fewer_inst (places_set n) (Do what) 0 (λ b. none_more (places_set n b)) (keeps_act keep what) (kept_part keep rest) rest (kept_places rest)
   kept_places (Branch cond a b rest) = branch_places cond a b rest (kept_places a) (kept_places b) (kept_places rest) (not (is_end (kept_part keep a) && is_end (kept_part keep b)))
   kept_places (Loop var lo hi body rest) = loop_places var lo hi body rest (kept_places body) (kept_places rest) (keep.vars var || not (is_end (kept_part keep body)))

@@ -9,10 +9,10 @@ use Rattle.sg_ir.specs.declared.op.Op.TheVariants as op
 use Rattle.sg_ir.specs.declared.op.Step.TheVariants as step
 use Rattle.sg_ir.specs.declared.op.Descent.TheVariants as by
 use Rattle.sg_ir.specs.WellTyped.{is_truth}
-use Rattle.sg_ir.specs.Blocks.{Block, End, Word, Spot, Cell, Do, Branch, Loop, SetVar, WriteOwn, Contribute, Wish, Link, chained, link_step, link, block_of}
+use Rattle.sg_ir.specs.Blocks.{Value, Activity, Block, End, Word, Spot, Cell, Do, Branch, Loop, SetVar, WriteOwn, Contribute, Wish, Link, chained, link_step, link, block_of}
 use Rattle.sg_ir.specs.steps.Frames.{without_blocks_step, is_without_blocks}
 use Rattle.sg_ir.proofs.Uses.{by_inst}
-use Rattle.sg_ir.proofs.Uses.{fold-Const, fold-Var, fold-Set, fold-Bin, fold-Un, fold-Mulq, fold-Root, fold-Check, fold-Extract, fold-Offset, fold-Child, fold-HashChild, fold-MaskBit, fold-DynCell, fold-ReadCell, fold-OwnRead, fold-OwnWrite, fold-Acc, fold-Want, fold-If, fold-For}
+use Rattle.sg_ir.proofs.Uses.{fold-Const, fold-Var, fold-Set, fold-Bin, fold-Un, fold-Mulq, fold-Root, fold-Check, fold-Extract, fold-Offset, fold-Child, fold-HashChild, fold-MaskBit, fold-DynCell, fold-ReadCell, fold-IsActive, fold-OwnRead, fold-OwnWrite, fold-Acc, fold-Want, fold-If, fold-For}
 use Rattle.sg_simplify.specs.Kept.{Keep, behind_where, is_end, kept_part}
 use Rattle.sg_simplify.specs.steps.Left.{stays_step, stays}
 use Rattle.sg_simplify.proofs.KeptTests.{none_set}
@@ -60,6 +60,7 @@ plain_by = by_inst (λ inst. NoIf inst → NoFor inst → is_without_blocks inst
     (λ to place node offset a b. fold-MaskBit without_blocks_step to place node offset)
     (λ to place node offset a b. fold-DynCell without_blocks_step to place node offset)
     (λ to place layout field index a b. fold-ReadCell without_blocks_step to place layout field index)
+    (λ to place index a b. fold-IsActive without_blocks_step to place index)
     (λ to layout field a b. fold-OwnRead without_blocks_step to layout field)
     (λ layout field from stmt a b. fold-OwnWrite without_blocks_step layout field from stmt)
     (λ how layout field place from index stmt a b. fold-Acc without_blocks_step how layout field place from index stmt)
@@ -93,7 +94,8 @@ module _ (keep : Keep) (types : List Ty) where
       (λ to place node offset. carry (v.HashChild to place node offset) (Spot to (step.Down by.HashChild place node offset)) (keep.places to) (fold-HashChild (link_step types) to place node offset) (fold-HashChild (stays_step keep) to place node offset) (λ rest. refl))
       (λ to place node offset. carry (v.MaskBit to place node offset) (Spot to (step.Down by.MaskBit place node offset)) (keep.places to) (fold-MaskBit (link_step types) to place node offset) (fold-MaskBit (stays_step keep) to place node offset) (λ rest. refl))
       (λ to place node offset. carry (v.DynCell to place node offset) (Spot to (step.Down by.DynCell place node offset)) (keep.places to) (fold-DynCell (link_step types) to place node offset) (fold-DynCell (stays_step keep) to place node offset) (λ rest. refl))
-      (λ to place layout field index. carry (v.ReadCell to place layout field index) (Cell to place layout field index) (keep.regs to) (fold-ReadCell (link_step types) to place layout field index) (fold-ReadCell (stays_step keep) to place layout field index) (λ rest. refl))
+      (λ to place layout field index. carry (v.ReadCell to place layout field index) (Cell to place (Value layout field) index) (keep.regs to) (fold-ReadCell (link_step types) to place layout field index) (fold-ReadCell (stays_step keep) to place layout field index) (λ rest. refl))
+      (λ to place index. carry (v.IsActive to place index) (Cell to place Activity index) (keep.regs to) (fold-IsActive (link_step types) to place index) (fold-IsActive (stays_step keep) to place index) (λ rest. refl))
       (λ to layout field. carry (v.OwnRead to layout field) (Word to (op.OwnRead layout field)) (keep.regs to) (fold-OwnRead (link_step types) to layout field) (fold-OwnRead (stays_step keep) to layout field) (λ rest. refl))
       (λ layout field from stmt. carry (v.OwnWrite layout field from stmt) (Do (WriteOwn layout field from stmt)) (true) (fold-OwnWrite (link_step types) layout field from stmt) (fold-OwnWrite (stays_step keep) layout field from stmt) (λ rest. refl))
       (λ how layout field place from index stmt. carry (v.Acc how layout field place from index stmt) (Do (Contribute how layout field place from index stmt)) (true) (fold-Acc (link_step types) how layout field place from index stmt) (fold-Acc (stays_step keep) how layout field place from index stmt) (λ rest. refl))
@@ -118,6 +120,7 @@ module _ (keep : Keep) (types : List Ty) where
       (λ to place node offset rest. ap (λ (k : Link). is_end (k rest)) (fold-MaskBit (link_step types) to place node offset))
       (λ to place node offset rest. ap (λ (k : Link). is_end (k rest)) (fold-DynCell (link_step types) to place node offset))
       (λ to place layout field index rest. ap (λ (k : Link). is_end (k rest)) (fold-ReadCell (link_step types) to place layout field index))
+      (λ to place index rest. ap (λ (k : Link). is_end (k rest)) (fold-IsActive (link_step types) to place index))
       (λ to layout field rest. ap (λ (k : Link). is_end (k rest)) (fold-OwnRead (link_step types) to layout field))
       (λ layout field from stmt rest. ap (λ (k : Link). is_end (k rest)) (fold-OwnWrite (link_step types) layout field from stmt))
       (λ how layout field place from index stmt rest. ap (λ (k : Link). is_end (k rest)) (fold-Acc (link_step types) how layout field place from index stmt))

@@ -4,7 +4,7 @@ use Rattle.std.proofs.Common.{sym, ap, subst, ◌∙◌}
 use Rattle.std.proofs.lemmas.Bool.{and_parts, and_from}
 use Rattle.sg_ir.specs.declared.op.Op.{Op}
 use Rattle.sg_ir.specs.declared.op.Step.{Step}
-use Rattle.sg_ir.specs.Blocks.{Block, End, Word, Spot, Cell, Do, Branch, Loop, Act, SetVar, WriteOwn, Contribute, Wish}
+use Rattle.sg_ir.specs.Blocks.{Sight, Block, End, Word, Spot, Cell, Do, Branch, Loop, Act, SetVar, WriteOwn, Contribute, Wish}
 use Rattle.sg_ir.specs.InScope.{AreSet}
 use Rattle.sg_simplify.specs.Kept.{Keep, behind_where, is_end, keeps_act, kept_part, ReadsKept, IsLean}
 use Rattle.sg_simplify.proofs.KeptTests.{clash, end_is}
@@ -59,11 +59,11 @@ module _ (keep other : Keep) where
       by_test true read = ap (behind_where (other.places to) (Spot to how)) (twice read.2)
       by_test false read = twice read
 
-  cell_twice : (to place layout field : ℕ) (index : List ℕ) (rest : Block) → Twice rest → Twice (Cell to place layout field index rest)
-  cell_twice to place layout field index rest twice reads = by_test (keep.regs to) reads
+  cell_twice : (to place : ℕ) (sight : Sight) (index : List ℕ) (rest : Block) → Twice rest → Twice (Cell to place sight index rest)
+  cell_twice to place sight index rest twice reads = by_test (keep.regs to) reads
     where
       inst : Block → Block
-      inst = Cell to place layout field index
+      inst = Cell to place sight index
 
       by_test : (test : Bool) → ReadsKept keep (behind_where test inst (kept_part keep rest))
           → kept_part other (behind_where test inst (kept_part keep rest)) ≡ behind_where (test && other.regs to) inst (kept_part (both_kept keep other) rest)
@@ -114,7 +114,7 @@ module _ (keep other : Keep) where
   kept_twice End = λ reads. refl
   kept_twice (Word to how rest) = word_twice to how rest (kept_twice rest)
   kept_twice (Spot to how rest) = spot_twice to how rest (kept_twice rest)
-  kept_twice (Cell to place layout field index rest) = cell_twice to place layout field index rest (kept_twice rest)
+  kept_twice (Cell to place sight index rest) = cell_twice to place sight index rest (kept_twice rest)
   kept_twice (Do what rest) = do_twice what rest (kept_twice rest)
   kept_twice (Branch cond block otherwise rest) = branch_twice cond block otherwise rest (kept_twice block) (kept_twice otherwise) (kept_twice rest)
   kept_twice (Loop var lo hi body rest) = loop_twice var lo hi body rest (kept_twice body) (kept_twice rest)
@@ -129,10 +129,10 @@ module _ (keep other : Keep) where
   spot_less to how kept all true reads more = (reads.0, reads.1, more)
   spot_less to how kept all false reads more = more
 
-  cell_less : (to place layout field : ℕ) (index : List ℕ) (kept : Block) (all : Block) (test : Bool) → ReadsKept keep (Cell to place layout field index all) → ReadsKept keep kept
-      → ReadsKept keep (behind_where test (Cell to place layout field index) kept)
-  cell_less to place layout field index kept all true reads more = (reads.0, reads.1, more)
-  cell_less to place layout field index kept all false reads more = more
+  cell_less : (to place : ℕ) (sight : Sight) (index : List ℕ) (kept : Block) (all : Block) (test : Bool) → ReadsKept keep (Cell to place sight index all) → ReadsKept keep kept
+      → ReadsKept keep (behind_where test (Cell to place sight index) kept)
+  cell_less to place sight index kept all true reads more = (reads.0, reads.1, more)
+  cell_less to place sight index kept all false reads more = more
 
   do_less : (what : Act) (kept : Block) (all : Block) (test : Bool) → ReadsKept keep (Do what all) → ReadsKept keep kept → ReadsKept keep (behind_where test (Do what) kept)
   do_less what kept all true reads more = (reads.0, reads.1, more)
@@ -150,7 +150,7 @@ module _ (keep other : Keep) where
   reads_less End reads = tt
   reads_less (Word to how rest) reads = word_less to how (kept_part other rest) rest (other.regs to) reads (reads_less rest reads.3)
   reads_less (Spot to how rest) reads = spot_less to how (kept_part other rest) rest (other.places to) reads (reads_less rest reads.2)
-  reads_less (Cell to place layout field index rest) reads = cell_less to place layout field index (kept_part other rest) rest (other.regs to) reads (reads_less rest reads.2)
+  reads_less (Cell to place sight index rest) reads = cell_less to place sight index (kept_part other rest) rest (other.regs to) reads (reads_less rest reads.2)
   reads_less (Do what rest) reads = do_less what (kept_part other rest) rest (keeps_act other what) reads (reads_less rest reads.2)
   reads_less (Branch cond block otherwise rest) reads =
       branch_less cond (kept_part other block) (kept_part other otherwise) (kept_part other rest) (not (is_end (kept_part other block) && is_end (kept_part other otherwise))) reads.0
@@ -166,7 +166,7 @@ module _ (keep other : Keep) where
   reads_both End one two = tt
   reads_both (Word to how rest) one two = (set_both keep.regs other.regs _ one.0 two.0, set_both keep.places other.places _ one.1 two.1, set_both keep.vars other.vars _ one.2 two.2, reads_both rest one.3 two.3)
   reads_both (Spot to how rest) one two = (set_both keep.regs other.regs _ one.0 two.0, set_both keep.places other.places _ one.1 two.1, reads_both rest one.2 two.2)
-  reads_both (Cell to place layout field index rest) one two = (set_both keep.regs other.regs index one.0 two.0, and_from (keep.places place) (other.places place) one.1 two.1, reads_both rest one.2 two.2)
+  reads_both (Cell to place sight index rest) one two = (set_both keep.regs other.regs index one.0 two.0, and_from (keep.places place) (other.places place) one.1 two.1, reads_both rest one.2 two.2)
   reads_both (Do what rest) one two = (set_both keep.regs other.regs _ one.0 two.0, set_both keep.places other.places _ one.1 two.1, reads_both rest one.2 two.2)
   reads_both (Branch cond block otherwise rest) one two = (and_from (keep.regs cond) (other.regs cond) one.0 two.0, reads_both block one.1 two.1, reads_both otherwise one.2 two.2, reads_both rest one.3 two.3)
   reads_both (Loop var lo hi body rest) one two = (and_from (keep.vars var) (other.vars var) one.0 two.0, reads_both body one.1 two.1, reads_both rest one.2 two.2)
@@ -186,7 +186,7 @@ module _ (keep other : Keep) (regs : (r : ℕ) → keep.regs r ≡ other.regs r)
   same_part End = refl
   same_part (Word to how rest) = inst_alike (Word to how) (keep.regs to) (other.regs to) (kept_part keep rest) (kept_part other rest) (regs to) (same_part rest)
   same_part (Spot to how rest) = inst_alike (Spot to how) (keep.places to) (other.places to) (kept_part keep rest) (kept_part other rest) (places to) (same_part rest)
-  same_part (Cell to place layout field index rest) = inst_alike (Cell to place layout field index) (keep.regs to) (other.regs to) (kept_part keep rest) (kept_part other rest) (regs to) (same_part rest)
+  same_part (Cell to place sight index rest) = inst_alike (Cell to place sight index) (keep.regs to) (other.regs to) (kept_part keep rest) (kept_part other rest) (regs to) (same_part rest)
   same_part (Do what rest) = inst_alike (Do what) (keeps_act keep what) (keeps_act other what) (kept_part keep rest) (kept_part other rest) (acts_alike what) (same_part rest)
   same_part (Branch cond block otherwise rest) =
       branch_alike cond (kept_part keep block) (kept_part keep otherwise) (kept_part keep rest) (kept_part other block) (kept_part other otherwise) (kept_part other rest) (same_part block) (same_part otherwise) (same_part rest)

@@ -3,17 +3,16 @@ use Rattle.std.specs.Prelude.{◌≡◌, refl, ℕ, ℤ, ◌==◌, Bool, true, f
 use Rattle.std.proofs.Common.{sym, ap, subst, ◌∙◌}
 use Rattle.sg_flat.specs.Domain.{numbers}
 use Rattle.sg_ir.specs.declared.op.Op.{Op}
-use Rattle.sg_ir.specs.declared.op.Op.TheVariants as op
 use Rattle.sg_ir.specs.declared.op.Step.{Step}
 use Rattle.sg_ir.specs.Runs.{Seen, coord_of}
 use Rattle.sg_ir.specs.Places.{place_at}
-use Rattle.sg_ir.specs.Blocks.{Block, End, Word, Spot, Cell, Do, Branch, Loop, Act, SetVar, WriteOwn, Contribute, Wish}
+use Rattle.sg_ir.specs.Blocks.{Sight, Value, Activity, sight_op, Block, End, Word, Spot, Cell, Do, Branch, Loop, Act, SetVar, WriteOwn, Contribute, Wish}
 use Rattle.sg_ir.specs.SpanLaws.{WhereTest, EachTurn}
 use Rattle.sg_ir.specs.InScope.{AreSet}
-use Rattle.sg_ir.specs.Scoped.{RunMoment, Room, room_reg, room_place, op_word, step_place, moment_after_act, at_turn, run}
-use Rattle.sg_simplify.specs.steps.Serves.{IsAt, NamesAll}
+use Rattle.sg_ir.specs.Scoped.{RunMoment, Room, room_reg, room_place, op_word, step_root, step_place, moment_after_act, at_turn, run}
+use Rattle.sg_simplify.specs.steps.Serves.{IsAt, OpIsAt, NamesAll}
 use Rattle.sg_simplify.specs.Kept.{Keep, behind_where, is_end, kept_part, ReadsKept}
-use Rattle.sg_simplify.proofs.KeptRuns.{SameRoom, SameMoment, reg_both, reg_past, place_both, place_past, op_same, step_same, words_same, act_same, act_past, turn_both, leaves, turns_same, turns_past, left_of, right_of, keeps_run}
+use Rattle.sg_simplify.proofs.KeptRuns.{SameRoom, SameMoment, reg_both, reg_past, place_both, place_past, op_same, step_same, root_same, sight_same, words_same, act_same, act_past, turn_both, leaves, turns_same, turns_past, left_of, right_of, keeps_run}
 
 module _ (seen : Seen) (keep : Keep) where
   abbrev StaysNamed : Block → Type 0
@@ -21,6 +20,12 @@ module _ (seen : Seen) (keep : Keep) where
 
   at_kept : (room other : Room) (place layout : ℕ) (index : List ℕ) → SameRoom seen keep room other → keep.places place ≡ true → AreSet keep.regs index → IsAt seen.shapes room place layout index → IsAt seen.shapes other place layout index
   at_kept room other place layout index same on set h = same.places place on ∙ (h ∙ ap (λ ws. place_at seen.shapes layout (coord_of ws)) (sym (words_same seen keep index room other set same)))
+
+  sight_kept : (room other : Room) (place : ℕ) (sight : Sight) (index : List ℕ) → SameRoom seen keep room other → keep.places place ≡ true → AreSet keep.regs index
+      → OpIsAt seen.shapes room (sight_op place sight) index → OpIsAt seen.shapes other (sight_op place sight) index
+  sight_kept room other place (Value layout field) index same on set h = at_kept room other place layout index same on set h
+  sight_kept room other place Activity index same on set h =
+      subst (λ (layout : ℕ). IsAt seen.shapes other place layout index) (sym (same.roots place on)) (at_kept room other place (room.roots place) index same on set h)
 
   word_named : (to : ℕ) (how : Op) (rest : Block) → StaysNamed rest → StaysNamed (Word to how rest)
   word_named to how rest more room other now later reads same moment names = by_test (keep.regs to) refl reads
@@ -34,21 +39,21 @@ module _ (seen : Seen) (keep : Keep) where
   spot_named to how rest more room other now later reads same moment names = by_test (keep.places to) refl reads
     where
       by_test : (test : Bool) → keep.places to ≡ test → ReadsKept keep (behind_where test (Spot to how) (kept_part keep rest)) → NamesAll seen (behind_where test (Spot to how) (kept_part keep rest)) other later
-      by_test true e read = more (room_place to (step_place seen room how) room) (room_place to (step_place seen other how) other) now later read.2
-          (place_both seen keep to _ _ room other (step_same seen keep how room other read.0 read.1 same) same) moment names
-      by_test false e read = more (room_place to (step_place seen room how) room) other now later read (place_past seen keep to _ room other e same) moment names
+      by_test true e read = more (room_place to (step_root room how) (step_place seen room how) room) (room_place to (step_root other how) (step_place seen other how) other) now later read.2
+          (place_both seen keep to _ _ _ _ room other (root_same seen keep how room other read.1 same) (step_same seen keep how room other read.0 read.1 same) same) moment names
+      by_test false e read = more (room_place to (step_root room how) (step_place seen room how) room) other now later read (place_past seen keep to _ _ room other e same) moment names
 
-  cell_named : (to place layout field : ℕ) (index : List ℕ) (rest : Block) → StaysNamed rest → StaysNamed (Cell to place layout field index rest)
-  cell_named to place layout field index rest more room other now later reads same moment names = by_test (keep.regs to) refl reads
+  cell_named : (to place : ℕ) (sight : Sight) (index : List ℕ) (rest : Block) → StaysNamed rest → StaysNamed (Cell to place sight index rest)
+  cell_named to place sight index rest more room other now later reads same moment names = by_test (keep.regs to) refl reads
     where
       how : Op
-      how = op.Read place layout field
+      how = sight_op place sight
 
-      by_test : (test : Bool) → keep.regs to ≡ test → ReadsKept keep (behind_where test (Cell to place layout field index) (kept_part keep rest)) → NamesAll seen (behind_where test (Cell to place layout field index) (kept_part keep rest)) other later
+      by_test : (test : Bool) → keep.regs to ≡ test → ReadsKept keep (behind_where test (Cell to place sight index) (kept_part keep rest)) → NamesAll seen (behind_where test (Cell to place sight index) (kept_part keep rest)) other later
       by_test true e read = (
-        at_kept room other place layout index same read.1 read.0 names.0,
+        sight_kept room other place sight index same read.1 read.0 names.0,
         more (room_reg to (op_word seen room now how) room) (room_reg to (op_word seen other later how) other) now later read.2
-            (reg_both seen keep to _ _ room other (op_same seen keep how room other now later tt (read.1, tt) tt same moment) same) moment names.1,
+            (reg_both seen keep to _ _ room other (sight_same seen keep place sight room other now later read.1 same moment) same) moment names.1,
       )
       by_test false e read = more (room_reg to (op_word seen room now how) room) other now later read (reg_past seen keep to _ room other e same) moment names.1
 
@@ -139,7 +144,7 @@ module _ (seen : Seen) (keep : Keep) where
   kept_named End = λ room other now later reads same moment names. tt
   kept_named (Word to how rest) = word_named to how rest (kept_named rest)
   kept_named (Spot to how rest) = spot_named to how rest (kept_named rest)
-  kept_named (Cell to place layout field index rest) = cell_named to place layout field index rest (kept_named rest)
+  kept_named (Cell to place sight index rest) = cell_named to place sight index rest (kept_named rest)
   kept_named (Do what rest) = do_named what rest (kept_named rest)
   kept_named (Branch cond block otherwise rest) = branch_named cond block otherwise rest (kept_named block) (kept_named otherwise) (kept_named rest)
   kept_named (Loop var lo hi body rest) = loop_named var lo hi body rest (kept_named body) (kept_named rest)

@@ -6,7 +6,7 @@ use Rattle.std.proofs.lemmas.Nat.{div-mul-add, mod-mul-add}
 use Rattle.std.proofs.lemmas.List.{length-append, get_or_append_left, get_or-append-add}
 use Rattle.sg_ir.specs.declared.op.Op.{Op}
 use Rattle.sg_ir.specs.declared.op.Step.{Step}
-use Rattle.sg_ir.specs.Blocks.{Block, End, Word, Spot, Cell, Do, Branch, Loop, Act, SetVar, WriteOwn, Contribute, Wish}
+use Rattle.sg_ir.specs.Blocks.{Sight, Block, End, Word, Spot, Cell, Do, Branch, Loop, Act, SetVar, WriteOwn, Contribute, Wish}
 use Rattle.sg_ir.specs.InScope.{AreSet, op_regs, op_places, step_regs, step_places}
 use Rattle.sg_words.specs.declared.spreads.Link.{Link}
 use Rattle.sg_simplify.specs.Kept.{Keep, behind_where, is_end, kept_part, op_vars, ReadsKept}
@@ -36,7 +36,7 @@ left_length : (keep : Keep) (block : Block) → length (left_in keep block) ≡ 
 left_length keep End = refl
 left_length keep (Word to how rest) = left_length keep rest
 left_length keep (Spot to how rest) = left_length keep rest
-left_length keep (Cell to place layout field index rest) = left_length keep rest
+left_length keep (Cell to place sight index rest) = left_length keep rest
 left_length keep (Do what rest) = left_length keep rest
 left_length keep (Branch cond block otherwise rest) =
     let a = left_length keep block in
@@ -133,11 +133,11 @@ module _ (keep : Keep) (whole : List Bool) where
           (leads marks (place_node to) nodes (λ e. clash (keep.places to) (sym (place_is to) ∙ e) is))
           (more at read on)
 
-  cell_reaches : (here number to place layout field : ℕ) (index : List ℕ) (rest : Block) → Reaches here number rest → Reaches here number (Cell to place layout field index rest)
-  cell_reaches here number to place layout field index rest more at reads here_on = by_test (keep.regs to) refl reads here_on
+  cell_reaches : (here number to place : ℕ) (sight : Sight) (index : List ℕ) (rest : Block) → Reaches here number rest → Reaches here number (Cell to place sight index rest)
+  cell_reaches here number to place sight index rest more at reads here_on = by_test (keep.regs to) refl reads here_on
     where
       left : Bool → Block
-      left test = behind_where test (Cell to place layout field index) (kept_part keep rest)
+      left test = behind_where test (Cell to place sight index) (kept_part keep rest)
 
       first : List Link
       first = link_all (reg_node to) (place_node place ∷ here ∷ [])
@@ -299,7 +299,7 @@ module _ (keep : Keep) (whole : List Bool) where
   needs_reached here place End = λ at reads on. refl
   needs_reached here place (Word to how rest) = word_reaches here place to how rest (needs_reached here place rest)
   needs_reached here place (Spot to how rest) = spot_reaches here place to how rest (needs_reached here place rest)
-  needs_reached here number (Cell to place layout field index rest) = cell_reaches here number to place layout field index rest (needs_reached here number rest)
+  needs_reached here number (Cell to place sight index rest) = cell_reaches here number to place sight index rest (needs_reached here number rest)
   needs_reached here place (Do what rest) = do_reaches here place what rest (needs_reached here place rest)
   needs_reached here place (Branch cond block otherwise rest) =
       branch_reaches here place cond block otherwise rest (needs_reached (block_node (suc place)) (suc place) block) (needs_reached (block_node (suc place)) (suc place + blocks_in block) otherwise)

@@ -8,9 +8,9 @@ use Rattle.sg_ir.specs.declared.op.Op.TheVariants as op
 use Rattle.sg_ir.specs.declared.op.Step.{Step}
 use Rattle.sg_ir.specs.declared.op.Step.TheVariants as step
 use Rattle.sg_ir.specs.Runs.{Seen, Place}
-use Rattle.sg_ir.specs.Blocks.{Block, End, Word, Spot, Cell, Do, Branch, Loop, Act, SetVar, WriteOwn, Contribute, Wish}
+use Rattle.sg_ir.specs.Blocks.{Sight, Value, Activity, sight_op, Block, End, Word, Spot, Cell, Do, Branch, Loop, Act, SetVar, WriteOwn, Contribute, Wish}
 use Rattle.sg_ir.specs.InScope.{AreSet, op_regs, op_places, step_regs, step_places, act_regs, act_places}
-use Rattle.sg_ir.specs.Scoped.{RunMoment, Room, room_reg, room_place, op_word, step_place, moment_after_act, at_turn, run}
+use Rattle.sg_ir.specs.Scoped.{RunMoment, Room, room_reg, room_place, op_word, step_root, step_place, moment_after_act, at_turn, run}
 use Rattle.sg_simplify.specs.Kept.{Keep, behind_where, is_end, keeps_act, kept_part, op_vars, ReadsKept}
 use Rattle.sg_simplify.proofs.KeptTests.{both_if, past, end_is}
 
@@ -19,6 +19,7 @@ module _ (seen : Seen) (keep : Keep) where
   pub record SameRoom (room other : Room) : Type 0 where
     pub regs : (r : ℕ) → keep.regs r ≡ true → other.regs r ≡ room.regs r
     pub places : (p : ℕ) → keep.places p ≡ true → other.places p ≡ room.places p
+    pub roots : (p : ℕ) → keep.places p ≡ true → other.roots p ≡ room.roots p
 
   pub record SameMoment (now other : RunMoment) : Type 0 where
     pub vars : (v : ℕ) → keep.vars v ≡ true → other.vars v ≡ now.vars v
@@ -26,16 +27,24 @@ module _ (seen : Seen) (keep : Keep) where
     pub wants : other.wants ≡ now.wants
 
   pub reg_both : (to w v : ℕ) (room other : Room) → v ≡ w → SameRoom room other → SameRoom (room_reg to w room) (room_reg to v other)
-  reg_both to w v room other e same = record { regs = λ r is. both_if (r == to) v w (other.regs r) (room.regs r) e (same.regs r is); places = same.places }
+  reg_both to w v room other e same = record { regs = λ r is. both_if (r == to) v w (other.regs r) (room.regs r) e (same.regs r is); places = same.places; roots = same.roots }
 
-  pub place_both : (to : ℕ) (w v : Option Place) (room other : Room) → v ≡ w → SameRoom room other → SameRoom (room_place to w room) (room_place to v other)
-  place_both to w v room other e same = record { regs = same.regs; places = λ p is. both_if (p == to) v w (other.places p) (room.places p) e (same.places p is) }
+  pub place_both : (to m n : ℕ) (w v : Option Place) (room other : Room) → n ≡ m → v ≡ w → SameRoom room other → SameRoom (room_place to m w room) (room_place to n v other)
+  place_both to m n w v room other d e same = record {
+    regs = same.regs;
+    places = λ p is. both_if (p == to) v w (other.places p) (room.places p) e (same.places p is);
+    roots = λ p is. both_if (p == to) n m (other.roots p) (room.roots p) d (same.roots p is);
+  }
 
   pub reg_past : (to w : ℕ) (room other : Room) → keep.regs to ≡ false → SameRoom room other → SameRoom (room_reg to w room) other
-  reg_past to w room other off same = record { regs = λ r is. past keep.regs to r w (room.regs r) (other.regs r) off is (same.regs r is); places = same.places }
+  reg_past to w room other off same = record { regs = λ r is. past keep.regs to r w (room.regs r) (other.regs r) off is (same.regs r is); places = same.places; roots = same.roots }
 
-  pub place_past : (to : ℕ) (w : Option Place) (room other : Room) → keep.places to ≡ false → SameRoom room other → SameRoom (room_place to w room) other
-  place_past to w room other off same = record { regs = same.regs; places = λ p is. past keep.places to p w (room.places p) (other.places p) off is (same.places p is) }
+  pub place_past : (to m : ℕ) (w : Option Place) (room other : Room) → keep.places to ≡ false → SameRoom room other → SameRoom (room_place to m w room) other
+  place_past to m w room other off same = record {
+    regs = same.regs;
+    places = λ p is. past keep.places to p w (room.places p) (other.places p) off is (same.places p is);
+    roots = λ p is. past keep.places to p m (room.roots p) (other.roots p) off is (same.roots p is);
+  }
 
   pub op_same : (how : Op) (room other : Room) (now then_now : RunMoment) → AreSet keep.regs (op_regs how) → AreSet keep.places (op_places how) → AreSet keep.vars (op_vars how) → SameRoom room other → SameMoment now then_now
       → op_word seen other then_now how ≡ op_word seen room now how
@@ -47,12 +56,23 @@ module _ (seen : Seen) (keep : Keep) where
   op_same (op.Extract div size from) room other now later regs places vars same moment = rw (same.regs from regs.0) refl
   op_same (op.Offset high size low) room other now later regs places vars same moment = rw (same.regs high regs.0, same.regs low regs.1.0) refl
   op_same (op.Read place layout field) room other now later regs places vars same moment = rw (same.places place places.0) refl
+  op_same (op.Active place) room other now later regs places vars same moment = rw (same.places place places.0) refl
   op_same (op.OwnRead layout field) room other now later regs places vars same moment = rw (moment.writes) refl
 
   pub step_same : (how : Step) (room other : Room) → AreSet keep.regs (step_regs how) → AreSet keep.places (step_places how) → SameRoom room other → step_place seen other how ≡ step_place seen room how
   step_same (step.Root layout) room other regs places same = refl
   step_same (step.Check place axis extent index) room other regs places same = rw (same.places place places.0, same.regs index regs.0) refl
   step_same (step.Down descent place node offset) room other regs places same = rw (same.places place places.0, same.regs offset regs.0) refl
+
+  pub root_same : (how : Step) (room other : Room) → AreSet keep.places (step_places how) → SameRoom room other → step_root other how ≡ step_root room how
+  root_same (step.Root layout) room other places same = refl
+  root_same (step.Check place axis extent index) room other places same = same.roots place places.0
+  root_same (step.Down descent place node offset) room other places same = same.roots place places.0
+
+  pub sight_same : (place : ℕ) (sight : Sight) (room other : Room) (now then_now : RunMoment) → keep.places place ≡ true → SameRoom room other → SameMoment now then_now
+      → op_word seen other then_now (sight_op place sight) ≡ op_word seen room now (sight_op place sight)
+  sight_same place (Value layout field) room other now later on same moment = op_same (op.Read place layout field) room other now later tt (on, tt) tt same moment
+  sight_same place Activity room other now later on same moment = op_same (op.Active place) room other now later tt (on, tt) tt same moment
 
   pub words_same : (index : List ℕ) (room other : Room) → AreSet keep.regs index → SameRoom room other → map other.regs index ≡ map room.regs index
   words_same [] room other regs same = refl
@@ -89,7 +109,7 @@ module _ (seen : Seen) (keep : Keep) where
   pub leaves : (block : Block) → Keeps block → is_end (kept_part keep block) ≡ true → (room : Room) (now later : RunMoment) → SameMoment now later → SameMoment (run seen block room now) later
   leaves block keeps e room now later moment =
       let none : kept_part keep block ≡ End = end_is (kept_part keep block) e in
-      let there = keeps room room now later (rw none tt) (record { regs = λ r is. refl; places = λ p is. refl }) moment in
+      let there = keeps room room now later (rw none tt) (record { regs = λ r is. refl; places = λ p is. refl; roots = λ p is. refl }) moment in
       subst (λ (b : Block). SameMoment (run seen block room now) (run seen b room later)) none there
 
   pub turns_same : (body : Block) → Keeps body → (var : ℕ) (room other : Room) → ReadsKept keep (kept_part keep body) → SameRoom room other → (turns : List ℤ) (now later : RunMoment) → SameMoment now later
@@ -114,16 +134,16 @@ module _ (seen : Seen) (keep : Keep) where
           (reg_both to _ _ room other (op_same how room other now later read.0 read.1 read.2 same moment) same) moment
       by_test false e read = keeps (room_reg to (op_word seen room now how) room) other now later read (reg_past to _ room other e same) moment
 
-  cell_keeps : (to place layout field : ℕ) (index : List ℕ) (rest : Block) → Keeps rest → Keeps (Cell to place layout field index rest)
-  cell_keeps to place layout field index rest keeps room other now later reads same moment = by_test (keep.regs to) refl reads
+  cell_keeps : (to place : ℕ) (sight : Sight) (index : List ℕ) (rest : Block) → Keeps rest → Keeps (Cell to place sight index rest)
+  cell_keeps to place sight index rest keeps room other now later reads same moment = by_test (keep.regs to) refl reads
     where
       how : Op
-      how = op.Read place layout field
+      how = sight_op place sight
 
-      by_test : (test : Bool) → keep.regs to ≡ test → ReadsKept keep (behind_where test (Cell to place layout field index) (kept_part keep rest))
-          → SameMoment (run seen (Cell to place layout field index rest) room now) (run seen (behind_where test (Cell to place layout field index) (kept_part keep rest)) other later)
+      by_test : (test : Bool) → keep.regs to ≡ test → ReadsKept keep (behind_where test (Cell to place sight index) (kept_part keep rest))
+          → SameMoment (run seen (Cell to place sight index rest) room now) (run seen (behind_where test (Cell to place sight index) (kept_part keep rest)) other later)
       by_test true e read = keeps (room_reg to (op_word seen room now how) room) (room_reg to (op_word seen other later how) other) now later read.2
-          (reg_both to _ _ room other (op_same how room other now later tt (read.1, tt) tt same moment) same) moment
+          (reg_both to _ _ room other (sight_same place sight room other now later read.1 same moment) same) moment
       by_test false e read = keeps (room_reg to (op_word seen room now how) room) other now later read (reg_past to _ room other e same) moment
 
   spot_keeps : (to : ℕ) (how : Step) (rest : Block) → Keeps rest → Keeps (Spot to how rest)
@@ -131,9 +151,9 @@ module _ (seen : Seen) (keep : Keep) where
     where
       by_test : (test : Bool) → keep.places to ≡ test → ReadsKept keep (behind_where test (Spot to how) (kept_part keep rest))
           → SameMoment (run seen (Spot to how rest) room now) (run seen (behind_where test (Spot to how) (kept_part keep rest)) other later)
-      by_test true e read = keeps (room_place to (step_place seen room how) room) (room_place to (step_place seen other how) other) now later read.2
-          (place_both to _ _ room other (step_same how room other read.0 read.1 same) same) moment
-      by_test false e read = keeps (room_place to (step_place seen room how) room) other now later read (place_past to _ room other e same) moment
+      by_test true e read = keeps (room_place to (step_root room how) (step_place seen room how) room) (room_place to (step_root other how) (step_place seen other how) other) now later read.2
+          (place_both to _ _ _ _ room other (root_same how room other read.1 same) (step_same how room other read.0 read.1 same) same) moment
+      by_test false e read = keeps (room_place to (step_root room how) (step_place seen room how) room) other now later read (place_past to _ _ room other e same) moment
 
   do_keeps : (what : Act) (rest : Block) → Keeps rest → Keeps (Do what rest)
   do_keeps what rest keeps room other now later reads same moment = by_test (keeps_act keep what) refl reads
@@ -195,7 +215,7 @@ module _ (seen : Seen) (keep : Keep) where
   keeps_run End = λ room other now later reads same moment. moment
   keeps_run (Word to how rest) = word_keeps to how rest (keeps_run rest)
   keeps_run (Spot to how rest) = spot_keeps to how rest (keeps_run rest)
-  keeps_run (Cell to place layout field index rest) = cell_keeps to place layout field index rest (keeps_run rest)
+  keeps_run (Cell to place sight index rest) = cell_keeps to place sight index rest (keeps_run rest)
   keeps_run (Do what rest) = do_keeps what rest (keeps_run rest)
   keeps_run (Branch cond block otherwise rest) = branch_keeps cond block otherwise rest (keeps_run block) (keeps_run otherwise) (keeps_run rest)
   keeps_run (Loop var lo hi body rest) = loop_keeps var lo hi body rest (keeps_run body) (keeps_run rest)

@@ -3,7 +3,7 @@ use Rattle.std.specs.Prelude.{◌≡◌, refl, ℕ, ℤ, ◌==◌, Bool, true, f
 use Rattle.std.proofs.Common.{◌∙◌}
 use Rattle.sg_ir.specs.declared.op.Op.{Op}
 use Rattle.sg_ir.specs.declared.op.Step.{Step}
-use Rattle.sg_ir.specs.Blocks.{Block, End, Word, Spot, Cell, Do, Branch, Loop, Act}
+use Rattle.sg_ir.specs.Blocks.{Sight, Block, End, Word, Spot, Cell, Do, Branch, Loop, Act}
 use Rattle.sg_ir.specs.InScope.{InScope, and_reg, and_place, AreSet, IsScoped, op_regs, op_places, step_regs, step_places, act_regs, act_places}
 use Rattle.sg_simplify.specs.Kept.{Keep, behind_where, is_end, keeps_act, kept_part, ReadsKept}
 use Rattle.sg_simplify.proofs.KeptTests.{both_if, past}
@@ -57,11 +57,11 @@ module _ (keep : Keep) where
       )
       by_test false is read = more (and_place to scope) few (place_past to scope few is same) read scoped.3
 
-  cell_scoped : (to place layout field : ℕ) (index : List ℕ) (rest : Block) → StaysScoped rest → StaysScoped (Cell to place layout field index rest)
-  cell_scoped to place layout field index rest more scope few same reads scoped = by_test (keep.regs to) refl reads
+  cell_scoped : (to place : ℕ) (sight : Sight) (index : List ℕ) (rest : Block) → StaysScoped rest → StaysScoped (Cell to place sight index rest)
+  cell_scoped to place sight index rest more scope few same reads scoped = by_test (keep.regs to) refl reads
     where
-      by_test : (test : Bool) → keep.regs to ≡ test → ReadsKept keep (behind_where test (Cell to place layout field index) (kept_part keep rest))
-          → IsScoped few (behind_where test (Cell to place layout field index) (kept_part keep rest))
+      by_test : (test : Bool) → keep.regs to ≡ test → ReadsKept keep (behind_where test (Cell to place sight index) (kept_part keep rest))
+          → IsScoped few (behind_where test (Cell to place sight index) (kept_part keep rest))
       by_test true is read = (
         (same.places place read.1 ∙ scoped.0.0, tt),
         same.regs to is ∙ scoped.1,
@@ -100,7 +100,7 @@ module _ (keep : Keep) where
   kept_scoped End = λ scope few same reads scoped. tt
   kept_scoped (Word to how rest) = word_scoped to how rest (kept_scoped rest)
   kept_scoped (Spot to how rest) = spot_scoped to how rest (kept_scoped rest)
-  kept_scoped (Cell to place layout field index rest) = cell_scoped to place layout field index rest (kept_scoped rest)
+  kept_scoped (Cell to place sight index rest) = cell_scoped to place sight index rest (kept_scoped rest)
   kept_scoped (Do what rest) = do_scoped what rest (kept_scoped rest)
   kept_scoped (Branch cond block otherwise rest) = branch_scoped cond block otherwise rest (kept_scoped block) (kept_scoped otherwise) (kept_scoped rest)
   kept_scoped (Loop var lo hi body rest) = loop_scoped var lo hi body rest (kept_scoped body) (kept_scoped rest)

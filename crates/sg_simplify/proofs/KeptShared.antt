@@ -6,7 +6,7 @@ use Rattle.std.proofs.lemmas.Bool.{and_parts, and_from, or_right}
 use Rattle.sg_ir.specs.declared.op.Op.{Op}
 use Rattle.sg_ir.specs.declared.op.Op.TheVariants as op
 use Rattle.sg_ir.specs.declared.op.Step.{Step}
-use Rattle.sg_ir.specs.Blocks.{Block, End, Word, Spot, Cell, Do, Branch, Loop, Act}
+use Rattle.sg_ir.specs.Blocks.{Sight, sight_op, Block, End, Word, Spot, Cell, Do, Branch, Loop, Act}
 use Rattle.sg_ir.specs.Shared.{same_op, same_step, is_pure, shares}
 use Rattle.sg_ir.specs.InScope.{AreSet}
 use Rattle.sg_simplify.specs.Kept.{Keep, behind_where, is_end, keeps_act, kept_part, op_vars, ReadsKept}
@@ -56,6 +56,7 @@ module _ (keep : Keep) (single narrow : ℕ → Bool) (same : (v : ℕ) → keep
   pure_same (op.Extract div size from) set = refl
   pure_same (op.Offset high size low) set = refl
   pure_same (op.Read place layout field) set = refl
+  pure_same (op.Active place) set = refl
   pure_same (op.OwnRead layout field) set = refl
 
   abbrev StaysShared : Block → Type 0
@@ -81,14 +82,14 @@ module _ (keep : Keep) (single narrow : ℕ → Bool) (same : (v : ℕ) → keep
           (more few ops (how ∷ less) (how ∷ steps) (step_both how few ops less steps fewer) read.2 parts.1)
       by_test false read parts = more few ops less (how ∷ steps) (step_past how few ops less steps fewer) read parts.1
 
-  cell_shared : (to place layout field : ℕ) (index : List ℕ) (rest : Block) → StaysShared rest → StaysShared (Cell to place layout field index rest)
-  cell_shared to place layout field index rest more few ops less steps fewer reads e = by_test (keep.regs to) reads (and_parts (not (list_any (same_op (op.Read place layout field)) ops)) (shares single (op.Read place layout field ∷ ops) steps rest) e)
+  cell_shared : (to place : ℕ) (sight : Sight) (index : List ℕ) (rest : Block) → StaysShared rest → StaysShared (Cell to place sight index rest)
+  cell_shared to place sight index rest more few ops less steps fewer reads e = by_test (keep.regs to) reads (and_parts (not (list_any (same_op (sight_op place sight)) ops)) (shares single (sight_op place sight ∷ ops) steps rest) e)
     where
       how : Op
-      how = op.Read place layout field
+      how = sight_op place sight
 
-      by_test : (test : Bool) → ReadsKept keep (behind_where test (Cell to place layout field index) (kept_part keep rest)) → (not (list_any (same_op how) ops) ≡ true) × (shares single (how ∷ ops) steps rest ≡ true)
-          → shares narrow few less (behind_where test (Cell to place layout field index) (kept_part keep rest)) ≡ true
+      by_test : (test : Bool) → ReadsKept keep (behind_where test (Cell to place sight index) (kept_part keep rest)) → (not (list_any (same_op how) ops) ≡ true) × (shares single (how ∷ ops) steps rest ≡ true)
+          → shares narrow few less (behind_where test (Cell to place sight index) (kept_part keep rest)) ≡ true
       by_test true read parts = and_from (not (list_any (same_op how) few)) (shares narrow (how ∷ few) less (kept_part keep rest))
           (still_absent (list_any (same_op how) ops) (list_any (same_op how) few) (fewer.computed how) parts.0)
           (more (how ∷ few) (how ∷ ops) less steps (op_both how few ops less steps fewer) read.2 parts.1)
@@ -127,7 +128,7 @@ module _ (keep : Keep) (single narrow : ℕ → Bool) (same : (v : ℕ) → keep
   kept_shared End = λ few ops less steps fewer reads e. refl
   kept_shared (Word to how rest) = word_shared to how rest (kept_shared rest)
   kept_shared (Spot to how rest) = spot_shared to how rest (kept_shared rest)
-  kept_shared (Cell to place layout field index rest) = cell_shared to place layout field index rest (kept_shared rest)
+  kept_shared (Cell to place sight index rest) = cell_shared to place sight index rest (kept_shared rest)
   kept_shared (Do what rest) = do_shared what rest (kept_shared rest)
   kept_shared (Branch cond block otherwise rest) = branch_shared cond block otherwise rest (kept_shared block) (kept_shared otherwise) (kept_shared rest)
   kept_shared (Loop var lo hi body rest) = loop_shared var lo hi body rest (kept_shared body) (kept_shared rest)

@@ -27,7 +27,7 @@ pub end_is : (block : Block) → is_end block ≡ true → block ≡ End
 end_is End e = refl
 end_is (Word to how rest) e = absurd (cc)
 end_is (Spot to how rest) e = absurd (cc)
-end_is (Cell to place layout field index rest) e = absurd (cc)
+end_is (Cell to place sight index rest) e = absurd (cc)
 end_is (Do what rest) e = absurd (cc)
 end_is (Branch cond block otherwise rest) e = absurd (cc)
 end_is (Loop var lo hi body rest) e = absurd (cc)

@@ -9,10 +9,10 @@ use Rattle.sg_ir.specs.declared.op.Op.{Op}
 use Rattle.sg_ir.specs.declared.op.Op.TheVariants as op
 use Rattle.sg_ir.specs.declared.op.Step.{Step}
 use Rattle.sg_ir.specs.declared.op.Step.TheVariants as step
-use Rattle.sg_ir.specs.Blocks.{Block, End, Word, Spot, Cell, Do, Branch, Loop, Act, SetVar, WriteOwn, Contribute, Wish}
+use Rattle.sg_ir.specs.Blocks.{Sight, Value, Activity, sight_op, Block, End, Word, Spot, Cell, Do, Branch, Loop, Act, SetVar, WriteOwn, Contribute, Wish}
 use Rattle.sg_ir.specs.WellTyped.{KnownPlace, Scope, Frame, with_reg, with_var, is_truth, is_truth_as, reads, indexes, is_i32, takes_truth, is_lnot, holds_of, checkable, descends, is_cell}
 use Rattle.sg_ir.specs.InScope.{AreSet, op_regs, op_places, step_regs, step_places, act_regs, act_places}
-use Rattle.sg_simplify.specs.steps.Judged.{gives_type, field_truth, truth_of, operands_fit, index_fits, way_by, step_reads, step_known, and_known, act_fits, behind_act, is_no_read, fits_scope}
+use Rattle.sg_simplify.specs.steps.Judged.{gives_type, field_truth, truth_of, operands_fit, index_fits, way_by, step_reads, step_known, and_known, act_fits, behind_act, is_no_read, fits_scope, sight_fits}
 use Rattle.sg_simplify.specs.Kept.{Keep, behind_where, is_end, keeps_act, kept_part, op_vars, ReadsKept}
 use Rattle.sg_simplify.proofs.KeptTests.{both_if, past}
 
@@ -82,7 +82,23 @@ module _ (keep : Keep) (shapes : List Shape) (types : List Ty) (room : ℕ) (var
       ap (λ x. nat_lt 0 size && x)
       (and_same (reads narrow few false high) (reads at scope false high) (reads narrow few false low) (reads at scope false low) (reads_same scope few agree false high rs.0) (reads_same scope few agree false low rs.1.0))
   op_same scope few agree (op.Read place layout field) rs ps vs = ap (holds_of (is_cell at layout)) (agree.places place ps.0)
+  op_same scope few agree (op.Active place) rs ps vs = ap (holds_of (λ (known : KnownPlace). is_cell at known.layout known)) (agree.places place ps.0)
   op_same scope few agree (op.OwnRead layout field) rs ps vs = refl
+
+  -- what sees something at a place, and its index registers
+  sight_same : (scope few : Scope) → SameScope scope few → (place : ℕ) (sight : Sight) → keep.places place ≡ true → operands_fit narrow few (sight_op place sight) ≡ operands_fit at scope (sight_op place sight)
+  sight_same scope few agree place (Value layout field) on = op_same scope few agree (op.Read place layout field) tt (on, tt) tt
+  sight_same scope few agree place Activity on = op_same scope few agree (op.Active place) tt (on, tt) tt
+
+  named_same : (scope few : Scope) → SameScope scope few → (place : ℕ) (sight : Sight) (index : List ℕ) → keep.places place ≡ true → AreSet keep.regs index
+      → sight_fits narrow few place sight index ≡ sight_fits at scope place sight index
+  named_same scope few agree place (Value layout field) index on set = index_same scope few agree index set (slice_get shapes layout)
+  named_same scope few agree place Activity index on set =
+      ap (holds_of (λ (known : KnownPlace). index_fits narrow few known.layout index)) (agree.places place on) ∙ by_known (scope.places place)
+    where
+      by_known : (found : Option KnownPlace) → holds_of (λ known. index_fits narrow few known.layout index) found ≡ holds_of (λ known. index_fits at scope known.layout index) found
+      by_known None = refl
+      by_known (Some known) = index_same scope few agree index set (slice_get shapes known.layout)
 
   step_same : (scope few : Scope) → SameScope scope few → (how : Step) → AreSet keep.regs (step_regs how) → AreSet keep.places (step_places how) → step_reads narrow few how ≡ step_reads at scope how
   step_same scope few agree (step.Root layout) rs ps = refl
@@ -159,22 +175,22 @@ module _ (keep : Keep) (shapes : List Shape) (types : List Ty) (room : ℕ) (var
           tails (nat_lt to room && step_reads at scope how) (fits_scope at (and_known to (step_known scope how) scope) rest) (fits_scope narrow few (kept_part keep rest)) e
           (λ f. more (and_known to (step_known scope how) scope) few (place_past to (step_known scope how) scope few is agree) read f)
 
-  cell_typed : (to place layout field : ℕ) (index : List ℕ) (rest : Block) → StaysTyped rest → StaysTyped (Cell to place layout field index rest)
-  cell_typed to place layout field index rest more scope few agree reads e = by_test (keep.regs to) refl reads
+  cell_typed : (to place : ℕ) (sight : Sight) (index : List ℕ) (rest : Block) → StaysTyped rest → StaysTyped (Cell to place sight index rest)
+  cell_typed to place sight index rest more scope few agree reads e = by_test (keep.regs to) refl reads
     where
       fits : Bool → Bool → Bool
-      fits there named = there && (gives_type (field_truth shapes layout field) (slice_get types to) && named)
+      fits there named = there && (gives_type (truth_of shapes var_types (sight_op place sight)) (slice_get types to) && named)
 
-      by_test : (test : Bool) → keep.regs to ≡ test → ReadsKept keep (behind_where test (Cell to place layout field index) (kept_part keep rest))
-          → fits_scope narrow few (behind_where test (Cell to place layout field index) (kept_part keep rest)) ≡ true
+      by_test : (test : Bool) → keep.regs to ≡ test → ReadsKept keep (behind_where test (Cell to place sight index) (kept_part keep rest))
+          → fits_scope narrow few (behind_where test (Cell to place sight index) (kept_part keep rest)) ≡ true
       by_test true is read =
-          heads (fits (operands_fit at scope (op.Read place layout field)) (index_fits at scope layout index)) (fits (operands_fit narrow few (op.Read place layout field)) (index_fits narrow few layout index))
+          heads (fits (operands_fit at scope (sight_op place sight)) (sight_fits at scope place sight index)) (fits (operands_fit narrow few (sight_op place sight)) (sight_fits narrow few place sight index))
           (fits_scope at (with_reg to scope) rest) (fits_scope narrow (with_reg to few) (kept_part keep rest))
-          (ap (λ x. fits x (index_fits narrow few layout index)) (op_same scope few agree (op.Read place layout field) tt (read.1, tt) tt)
-          ∙ ap (fits (operands_fit at scope (op.Read place layout field))) (index_same scope few agree index read.0 (slice_get shapes layout))) e
+          (ap (λ x. fits x (sight_fits narrow few place sight index)) (sight_same scope few agree place sight read.1)
+          ∙ ap (fits (operands_fit at scope (sight_op place sight))) (named_same scope few agree place sight index read.1 read.0)) e
           (λ f. more (with_reg to scope) (with_reg to few) (reg_both to scope few agree) read.2 f)
       by_test false is read =
-          tails (fits (operands_fit at scope (op.Read place layout field)) (index_fits at scope layout index)) (fits_scope at (with_reg to scope) rest) (fits_scope narrow few (kept_part keep rest)) e
+          tails (fits (operands_fit at scope (sight_op place sight)) (sight_fits at scope place sight index)) (fits_scope at (with_reg to scope) rest) (fits_scope narrow few (kept_part keep rest)) e
           (λ f. more (with_reg to scope) few (reg_past to scope few is agree) read f)
 
   do_typed : (what : Act) (rest : Block) → StaysTyped rest → StaysTyped (Do what rest)
@@ -227,7 +243,7 @@ module _ (keep : Keep) (shapes : List Shape) (types : List Ty) (room : ℕ) (var
   kept_typed End = λ scope few agree reads e. refl
   kept_typed (Word to how rest) = word_typed to how rest (kept_typed rest)
   kept_typed (Spot to how rest) = spot_typed to how rest (kept_typed rest)
-  kept_typed (Cell to place layout field index rest) = cell_typed to place layout field index rest (kept_typed rest)
+  kept_typed (Cell to place sight index rest) = cell_typed to place sight index rest (kept_typed rest)
   kept_typed (Do what rest) = do_typed what rest (kept_typed rest)
   kept_typed (Branch cond block otherwise rest) = branch_typed cond block otherwise rest (kept_typed block) (kept_typed otherwise) (kept_typed rest)
   kept_typed (Loop var lo hi body rest) = loop_typed var lo hi body rest (kept_typed body) (kept_typed rest)

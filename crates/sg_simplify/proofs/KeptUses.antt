@@ -2,8 +2,8 @@
 use Rattle.std.specs.Prelude.{◌≡◌, refl, ℕ, ℤ, Bool, true, false, not, ◌&&◌, ◌||◌, List}
 use Rattle.std.proofs.lemmas.Bool.{or_parts, or_from}
 use Rattle.sg_ir.specs.declared.op.Op.{Op}
-use Rattle.sg_ir.specs.Apt.{Use, Reads}
-use Rattle.sg_ir.specs.Blocks.{Block, End, Word, Spot, Cell, Do, Branch, Loop, Act}
+use Rattle.sg_ir.specs.Apt.{Use}
+use Rattle.sg_ir.specs.Blocks.{Sight, sight_op, Block, End, Word, Spot, Cell, Do, Branch, Loop, Act}
 use Rattle.sg_simplify.specs.steps.Only.{op_use, act_use, has_use}
 use Rattle.sg_simplify.specs.Kept.{Keep, behind_where, is_end, keeps_act, kept_part}
 
@@ -12,9 +12,9 @@ module _ (keep : Keep) (test : Use → Bool) where
   word_unused to how kept true e f = or_from (op_use test how) (has_use test kept) e f
   word_unused to how kept false e f = f
 
-  cell_unused : (to place layout field : ℕ) (index : List ℕ) (kept : Block) → (stays : Bool) → test (Reads layout field) ≡ false → has_use test kept ≡ false → has_use test (behind_where stays (Cell to place layout field index) kept) ≡ false
-  cell_unused to place layout field index kept true e f = or_from (test (Reads layout field)) (has_use test kept) e f
-  cell_unused to place layout field index kept false e f = f
+  cell_unused : (to place : ℕ) (sight : Sight) (index : List ℕ) (kept : Block) → (stays : Bool) → op_use test (sight_op place sight) ≡ false → has_use test kept ≡ false → has_use test (behind_where stays (Cell to place sight index) kept) ≡ false
+  cell_unused to place sight index kept true e f = or_from (op_use test (sight_op place sight)) (has_use test kept) e f
+  cell_unused to place sight index kept false e f = f
 
   do_unused : (what : Act) (kept : Block) → (stays : Bool) → act_use test what ≡ false → has_use test kept ≡ false → has_use test (behind_where stays (Do what) kept) ≡ false
   do_unused what kept true e f = or_from (act_use test what) (has_use test kept) e f
@@ -36,8 +36,8 @@ module _ (keep : Keep) (test : Use → Bool) where
   kept_unused End e = refl
   kept_unused (Word to how rest) e = let parts = or_parts (op_use test how) (has_use test rest) e in word_unused to how (kept_part keep rest) (keep.regs to) parts.0 (kept_unused rest parts.1)
   kept_unused (Spot to how rest) e = spot_unused to how (kept_part keep rest) (keep.places to) (kept_unused rest e)
-  kept_unused (Cell to place layout field index rest) e =
-      let parts = or_parts (test (Reads layout field)) (has_use test rest) e in cell_unused to place layout field index (kept_part keep rest) (keep.regs to) parts.0 (kept_unused rest parts.1)
+  kept_unused (Cell to place sight index rest) e =
+      let parts = or_parts (op_use test (sight_op place sight)) (has_use test rest) e in cell_unused to place sight index (kept_part keep rest) (keep.regs to) parts.0 (kept_unused rest parts.1)
   kept_unused (Do what rest) e = let parts = or_parts (act_use test what) (has_use test rest) e in do_unused what (kept_part keep rest) (keeps_act keep what) parts.0 (kept_unused rest parts.1)
   kept_unused (Branch cond block otherwise rest) e =
       let first = or_parts (has_use test block) (has_use test otherwise || has_use test rest) e in

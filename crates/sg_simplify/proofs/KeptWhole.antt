@@ -1,5 +1,6 @@
 -- What is left of simplified code, where least is kept, is simplified, and lean.
-use Rattle.std.specs.Prelude.{◌≡◌, refl, ℕ, ◌≤◌, ◌==◌, nat_le, nat_lt, Bool, true, ◌&&◌, if◌then◌else◌, List, [], ◌∷◌}
+use Rattle.std.specs.Prelude.{◌≡◌, refl, ℕ, ◌≤◌, ◌==◌, nat_le, nat_lt, Bool, true, ◌&&◌, if◌then◌else◌, List, [], ◌∷◌, Contains}
+use Rattle.std.specs.List.{list_all}
 use Rattle.std.proofs.Common.{arith, sym, ap, subst, ◌∙◌}
 use Rattle.std.proofs.lemmas.Bool.{and_parts, and_from}
 use Rattle.sg_words.specs.declared.operators.Ty.{Ty}
@@ -14,18 +15,20 @@ use Rattle.sg_ir.specs.Apt.{uses_in}
 use Rattle.sg_ir.specs.Blocks.{Block, End, Word, Spot, Cell, Do, Branch, Loop, block_in}
 use Rattle.sg_ir.specs.Span.{whole_i32, domain_span, first_spans, sets}
 use Rattle.sg_ir.specs.Shared.{is_single, is_shared}
-use Rattle.sg_ir.specs.Trimmed.{accesses_are_trim, is_trimmed}
+use Rattle.sg_ir.specs.Trimmed.{accesses_are_trim, is_trimmed, asked}
 use Rattle.sg_ir.specs.WellTyped.{Frame, Scope, with_reg, with_var, frame_of, first_scope, judged, set_regs, set_places, setters_in, has_no_twice, most_loop_vars, is_well_typed}
 use Rattle.sg_ir.specs.InScope.{nothing, IsScoped, op_places}
 use Rattle.sg_ir.specs.Scoped.{RunMoment, first_room, run}
 use Rattle.sg_ir.specs.Flat.{moment_of}
-use Rattle.sg_ir.proofs.Uses.{forms_alike}
+use Rattle.sg_ir.proofs.Uses.{forms_alike, asked-code}
 use Rattle.sg_simplify.specs.Simplified.{TellsTheSame, IsSimplified}
 use Rattle.sg_simplify.specs.steps.Left.{IsSimple}
 use Rattle.sg_simplify.specs.steps.Counted.{regs_set, places_set}
 use Rattle.sg_simplify.specs.steps.Judged.{fits_scope, is_no_read, step_known, and_known, behind_act}
 use Rattle.sg_simplify.specs.steps.Only.{has_use}
 use Rattle.sg_simplify.specs.steps.Serves.{NamesAll}
+use Rattle.sg_simplify.specs.steps.Trims.{answers}
+use Rattle.sg_simplify.proofs.Answering.{all_good, only_asked, answers_trim, answers_asked, both_answer}
 use Rattle.sg_simplify.proofs.Judging.{code_fits}
 use Rattle.sg_simplify.proofs.Naming.{told_named, named_told}
 use Rattle.sg_simplify.proofs.Tallying.{code_regs, code_places, code_vars}
@@ -56,6 +59,7 @@ no_places (op.Mulq a b s) e = refl
 no_places (op.Extract div size from) e = refl
 no_places (op.Offset high size low) e = refl
 no_places (op.Read place layout field) e = absurd (cc)
+no_places (op.Active place) e = absurd (cc)
 no_places (op.OwnRead layout field) e = refl
 
 fits_no_reads : (at : Frame) (scope : Scope) (block : Block) → fits_scope at scope block ≡ true → HasNoReads block
@@ -64,7 +68,7 @@ fits_no_reads at scope (Word to how rest) e =
     let parts = and_parts _ (fits_scope at (with_reg to scope) rest) e in
     (no_places how (and_parts (is_no_read how) _ parts.0).0, fits_no_reads at (with_reg to scope) rest parts.1)
 fits_no_reads at scope (Spot to how rest) e = fits_no_reads at (and_known to (step_known scope how) scope) rest (and_parts _ (fits_scope at (and_known to (step_known scope how) scope) rest) e).1
-fits_no_reads at scope (Cell to place layout field index rest) e = fits_no_reads at (with_reg to scope) rest (and_parts _ (fits_scope at (with_reg to scope) rest) e).1
+fits_no_reads at scope (Cell to place sight index rest) e = fits_no_reads at (with_reg to scope) rest (and_parts _ (fits_scope at (with_reg to scope) rest) e).1
 fits_no_reads at scope (Do what rest) e = fits_no_reads at (behind_act what scope) rest (and_parts _ (fits_scope at (behind_act what scope) rest) e).1
 fits_no_reads at scope (Branch cond block otherwise rest) e =
     let first = and_parts _ (fits_scope at scope rest) e in
@@ -109,7 +113,7 @@ module _ (shapes : List Shape) (domain : Domain) (given made left : Code) (simpl
   left_scoped = subst (IsScoped nothing) (sym is) part_scoped
 
   same_room : (seen : Seen) → SameRoom seen keep first_room first_room
-  same_room seen = record { regs = λ r on. refl; places = λ p on. refl }
+  same_room seen = record { regs = λ r on. refl; places = λ p on. refl; roots = λ p on. refl }
 
   same_moment : (seen : Seen) (now : RunMoment) → SameMoment seen keep now now
   same_moment seen now = record { vars = λ v on. refl; writes = refl; wants = refl }
@@ -164,13 +168,21 @@ module _ (shapes : List Shape) (domain : Domain) (given made left : Code) (simpl
   part_shared : is_shared part ≡ true
   part_shared = kept_shared keep (is_single all) (is_single part) (λ v on. ap (λ n. nat_le n 1) (kept_sets keep v on all)) all [] [] [] [] (record { computed = λ how e. e; stepped = λ how e. e }) closed simple.shared
 
+  -- what is left answers, for a test that passes for what all of it asks
+  part_answers : (good : ℕ → Bool) → list_all good (asked [] all) ≡ true → answers good shapes (first_spans shapes domain part) [] part ≡ true
+  part_answers good asks =
+      kept_trim good keep shapes all (first_spans shapes domain all) (first_spans shapes domain part) [] []
+      (record { regs = λ r on. refl; vars = λ v on. ap (λ n. if n == 0 then domain_span shapes domain v else whole_i32) (kept_sets keep v on all); places = λ p on. refl }) closed
+      (both_answer good shapes all (first_spans shapes domain all) [] (and_parts (accesses_are_trim shapes (first_spans shapes domain all) [] all) _ simple.trimmed).0 asks)
+
   part_trimmed : is_trimmed shapes domain part ≡ true
   part_trimmed =
       and_from (accesses_are_trim shapes (first_spans shapes domain part) [] part) _
-      (kept_trim keep shapes all (first_spans shapes domain all) (first_spans shapes domain part) [] []
-      (record { regs = λ r on. refl; vars = λ v on. ap (λ n. if n == 0 then domain_span shapes domain v else whole_i32) (kept_sets keep v on all); places = λ p on. refl }) closed
-      (and_parts (accesses_are_trim shapes (first_spans shapes domain all) [] all) _ simple.trimmed).0)
+      (answers_trim (λ layout. true) shapes part (first_spans shapes domain part) [] (part_answers (λ layout. true) (all_good (asked [] all))))
       (lean_checks_serve part part_lean (fits_no_reads (framed shapes made.regs made.places made.vars (setters_in left.body)) (first_scope left.body) part part_fits) part_scoped (λ n. (part_once n).1))
+
+  part_asks : (layout : ℕ) → Contains (asked [] part) layout → Contains (asked [] all) layout
+  part_asks = only_asked (asked [] all) (asked [] part) (λ good e. answers_asked good shapes part (first_spans shapes domain part) [] (part_answers good e))
 
   pub left_is_simplified : IsSimplified shapes domain given left
   left_is_simplified = record {
@@ -181,5 +193,7 @@ module _ (shapes : List Shape) (domain : Domain) (given made left : Code) (simpl
     trimmed = ap (is_trimmed shapes domain) is ∙ part_trimmed;
     only = λ it has. simple.only it (only_given (uses_in made.body) (uses_in left.body)
         (λ test off. sym (code_uses left.regs test left.body) ∙ (ap (has_use test) is ∙ kept_unused keep test all (code_uses made.regs test made.body ∙ off))) it has);
+    asks = λ layout has. simple.asks layout (subst (λ (xs : List ℕ). Contains xs layout) (asked-code made)
+        (part_asks layout (subst (λ (xs : List ℕ). Contains xs layout) (sym (asked-code left) ∙ ap (asked []) is) has)));
     lean = subst IsLean (sym is) part_lean;
   }

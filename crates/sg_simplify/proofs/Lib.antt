@@ -28,6 +28,9 @@ pub mod Ruling
 pub mod Rulings
 pub mod Tallying
 pub mod Counting
+pub mod Sights
+pub mod Rooted
+pub mod Fitted
 pub mod WellRuled
 pub mod Laid
 pub mod UsesOfCode
@@ -45,6 +48,8 @@ pub mod KeptRuns
 pub mod KeptCounts
 pub mod KeptShared
 pub mod KeptTrims
+pub mod Answering
+pub mod Rooting
 pub mod KeptUses
 pub mod KeptTyped
 pub mod KeptNamed

@@ -63,7 +63,7 @@ module _
 
   pub simple_tells : (shapes : List Shape) (domain : Domain) (types made_types : List Ty) (given made : List Inst)
       → block_of made_types made ≡ simple shapes domain types (block_of types given)
-      → IsRuled shapes (given_of shapes domain types (block_of types given)).single (vars_of (given_of shapes domain types (block_of types given)) first_pass) nothing (block_of types given)
+      → IsRuled shapes (given_of shapes domain types (block_of types given)).roots (given_of shapes domain types (block_of types given)).single (vars_of (given_of shapes domain types (block_of types given)) first_pass) nothing (block_of types given)
       → IsNamed shapes domain given
       → (state : FlatState) → IsFlat shapes state → (at : Coord) → Contains (domain_points state domain) at
       → Tells (record { shapes = shapes; state = state; at = at }) given made

@@ -7,10 +7,10 @@ use Rattle.sg_flat.specs.Domain.{numbers}
 use Rattle.sg_ir.specs.declared.op.Op.{Op}
 use Rattle.sg_ir.specs.declared.op.Op.TheVariants as op
 use Rattle.sg_ir.specs.Runs.{Seen, put}
-use Rattle.sg_ir.specs.Blocks.{Block, End, Word, Spot, Cell, Do, Branch, Loop, SetVar, WriteOwn, Contribute, Wish}
+use Rattle.sg_ir.specs.Blocks.{sight_op, Block, End, Word, Spot, Cell, Do, Branch, Loop, SetVar, WriteOwn, Contribute, Wish}
 use Rattle.sg_ir.specs.Span.{sets}
 use Rattle.sg_ir.specs.SpanLaws.{FitsSpans}
-use Rattle.sg_ir.specs.Scoped.{RunMoment, Room, room_reg, room_place, op_word, step_place, moment_after_act, at_turn, run}
+use Rattle.sg_ir.specs.Scoped.{RunMoment, Room, room_reg, room_place, op_word, step_root, step_place, moment_after_act, at_turn, run}
 use Rattle.sg_simplify.specs.steps.Pass.{Given, Pass, Next, vars_of}
 use Rattle.sg_simplify.specs.steps.Serves.{EachByRecursion, OpStays, OpHolds, HoldsInRoom}
 use Rattle.sg_simplify.proofs.Tables.{each_map}
@@ -56,8 +56,8 @@ module _ (seen : Seen) where
   pub run_leaves : (var : ℕ) (block : Block) (room : Room) (now : RunMoment) → sets var block ≡ 0 → (run seen block room now).vars var ≡ now.vars var
   run_leaves var End room now h = refl
   run_leaves var (Word to how rest) room now h = run_leaves var rest (room_reg to (op_word seen room now how) room) now h
-  run_leaves var (Spot to how rest) room now h = run_leaves var rest (room_place to (step_place seen room how) room) now h
-  run_leaves var (Cell to place layout field index rest) room now h = run_leaves var rest (room_reg to (op_word seen room now (op.Read place layout field)) room) now h
+  run_leaves var (Spot to how rest) room now h = run_leaves var rest (room_place to (step_root room how) (step_place seen room how) room) now h
+  run_leaves var (Cell to place sight index rest) room now h = run_leaves var rest (room_reg to (op_word seen room now (sight_op place sight)) room) now h
   run_leaves var (Do (SetVar set from) rest) room now h =
       run_leaves var rest room (moment_after_act seen room (SetVar set from) now) (last_none _ (sets var rest) h) ∙ put_other set var (room.regs from) now.vars (first_none _ (sets var rest) h)
   run_leaves var (Do (WriteOwn layout field from stmt) rest) room now h = run_leaves var rest room (moment_after_act seen room (WriteOwn layout field from stmt) now) (last_none _ (sets var rest) h)
@@ -86,6 +86,7 @@ module _ (seen : Seen) where
   stays_moved block rest now reached moves (op.Extract div size from) h = tt
   stays_moved block rest now reached moves (op.Offset high size low) h = tt
   stays_moved block rest now reached moves (op.Read place layout field) h = tt
+  stays_moved block rest now reached moves (op.Active place) h = tt
   stays_moved block rest now reached moves (op.OwnRead layout field) h = absurd h
 
   word_moved : (block rest : Block) (now reached : RunMoment) → Moves block rest now reached → (room : Room) (how : Op) → OpStays block how → op_word seen room now how ≡ op_word seen room reached how
@@ -97,6 +98,7 @@ module _ (seen : Seen) where
   word_moved block rest now reached moves room (op.Extract div size from) h = refl
   word_moved block rest now reached moves room (op.Offset high size low) h = refl
   word_moved block rest now reached moves room (op.Read place layout field) h = refl
+  word_moved block rest now reached moves room (op.Active place) h = refl
   word_moved block rest now reached moves room (op.OwnRead layout field) h = absurd h
 
   pub ops_moved : (block rest : Block) (next : Next) (room : Room) (now reached : RunMoment) → Moves block rest now reached → (entries : List (Op × ℕ))

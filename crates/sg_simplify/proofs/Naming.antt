@@ -8,19 +8,19 @@ use Rattle.sg_words.specs.Words.{word_of}
 use Rattle.sg_layout.specs.declared.shape.Shape.{Shape}
 use Rattle.sg_flat.specs.Domain.{numbers}
 use Rattle.sg_ir.specs.declared.code.Inst.{Inst}
-use Rattle.sg_ir.specs.declared.op.Op.TheVariants as op
 use Rattle.sg_ir.specs.Runs.{Seen, Moved, Access, coord_of, named_by, set_reg, set_place, set_var_word, iteration_start, iteration}
 use Rattle.sg_ir.specs.Places.{place_at}
 use Rattle.sg_ir.specs.Named.{IsNamedAccess, AreNamed}
-use Rattle.sg_ir.specs.Blocks.{Block, End, Word, Spot, Cell, Do, Branch, Loop, SetVar, WriteOwn, Contribute, Wish, block_of}
+use Rattle.sg_ir.specs.Blocks.{Block, End, Word, Spot, Cell, Do, Branch, Loop, SetVar, WriteOwn, Contribute, Wish, block_of, Sight, Value, Activity, sight_op}
 use Rattle.sg_ir.specs.SpanLaws.{WhereTest, EachTurn}
-use Rattle.sg_ir.specs.Scoped.{RunMoment, Room, room_reg, room_place, op_word, step_place, moment_after_act, at_turn, run, first_room}
-use Rattle.sg_ir.specs.Flat.{room_of, moment_of, moved_by, moved_by_read, goes}
+use Rattle.sg_ir.specs.Scoped.{RunMoment, Room, room_reg, room_place, op_word, step_root, step_place, moment_after_act, at_turn, run, first_room}
+use Rattle.sg_ir.specs.Flat.{room_of, moment_of, moved_by, sight_access, moved_by_sight, goes}
 use Rattle.sg_ir.specs.InScope.{InScope, and_reg, and_place, nothing, IsScoped, AgreesInScope}
 use Rattle.sg_ir.proofs.Uses.{goes-runs}
-use Rattle.sg_ir.proofs.Uses.{put_same, put_all, mapped, op_same, step_same, act_same, reg_same, scoped_same}
+use Rattle.sg_ir.proofs.Uses.{put_same, put_all, mapped, op_same, step_same, root_same, act_same, reg_same, scoped_same}
 use Rattle.sg_ir.proofs.Uses.{all_one}
-use Rattle.sg_simplify.specs.steps.Serves.{EachByRecursion, IsAt, NamesAll}
+use Rattle.sg_simplify.specs.steps.Serves.{EachByRecursion, IsAt, OpIsAt, NamesAll}
+use Rattle.sg_simplify.proofs.Sights.{sight_regs, sight_places}
 
 -- ---- each and all
 all_each : {X : Type 0} (P : X → Type 0) (xs : List X) → All P xs → EachByRecursion P xs
@@ -74,6 +74,17 @@ module _ (seen : Seen) where
       → moved.places place ≡ place_at seen.shapes layout (coord_of (map moved.regs index)) → IsAt seen.shapes room place layout index
   at_back room moved place layout index same words h = sym same ∙ (h ∙ ap (λ ws. place_at seen.shapes layout (coord_of ws)) words)
 
+  -- the same of what is seen at a place
+  sight_there : (room : Room) (moved : Moved) (place : ℕ) (sight : Sight) (index : List ℕ) → moved.places place ≡ room.places place → moved.roots place ≡ room.roots place → map moved.regs index ≡ map room.regs index
+      → OpIsAt seen.shapes room (sight_op place sight) index → IsNamedAccess seen.shapes (sight_access sight place index moved)
+  sight_there room moved place (Value layout field) index same root words h = at_there room moved place layout index same words h
+  sight_there room moved place Activity index same root words h = at_there room moved place (moved.roots place) index same words (subst (λ (layout : ℕ). IsAt seen.shapes room place layout index) (sym root) h)
+
+  sight_back : (room : Room) (moved : Moved) (place : ℕ) (sight : Sight) (index : List ℕ) → moved.places place ≡ room.places place → moved.roots place ≡ room.roots place → map moved.regs index ≡ map room.regs index
+      → IsNamedAccess seen.shapes (sight_access sight place index moved) → OpIsAt seen.shapes room (sight_op place sight) index
+  sight_back room moved place (Value layout field) index same root words h = at_back room moved place layout index same words h
+  sight_back room moved place Activity index same root words h = subst (λ (layout : ℕ). IsAt seen.shapes room place layout index) root (at_back room moved place (moved.roots place) index same words h)
+
   turns_tell : (scope : InScope) (room : Room) (var : ℕ) (body : Block) → IsScoped scope body
       → ((moment : RunMoment) (moved : Moved) → AgreesInScope scope room moment moved → Tells seen.shapes (NamesAll seen body room moment) moved.accesses (goes seen body moved).accesses)
       → (turns : List ℤ) (moment : RunMoment) (moved : Moved) → AgreesInScope scope room moment moved
@@ -84,6 +95,7 @@ module _ (seen : Seen) where
       let here : AgreesInScope scope room (at_turn var turn moment) (set_var_word var (word_of turn) moved) = record {
         regs = same.regs;
         places = same.places;
+        roots = same.roots;
         vars = put_all var (word_of turn) (word_of turn) moved.vars moment.vars refl same.vars;
         writes = same.writes;
         wants = same.wants;
@@ -102,22 +114,24 @@ module _ (seen : Seen) where
       (reg_same seen scope room moment moved to (op_word seen room moment how) (op_word seen (room_of moved) (moment_of moved) how) e same)
   goes_tells (Spot to how rest) scope room moment moved good same =
       let e = step_same seen scope room moment moved same how good.0 good.1 in
-      goes_tells rest (and_place to scope) (room_place to (step_place seen room how) room) moment (set_place to (step_place seen (room_of moved) how) moved) good.3 (record {
+      goes_tells rest (and_place to scope) (room_place to (step_root room how) (step_place seen room how) room) moment (set_place to (step_root (room_of moved) how) (step_place seen (room_of moved) how) moved) good.3 (record {
         regs = same.regs;
+        roots = put_same to (step_root (room_of moved) how) (step_root room how) scope.places moved.roots room.roots (root_same seen scope room moment moved same how good.1) same.roots;
         places = put_same to (step_place seen (room_of moved) how) (step_place seen room how) scope.places moved.places room.places e same.places;
         vars = same.vars;
         writes = same.writes;
         wants = same.wants;
       })
-  goes_tells (Cell to place layout field index rest) scope room moment moved good same =
-      let e = op_same seen scope room moment moved same (op.Read place layout field) tt good.0 in
-      let next = reg_same seen scope room moment moved to (op_word seen room moment (op.Read place layout field)) (op_word seen (room_of moved) (moment_of moved) (op.Read place layout field)) e same in
+  goes_tells (Cell to place sight index rest) scope room moment moved good same =
+      let how = sight_op place sight in
+      let e = op_same seen scope room moment moved same how (sight_regs scope.regs place sight) (sight_places scope.places place sight good.0.0) in
+      let next = reg_same seen scope room moment moved to (op_word seen room moment how) (op_word seen (room_of moved) (moment_of moved) how) e same in
       let words = mapped scope.regs moved.regs room.regs same.regs index good.3 in
-      tells_on seen.shapes _ _ moved.accesses (moved.accesses ++ record { layout = layout; place = moved.places place; at = named_by index moved } ∷ []) _
-      (tells_one seen.shapes (IsAt seen.shapes room place layout index) moved.accesses (record { layout = layout; place = moved.places place; at = named_by index moved })
-      (at_there room moved place layout index (same.places place good.0.0) words) (at_back room moved place layout index (same.places place good.0.0) words))
-      (goes_tells rest (and_reg to scope) (room_reg to (op_word seen room moment (op.Read place layout field)) room) moment (moved_by_read seen to place layout field index moved) good.2
-      (record { regs = next.regs; places = next.places; vars = next.vars; writes = next.writes; wants = next.wants }))
+      tells_on seen.shapes _ _ moved.accesses (moved.accesses ++ sight_access sight place index moved ∷ []) _
+      (tells_one seen.shapes (OpIsAt seen.shapes room how index) moved.accesses (sight_access sight place index moved)
+      (sight_there room moved place sight index (same.places place good.0.0) (same.roots place good.0.0) words) (sight_back room moved place sight index (same.places place good.0.0) (same.roots place good.0.0) words))
+      (goes_tells rest (and_reg to scope) (room_reg to (op_word seen room moment how) room) moment (moved_by_sight seen to place sight index moved) good.2
+      (record { regs = next.regs; places = next.places; roots = next.roots; vars = next.vars; writes = next.writes; wants = next.wants }))
   goes_tells (Do (SetVar var from) rest) scope room moment moved good same =
       tells_on seen.shapes (Unit {0}) _ moved.accesses moved.accesses _ (tells_none seen.shapes moved.accesses)
       (goes_tells rest scope room (moment_after_act seen room (SetVar var from) moment) (moved_by seen (SetVar var from) moved) good.2 (act_same seen scope room moment moved same (SetVar var from) good.0 good.1))
@@ -126,8 +140,8 @@ module _ (seen : Seen) where
       (goes_tells rest scope room (moment_after_act seen room (WriteOwn layout field from stmt) moment) (moved_by seen (WriteOwn layout field from stmt) moved) good.2 (act_same seen scope room moment moved same (WriteOwn layout field from stmt) good.0 good.1))
   goes_tells (Do (Contribute how layout field place from index stmt) rest) scope room moment moved good same =
       let words = mapped scope.regs moved.regs room.regs same.regs index good.0.1 in
-      tells_on seen.shapes _ _ moved.accesses (moved.accesses ++ record { layout = layout; place = moved.places place; at = named_by index moved } ∷ []) _
-      (tells_one seen.shapes (IsAt seen.shapes room place layout index) moved.accesses (record { layout = layout; place = moved.places place; at = named_by index moved })
+      tells_on seen.shapes _ _ moved.accesses (moved.accesses ++ record { asks = false; layout = layout; place = moved.places place; at = named_by index moved } ∷ []) _
+      (tells_one seen.shapes (IsAt seen.shapes room place layout index) moved.accesses (record { asks = false; layout = layout; place = moved.places place; at = named_by index moved })
       (at_there room moved place layout index (same.places place good.1.0) words) (at_back room moved place layout index (same.places place good.1.0) words))
       (goes_tells rest scope room (moment_after_act seen room (Contribute how layout field place from index stmt) moment) (moved_by seen (Contribute how layout field place from index stmt) moved) good.2
       (act_same seen scope room moment moved same (Contribute how layout field place from index stmt) good.0 good.1))
@@ -159,7 +173,7 @@ module _ (seen : Seen) where
       (goes_tells rest scope room (fold (λ reached turn. run seen body room (at_turn var turn reached)) moment (numbers lo hi)) (fold (λ reached turn. goes seen body (set_var_word var (word_of turn) reached)) moved (numbers lo hi)) good.1 agreed)
 
   starts : AgreesInScope nothing first_room (moment_of (iteration_start seen)) (iteration_start seen)
-  starts = record { regs = λ r is. refl; places = λ p is. refl; vars = λ var. refl; writes = refl; wants = refl }
+  starts = record { regs = λ r is. refl; places = λ p is. refl; roots = λ p is. refl; vars = λ var. refl; writes = refl; wants = refl }
 
   -- of an iteration
   pub told_named : (regs : List Ty) (insts : List Inst) → IsScoped nothing (block_of regs insts) → AreNamed seen.shapes (iteration seen insts).accesses → NamesAll seen (block_of regs insts) first_room (moment_of (iteration_start seen))

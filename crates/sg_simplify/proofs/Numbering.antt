@@ -14,10 +14,10 @@ use Rattle.sg_ir.specs.declared.op.Step.{Step}
 use Rattle.sg_ir.specs.declared.op.Step.TheVariants as step
 use Rattle.sg_ir.specs.declared.span.Span.{Span}
 use Rattle.sg_ir.specs.Places.{extents_in}
-use Rattle.sg_ir.specs.Blocks.{Block, End, Word, Spot, Cell, Do, Branch, Loop, SetVar, WriteOwn, Contribute, Wish}
+use Rattle.sg_ir.specs.Blocks.{sight_op, Block, End, Word, Spot, Cell, Do, Branch, Loop, SetVar, WriteOwn, Contribute, Wish}
 use Rattle.sg_ir.specs.Shared.{same_op, same_step, is_pure}
 use Rattle.sg_ir.specs.Trimmed.{is_within}
-use Rattle.sg_simplify.specs.steps.Pass.{Given, Pass, Next, Making, made_name, with_name, next_with_reg, next_with_place, given_type, span_in, span_of, renamed, and_op, and_step, put_in_front, set_word, fresh, taken_at, looked_up, operand_again, plainest, taken_or, taken, numbered, stepped_at, stepped, check_at, checks_made, offset_made, offset, descent_of, descended, placed_in, place_made, looped, simplified}
+use Rattle.sg_simplify.specs.steps.Pass.{Given, Pass, Next, Making, made_name, with_name, next_with_reg, next_with_place, given_type, span_in, span_of, renamed, and_op, and_step, put_in_front, set_word, fresh, taken_at, looked_up, operand_again, plainest, taken_or, taken, numbered, stepped_at, stepped, check_at, checks_made, offset_made, offset, descent_of, descended, placed_in, place_made, looped, simplified, layout_seen}
 use Rattle.sg_simplify.specs.steps.Counted.{one_where, regs_set, places_set}
 use Rattle.sg_simplify.proofs.Tables.{length_push}
 
@@ -103,6 +103,7 @@ word_regs r n (op.Mulq a b s) index rest = refl
 word_regs r n (op.Extract div size from) index rest = refl
 word_regs r n (op.Offset high size low) index rest = refl
 word_regs r n (op.Read place layout field) index rest = refl
+word_regs r n (op.Active place) index rest = refl
 word_regs r n (op.OwnRead layout field) index rest = refl
 
 word_places : (p n : ℕ) (how : Op) (index : List ℕ) (rest : Block) → places_set p (set_word n how index rest) ≡ places_set p rest
@@ -114,6 +115,7 @@ word_places p n (op.Mulq a b s) index rest = refl
 word_places p n (op.Extract div size from) index rest = refl
 word_places p n (op.Offset high size low) index rest = refl
 word_places p n (op.Read place layout field) index rest = refl
+word_places p n (op.Active place) index rest = refl
 word_places p n (op.OwnRead layout field) index rest = refl
 
 module _ (given : Given) (n : ℕ) where
@@ -216,9 +218,9 @@ module _ (given : Given) (n : ℕ) where
       numbered_numbers (is_pure given.single how) (given_type given to) (renamed next how) (λ t now later. simplified given rest now (with_name to t later))
       (λ t now later. unnamed_numbers later to t (simplified given rest now (with_name to t later)) (simplified_numbers rest now (with_name to t later))) known next
   simplified_numbers (Spot to how rest) known next = simplified_numbers rest known next
-  simplified_numbers (Cell to place layout field index rest) known next =
-      placed_numbers layout (map (made_name next) index) (λ p. taken given (given_type given to) (op.Read p layout field) (map (made_name next) index) (λ t now later. simplified given rest now (with_name to t later)))
-      (λ p. taken_numbers (given_type given to) (op.Read p layout field) (map (made_name next) index) (λ t now later. simplified given rest now (with_name to t later))
+  simplified_numbers (Cell to place sight index rest) known next =
+      placed_numbers (layout_seen given place sight) (map (made_name next) index) (λ p. taken given (given_type given to) (sight_op p sight) (map (made_name next) index) (λ t now later. simplified given rest now (with_name to t later)))
+      (λ p. taken_numbers (given_type given to) (sight_op p sight) (map (made_name next) index) (λ t now later. simplified given rest now (with_name to t later))
       (λ t now later. unnamed_numbers later to t (simplified given rest now (with_name to t later)) (simplified_numbers rest now (with_name to t later)))) known next
   simplified_numbers (Do (SetVar set from) rest) known next = let h = simplified_numbers rest known next in record { regs = h.regs; places = h.places }
   simplified_numbers (Do (WriteOwn layout field from stmt) rest) known next = let h = simplified_numbers rest known next in record { regs = h.regs; places = h.places }

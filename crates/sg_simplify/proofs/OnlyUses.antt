@@ -11,14 +11,15 @@ use Rattle.sg_ir.specs.declared.op.Op.{Op}
 use Rattle.sg_ir.specs.declared.op.Op.TheVariants as op
 use Rattle.sg_ir.specs.declared.op.Step.{Step}
 use Rattle.sg_ir.specs.declared.op.Step.TheVariants as step
-use Rattle.sg_ir.specs.Blocks.{Block, End, Word, Spot, Cell, Do, Branch, Loop, SetVar, WriteOwn, Contribute, Wish}
+use Rattle.sg_ir.specs.Blocks.{sight_op, Block, End, Word, Spot, Cell, Do, Branch, Loop, SetVar, WriteOwn, Contribute, Wish}
 use Rattle.sg_ir.specs.Shared.{same_op, same_step, is_pure}
 use Rattle.sg_ir.specs.Trimmed.{is_within}
 use Rattle.sg_ir.specs.Places.{extents_in}
-use Rattle.sg_ir.specs.Apt.{Use, Writes, Reads}
+use Rattle.sg_ir.specs.Apt.{Use, Writes}
 use Rattle.sg_flat.specs.declared.effects.Way.TheVariants.{Own, Acc}
-use Rattle.sg_simplify.specs.steps.Pass.{Given, Pass, Next, Making, made_name, with_name, next_with_reg, next_with_place, given_type, span_in, span_of, renamed, and_op, and_step, put_in_front, set_word, fresh, taken_at, looked_up, operand_again, plainest, taken_or, taken, numbered, stepped_at, stepped, check_at, checks_made, offset_made, offset, descent_of, descended, placed_in, place_made, looped, simplified}
+use Rattle.sg_simplify.specs.steps.Pass.{Given, Pass, Next, Making, made_name, with_name, next_with_reg, next_with_place, given_type, span_in, span_of, renamed, and_op, and_step, put_in_front, set_word, fresh, taken_at, looked_up, operand_again, plainest, taken_or, taken, numbered, stepped_at, stepped, check_at, checks_made, offset_made, offset, descent_of, descended, placed_in, place_made, looped, simplified, layout_seen}
 use Rattle.sg_simplify.specs.steps.Only.{op_use, has_use}
+use Rattle.sg_simplify.proofs.Sights.{sight_use}
 use Rattle.sg_simplify.proofs.Plainest.{plainest_use}
 
 word_use : (test : Use → Bool) (n : ℕ) (how : Op) (index : List ℕ) (rest : Block) → has_use test (set_word n how index rest) ≡ (op_use test how || has_use test rest)
@@ -30,6 +31,7 @@ word_use test n (op.Mulq a b s) index rest = refl
 word_use test n (op.Extract div size from) index rest = refl
 word_use test n (op.Offset high size low) index rest = refl
 word_use test n (op.Read place layout field) index rest = refl
+word_use test n (op.Active place) index rest = refl
 word_use test n (op.OwnRead layout field) index rest = refl
 
 use_renamed : (test : Use → Bool) (next : Next) (how : Op) → op_use test (renamed next how) ≡ op_use test how
@@ -41,6 +43,7 @@ use_renamed test next (op.Mulq a b s) = refl
 use_renamed test next (op.Extract div size from) = refl
 use_renamed test next (op.Offset high size low) = refl
 use_renamed test next (op.Read place layout field) = refl
+use_renamed test next (op.Active place) = refl
 use_renamed test next (op.OwnRead layout field) = refl
 
 neither : (a b : Bool) → a ≡ false → b ≡ false → (a || b) ≡ false
@@ -129,10 +132,10 @@ module _ (given : Given) (test : Use → Bool) where
       numbered_only (is_pure given.single how) (given_type given to) (renamed next how) (λ t now later. simplified given rest now (with_name to t later)) (use_renamed test next how ∙ left_off _ _ off)
       (λ t now later. simplified_only rest (right_off (op_use test how) _ off) now (with_name to t later)) known next
   simplified_only (Spot to how rest) off known next = simplified_only rest off known next
-  simplified_only (Cell to place layout field index rest) off known next =
-      placed_only layout (map (made_name next) index) (λ p. taken given (given_type given to) (op.Read p layout field) (map (made_name next) index) (λ t now later. simplified given rest now (with_name to t later)))
-      (λ p. taken_only (given_type given to) (op.Read p layout field) (map (made_name next) index) (λ t now later. simplified given rest now (with_name to t later)) (left_off _ _ off)
-      (λ t now later. simplified_only rest (right_off (test (Reads layout field)) _ off) now (with_name to t later))) known next
+  simplified_only (Cell to place sight index rest) off known next =
+      placed_only (layout_seen given place sight) (map (made_name next) index) (λ p. taken given (given_type given to) (sight_op p sight) (map (made_name next) index) (λ t now later. simplified given rest now (with_name to t later)))
+      (λ p. taken_only (given_type given to) (sight_op p sight) (map (made_name next) index) (λ t now later. simplified given rest now (with_name to t later)) (sight_use test p place sight ∙ left_off _ _ off)
+      (λ t now later. simplified_only rest (right_off (op_use test (sight_op place sight)) _ off) now (with_name to t later))) known next
   simplified_only (Do (SetVar set from) rest) off known next = simplified_only rest off known next
   simplified_only (Do (WriteOwn layout field from stmt) rest) off known next = neither _ _ (left_off _ _ off) (simplified_only rest (right_off (test (Writes layout field Own)) _ off) known next)
   simplified_only (Do (Contribute how layout field place from index stmt) rest) off known next =

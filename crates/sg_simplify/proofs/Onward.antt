@@ -6,7 +6,7 @@ use Rattle.std.proofs.lemmas.Bool.Decides.{nat_tests}
 use Rattle.sg_ir.specs.declared.op.Step.{Step}
 use Rattle.sg_ir.specs.declared.op.Step.TheVariants as step
 use Rattle.sg_ir.specs.Runs.{put}
-use Rattle.sg_ir.specs.Trimmed.{AxisCheck, Ways, way_to, way_behind}
+use Rattle.sg_ir.specs.Trimmed.{Way, Ways, way_of, way_behind}
 use Rattle.sg_ir.specs.InScope.{InScope, step_places, AreSet}
 use Rattle.sg_simplify.specs.steps.Pass.{Pass, Next, offset}
 use Rattle.sg_simplify.specs.steps.Sets.{Sets}
@@ -49,13 +49,13 @@ given_before scope known next h r is = by_test (nat_lt r (length next.spans)) re
     by_test false e = differ (sym is ∙ h.free_regs r (not_less r (length next.spans) e))
 
 -- the way to a place in scope isn't changed by one that is put out
-pub way_kept : (ways : Ways) (n p : ℕ) (way : List AxisCheck) → (n == p) ≡ false → way_to ((n, way) ∷ ways) p ≡ way_to ways p
-way_kept ways n p way e = ap (λ (test : Bool). if test then way else way_to ways p) e
+pub way_kept : (ways : Ways) (n p : ℕ) (way : Way) → (n == p) ≡ false → way_of ((n, way) ∷ ways) p ≡ way_of ways p
+way_kept ways n p way e = ap (λ (test : Bool). if test then way else way_of ways p) e
 
-pub way_here : (ways : Ways) (n : ℕ) (way : List AxisCheck) → way_to ((n, way) ∷ ways) n ≡ way
+pub way_here : (ways : Ways) (n : ℕ) (way : Way) → way_of ((n, way) ∷ ways) n ≡ way
 way_here ways n way = by_test (n == n) (grind arith)
   where
-    by_test : (test : Bool) → test ≡ true → (if test then way else way_to ways n) ≡ way
+    by_test : (test : Bool) → test ≡ true → (if test then way else way_of ways n) ≡ way
     by_test true e = refl
     by_test false e = absurd (cc)
 
@@ -74,7 +74,7 @@ other_reg scope n r free is = by_test (r == n) refl
     by_test false e = e
 
 -- the way after a step isn't changed either
-pub behind_kept : (scope : InScope) (ways : Ways) (n to : ℕ) (way : List AxisCheck) (how : Step) → scope.places n ≡ false → AreSet scope.places (step_places how) → way_behind ((n, way) ∷ ways) to how ≡ way_behind ways to how
+pub behind_kept : (scope : InScope) (ways : Ways) (n to : ℕ) (way : Way) (how : Step) → scope.places n ≡ false → AreSet scope.places (step_places how) → way_behind ((n, way) ∷ ways) to how ≡ way_behind ways to how
 behind_kept scope ways n to way (step.Root layout) free set = refl
-behind_kept scope ways n to way (step.Check place axis extent index) free set = ap (λ (before : List AxisCheck). before ++ record { axis = axis; index = index; place = to } ∷ []) (way_kept ways n place way (other_place scope n place free set.0))
+behind_kept scope ways n to way (step.Check place axis extent index) free set = ap (λ (before : Way). record { root = before.root; checks = before.checks ++ record { axis = axis; index = index; place = to } ∷ [] }) (way_kept ways n place way (other_place scope n place free set.0))
 behind_kept scope ways n to way (step.Down descent place node offset) free set = way_kept ways n place way (other_place scope n place free set.0)

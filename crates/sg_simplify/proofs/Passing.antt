@@ -126,12 +126,12 @@ popped (Some last) inside left inner outer is known = let more = sym (loops-more
 
 -- one of the instructions that the pass leaves out
 pub left-out : (given : Given) (regs : List Ty) (made : Made) (x : List Inst) (inst : Inst) → is_word inst ≡ false →
-    ((to place layout field : ℕ) (index : List ℕ) → inst ≡ v.ReadCell to place layout field index → ⊥) → ((var from : ℕ) → inst ≡ v.Set var from → ⊥) →
+    ((to place layout field : ℕ) (index : List ℕ) → inst ≡ v.ReadCell to place layout field index → ⊥) → ((to place : ℕ) (index : List ℕ) → inst ≡ v.IsActive to place index → ⊥) → ((var from : ℕ) → inst ≡ v.Set var from → ⊥) →
     ((layout field from stmt : ℕ) → inst ≡ v.OwnWrite layout field from stmt → ⊥) → ((how : AccOp) (layout field place from : ℕ) (index : List ℕ) (stmt : ℕ) → inst ≡ v.Acc how layout field place from index stmt → ⊥) →
     ((layout : ℕ) (index : List ℕ) (stmt : ℕ) → inst ≡ v.Want layout index stmt → ⊥) → ((cond : ℕ) (block otherwise : List Inst) → inst ≡ v.If cond block otherwise → ⊥) →
     ((var : ℕ) (lo hi : ℤ) (body : List Inst) → inst ≡ v.For var lo hi body → ⊥) →
     (rest : Block) → Goes made made x x (simplified given (link regs inst rest)) (simplified given rest)
-left-out given regs made x inst word no_read no_set no_write no_acc no_want no_if no_for rest =
+left-out given regs made x inst word no_read no_ask no_set no_write no_acc no_want no_if no_for rest =
     by_inst (λ it. inst ≡ it → Goes made made x x (simplified given (link regs it rest)) (simplified given rest))
     (λ to w is. absurd (true≢false (sym (fold-Const word_step to w) ∙ ap is_word (sym is) ∙ word)))
     (λ to var is. absurd (true≢false (sym (fold-Var word_step to var) ∙ ap is_word (sym is) ∙ word)))
@@ -148,6 +148,7 @@ left-out given regs made x inst word no_read no_set no_write no_acc no_want no_i
     (λ to place node offset is. gone _ _ (fold-MaskBit (link_step regs) to place node offset) refl)
     (λ to place node offset is. gone _ _ (fold-DynCell (link_step regs) to place node offset) refl)
     (λ to place layout field index is. absurd (no_read to place layout field index is))
+    (λ to place index is. absurd (no_ask to place index is))
     (λ to layout field is. absurd (true≢false (sym (fold-OwnRead word_step to layout field) ∙ ap is_word (sym is) ∙ word)))
     (λ layout field from stmt is. absurd (no_write layout field from stmt is))
     (λ how layout field place from index stmt is. absurd (no_acc how layout field place from index stmt is))

@@ -52,8 +52,10 @@ module _ (seen : Seen) (laws : Laws seen) (given : Given) (rest : Block) (now re
   serves_is : (pass : Pass) (next : Next) (room : Room) (v w : ℕ) (go : ℕ → Making) → v ≡ w → Serves seen given rest pass next room now result w go → Serves seen given rest pass next room now result v go
   serves_is pass next room v w go e serves = subst (λ word. Serves seen given rest pass next room now result word go) (sym e) serves
 
-  place_is : (pass : Pass) (next : Next) (room : Room) (v w : Option Place) (go : ℕ → Making) → v ≡ w → ServesPlace seen given rest pass next room now result w go → ServesPlace seen given rest pass next room now result v go
-  place_is pass next room v w go e serves = subst (λ place. ServesPlace seen given rest pass next room now result place go) (sym e) serves
+  place_is : (pass : Pass) (next : Next) (room : Room) (m n : ℕ) (v w : Option Place) (go : ℕ → Making) → m ≡ n → v ≡ w
+      → ServesPlace seen given rest pass next room now result n w go → ServesPlace seen given rest pass next room now result m v go
+  place_is pass next room m n v w go d e serves =
+      subst (λ root. ServesPlace seen given rest pass next room now result root v go) (sym d) (subst (λ place. ServesPlace seen given rest pass next room now result n place go) (sym e) serves)
 
   part_law : (node : NodeShape) (later : List NodeShape) (axis r : ℕ) (go : ℕ → Making) (pass : Pass) (next : Next) (room : Room) → HoldsInRoom seen given rest pass next room now → IsIndex next room r
       → Serves seen given rest pass next room now result (digit node later axis (room.regs r)) go → Good seen (part given node later axis r go pass next) room now result
@@ -88,61 +90,61 @@ module _ (seen : Seen) (laws : Laws seen) (given : Given) (rest : Block) (now re
 
   descended_law : (nodes : List NodeShape) (number : ℕ) (r : ℕ) (index : List ℕ) (place : ℕ) (go : ℕ → Making) (pass : Pass) (next : Next) (room : Room) → HoldsInRoom seen given rest pass next room now
       → place < next.places → EachByRecursion (IsIndex next room) (r ∷ index)
-      → ServesPlace seen given rest pass next room now result (led seen.shapes number nodes (map room.regs (r ∷ index)) (room.places place)) go → Good seen (descended given nodes number (r ∷ index) place go pass next) room now result
-  descended_law [] number r index place go pass next room holds below all serves = serves place pass next room (later_same next room) (alike_same pass next) holds below refl
+      → ServesPlace seen given rest pass next room now result (room.roots place) (led seen.shapes number nodes (map room.regs (r ∷ index)) (room.places place)) go → Good seen (descended given nodes number (r ∷ index) place go pass next) room now result
+  descended_law [] number r index place go pass next room holds below all serves = serves place pass next room (later_same next room) (alike_same pass next) holds below refl refl
   descended_law (node ∷ later) number r index place go pass next room holds below all serves =
       offset_law node later r index (λ o. stepped (step.Down (descent_of node.kind) place number o) (λ p. descended given later (suc number) (r ∷ index) p go)) pass next room holds all
       (λ o known further beyond behind loops holding o_below o_is o_lies.
       let more = behind.places in
       stepped_law seen laws given rest (step.Down (descent_of node.kind) place number o) (λ p. descended given later (suc number) (r ∷ index) p go) known further beyond now result holding (omega arith, o_below)
-      (λ p known' further' beyond' behind' loops' holding' p_below p_is.
+      (λ p known' further' beyond' behind' loops' holding' p_below p_is p_root.
       let whole_way = later_on next room further beyond further' beyond' behind behind' in
       descended_law later (suc number) r index p go known' further' beyond' holding' p_below (index_later next room further' beyond' whole_way (r ∷ index) all)
-      (place_is known' further' beyond' _ (led seen.shapes number (node ∷ later) (map room.regs (r ∷ index)) (room.places place)) go
+      (place_is known' further' beyond' (beyond'.roots p) (room.roots place) _ (led seen.shapes number (node ∷ later) (map room.regs (r ∷ index)) (room.places place)) go (p_root ∙ behind.kept_roots place below)
       (rw (words_kept next room further' beyond' whole_way (r ∷ index) (index_below next room (r ∷ index) all), p_is, behind.kept_places place below, o_is) refl)
-      (serves_place_later seen given rest pass next room known' further' beyond' now result _ go whole_way (alike_on pass next known further known' further' loops loops') serves))))
+      (serves_place_later seen given rest pass next room known' further' beyond' now result _ _ go whole_way (alike_on pass next known further known' further' loops loops') serves))))
 
   checked_law : (extents : List ℕ) (axis : ℕ) (index : List ℕ) (place : ℕ) (go : ℕ → Making) (pass : Pass) (next : Next) (room : Room) → HoldsInRoom seen given rest pass next room now
       → place < next.places → EachByRecursion (IsIndex next room) index
-      → ServesPlace seen given rest pass next room now result (checks extents (map room.regs index) (room.places place)) go → Good seen (checks_made axis extents index place go pass next) room now result
-  checked_law [] axis index place go pass next room holds below all serves = serves place pass next room (later_same next room) (alike_same pass next) holds below refl
-  checked_law (extent ∷ extents) axis [] place go pass next room holds below all serves = serves place pass next room (later_same next room) (alike_same pass next) holds below refl
+      → ServesPlace seen given rest pass next room now result (room.roots place) (checks extents (map room.regs index) (room.places place)) go → Good seen (checks_made axis extents index place go pass next) room now result
+  checked_law [] axis index place go pass next room holds below all serves = serves place pass next room (later_same next room) (alike_same pass next) holds below refl refl
+  checked_law (extent ∷ extents) axis [] place go pass next room holds below all serves = serves place pass next room (later_same next room) (alike_same pass next) holds below refl refl
   checked_law (extent ∷ extents) axis (r ∷ index) place go pass next room holds below all serves = by_test (is_within extent (span_in next r)) refl
       (checked_law extents (suc axis) index place go pass next room holds below all.1)
       (λ p known further beyond behind holding p_below. checked_law extents (suc axis) index p go known further beyond holding p_below (index_later next room further beyond behind index all.1))
     where
       by_test : (test : Bool) → is_within extent (span_in next r) ≡ test
-          → (ServesPlace seen given rest pass next room now result (checks extents (map room.regs index) (room.places place)) go → Good seen (checks_made (suc axis) extents index place go pass next) room now result)
+          → (ServesPlace seen given rest pass next room now result (room.roots place) (checks extents (map room.regs index) (room.places place)) go → Good seen (checks_made (suc axis) extents index place go pass next) room now result)
           → ((p : ℕ) (known : Pass) (further : Next) (beyond : Room) → Later next room further beyond → HoldsInRoom seen given rest known further beyond now → p < further.places
-          → ServesPlace seen given rest known further beyond now result (checks extents (map beyond.regs index) (beyond.places p)) go → Good seen (checks_made (suc axis) extents index p go known further) beyond now result)
+          → ServesPlace seen given rest known further beyond now result (beyond.roots p) (checks extents (map beyond.regs index) (beyond.places p)) go → Good seen (checks_made (suc axis) extents index p go known further) beyond now result)
           → Good seen (check_at test (step.Check place axis extent r) place (λ p. checks_made (suc axis) extents index p go) pass next) room now result
       by_test true e same more = same
-          (place_is pass next room _ (checks (extent ∷ extents) (map room.regs (r ∷ index)) (room.places place)) go
+          (place_is pass next room (room.roots place) (room.roots place) _ (checks (extent ∷ extents) (map room.regs (r ∷ index)) (room.places place)) go refl
           (ap (checks extents (map room.regs index)) (sym (needs_none extent (room.regs r) (span_in next r) (room.places place) e all.0.1))) serves)
       by_test false e same more =
           stepped_law seen laws given rest (step.Check place axis extent r) (λ p. checks_made (suc axis) extents index p go) pass next room now result holds (below, all.0.0)
-          (λ p known further beyond behind loops holding p_below p_is. more p known further beyond behind holding p_below
-          (place_is known further beyond _ (checks (extent ∷ extents) (map room.regs (r ∷ index)) (room.places place)) go
+          (λ p known further beyond behind loops holding p_below p_is p_root. more p known further beyond behind holding p_below
+          (place_is known further beyond (beyond.roots p) (room.roots place) _ (checks (extent ∷ extents) (map room.regs (r ∷ index)) (room.places place)) go p_root
           (rw (words_kept next room further beyond behind index (index_below next room index all.1), p_is) refl)
-          (serves_place_later seen given rest pass next room known further beyond now result _ go behind loops serves)))
+          (serves_place_later seen given rest pass next room known further beyond now result _ _ go behind loops serves)))
 
   -- the place of an access
   pub placed_law : (shape : Shape) (layout r : ℕ) (index : List ℕ) (go : ℕ → Making) (pass : Pass) (next : Next) (room : Room) → given.shapes ≡ seen.shapes → slice_get seen.shapes layout ≡ Some shape
       → Leads seen.shapes layout shape (map room.regs (r ∷ index)) → HoldsInRoom seen given rest pass next room now → EachByRecursion (IsIndex next room) (r ∷ index)
-      → ServesPlace seen given rest pass next room now result (place_at seen.shapes layout (coord_of (map room.regs (r ∷ index)))) go → Good seen (place_made given layout (r ∷ index) go pass next) room now result
+      → ServesPlace seen given rest pass next room now result layout (place_at seen.shapes layout (coord_of (map room.regs (r ∷ index)))) go → Good seen (place_made given layout (r ∷ index) go pass next) room now result
   placed_law shape layout r index go pass next room same there leads holds all serves =
       subst (λ (found : Option Shape). Good seen (placed_in given found layout (r ∷ index) go pass next) room now result) (sym (ap (λ (shapes : List Shape). slice_get shapes layout) same ∙ there))
       (stepped_law seen laws given rest (step.Root layout) (λ k. checks_made 0 (extents_in (bounds_of_shape shape)) (r ∷ index) k (λ p. descended given shape.nodes 1 (r ∷ index) p go)) pass next room now result holds tt
-      (λ k known further beyond behind loops holding k_below k_is.
+      (λ k known further beyond behind loops holding k_below k_is k_root.
       checked_law (extents_in (bounds_of_shape shape)) 0 (r ∷ index) k (λ p. descended given shape.nodes 1 (r ∷ index) p go) known further beyond holding k_below (index_later next room further beyond behind (r ∷ index) all)
-      (λ p known' further' beyond' behind' loops' holding' p_below p_is.
+      (λ p known' further' beyond' behind' loops' holding' p_below p_is p_root.
       let whole_way = later_on next room further beyond further' beyond' behind behind' in
       let below = index_below next room (r ∷ index) all in
       descended_law shape.nodes 1 r index p go known' further' beyond' holding' p_below (index_later next room further' beyond' whole_way (r ∷ index) all)
-      (place_is known' further' beyond' _ (place_at seen.shapes layout (coord_of (map room.regs (r ∷ index)))) go
+      (place_is known' further' beyond' (beyond'.roots p) layout _ (place_at seen.shapes layout (coord_of (map room.regs (r ∷ index)))) go (p_root ∙ k_root)
       (ap (λ words. led seen.shapes 1 shape.nodes words (beyond'.places p)) (words_kept next room further' beyond' whole_way (r ∷ index) below)
       ∙ ap (led seen.shapes 1 shape.nodes (map room.regs (r ∷ index)))
       (p_is ∙ ap (λ words. checks (extents_in (bounds_of_shape shape)) words (beyond.places k)) (words_kept next room further beyond behind (r ∷ index) below)
       ∙ ap (checks (extents_in (bounds_of_shape shape)) (map room.regs (r ∷ index))) k_is)
       ∙ leads)
-      (serves_place_later seen given rest pass next room known' further' beyond' now result _ go whole_way (alike_on pass next known further known' further' loops loops') serves)))))
+      (serves_place_later seen given rest pass next room known' further' beyond' now result _ _ go whole_way (alike_on pass next known further known' further' loops loops') serves)))))

@@ -10,7 +10,7 @@ use Rattle.sg_layout.specs.declared.shape.Shape.{Shape}
 use Rattle.sg_ir.specs.declared.op.Op.{Op}
 use Rattle.sg_ir.specs.declared.op.Op.TheVariants as op
 use Rattle.sg_ir.specs.declared.span.Span.{Span}
-use Rattle.sg_ir.specs.Blocks.{Block}
+use Rattle.sg_ir.specs.Blocks.{Block, Sight, sight_op, Value, Activity}
 use Rattle.sg_ir.specs.Shared.{same_op, is_pure}
 use Rattle.sg_ir.specs.Runs.{Seen}
 use Rattle.sg_ir.specs.SpanLaws.{Lies, HasConstantWord}
@@ -42,6 +42,7 @@ plainest_case P type (op.Extract div size from) nought same = by_test (size == 1
     by_test false e = same
 plainest_case P type (op.Offset high size low) nought same = same
 plainest_case P type (op.Read place layout field) nought same = same
+plainest_case P type (op.Active place) nought same = same
 plainest_case P type (op.OwnRead layout field) nought same = same
 
 pub plainest_pure : (single : ℕ → Bool) (type : Ty) (how : Op) → is_pure single (plainest type how) ≡ is_pure single how
@@ -59,11 +60,12 @@ plainest_regs set type how regs = plainest_case (λ o. AreSet set (op_regs o)) t
 pub plainest_index : (scope : InScope) (type : Ty) (how : Op) (index : List ℕ) → IndexIsSet scope how index → IndexIsSet scope (plainest type how) index
 plainest_index scope type how index set = plainest_case (λ o. IndexIsSet scope o index) type how (λ div from e. tt) set
 
-pub plainest_trim : (given : Given) (spans : Spans) (ways : Ways) (type : Ty) (how : Op) (index : List ℕ) → OpIsTrim given spans ways how index → OpIsTrim given spans ways (plainest type how) index
-plainest_trim given spans ways type how index trim = plainest_case (λ o. OpIsTrim given spans ways o index) type how (λ div from e. tt) trim
+pub plainest_trim : (good : ℕ → Bool) (given : Given) (spans : Spans) (ways : Ways) (type : Ty) (how : Op) (index : List ℕ) → OpIsTrim good given spans ways how index → OpIsTrim good given spans ways (plainest type how) index
+plainest_trim good given spans ways type how index trim = plainest_case (λ o. OpIsTrim good given spans ways o index) type how (λ div from e. tt) trim
 
-pub plainest_unread : (type : Ty) (how : Op) (place layout field : ℕ) → same_op (op.Read place layout field) how ≡ false → same_op (op.Read place layout field) (plainest type how) ≡ false
-plainest_unread type how place layout field off = plainest_case (λ o. same_op (op.Read place layout field) o ≡ false) type how (λ div from e. refl) off
+pub plainest_unread : (type : Ty) (how : Op) (place : ℕ) (sight : Sight) → same_op (sight_op place sight) how ≡ false → same_op (sight_op place sight) (plainest type how) ≡ false
+plainest_unread type how place (Value layout field) off = plainest_case (λ o. same_op (op.Read place layout field) o ≡ false) type how (λ div from e. refl) off
+plainest_unread type how place Activity off = plainest_case (λ o. same_op (op.Active place) o ≡ false) type how (λ div from e. refl) off
 
 pub plainest_constant : (type : Ty) (how : Op) → HasConstantWord how → HasConstantWord (plainest type how)
 plainest_constant type how has = plainest_case HasConstantWord type how (λ div from e. lit< tt) has
@@ -140,6 +142,7 @@ operand_case P next (op.Offset a size b) t e whole low high =
     (λ test. let parts = and_parts (size == 1) (is_within 1 (span_in next b)) test in
     subst (λ n. P (op.Offset a n b) a) (sym (eqb-true size 1 parts.0)) (high a b parts.1)))
 operand_case P next (op.Read place layout field) t e whole low high = absurd (cc)
+operand_case P next (op.Active place) t e whole low high = absurd (cc)
 operand_case P next (op.OwnRead layout field) t e whole low high = absurd (cc)
 
 pub operand_is_set : (set : ℕ → Bool) (next : Next) (how : Op) (t : ℕ) → AreSet set (op_regs how) → operand_again next how ≡ Some t → set t ≡ true

@@ -32,13 +32,13 @@ renamed_later scope next from to further beyond later names all r is =
     renamed_at next from to further beyond r later (ap (λ (table : List (ℕ × ℕ)). unwrap_or (lookup (nat_eq r) table) r) names) (all r is)
 
 pub grown_later : (scope : InScope) (next further : Next) (room : Room) → Grown scope next further → Later next room further room
-grown_later scope next further room h = record { regs = h.regs; places = h.places; spans = h.spans; kept = λ r below. refl; kept_places = λ p below. refl }
+grown_later scope next further room h = record { regs = h.regs; places = h.places; spans = h.spans; kept = λ r below. refl; kept_places = λ p below. refl; kept_roots = λ p below. refl }
 
 pub renamed_grown : (scope : InScope) (next further : Next) (from to : Room) → Grown scope next further → AllRenamed scope next from to → AllRenamed scope further from to
 renamed_grown scope next further from to h all r is = renamed_at next from to further to r (grown_later scope next further to h) (h.names r is) (all r is)
 
 pub name_later : (next : Next) (room : Room) (to t : ℕ) → Later next room (with_name to t next) room
-name_later next room to t = record { regs = omega arith; places = omega arith; spans = λ r below. refl; kept = λ r below. refl; kept_places = λ p below. refl }
+name_later next room to t = record { regs = omega arith; places = omega arith; spans = λ r below. refl; kept = λ r below. refl; kept_places = λ p below. refl; kept_roots = λ p below. refl }
 
 -- after a given register that is set
 pub renamed_put : (scope : InScope) (next : Next) (from to : Room) (k t word : ℕ) → AllRenamed scope next from to → t < length next.spans → to.regs t ≡ word → Lies (span_in next t) word
@@ -57,8 +57,8 @@ renamed_put scope next from to k t word all below is lies r set = by_test (r == 
       lies = subst (λ n. Lies (span_in next n) (to.regs n)) (sym name) (all r h).lies;
     }
 
-pub renamed_spot : (scope : InScope) (next : Next) (from to : Room) (k : ℕ) (place : _) → AllRenamed scope next from to → AllRenamed (and_place k scope) next (room_place k place from) to
-renamed_spot scope next from to k place all r is = let h = all r is in record { named = h.named; word = h.word; lies = h.lies }
+pub renamed_spot : (scope : InScope) (next : Next) (from to : Room) (k root : ℕ) (place : _) → AllRenamed scope next from to → AllRenamed (and_place k scope) next (room_place k root place from) to
+renamed_spot scope next from to k root place all r is = let h = all r is in record { named = h.named; word = h.word; lies = h.lies }
 
 -- an operation on the new registers
 module _ (seen : Seen) (scope : InScope) (next : Next) (from to : Room) (all : AllRenamed scope next from to) where
@@ -71,6 +71,7 @@ module _ (seen : Seen) (scope : InScope) (next : Next) (from to : Room) (all : A
   op_renamed now (op.Extract div size r) plain set = rw ((all r set.0).word) refl
   op_renamed now (op.Offset high size low) plain set = rw ((all high set.0).word, (all low set.1.0).word) refl
   op_renamed now (op.Read place layout field) plain set = absurd plain
+  op_renamed now (op.Active place) plain set = absurd plain
   op_renamed now (op.OwnRead layout field) plain set = refl
 
   pub op_renamed_below : (how : Op) → IsNotRead how → AreSet scope.regs (op_regs how) → OpBelow (length next.spans) next.places (renamed next how)
@@ -82,6 +83,7 @@ module _ (seen : Seen) (scope : InScope) (next : Next) (from to : Room) (all : A
   op_renamed_below (op.Extract div size r) plain set = (all r set.0).named
   op_renamed_below (op.Offset high size low) plain set = ((all high set.0).named, (all low set.1.0).named)
   op_renamed_below (op.Read place layout field) plain set = absurd plain
+  op_renamed_below (op.Active place) plain set = absurd plain
   op_renamed_below (op.OwnRead layout field) plain set = tt
 
   pub op_renamed_lies : (how : Op) → IsNotRead how → AreSet scope.regs (op_regs how) → OpLies next to (renamed next how)
@@ -93,6 +95,7 @@ module _ (seen : Seen) (scope : InScope) (next : Next) (from to : Room) (all : A
   op_renamed_lies (op.Extract div size r) plain set = (all r set.0).lies
   op_renamed_lies (op.Offset high size low) plain set = ((all high set.0).lies, (all low set.1.0).lies)
   op_renamed_lies (op.Read place layout field) plain set = absurd plain
+  op_renamed_lies (op.Active place) plain set = absurd plain
   op_renamed_lies (op.OwnRead layout field) plain set = tt
 
   -- index registers
@@ -117,6 +120,7 @@ has_renamed next (op.Mulq a b s) has = tt
 has_renamed next (op.Extract div size r) has = tt
 has_renamed next (op.Offset high size low) has = tt
 has_renamed next (op.Read place layout field) has = tt
+has_renamed next (op.Active place) has = tt
 has_renamed next (op.OwnRead layout field) has = tt
 
 pub stays_renamed : (single : ℕ → Bool) (rest : Block) (next : Next) (how : Op) → is_pure single how ≡ true → IsNotRead how → OpSettles single rest how → OpStays rest (renamed next how)
@@ -128,6 +132,7 @@ stays_renamed single rest next (op.Mulq a b s) pure plain settles = tt
 stays_renamed single rest next (op.Extract div size r) pure plain settles = tt
 stays_renamed single rest next (op.Offset high size low) pure plain settles = tt
 stays_renamed single rest next (op.Read place layout field) pure plain settles = absurd plain
+stays_renamed single rest next (op.Active place) pure plain settles = absurd plain
 stays_renamed single rest next (op.OwnRead layout field) pure plain settles = absurd (cc)
 
 pub at_renamed : (seen : Seen) (room : Room) (next : Next) (how : Op) → IsNotRead how → OpIsAt seen.shapes room (renamed next how) []
@@ -139,6 +144,7 @@ at_renamed seen room next (op.Mulq a b s) plain = tt
 at_renamed seen room next (op.Extract div size r) plain = tt
 at_renamed seen room next (op.Offset high size low) plain = tt
 at_renamed seen room next (op.Read place layout field) plain = absurd plain
+at_renamed seen room next (op.Active place) plain = absurd plain
 at_renamed seen room next (op.OwnRead layout field) plain = tt
 
 -- what is spanned is so wherever variables have the same spans
@@ -146,7 +152,7 @@ pub spanned_same : (block : Block) (s t : Spans) → ((v : ℕ) → var_span s v
 spanned_same End s t same h = tt
 spanned_same (Word to how rest) s t same h = (h.0, spanned_same rest (with_span to (op_span s how) s) (with_span to (op_span t how) t) same h.1)
 spanned_same (Spot to how rest) s t same h = spanned_same rest s t same h
-spanned_same (Cell to place layout field index rest) s t same h = spanned_same rest (with_span to whole_i32 s) (with_span to whole_i32 t) same h
+spanned_same (Cell to place sight index rest) s t same h = spanned_same rest (with_span to whole_i32 s) (with_span to whole_i32 t) same h
 spanned_same (Do (SetVar var from) rest) s t same h = (sym (same var) ∙ h.0, spanned_same rest s t same h.1)
 spanned_same (Do (WriteOwn layout field from stmt) rest) s t same h = (tt, spanned_same rest s t same h.1)
 spanned_same (Do (Contribute how layout field place from index stmt) rest) s t same h = (tt, spanned_same rest s t same h.1)

@@ -2,17 +2,16 @@
 use Rattle.std.specs.Prelude.{◌≡◌, refl, ℕ, ◌+◌, ◌≤◌, ◌==◌, Bool, true, false, if◌then◌else◌, List, [], ◌∷◌, Option, Some, ℤ}
 use Rattle.std.proofs.Common.{arith, ap, subst, ◌∙◌, ◌⊎◌, inl, inr}
 use Rattle.std.proofs.lemmas.Bool.{eqb-true}
-use Rattle.sg_layout.specs.declared.shape.Shape.{Shape}
 use Rattle.sg_ir.specs.declared.op.Op.{Op}
 use Rattle.sg_ir.specs.declared.op.Step.{Step}
 use Rattle.sg_ir.specs.Runs.{put}
-use Rattle.sg_ir.specs.Blocks.{Block, Word, Spot, Cell, Do, Branch, Loop, SetVar}
+use Rattle.sg_ir.specs.Blocks.{Sight, Block, Word, Spot, Cell, Do, Branch, Loop, SetVar}
 use Rattle.sg_ir.specs.declared.span.Span.{Span}
 use Rattle.sg_ir.specs.Span.{whole_i32, range_span, Spans, held, sets, var_span, with_span, op_span}
 use Rattle.sg_ir.specs.SpanLaws.{HasConstantWord}
 use Rattle.sg_ir.specs.WellTyped.{KnownPlace, Scope, Frame, with_reg, with_place, with_var}
 use Rattle.sg_ir.specs.InScope.{InScope, and_reg, and_place, op_regs, op_places, step_regs, step_places, AreSet}
-use Rattle.sg_simplify.specs.steps.Ruled.{OpSettles, IndexFits, IsNotRead}
+use Rattle.sg_simplify.specs.steps.Ruled.{OpSettles}
 use Rattle.sg_simplify.specs.steps.Counted.{one_where, regs_set, places_set, Counts, AddsUp, IsWhole, Meets, Rules}
 use Rattle.sg_simplify.proofs.Renaming.{spanned_same}
 
@@ -57,12 +56,12 @@ put_some {A} to it f g h p k = by_test (p == to)
 shift : (a b c : ℕ) → a + (b + c) ≡ (a + b) + c
 shift a b c = omega arith
 
-module _ (shapes : List Shape) (single : ℕ → Bool) (others : ℕ → Span) (totals : Counts) (at : Frame) (entire : IsWhole at single others totals) where
+module _ (single : ℕ → Bool) (others : ℕ → Span) (totals : Counts) (at : Frame) (entire : IsWhole at single others totals) where
   abbrev vars_in : List (ℕ × Span) → Spans
   vars_in loops = record { regs = []; loops = loops; others = others }
 
   abbrev Ruled : InScope → List (ℕ × Span) → Block → Type 0
-  Ruled inner loops block = Rules shapes single others inner loops block
+  Ruled inner loops block = Rules single others inner loops block
 
   -- a register that is set
   meets_reg : (scope : Scope) (inner : InScope) (outside : Counts) (loops : List (ℕ × Span)) (to : ℕ) → Meets totals scope inner outside loops
@@ -152,10 +151,10 @@ module _ (shapes : List Shape) (single : ℕ → Bool) (others : ℕ → Span) (
       by_vars (inr some) = let most = few in omega (arith, adds)
 
   -- ---- instructions in front of a block
-  pub word_rules : (scope : Scope) (inner : InScope) (outside : Counts) (loops : List (ℕ × Span)) (to : ℕ) (how : Op) (rest : Block) → AreSet inner.regs (op_regs how) → AreSet inner.places (op_places how) → HasConstantWord how → IsNotRead how
+  pub word_rules : (scope : Scope) (inner : InScope) (outside : Counts) (loops : List (ℕ × Span)) (to : ℕ) (how : Op) (rest : Block) → AreSet inner.regs (op_regs how) → AreSet inner.places (op_places how) → HasConstantWord how
       → OpSettles single rest how → Meets totals scope inner outside loops → AddsUp totals outside (Word to how rest)
       → ((inside : InScope) (beside : Counts) → Meets totals (with_reg to scope) inside beside loops → AddsUp totals beside rest → Ruled inside loops rest) → Ruled inner loops (Word to how rest)
-  word_rules scope inner outside loops to how rest regs places has plain settled meets adds more =
+  word_rules scope inner outside loops to how rest regs places has settled meets adds more =
       let free : inner.regs to ≡ false = unset inner.regs outside.regs totals.regs to (regs_set to rest) meets.in_regs (adds.regs to) (entire.regs to) in
       let behind = more (and_reg to inner) (record { vars = outside.vars; regs = λ r. outside.regs r + one_where (to == r); places = outside.places }) (meets_reg scope inner outside loops to meets)
       (record { vars = adds.vars; regs = λ r. adds.regs r ∙ shift (outside.regs r) (one_where (to == r)) (regs_set r rest); places = adds.places }) in
@@ -163,7 +162,6 @@ module _ (shapes : List Shape) (single : ℕ → Bool) (others : ℕ → Span) (
         scoped = (regs, places, free, behind.scoped);
         settled = (settled, behind.settled);
         spanned = (has, spanned_same rest (vars_in loops) (with_span to (op_span (vars_in loops) how) (vars_in loops)) (λ v. refl) behind.spanned);
-        fitted = (plain, behind.fitted);
       }
 
   pub spot_rules : (scope : Scope) (inner : InScope) (outside : Counts) (loops : List (ℕ × Span)) (to : ℕ) (how : Step) (known : KnownPlace) (rest : Block) → AreSet inner.regs (step_regs how) → AreSet inner.places (step_places how)
@@ -173,12 +171,12 @@ module _ (shapes : List Shape) (single : ℕ → Bool) (others : ℕ → Span) (
       let free : inner.places to ≡ false = unset inner.places outside.places totals.places to (places_set to rest) meets.in_places (adds.places to) (entire.places to) in
       let behind = more (and_place to inner) (record { vars = outside.vars; regs = outside.regs; places = λ p. outside.places p + one_where (to == p) }) (meets_place scope inner outside loops to known meets)
       (record { vars = adds.vars; regs = adds.regs; places = λ p. adds.places p ∙ shift (outside.places p) (one_where (to == p)) (places_set p rest) }) in
-      record { scoped = (regs, places, free, behind.scoped); settled = behind.settled; spanned = behind.spanned; fitted = behind.fitted }
+      record { scoped = (regs, places, free, behind.scoped); settled = behind.settled; spanned = behind.spanned }
 
-  pub cell_rules : (scope : Scope) (inner : InScope) (outside : Counts) (loops : List (ℕ × Span)) (to place layout field : ℕ) (index : List ℕ) (rest : Block) → inner.places place ≡ true → AreSet inner.regs index → IndexFits shapes layout index
-      → Meets totals scope inner outside loops → AddsUp totals outside (Cell to place layout field index rest)
-      → ((inside : InScope) (beside : Counts) → Meets totals (with_reg to scope) inside beside loops → AddsUp totals beside rest → Ruled inside loops rest) → Ruled inner loops (Cell to place layout field index rest)
-  cell_rules scope inner outside loops to place layout field index rest there set fits meets adds more =
+  pub cell_rules : (scope : Scope) (inner : InScope) (outside : Counts) (loops : List (ℕ × Span)) (to place : ℕ) (sight : Sight) (index : List ℕ) (rest : Block) → inner.places place ≡ true → AreSet inner.regs index
+      → Meets totals scope inner outside loops → AddsUp totals outside (Cell to place sight index rest)
+      → ((inside : InScope) (beside : Counts) → Meets totals (with_reg to scope) inside beside loops → AddsUp totals beside rest → Ruled inside loops rest) → Ruled inner loops (Cell to place sight index rest)
+  cell_rules scope inner outside loops to place sight index rest there set meets adds more =
       let free : inner.regs to ≡ false = unset inner.regs outside.regs totals.regs to (regs_set to rest) meets.in_regs (adds.regs to) (entire.regs to) in
       let behind = more (and_reg to inner) (record { vars = outside.vars; regs = λ r. outside.regs r + one_where (to == r); places = outside.places }) (meets_reg scope inner outside loops to meets)
       (record { vars = adds.vars; regs = λ r. adds.regs r ∙ shift (outside.regs r) (one_where (to == r)) (regs_set r rest); places = adds.places }) in
@@ -186,7 +184,6 @@ module _ (shapes : List Shape) (single : ℕ → Bool) (others : ℕ → Span) (
         scoped = ((there, tt), free, behind.scoped, set);
         settled = behind.settled;
         spanned = spanned_same rest (vars_in loops) (with_span to whole_i32 (vars_in loops)) (λ v. refl) behind.spanned;
-        fitted = (fits, behind.fitted);
       }
 
   pub set_rules : (scope : Scope) (inner : InScope) (outside : Counts) (loops : List (ℕ × Span)) (var from : ℕ) (rest : Block) → inner.regs from ≡ true
@@ -199,7 +196,6 @@ module _ (shapes : List Shape) (single : ℕ → Bool) (others : ℕ → Span) (
         scoped = ((set, tt), tt, behind.scoped);
         settled = behind.settled;
         spanned = (set_wide scope inner outside loops var (sets var rest) meets (adds.vars var), behind.spanned);
-        fitted = (tt, behind.fitted);
       }
 
   -- a block in a branch, and in a loop
@@ -234,7 +230,6 @@ module _ (shapes : List Shape) (single : ℕ → Bool) (others : ℕ → Span) (
         scoped = (set, yes_ruled.scoped, no_ruled.scoped, behind.scoped);
         settled = (yes_ruled.settled, no_ruled.settled, behind.settled);
         spanned = (yes_ruled.spanned, no_ruled.spanned, behind.spanned);
-        fitted = (yes_ruled.fitted, no_ruled.fitted, behind.fitted);
       }
     where
       more_of : (n k : ℕ) → n ≤ n + k
@@ -282,7 +277,6 @@ module _ (shapes : List Shape) (single : ℕ → Bool) (others : ℕ → Span) (
         scoped = (body_ruled.scoped, behind.scoped);
         settled = (body_ruled.settled, behind.settled);
         spanned = (set_wide scope inner outside loops var (sets var body + sets var rest) meets (adds.vars var), body_ruled.spanned, behind.spanned);
-        fitted = (body_ruled.fitted, behind.fitted);
       }
     where
       more_of : (n k : ℕ) → n ≤ n + k

@@ -14,7 +14,7 @@ use Rattle.sg_ir.specs.declared.span.Span.{Span}
 use Rattle.sg_ir.specs.Span.{whole_i32}
 use Rattle.sg_ir.specs.Shared.{same_op, same_step}
 use Rattle.sg_ir.specs.SpanLaws.{Lies, HasConstantWord}
-use Rattle.sg_ir.specs.Scoped.{RunMoment, Room, room_reg, room_place, op_word, step_place, run}
+use Rattle.sg_ir.specs.Scoped.{RunMoment, Room, room_reg, room_place, op_word, step_root, step_place, run}
 use Rattle.sg_simplify.specs.steps.Pass.{Given, Pass, Next, Making, next_with_reg, next_with_place, span_in, vars_of, span_of, and_op, and_step, put_in_front, set_word, fresh, taken_at, looked_up, operand_again, plainest, taken_or, taken, stepped_at, stepped}
 use Rattle.sg_simplify.specs.steps.Serves.{Laws, NamesAll, OpBelow, StepBelow, OpStays, OpHolds, StepHolds, HoldsInRoom, Later, Alike, Good, Serves, ServesPlace, OpIsAt, OpLies}
 use Rattle.sg_simplify.proofs.Tables.{each_push, each_map, IsFound, each_found, length_push, get_last, get_kept}
@@ -50,6 +50,7 @@ later_same next room = record {
   spans = λ r below. refl;
   kept = λ r below. refl;
   kept_places = λ p below. refl;
+  kept_roots = λ p below. refl;
 }
 
 pub later_on : (a : Next) (r : Room) (b : Next) (s : Room) (c : Next) (t : Room) → Later a r b s → Later b s c t → Later a r c t
@@ -59,6 +60,7 @@ later_on a r b s c t first second = let more = first.regs in let places = first.
   spans = λ k below. second.spans k (omega (arith, below)) ∙ first.spans k below;
   kept = λ k below. second.kept k (omega (arith, below)) ∙ first.kept k below;
   kept_places = λ p below. second.kept_places p (omega (arith, below)) ∙ first.kept_places p below;
+  kept_roots = λ p below. second.kept_roots p (omega (arith, below)) ∙ first.kept_roots p below;
 }
 
 pub alike_same : (pass : Pass) (next : Next) → Alike pass next pass next
@@ -77,6 +79,7 @@ op_below (op.Mulq a b s) m n p q more places h = let x = h.0 in let y = h.1 in l
 op_below (op.Extract div size from) m n p q more places h = omega arith
 op_below (op.Offset high size low) m n p q more places h = let x = h.0 in let y = h.1 in (omega arith, omega arith)
 op_below (op.Read place layout field) m n p q more places h = omega arith
+op_below (op.Active place) m n p q more places h = omega arith
 op_below (op.OwnRead layout field) m n p q more places h = tt
 
 step_below : (how : Step) (m n p q : ℕ) → m ≤ n → p ≤ q → StepBelow m p how → StepBelow n q how
@@ -95,6 +98,7 @@ module _ (seen : Seen) where
   op_kept next room further beyond now later (op.Extract div size from) below = rw (later.kept from below) refl
   op_kept next room further beyond now later (op.Offset high size low) below = rw (later.kept high below.0, later.kept low below.1) refl
   op_kept next room further beyond now later (op.Read place layout field) below = rw (later.kept_places place below) refl
+  op_kept next room further beyond now later (op.Active place) below = rw (later.kept_places place below) refl
   op_kept next room further beyond now later (op.OwnRead layout field) below = refl
 
   step_kept : (next : Next) (room : Room) (further : Next) (beyond : Room) → Later next room further beyond → (how : Step) → StepBelow (length next.spans) next.places how
@@ -102,6 +106,12 @@ module _ (seen : Seen) where
   step_kept next room further beyond later (step.Root layout) below = refl
   step_kept next room further beyond later (step.Check place axis extent index) below = rw (later.kept_places place below.0, later.kept index below.1) refl
   step_kept next room further beyond later (step.Down descent place node offset) below = rw (later.kept_places place below.0, later.kept offset below.1) refl
+
+  root_kept : (next : Next) (room : Room) (further : Next) (beyond : Room) → Later next room further beyond → (how : Step) → StepBelow (length next.spans) next.places how
+      → step_root beyond how ≡ step_root room how
+  root_kept next room further beyond later (step.Root layout) below = refl
+  root_kept next room further beyond later (step.Check place axis extent index) below = later.kept_roots place below.0
+  root_kept next room further beyond later (step.Down descent place node offset) below = later.kept_roots place below.0
 
   op_later : (rest : Block) (next : Next) (room : Room) (further : Next) (beyond : Room) (now : RunMoment) → Later next room further beyond → (entry : Op × ℕ)
       → OpHolds seen rest next room now entry → OpHolds seen rest further beyond now entry
@@ -119,6 +129,7 @@ module _ (seen : Seen) where
     named = omega arith;
     below = step_below entry.0 (length next.spans) (length further.spans) next.places further.places later.regs later.places h.below;
     place = later.kept_places entry.1 h.named ∙ (h.place ∙ sym (step_kept next room further beyond later entry.0 h.below));
+    root = later.kept_roots entry.1 h.named ∙ (h.root ∙ sym (root_kept next room further beyond later entry.0 h.below));
   }
 
   -- more registers and places, of which the room has words alone
@@ -137,9 +148,9 @@ module _ (seen : Seen) where
   serves_later given rest pass next room known further beyond now result word go later loops serves t known' further' beyond' later' loops' =
       serves t known' further' beyond' (later_on next room further beyond further' beyond' later later') (alike_on pass next known further known' further' loops loops')
 
-  pub serves_place_later : (given : Given) (rest : Block) (pass : Pass) (next : Next) (room : Room) (known : Pass) (further : Next) (beyond : Room) (now result : RunMoment) (place : Option Place) (go : ℕ → Making)
-      → Later next room further beyond → Alike pass next known further → ServesPlace seen given rest pass next room now result place go → ServesPlace seen given rest known further beyond now result place go
-  serves_place_later given rest pass next room known further beyond now result place go later loops serves t known' further' beyond' later' loops' =
+  pub serves_place_later : (given : Given) (rest : Block) (pass : Pass) (next : Next) (room : Room) (known : Pass) (further : Next) (beyond : Room) (now result : RunMoment) (root : ℕ) (place : Option Place) (go : ℕ → Making)
+      → Later next room further beyond → Alike pass next known further → ServesPlace seen given rest pass next room now result root place go → ServesPlace seen given rest known further beyond now result root place go
+  serves_place_later given rest pass next room known further beyond now result root place go later loops serves t known' further' beyond' later' loops' =
       serves t known' further' beyond' (later_on next room further beyond further' beyond' later later') (alike_on pass next known further known' further' loops loops')
 
   -- the instruction that sets a register
@@ -152,6 +163,7 @@ module _ (seen : Seen) where
   set_runs to (op.Extract div size from) index rest room now = refl
   set_runs to (op.Offset high size low) index rest room now = refl
   set_runs to (op.Read place layout field) index rest room now = refl
+  set_runs to (op.Active place) index rest room now = refl
   set_runs to (op.OwnRead layout field) index rest room now = refl
 
   set_names : (to : ℕ) (how : Op) (index : List ℕ) (rest : Block) (room : Room) (now : RunMoment) → OpIsAt seen.shapes room how index
@@ -164,6 +176,7 @@ module _ (seen : Seen) where
   set_names to (op.Extract div size from) index rest room now is more = more
   set_names to (op.Offset high size low) index rest room now is more = more
   set_names to (op.Read place layout field) index rest room now is more = (is, more)
+  set_names to (op.Active place) index rest room now is more = (is, more)
   set_names to (op.OwnRead layout field) index rest room now is more = more
 
   module _ (laws : Laws seen) (given : Given) where
@@ -177,6 +190,7 @@ module _ (seen : Seen) where
     word_lies rest pass next room now holds (op.Extract div size from) has lies = laws.words (vars_of given pass) room now holds.words holds.fits (op.Extract div size from) has
     word_lies rest pass next room now holds (op.Offset high size low) has lies = laws.words (vars_of given pass) room now holds.words holds.fits (op.Offset high size low) has
     word_lies rest pass next room now holds (op.Read place layout field) has lies = laws.words (vars_of given pass) room now holds.words holds.fits (op.Read place layout field) has
+    word_lies rest pass next room now holds (op.Active place) has lies = laws.words (vars_of given pass) room now holds.words holds.fits (op.Active place) has
     word_lies rest pass next room now holds (op.OwnRead layout field) has lies = laws.words (vars_of given pass) room now holds.words holds.fits (op.OwnRead layout field) has
 
     -- after a new register
@@ -187,6 +201,7 @@ module _ (seen : Seen) where
       spans = λ r below. get_kept next.spans span whole_i32 r below;
       kept = λ r below. put_below (length next.spans) word room.regs r below;
       kept_places = λ p below. refl;
+      kept_roots = λ p below. refl;
     }
 
     put_out : (type : Ty) (how : Op) (index : List ℕ) (pass known : Pass) (next : Next) (room : Room) (now result : RunMoment) (go : ℕ → Making) → OpIsAt seen.shapes room how index
@@ -262,36 +277,39 @@ module _ (seen : Seen) where
             (subst (λ w. Serves seen given rest pass next room now result w go) (sym (plainest_word seen room now type how)) serves)
 
     -- a place that a step gives
-    place_later : (place : Option Place) (next : Next) (room : Room) → Later next room (next_with_place next) (room_place next.places place room)
-    place_later place next room = record {
+    place_later : (root : ℕ) (place : Option Place) (next : Next) (room : Room) → Later next room (next_with_place next) (room_place next.places root place room)
+    place_later root place next room = record {
       regs = omega arith;
       places = omega arith;
       spans = λ r below. refl;
       kept = λ r below. refl;
       kept_places = λ p below. put_below next.places place room.places p below;
+      kept_roots = λ p below. put_below next.places root room.roots p below;
     }
 
     pub stepped_law : (rest : Block) (how : Step) (go : ℕ → Making) (pass : Pass) (next : Next) (room : Room) (now result : RunMoment) → HoldsInRoom seen given rest pass next room now
         → StepBelow (length next.spans) next.places how
-        → ServesPlace seen given rest pass next room now result (step_place seen room how) go → Good seen (stepped how go pass next) room now result
+        → ServesPlace seen given rest pass next room now result (step_root room how) (step_place seen room how) go → Good seen (stepped how go pass next) room now result
     stepped_law rest how go pass next room now result holds below serves = by_found (lookup (same_step how) pass.steps) refl
       where
         by_found : (o : Option ℕ) → lookup (same_step how) pass.steps ≡ o → Good seen (stepped_at how go o pass next) room now result
         by_found (Some t) e =
             let found : IsFound same_step how (StepHolds seen next room) t = each_found same_step how (StepHolds seen next room) pass.steps t holds.steps e in
             let is : how ≡ found.other = laws.same_steps how found.other found.alike in
-            serves t pass next room (later_same next room) (alike_same pass next) holds found.holds.named (found.holds.place ∙ ap (step_place seen room) (sym is))
+            serves t pass next room (later_same next room) (alike_same pass next) holds found.holds.named (found.holds.place ∙ ap (step_place seen room) (sym is)) (found.holds.root ∙ ap (step_root room) (sym is))
         by_found None e =
             let p = next.places in
+            let root = step_root room how in
             let place = step_place seen room how in
-            let later = place_later place next room in
-            let mid = holds_later given rest pass next room (next_with_place next) (room_place p place room) now later holds.words holds in
-            let entry : StepHolds seen (next_with_place next) (room_place p place room) (how, p) = record {
+            let later = place_later root place next room in
+            let mid = holds_later given rest pass next room (next_with_place next) (room_place p root place room) now later holds.words holds in
+            let entry : StepHolds seen (next_with_place next) (room_place p root place room) (how, p) = record {
               named = omega arith;
               below = step_below how (length next.spans) (length next.spans) p (suc p) (omega arith) (omega arith) below;
-              place = put_here p place room.places ∙ sym (step_kept next room (next_with_place next) (room_place p place room) later how below);
+              place = put_here p place room.places ∙ sym (step_kept next room (next_with_place next) (room_place p root place room) later how below);
+              root = put_here p root room.roots ∙ sym (root_kept next room (next_with_place next) (room_place p root place room) later how below);
             } in
-            let good = serves p (and_step how p pass) (next_with_place next) (room_place p place room) later (record { loops = refl; names = refl })
-            (record { ops = mid.ops; steps = each_push (StepHolds seen (next_with_place next) (room_place p place room)) pass.steps (how, p) mid.steps entry; words = mid.words; fits = mid.fits })
-            (omega arith) (put_here p place room.places) in
+            let good = serves p (and_step how p pass) (next_with_place next) (room_place p root place room) later (record { loops = refl; names = refl })
+            (record { ops = mid.ops; steps = each_push (StepHolds seen (next_with_place next) (room_place p root place room)) pass.steps (how, p) mid.steps entry; words = mid.words; fits = mid.fits })
+            (omega arith) (put_here p place room.places) (put_here p root room.roots) in
             record { runs = good.runs; names = good.names }

@@ -13,15 +13,16 @@ use Rattle.sg_ir.specs.declared.op.Op.TheVariants as op
 use Rattle.sg_ir.specs.declared.op.Step.{Step}
 use Rattle.sg_ir.specs.declared.op.Step.TheVariants as step
 use Rattle.sg_ir.specs.Runs.{put}
-use Rattle.sg_ir.specs.Blocks.{Block, End, Word, Spot, Cell, Do, Branch, Loop, SetVar, WriteOwn, Contribute, Wish}
+use Rattle.sg_ir.specs.Blocks.{sight_op, Block, End, Word, Spot, Cell, Do, Branch, Loop, SetVar, WriteOwn, Contribute, Wish}
 use Rattle.sg_ir.specs.declared.span.Span.{Span}
 use Rattle.sg_ir.specs.Shared.{same_op, same_step, is_pure}
 use Rattle.sg_ir.specs.Trimmed.{is_within}
 use Rattle.sg_ir.specs.InScope.{InScope, and_reg, and_place, op_regs, op_places, step_regs, step_places, AreSet, IsScoped}
 use Rattle.sg_ir.specs.Places.{extents_in}
-use Rattle.sg_simplify.specs.steps.Pass.{Given, Pass, Next, Making, made_name, with_name, next_with_reg, next_with_place, given_type, span_in, span_of, renamed, and_op, and_step, put_in_front, set_word, fresh, taken_at, looked_up, operand_again, plainest, taken_or, taken, numbered, stepped_at, stepped, check_at, checks_made, offset_made, offset, descent_of, descended, placed_in, place_made, looped, simplified}
+use Rattle.sg_simplify.specs.steps.Pass.{Given, Pass, Next, Making, made_name, with_name, next_with_reg, next_with_place, given_type, span_in, span_of, renamed, and_op, and_step, put_in_front, set_word, fresh, taken_at, looked_up, operand_again, plainest, taken_or, taken, numbered, stepped_at, stepped, check_at, checks_made, offset_made, offset, descent_of, descended, placed_in, place_made, looped, simplified, layout_seen}
 use Rattle.sg_simplify.specs.steps.Ruled.{IsNotRead, HasAccessLayouts, HasLayout, Grown}
 use Rattle.sg_simplify.specs.steps.Sets.{Wider, Sets, GoesOnIn, GoesOnAt, IndexIsSet, AllNamed}
+use Rattle.sg_simplify.proofs.Sights.{sight_regs, sight_places, sight_index}
 use Rattle.sg_simplify.proofs.Tables.{each_push, each_map, IsFound, each_found, length_push}
 use Rattle.sg_simplify.proofs.Growing.{name_here, name_other, grown_on, simplified_grows}
 use Rattle.sg_simplify.proofs.Plainest.{operand_is_set, plainest_regs, plainest_places, plainest_index}
@@ -92,6 +93,7 @@ set_scoped scope n (op.Mulq a b s) index rest regs places set free more = (regs,
 set_scoped scope n (op.Extract div size from) index rest regs places set free more = (regs, places, free, more)
 set_scoped scope n (op.Offset high size low) index rest regs places set free more = (regs, places, free, more)
 set_scoped scope n (op.Read place layout field) index rest regs places set free more = (places, free, more, set)
+set_scoped scope n (op.Active place) index rest regs places set free more = (places, free, more, set)
 set_scoped scope n (op.OwnRead layout field) index rest regs places set free more = (regs, places, free, more)
 
 module _ (given : Given) where
@@ -226,6 +228,7 @@ module _ (given : Given) where
   op_named inner scope next all (op.Extract div size r) plain set = (all r set.0, tt)
   op_named inner scope next all (op.Offset high size low) plain set = (all high set.0, (all low set.1.0, tt))
   op_named inner scope next all (op.Read place layout field) plain set = absurd plain
+  op_named inner scope next all (op.Active place) plain set = absurd plain
   op_named inner scope next all (op.OwnRead layout field) plain set = tt
 
   no_places : (scope : InScope) (next : Next) (how : Op) → IsNotRead how → AreSet scope.places (op_places (renamed next how))
@@ -237,6 +240,7 @@ module _ (given : Given) where
   no_places scope next (op.Extract div size r) plain = tt
   no_places scope next (op.Offset high size low) plain = tt
   no_places scope next (op.Read place layout field) plain = absurd plain
+  no_places scope next (op.Active place) plain = absurd plain
   no_places scope next (op.OwnRead layout field) plain = tt
 
   no_index : (scope : InScope) (next : Next) (how : Op) → IsNotRead how → IndexIsSet scope (renamed next how) []
@@ -248,6 +252,7 @@ module _ (given : Given) where
   no_index scope next (op.Extract div size r) plain = tt
   no_index scope next (op.Offset high size low) plain = tt
   no_index scope next (op.Read place layout field) plain = absurd plain
+  no_index scope next (op.Active place) plain = absurd plain
   no_index scope next (op.OwnRead layout field) plain = tt
 
   pub sets_grown : (inner scope : InScope) (known : Pass) (next further : Next) → Grown inner next further → Sets scope known next → Sets scope known further
@@ -268,7 +273,7 @@ module _ (given : Given) where
   named_by inner scope wide next further names = named_on inner scope wide next further (λ r is. ap (λ (table : List (ℕ × ℕ)). unwrap_or (lookup (nat_eq r) table) r) names)
 
 module _ (given : Given) where
-  pub simplified_sets : (block : Block) (inner scope : InScope) (known : Pass) (next : Next) → IsScoped inner block → HasAccessLayouts given.shapes block → Sets scope known next → AllNamed inner scope next
+  pub simplified_sets : (block : Block) (inner scope : InScope) (known : Pass) (next : Next) → IsScoped inner block → HasAccessLayouts given.shapes given.roots block → Sets scope known next → AllNamed inner scope next
       → IsScoped scope (simplified given block known next).0
   simplified_sets End inner scope known next scoped fitted h all = tt
   simplified_sets (Word to how rest) inner scope known next scoped fitted h all =
@@ -277,15 +282,16 @@ module _ (given : Given) where
       (λ t known' further wide wider names holds t_is. simplified_sets rest (and_reg to inner) wide known' (with_name to t further) scoped.3 fitted.1 (sets_named given wide known' further to t holds)
       (named_put given inner wide further to t t_is (named_by given inner scope wide next further names wider all)))
   simplified_sets (Spot to how rest) inner scope known next scoped fitted h all = simplified_sets rest (and_place to inner) scope known next scoped.3 fitted h all
-  simplified_sets (Cell to place layout field [] rest) inner scope known next scoped fitted h all = absurd fitted.0
-  simplified_sets (Cell to place layout field (r ∷ index) rest) inner scope known next scoped fitted h all =
+  simplified_sets (Cell to place sight [] rest) inner scope known next scoped fitted h all = absurd fitted.0
+  simplified_sets (Cell to place sight (r ∷ index) rest) inner scope known next scoped fitted h all =
       let fresh_index = map (made_name next) (r ∷ index) in
+      let layout = layout_seen given place sight in
       let has : HasLayout given.shapes layout (length (r ∷ index)) = fitted.0 in
       let set = index_named given inner scope next all (r ∷ index) scoped.3 in
       placed_sets given has.shape layout (made_name next r) (map (made_name next) index)
-      (λ p. taken given (given_type given to) (op.Read p layout field) fresh_index (λ t now later. simplified given rest now (with_name to t later))) scope known next has.there h set
-      (λ p known' further wide wider names holds p_is. taken_sets given (given_type given to) (op.Read p layout field) fresh_index (λ t now later. simplified given rest now (with_name to t later)) wide known' further holds
-      tt (p_is, tt) (set_wider scope wide wider fresh_index set)
+      (λ p. taken given (given_type given to) (sight_op p sight) fresh_index (λ t now later. simplified given rest now (with_name to t later))) scope known next has.there h set
+      (λ p known' further wide wider names holds p_is. taken_sets given (given_type given to) (sight_op p sight) fresh_index (λ t now later. simplified given rest now (with_name to t later)) wide known' further holds
+      (sight_regs wide.regs p sight) (sight_places wide.places p sight p_is) (sight_index wide p sight fresh_index (set_wider scope wide wider fresh_index set))
       (λ t known'' further' wide' wider' names' holds' t_is. simplified_sets rest (and_reg to inner) wide' known'' (with_name to t further') scoped.2 fitted.1 (sets_named given wide' known'' further' to t holds')
       (named_put given inner wide' further' to t t_is (named_by given inner scope wide' next further' (names' ∙ names) (wider_on scope wide wide' wider wider') all))))
   simplified_sets (Do (SetVar var reg) rest) inner scope known next scoped fitted h all = ((all reg scoped.0.0, tt), tt, simplified_sets rest inner scope known next scoped.2 fitted.1 h all)

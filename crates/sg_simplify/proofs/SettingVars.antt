@@ -13,13 +13,13 @@ use Rattle.sg_ir.specs.declared.op.Op.{Op}
 use Rattle.sg_ir.specs.declared.op.Op.TheVariants as op
 use Rattle.sg_ir.specs.declared.op.Step.{Step}
 use Rattle.sg_ir.specs.declared.op.Step.TheVariants as step
-use Rattle.sg_ir.specs.Blocks.{Block, End, Word, Spot, Cell, Do, Branch, Loop, SetVar, WriteOwn, Contribute, Wish}
+use Rattle.sg_ir.specs.Blocks.{sight_op, Block, End, Word, Spot, Cell, Do, Branch, Loop, SetVar, WriteOwn, Contribute, Wish}
 use Rattle.sg_ir.specs.Span.{sets}
 use Rattle.sg_ir.specs.Shared.{same_op, same_step, is_pure, is_single, shares, is_shared}
 use Rattle.sg_ir.specs.Trimmed.{is_within}
 use Rattle.sg_ir.specs.Places.{extents_in}
 use Rattle.sg_ir.proofs.Uses.{op_exact}
-use Rattle.sg_simplify.specs.steps.Pass.{Given, Pass, Next, Making, made_name, with_name, next_with_reg, next_with_place, given_type, span_in, span_of, renamed, and_op, and_step, put_in_front, set_word, fresh, taken_at, looked_up, operand_again, plainest, taken_or, taken, numbered, stepped_at, stepped, check_at, checks_made, offset_made, offset, descent_of, descended, placed_in, place_made, looped, simplified, given_of, first_pass, first_next, simple}
+use Rattle.sg_simplify.specs.steps.Pass.{Given, Pass, Next, Making, made_name, with_name, next_with_reg, next_with_place, given_type, span_in, span_of, renamed, and_op, and_step, put_in_front, set_word, fresh, taken_at, looked_up, operand_again, plainest, taken_or, taken, numbered, stepped_at, stepped, check_at, checks_made, offset_made, offset, descent_of, descended, placed_in, place_made, looped, simplified, given_of, first_pass, first_next, simple, layout_seen}
 use Rattle.sg_simplify.proofs.Sharing.{simplified_shares}
 
 word_sets : (var n : ℕ) (how : Op) (index : List ℕ) (rest : Block) → sets var (set_word n how index rest) ≡ sets var rest
@@ -31,6 +31,7 @@ word_sets var n (op.Mulq a b s) index rest = refl
 word_sets var n (op.Extract div size from) index rest = refl
 word_sets var n (op.Offset high size low) index rest = refl
 word_sets var n (op.Read place layout field) index rest = refl
+word_sets var n (op.Active place) index rest = refl
 word_sets var n (op.OwnRead layout field) index rest = refl
 
 module _ (given : Given) (var : ℕ) where
@@ -106,9 +107,9 @@ module _ (given : Given) (var : ℕ) where
   simplified_count (Word to how rest) known next =
       numbered_count (sets var rest) (is_pure given.single how) (given_type given to) (renamed next how) (λ t now later. simplified given rest now (with_name to t later)) (λ t now later. simplified_count rest now (with_name to t later)) known next
   simplified_count (Spot to how rest) known next = simplified_count rest known next
-  simplified_count (Cell to place layout field index rest) known next =
-      placed_count (sets var rest) layout (map (made_name next) index) (λ p. taken given (given_type given to) (op.Read p layout field) (map (made_name next) index) (λ t now later. simplified given rest now (with_name to t later)))
-      (λ p. taken_count (sets var rest) (given_type given to) (op.Read p layout field) (map (made_name next) index) (λ t now later. simplified given rest now (with_name to t later)) (λ t now later. simplified_count rest now (with_name to t later))) known next
+  simplified_count (Cell to place sight index rest) known next =
+      placed_count (sets var rest) (layout_seen given place sight) (map (made_name next) index) (λ p. taken given (given_type given to) (sight_op p sight) (map (made_name next) index) (λ t now later. simplified given rest now (with_name to t later)))
+      (λ p. taken_count (sets var rest) (given_type given to) (sight_op p sight) (map (made_name next) index) (λ t now later. simplified given rest now (with_name to t later)) (λ t now later. simplified_count rest now (with_name to t later))) known next
   simplified_count (Do (SetVar set from) rest) known next = ap (λ n. (if set == var then 1 else 0) + n) (simplified_count rest known next)
   simplified_count (Do (WriteOwn layout field from stmt) rest) known next = ap (λ n. 0 + n) (simplified_count rest known next)
   simplified_count (Do (Contribute how layout field place from index stmt) rest) known next =
@@ -136,6 +137,7 @@ pure_same f g same (op.Mulq a b s) = refl
 pure_same f g same (op.Extract div size from) = refl
 pure_same f g same (op.Offset high size low) = refl
 pure_same f g same (op.Read place layout field) = refl
+pure_same f g same (op.Active place) = refl
 pure_same f g same (op.OwnRead layout field) = refl
 
 shares_same : (f g : ℕ → Bool) → ((v : ℕ) → f v ≡ g v) → (block : Block) (ops : List Op) (steps : List Step) → shares f ops steps block ≡ shares g ops steps block
@@ -144,8 +146,8 @@ shares_same f g same (Word to how rest) ops steps =
     ap (λ (b : Bool). not (b && list_any (same_op how) ops) && shares f (how ∷ ops) steps rest) (pure_same f g same how)
     ∙ ap (λ (b : Bool). not (is_pure g how && list_any (same_op how) ops) && b) (shares_same f g same rest (how ∷ ops) steps)
 shares_same f g same (Spot to how rest) ops steps = ap (λ (b : Bool). not (list_any (same_step how) steps) && b) (shares_same f g same rest ops (how ∷ steps))
-shares_same f g same (Cell to place layout field index rest) ops steps =
-    ap (λ (b : Bool). not (list_any (same_op (op.Read place layout field)) ops) && b) (shares_same f g same rest (op.Read place layout field ∷ ops) steps)
+shares_same f g same (Cell to place sight index rest) ops steps =
+    ap (λ (b : Bool). not (list_any (same_op (sight_op place sight)) ops) && b) (shares_same f g same rest (sight_op place sight ∷ ops) steps)
 shares_same f g same (Do what rest) ops steps = shares_same f g same rest ops steps
 shares_same f g same (Branch cond block otherwise rest) ops steps =
     ap (λ (b : Bool). b && (shares f ops steps otherwise && shares f ops steps rest)) (shares_same f g same block ops steps)

@@ -12,12 +12,13 @@ use Rattle.sg_ir.specs.declared.op.Op.{Op}
 use Rattle.sg_ir.specs.declared.op.Op.TheVariants as op
 use Rattle.sg_ir.specs.declared.op.Step.{Step}
 use Rattle.sg_ir.specs.declared.op.Step.TheVariants as step
-use Rattle.sg_ir.specs.Blocks.{Block, End, Word, Spot, Cell, Do, Branch, Loop, SetVar, WriteOwn, Contribute, Wish}
+use Rattle.sg_ir.specs.Blocks.{sight_op, Block, End, Word, Spot, Cell, Do, Branch, Loop, SetVar, WriteOwn, Contribute, Wish}
 use Rattle.sg_ir.specs.Shared.{same_op, same_step, is_pure, shares}
 use Rattle.sg_ir.specs.Trimmed.{is_within}
 use Rattle.sg_ir.specs.Places.{extents_in}
-use Rattle.sg_simplify.specs.steps.Pass.{Given, Pass, Next, Making, made_name, with_name, next_with_reg, next_with_place, given_type, span_in, span_of, renamed, and_op, and_step, put_in_front, set_word, fresh, taken_at, looked_up, operand_again, plainest, taken_or, taken, numbered, stepped_at, stepped, check_at, checks_made, offset_made, offset, descent_of, descended, placed_in, place_made, looped, simplified}
+use Rattle.sg_simplify.specs.steps.Pass.{Given, Pass, Next, Making, made_name, with_name, next_with_reg, next_with_place, given_type, span_in, span_of, renamed, and_op, and_step, put_in_front, set_word, fresh, taken_at, looked_up, operand_again, plainest, taken_or, taken, numbered, stepped_at, stepped, check_at, checks_made, offset_made, offset, descent_of, descended, placed_in, place_made, looped, simplified, layout_seen}
 use Rattle.sg_simplify.specs.steps.Shares.{Knows, GoesShared}
+use Rattle.sg_simplify.proofs.Sights.{sight_pure}
 use Rattle.sg_simplify.proofs.Plainest.{plainest_pure}
 
 both_true : (a b : Bool) → a ≡ true → b ≡ true → (a && b) ≡ true
@@ -65,6 +66,7 @@ set_shares single ops steps n (op.Mulq a b s) index rest = refl
 set_shares single ops steps n (op.Extract div size from) index rest = refl
 set_shares single ops steps n (op.Offset high size low) index rest = refl
 set_shares single ops steps n (op.Read place layout field) index rest = refl
+set_shares single ops steps n (op.Active place) index rest = refl
 set_shares single ops steps n (op.OwnRead layout field) index rest = refl
 
 pure_renamed : (single : ℕ → Bool) (next : Next) (how : Op) → is_pure single (renamed next how) ≡ is_pure single how
@@ -76,6 +78,7 @@ pure_renamed single next (op.Mulq a b s) = refl
 pure_renamed single next (op.Extract div size from) = refl
 pure_renamed single next (op.Offset high size low) = refl
 pure_renamed single next (op.Read place layout field) = refl
+pure_renamed single next (op.Active place) = refl
 pure_renamed single next (op.OwnRead layout field) = refl
 
 module _ (same_exact : (a b : Op) → same_op a b ≡ true → a ≡ b) (given : Given) where
@@ -196,9 +199,9 @@ module _ (same_exact : (a b : Op) → same_op a b ≡ true → a ≡ b) (given :
       numbered_shares (is_pure single how) (given_type given to) (renamed next how) (λ t now later. simplified given rest now (with_name to t later)) (pure_renamed single next how)
       (λ t now later ops' steps' k. simplified_shares rest now (with_name to t later) ops' steps' k) known next ops steps h
   simplified_shares (Spot to how rest) known next ops steps h = simplified_shares rest known next ops steps h
-  simplified_shares (Cell to place layout field index rest) known next ops steps h =
-      placed_shares layout (map (made_name next) index) (λ p. taken given (given_type given to) (op.Read p layout field) (map (made_name next) index) (λ t now later. simplified given rest now (with_name to t later)))
-      (λ p. taken_shares (given_type given to) (op.Read p layout field) (map (made_name next) index) (λ t now later. simplified given rest now (with_name to t later)) refl
+  simplified_shares (Cell to place sight index rest) known next ops steps h =
+      placed_shares (layout_seen given place sight) (map (made_name next) index) (λ p. taken given (given_type given to) (sight_op p sight) (map (made_name next) index) (λ t now later. simplified given rest now (with_name to t later)))
+      (λ p. taken_shares (given_type given to) (sight_op p sight) (map (made_name next) index) (λ t now later. simplified given rest now (with_name to t later)) (sight_pure single p sight)
       (λ t now later ops' steps' k. simplified_shares rest now (with_name to t later) ops' steps' k)) known next ops steps h
   simplified_shares (Do (SetVar var from) rest) known next ops steps h = simplified_shares rest known next ops steps h
   simplified_shares (Do (WriteOwn layout field from stmt) rest) known next ops steps h = simplified_shares rest known next ops steps h

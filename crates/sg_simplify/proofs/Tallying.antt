@@ -13,10 +13,10 @@ use Rattle.sg_ir.specs.declared.op.Op.TheVariants as op
 use Rattle.sg_ir.specs.declared.op.Step.{Step}
 use Rattle.sg_ir.specs.declared.op.Step.TheVariants as step
 use Rattle.sg_ir.specs.declared.op.Descent.TheVariants as by
-use Rattle.sg_ir.specs.Blocks.{Block, End, Word, Spot, Cell, Do, Branch, Loop, SetVar, WriteOwn, Contribute, Wish, Link, chained, link_step, link, block_of}
+use Rattle.sg_ir.specs.Blocks.{Sight, Value, Activity, Block, End, Word, Spot, Cell, Do, Branch, Loop, SetVar, WriteOwn, Contribute, Wish, Link, chained, link_step, link, block_of}
 use Rattle.sg_ir.specs.Span.{sets}
 use Rattle.sg_ir.specs.WellTyped.{is_truth, SetName, SetsReg, SetsPlace, SetsVar, sets_step, settings, in_order, reg_number, place_number, var_number, set_regs, set_places, set_vars, setters_in, has_no_twice}
-use Rattle.sg_ir.proofs.Uses.{fold-Const, fold-Var, fold-Set, fold-Bin, fold-Un, fold-Mulq, fold-Root, fold-Check, fold-Extract, fold-Offset, fold-Child, fold-HashChild, fold-MaskBit, fold-DynCell, fold-ReadCell, fold-OwnRead, fold-OwnWrite, fold-Acc, fold-Want, fold-If, fold-For}
+use Rattle.sg_ir.proofs.Uses.{fold-Const, fold-Var, fold-Set, fold-Bin, fold-Un, fold-Mulq, fold-Root, fold-Check, fold-Extract, fold-Offset, fold-Child, fold-HashChild, fold-MaskBit, fold-DynCell, fold-ReadCell, fold-IsActive, fold-OwnRead, fold-OwnWrite, fold-Acc, fold-Want, fold-If, fold-For}
 use Rattle.sg_simplify.specs.steps.Serves.{EachByRecursion}
 use Rattle.sg_simplify.specs.steps.Counted.{one_where, regs_set, places_set}
 use Rattle.sg_simplify.proofs.Inducting.{inductively}
@@ -78,8 +78,8 @@ word_tallies to how = record {
   vars = λ rest x. nothing_more (sets x rest);
 }
 
-cell_tallies : (to place layout field : ℕ) (index : List ℕ) → Tallies (Cell to place layout field index) (SetsReg to ∷ [])
-cell_tallies to place layout field index = record {
+cell_tallies : (to place : ℕ) (sight : Sight) (index : List ℕ) → Tallies (Cell to place sight index) (SetsReg to ∷ [])
+cell_tallies to place sight index = record {
   regs = λ rest r. ap (λ n. n + regs_set r rest) (sym (count_one r to));
   places = λ rest p. nothing_more (places_set p rest);
   vars = λ rest x. nothing_more (sets x rest);
@@ -185,7 +185,8 @@ module _ (types : List Ty) where
       (λ to place node offset. carry _ _ _ _ (fold-HashChild (link_step types) to place node offset) (fold-HashChild sets_step to place node offset) (spot_tallies to (step.Down by.HashChild place node offset)))
       (λ to place node offset. carry _ _ _ _ (fold-MaskBit (link_step types) to place node offset) (fold-MaskBit sets_step to place node offset) (spot_tallies to (step.Down by.MaskBit place node offset)))
       (λ to place node offset. carry _ _ _ _ (fold-DynCell (link_step types) to place node offset) (fold-DynCell sets_step to place node offset) (spot_tallies to (step.Down by.DynCell place node offset)))
-      (λ to place layout field index. carry _ _ _ _ (fold-ReadCell (link_step types) to place layout field index) (fold-ReadCell sets_step to place layout field index) (cell_tallies to place layout field index))
+      (λ to place layout field index. carry _ _ _ _ (fold-ReadCell (link_step types) to place layout field index) (fold-ReadCell sets_step to place layout field index) (cell_tallies to place (Value layout field) index))
+      (λ to place index. carry _ _ _ _ (fold-IsActive (link_step types) to place index) (fold-IsActive sets_step to place index) (cell_tallies to place Activity index))
       (λ to layout field. carry _ _ _ _ (fold-OwnRead (link_step types) to layout field) (fold-OwnRead sets_step to layout field) (word_tallies to (op.OwnRead layout field)))
       (λ layout field from stmt. carry _ _ _ _ (fold-OwnWrite (link_step types) layout field from stmt) (fold-OwnWrite sets_step layout field from stmt) (ownwrite_tallies layout field from stmt))
       (λ how layout field place from index stmt. carry _ _ _ _ (fold-Acc (link_step types) how layout field place from index stmt) (fold-Acc sets_step how layout field place from index stmt) (acc_tallies how layout field place from index stmt))

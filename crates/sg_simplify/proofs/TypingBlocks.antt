@@ -12,14 +12,17 @@ use Rattle.sg_layout.specs.Axes.{bounds_of_shape}
 use Rattle.sg_ir.specs.declared.op.Op.{Op}
 use Rattle.sg_ir.specs.declared.op.Op.TheVariants as op
 use Rattle.sg_ir.specs.Places.{extents_in}
-use Rattle.sg_ir.specs.Blocks.{Block, End, Word, Spot, Cell, Do, Branch, Loop, SetVar, WriteOwn, Contribute, Wish}
+use Rattle.sg_ir.specs.Blocks.{sight_op, Block, End, Word, Spot, Cell, Do, Branch, Loop, SetVar, WriteOwn, Contribute, Wish, Sight, Value, Activity}
 use Rattle.sg_ir.specs.Shared.{is_pure}
 use Rattle.sg_ir.specs.WellTyped as well
 use Rattle.sg_ir.specs.WellTyped.{KnownPlace, Scope, Frame, is_truth, is_truth_as, reads, indexes, holds_of, is_i32, takes_truth, is_lnot, is_cell, checkable}
 use Rattle.sg_ir.specs.InScope.{InScope, and_reg, and_place, IsScoped}
-use Rattle.sg_simplify.specs.steps.Pass.{Given, Pass, Next, Making, made_name, with_name, given_type, renamed, put_in_front, taken, place_made, looped, simplified}
-use Rattle.sg_simplify.specs.steps.Judged.{gives_type, field_truth, truth_of, operands_fit, index_fits, IndexIsGood, step_known, and_known, act_fits, is_no_read, fits_scope}
+use Rattle.sg_simplify.specs.steps.Pass.{Given, Pass, Next, Making, made_name, with_name, given_type, renamed, put_in_front, taken, place_made, looped, simplified, layout_seen}
+use Rattle.sg_simplify.specs.steps.Judged.{gives_type, field_truth, truth_of, operands_fit, index_fits, IndexIsGood, step_known, and_known, act_fits, is_no_read, fits_scope, sight_fits}
 use Rattle.sg_simplify.specs.steps.Typed.{Fixed, frame_by, Starts, Widens, Types, Typed, GoesDown, AllRead, ChecksFit, IsWalked, AreWalked, IsNamedTyped, NamesTyped}
+use Rattle.sg_simplify.specs.steps.Ruled.{HasRoots}
+use Rattle.sg_simplify.proofs.Sights.{sight_truth}
+use Rattle.sg_simplify.proofs.Fitted.{Rooted, step_rooted}
 use Rattle.sg_simplify.proofs.Growing.{name_here, name_other, simplified_grows}
 use Rattle.sg_simplify.proofs.TypingSteps.{both, eq_same, gives_on, widens_same, widens_on, starts_same, starts_on, reads_on, index_on, types_var, types_grown, types_named, unnamed}
 use Rattle.sg_simplify.proofs.Typing.{taken_typed, numbered_typed, placed_typed, act_typed}
@@ -197,6 +200,7 @@ module _ (given : Given) (vars : List Ty) (setters : ℕ → ℕ) (places : ℕ)
       let more = and_parts (reads at gscope false high) (reads at gscope false low) parts.1 in
       both _ _ parts.0 (both _ _ (reads_named gscope scope next all false high more.0) (reads_named gscope scope next all false low more.1))
   operands_named gscope scope next all set (op.Read place layout field) plain e = absurd (cc)
+  operands_named gscope scope next all set (op.Active place) plain e = absurd (cc)
   operands_named gscope scope next all set (op.OwnRead layout field) plain e = refl
 
   truth_named : (next : Next) (how : Op) → truth_of given.shapes vars (renamed next how) ≡ truth_of given.shapes vars how
@@ -208,6 +212,7 @@ module _ (given : Given) (vars : List Ty) (setters : ℕ → ℕ) (places : ℕ)
   truth_named next (op.Extract div size from) = refl
   truth_named next (op.Offset high size low) = refl
   truth_named next (op.Read place layout field) = refl
+  truth_named next (op.Active place) = refl
   truth_named next (op.OwnRead layout field) = refl
 
   no_index : (scope : Scope) (next : Next) (how : Op) → is_no_read how ≡ true → IndexIsGood (frame_by fixed next) scope (renamed next how) []
@@ -219,6 +224,7 @@ module _ (given : Given) (vars : List Ty) (setters : ℕ → ℕ) (places : ℕ)
   no_index scope next (op.Extract div size from) plain = tt
   no_index scope next (op.Offset high size low) plain = tt
   no_index scope next (op.Read place layout field) plain = absurd (cc)
+  no_index scope next (op.Active place) plain = absurd (cc)
   no_index scope next (op.OwnRead layout field) plain = tt
 
   all_named : (gscope scope : Scope) (next : Next) → NamesTyped given.types gscope scope next → (index : List ℕ) → list_all (reads at gscope false) index ≡ true → AllRead fixed scope next (map (made_name next) index)
@@ -255,11 +261,32 @@ module _ (given : Given) (vars : List Ty) (setters : ℕ → ℕ) (places : ℕ)
       placed_typed given vars setters has.shape layout (made_name next r) (map (made_name next) index) go scope known next has.there h (all_named gscope scope next all (r ∷ index) has.all)
       (checks_fit (frame_by fixed next) layout has.shape (map (made_name next) (r ∷ index)) has.there it (length_map (made_name next) (r ∷ index) ∙ has.long)) it.nodes goes
 
+  -- what is seen at a place: the layout in which its index registers name a coordinate, and the new place
+  seen_index : (gscope : Scope) (place : ℕ) (sight : Sight) (index : List ℕ) → Rooted given.roots gscope → sight_fits at gscope place sight index ≡ true → index_fits at gscope (layout_seen given place sight) index ≡ true
+  seen_index gscope place (Value layout field) index rooted e = e
+  seen_index gscope place Activity index rooted e = by_known (gscope.places place) refl e
+    where
+      by_known : (found : Option KnownPlace) → gscope.places place ≡ found → holds_of (λ known. index_fits at gscope known.layout index) found ≡ true → index_fits at gscope (layout_seen given place Activity) index ≡ true
+      by_known None is h = absurd (cc)
+      by_known (Some known) is h = subst (λ (layout : ℕ). index_fits at gscope layout index ≡ true) (sym (rooted place known is)) h
+
+  sight_at : (wide : Scope) (further : Next) (place p : ℕ) (sight : Sight) (shape : Shape) → slice_get given.shapes (layout_seen given place sight) ≡ Some shape
+      → wide.places p ≡ Some (record { layout = layout_seen given place sight; passed = length shape.nodes }) → operands_fit (frame_by fixed further) wide (sight_op p sight) ≡ true
+  sight_at wide further place p (Value layout field) shape there is = cell_at wide further layout p shape there is
+  sight_at wide further place p Activity shape there is =
+      subst (λ (o : Option KnownPlace). holds_of (λ known. is_cell (frame_by fixed further) known.layout known) o ≡ true) (sym is) (cell_there (layout_seen given place Activity) shape further there)
+
+  sight_index : (wide : Scope) (further : Next) (place p : ℕ) (sight : Sight) (index : List ℕ) (passed : ℕ) → wide.places p ≡ Some (record { layout = layout_seen given place sight; passed = passed })
+      → index_fits (frame_by fixed further) wide (layout_seen given place sight) index ≡ true → IndexIsGood (frame_by fixed further) wide (sight_op p sight) index
+  sight_index wide further place p (Value layout field) index passed is good = good
+  sight_index wide further place p Activity index passed is good =
+      subst (λ (o : Option KnownPlace). holds_of (λ known. index_fits (frame_by fixed further) wide known.layout index) o ≡ true) (sym is) good
+
   -- ---- over blocks
-  pub simplified_typed : (block : Block) (inner : InScope) (gscope scope : Scope) (known : Pass) (next : Next) → IsScoped inner block → ((r : ℕ) → gscope.regs r ≡ true → inner.regs r ≡ true) → fits_scope at gscope block ≡ true
+  pub simplified_typed : (block : Block) (inner : InScope) (gscope scope : Scope) (known : Pass) (next : Next) → IsScoped inner block → ((r : ℕ) → gscope.regs r ≡ true → inner.regs r ≡ true) → fits_scope at gscope block ≡ true → HasRoots given.roots block → Rooted given.roots gscope
       → ((v : ℕ) → gscope.vars v ≡ true → scope.vars v ≡ true) → NamesTyped given.types gscope scope next → Types fixed scope known next → Typed fixed scope next (simplified given block known next)
-  simplified_typed End inner gscope scope known next scoped within good set all h = record { grows = λ final s. s; even = h.even; longer = omega arith; good = λ final s. refl }
-  simplified_typed (Word to how rest) inner gscope scope known next scoped within good set all h =
+  simplified_typed End inner gscope scope known next scoped within good are rooted set all h = record { grows = λ final s. s; even = h.even; longer = omega arith; good = λ final s. refl }
+  simplified_typed (Word to how rest) inner gscope scope known next scoped within good are rooted set all h =
       let parts = and_parts (is_no_read how && (operands_fit at gscope how && gives_type (truth_of given.shapes vars how) (slice_get given.types to))) (fits_scope at (well.with_reg to gscope) rest) good in
       let own = and_parts (is_no_read how) (operands_fit at gscope how && gives_type (truth_of given.shapes vars how) (slice_get given.types to)) parts.0 in
       let it = and_parts (operands_fit at gscope how) (gives_type (truth_of given.shapes vars how) (slice_get given.types to)) own.1 in
@@ -269,56 +296,60 @@ module _ (given : Given) (vars : List Ty) (setters : ℕ → ℕ) (places : ℕ)
       (λ t known' further wide widens names starts holds t_is t_type.
       let t_type' = subst (λ (o : Option Bool). gives_type o (slice_get further.types t) ≡ true) (truth_named next how) t_type in
       unnamed fixed wide further to t (simplified given rest known' (with_name to t further))
-      (simplified_typed rest (and_reg to inner) (well.with_reg to gscope) wide known' (with_name to t further) scoped.3 (put_within to gscope.regs inner.regs within) parts.1
+      (simplified_typed rest (and_reg to inner) (well.with_reg to gscope) wide known' (with_name to t further) scoped.3 (put_within to gscope.regs inner.regs within) parts.1 are rooted
       (λ v e. widens.vars v (set v e))
       (names_with given.types gscope wide further to t t_is (alike_types (truth_of given.shapes vars how) (slice_get given.types to) (slice_get further.types t) it.1 t_type')
       (names_on given.types gscope scope wide next further (λ r is. same_names next further names r) widens starts all))
       (types_named fixed wide known' further to t holds)))
-  simplified_typed (Spot to how rest) inner gscope scope known next scoped within good set all h =
+  simplified_typed (Spot to how rest) inner gscope scope known next scoped within good are rooted set all h =
       let gbehind = and_known to (step_known gscope how) gscope in
       let parts = and_parts _ (fits_scope at gbehind rest) good in
-      simplified_typed rest (and_place to inner) gbehind scope known next scoped.3 (λ r is. within r (sym (known_regs to (step_known gscope how) gscope r) ∙ is)) parts.1
+      simplified_typed rest (and_place to inner) gbehind scope known next scoped.3 (λ r is. within r (sym (known_regs to (step_known gscope how) gscope r) ∙ is)) parts.1 are.1 (step_rooted given.roots gscope to how rooted are.0)
       (λ v is. set v (sym (known_vars to (step_known gscope how) gscope v) ∙ is)) (λ r is. all r (sym (known_regs to (step_known gscope how) gscope r) ∙ is)) h
-  simplified_typed (Cell to place layout field index rest) inner gscope scope known next scoped within good set all h =
+  simplified_typed (Cell to place sight index rest) inner gscope scope known next scoped within good are rooted set all h =
       let fresh_index = map (made_name next) index in
-      let parts = and_parts (holds_of (is_cell at layout) (gscope.places place) && (gives_type (field_truth given.shapes layout field) (slice_get given.types to) && index_fits at gscope layout index)) (fits_scope at (well.with_reg to gscope) rest) good in
-      let own = and_parts (holds_of (is_cell at layout) (gscope.places place)) (gives_type (field_truth given.shapes layout field) (slice_get given.types to) && index_fits at gscope layout index) parts.0 in
-      let it = and_parts (gives_type (field_truth given.shapes layout field) (slice_get given.types to)) (index_fits at gscope layout index) own.1 in
-      let has = has_index at gscope layout index it.1 in
-      access_typed gscope scope known next layout index (λ p. taken given (given_type given to) (op.Read p layout field) fresh_index (λ t now later. simplified given rest now (with_name to t later))) all h has
+      let layout = layout_seen given place sight in
+      let truth = truth_of given.shapes vars (sight_op place sight) in
+      let parts = and_parts (operands_fit at gscope (sight_op place sight) && (gives_type truth (slice_get given.types to) && sight_fits at gscope place sight index)) (fits_scope at (well.with_reg to gscope) rest) good in
+      let own = and_parts (operands_fit at gscope (sight_op place sight)) (gives_type truth (slice_get given.types to) && sight_fits at gscope place sight index) parts.0 in
+      let it = and_parts (gives_type truth (slice_get given.types to)) (sight_fits at gscope place sight index) own.1 in
+      let has = has_index at gscope layout index (seen_index gscope place sight index rooted it.1) in
+      access_typed gscope scope known next layout index (λ p. taken given (given_type given to) (sight_op p sight) fresh_index (λ t now later. simplified given rest now (with_name to t later))) all h has
       (λ p known' further wide widens names starts holds p_is.
-      taken_typed given vars setters (given_type given to) (op.Read p layout field) fresh_index (λ t now later. simplified given rest now (with_name to t later)) wide known' further holds
-      (cell_at wide further layout p has.shape has.there p_is) (type_there (field_truth given.shapes layout field) given.types to it.0)
-      (index_on fixed next further scope wide starts widens layout fresh_index (index_named gscope scope next all layout index has))
+      taken_typed given vars setters (given_type given to) (sight_op p sight) fresh_index (λ t now later. simplified given rest now (with_name to t later)) wide known' further holds
+      (sight_at wide further place p sight has.shape has.there p_is)
+      (subst (λ (o : Option Bool). gives_type o (Some (given_type given to)) ≡ true) (sym (sight_truth given.shapes vars p place sight)) (type_there truth given.types to it.0))
+      (sight_index wide further place p sight fresh_index (length has.shape.nodes) p_is (index_on fixed next further scope wide starts widens layout fresh_index (index_named gscope scope next all layout index has)))
       (λ t known'' further' wide' widens' names' starts' holds' t_is t_type.
       unnamed fixed wide' further' to t (simplified given rest known'' (with_name to t further'))
-      (simplified_typed rest (and_reg to inner) (well.with_reg to gscope) wide' known'' (with_name to t further') scoped.2 (put_within to gscope.regs inner.regs within) parts.1
+      (simplified_typed rest (and_reg to inner) (well.with_reg to gscope) wide' known'' (with_name to t further') scoped.2 (put_within to gscope.regs inner.regs within) parts.1 are rooted
       (λ v e. widens'.vars v (widens.vars v (set v e)))
-      (names_with given.types gscope wide' further' to t t_is (alike_types (field_truth given.shapes layout field) (slice_get given.types to) (slice_get further'.types t) it.0 t_type)
+      (names_with given.types gscope wide' further' to t t_is (alike_types truth (slice_get given.types to) (slice_get further'.types t) it.0
+      (subst (λ (o : Option Bool). gives_type o (slice_get further'.types t) ≡ true) (sight_truth given.shapes vars p place sight) t_type))
       (names_on given.types gscope scope wide' next further' (λ r is. same_names next further' (names' ∙ names) r) (widens_on scope wide wide' widens widens') (starts_on next further further' starts starts') all))
       (types_named fixed wide' known'' further' to t holds'))))
-  simplified_typed (Do (SetVar var from) rest) inner gscope scope known next scoped within good set all h =
+  simplified_typed (Do (SetVar var from) rest) inner gscope scope known next scoped within good are rooted set all h =
       let parts = and_parts (act_fits at gscope (SetVar var from)) (fits_scope at (well.with_var var gscope) rest) good in
       act_typed given vars setters (SetVar var (made_name next from)) scope next (simplified given rest known next)
       (λ final s. from_final scope next final s _ (made_name next from) (from_named gscope scope next all _ from parts.0))
-      (simplified_typed rest inner (well.with_var var gscope) (well.with_var var scope) known next scoped.2 within parts.1 (put_within var gscope.vars scope.vars set) (λ r is. let it = all r is in record { set = it.set; same = it.same })
+      (simplified_typed rest inner (well.with_var var gscope) (well.with_var var scope) known next scoped.2 within parts.1 are rooted (put_within var gscope.vars scope.vars set) (λ r is. let it = all r is in record { set = it.set; same = it.same })
       (types_var fixed scope known next var h))
     where
       from_final : (scope : Scope) (next final : Next) → Starts next final → (known : Option Bool) (r : ℕ) → (scope.regs r && gives_type known (slice_get next.types r)) ≡ true → (scope.regs r && gives_type known (slice_get final.types r)) ≡ true
       from_final scope next final s known r e =
           let parts = and_parts (scope.regs r) (gives_type known (slice_get next.types r)) e in
           both _ _ parts.0 (gives_on known (slice_get next.types r) (slice_get final.types r) (s.regs r) parts.1)
-  simplified_typed (Do (WriteOwn layout field from stmt) rest) inner gscope scope known next scoped within good set all h =
+  simplified_typed (Do (WriteOwn layout field from stmt) rest) inner gscope scope known next scoped within good are rooted set all h =
       let parts = and_parts (act_fits at gscope (WriteOwn layout field from stmt)) (fits_scope at gscope rest) good in
       act_typed given vars setters (WriteOwn layout field (made_name next from) stmt) scope next (simplified given rest known next)
       (λ final s. from_final scope next final s _ (made_name next from) (from_named gscope scope next all _ from parts.0))
-      (simplified_typed rest inner gscope scope known next scoped.2 within parts.1 set all h)
+      (simplified_typed rest inner gscope scope known next scoped.2 within parts.1 are rooted set all h)
     where
       from_final : (scope : Scope) (next final : Next) → Starts next final → (known : Option Bool) (r : ℕ) → (scope.regs r && gives_type known (slice_get next.types r)) ≡ true → (scope.regs r && gives_type known (slice_get final.types r)) ≡ true
       from_final scope next final s known r e =
           let parts = and_parts (scope.regs r) (gives_type known (slice_get next.types r)) e in
           both _ _ parts.0 (gives_on known (slice_get next.types r) (slice_get final.types r) (s.regs r) parts.1)
-  simplified_typed (Do (Contribute how layout field place from index stmt) rest) inner gscope scope known next scoped within good set all h =
+  simplified_typed (Do (Contribute how layout field place from index stmt) rest) inner gscope scope known next scoped within good are rooted set all h =
       let fresh_index = map (made_name next) index in
       let truth = field_truth given.shapes layout field in
       let parts = and_parts (act_fits at gscope (Contribute how layout field place from index stmt)) (fits_scope at gscope rest) good in
@@ -336,29 +367,29 @@ module _ (given : Given) (vars : List Ty) (setters : ℕ → ℕ) (places : ℕ)
       (both _ _ (widens.regs (made_name next from) value.0)
       (both _ _ (gives_on truth (slice_get next.types (made_name next from)) (slice_get final.types (made_name next from)) (onward.regs (made_name next from)) value.1)
       (index_on fixed next final scope wide onward widens layout fresh_index (index_named gscope scope next all layout index has)))))
-      (simplified_typed rest inner gscope wide known' further scoped.2 within parts.1 (λ v e. widens.vars v (set v e))
+      (simplified_typed rest inner gscope wide known' further scoped.2 within parts.1 are rooted (λ v e. widens.vars v (set v e))
       (names_on given.types gscope scope wide next further (λ r is. same_names next further names r) widens starts all) holds))
-  simplified_typed (Do (Wish layout index stmt) rest) inner gscope scope known next scoped within good set all h =
+  simplified_typed (Do (Wish layout index stmt) rest) inner gscope scope known next scoped within good are rooted set all h =
       let parts = and_parts (act_fits at gscope (Wish layout index stmt)) (fits_scope at gscope rest) good in
       let has = has_index at gscope layout index parts.0 in
       act_typed given vars setters (Wish layout (map (made_name next) index) stmt) scope next (simplified given rest known next)
       (λ final s. index_on fixed next final scope scope s (widens_same scope) layout (map (made_name next) index) (index_named gscope scope next all layout index has))
-      (simplified_typed rest inner gscope scope known next scoped.2 within parts.1 set all h)
-  simplified_typed (Branch cond block otherwise rest) inner gscope scope known next scoped within good set all h =
+      (simplified_typed rest inner gscope scope known next scoped.2 within parts.1 are rooted set all h)
+  simplified_typed (Branch cond block otherwise rest) inner gscope scope known next scoped within good are rooted set all h =
       let parts = and_parts (reads at gscope true cond && (fits_scope at gscope block && fits_scope at gscope otherwise)) (fits_scope at gscope rest) good in
       let own = and_parts (reads at gscope true cond) (fits_scope at gscope block && fits_scope at gscope otherwise) parts.0 in
       let it = and_parts (fits_scope at gscope block) (fits_scope at gscope otherwise) own.1 in
       let first = simplified given block known next in
-      let one = simplified_typed block inner gscope scope known next scoped.1 within it.0 set all h in
+      let one = simplified_typed block inner gscope scope known next scoped.1 within it.0 are.0 rooted set all h in
       let to_first = one.grows first.1 (starts_same first.1) in
       let all' = names_on given.types gscope scope scope next first.1 (λ r is. (simplified_grows given block inner scoped.1 known next).names r (within r is)) (widens_same scope) to_first all in
       let h' = types_grown fixed scope known next first.1 to_first one.even one.longer h in
       let second = simplified given otherwise known first.1 in
-      let two = simplified_typed otherwise inner gscope scope known first.1 scoped.2 within it.1 set all' h' in
+      let two = simplified_typed otherwise inner gscope scope known first.1 scoped.2 within it.1 are.1 rooted set all' h' in
       let to_second = two.grows second.1 (starts_same second.1) in
       let all'' = names_on given.types gscope scope scope first.1 second.1 (λ r is. (simplified_grows given otherwise inner scoped.2 known first.1).names r (within r is)) (widens_same scope) to_second all' in
       let h'' = types_grown fixed scope known first.1 second.1 to_second two.even two.longer h' in
-      let three = simplified_typed rest inner gscope scope known second.1 scoped.3 within parts.1 set all'' h'' in
+      let three = simplified_typed rest inner gscope scope known second.1 scoped.3 within parts.1 are.2 rooted set all'' h'' in
       record {
         grows = λ final s. one.grows final (two.grows final (three.grows final s));
         even = three.even;
@@ -370,19 +401,19 @@ module _ (given : Given) (vars : List Ty) (setters : ℕ → ℕ) (places : ℕ)
             both _ _ (both _ _ (reads_on fixed next final scope scope start (widens_same scope) true (made_name next cond) (reads_named gscope scope next all true cond own.0)) (both _ _ (one.good final mid) (two.good final third)))
             (three.good final s);
       }
-  simplified_typed (Loop var lo hi body rest) inner gscope scope known next scoped within good set all h =
+  simplified_typed (Loop var lo hi body rest) inner gscope scope known next scoped within good are rooted set all h =
       let parts = and_parts (holds_of is_i32 (slice_get vars var) && ((setters var == 1) && fits_scope at (well.with_var var gscope) body)) (fits_scope at gscope rest) good in
       let own = and_parts (holds_of is_i32 (slice_get vars var)) ((setters var == 1) && fits_scope at (well.with_var var gscope) body) parts.0 in
       let it = and_parts (setters var == 1) (fits_scope at (well.with_var var gscope) body) own.1 in
       let turn = simplified given body (looped var lo hi known) next in
       let mid = types_var fixed scope known next var h in
-      let one = simplified_typed body inner (well.with_var var gscope) (well.with_var var scope) (looped var lo hi known) next scoped.0 within it.1 (put_within var gscope.vars scope.vars set)
+      let one = simplified_typed body inner (well.with_var var gscope) (well.with_var var scope) (looped var lo hi known) next scoped.0 within it.1 are.0 rooted (put_within var gscope.vars scope.vars set)
       (λ r is. let named = all r is in record { set = named.set; same = named.same })
       (record { even = mid.even; ops = mid.ops; steps = mid.steps; free_regs = mid.free_regs; free_places = mid.free_places }) in
       let to_turn = one.grows turn.1 (starts_same turn.1) in
       let all' = names_on given.types gscope scope scope next turn.1 (λ r is. (simplified_grows given body inner scoped.0 (looped var lo hi known) next).names r (within r is)) (widens_same scope) to_turn all in
       let h' = types_grown fixed scope known next turn.1 to_turn one.even one.longer h in
-      let two = simplified_typed rest inner gscope scope known turn.1 scoped.1 within parts.1 set all' h' in
+      let two = simplified_typed rest inner gscope scope known turn.1 scoped.1 within parts.1 are.1 rooted set all' h' in
       record {
         grows = λ final s. one.grows final (two.grows final s);
         even = two.even;

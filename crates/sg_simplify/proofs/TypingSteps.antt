@@ -135,6 +135,8 @@ module _ (fixed : Fixed) where
       let more = and_parts (reads (frame_by fixed next) scope false high) (reads (frame_by fixed next) scope false low) parts.1 in
       both _ _ parts.0 (both _ _ (reads_on next final scope wide starts widens false high more.0) (reads_on next final scope wide starts widens false low more.1))
   operands_on next final scope wide starts widens (op.Read place layout field) e = cell_on next final scope wide widens layout place e
+  operands_on next final scope wide starts widens (op.Active place) e =
+      holds_on (λ (known : KnownPlace). is_cell (frame_by fixed final) known.layout known) (scope.places place) (wide.places place) (widens.places place) e
   operands_on next final scope wide starts widens (op.OwnRead layout field) e = refl
 
   list_reads_on : (next final : Next) (scope wide : Scope) → Starts next final → Widens scope wide → (index : List ℕ) → list_all (reads (frame_by fixed next) scope false) index ≡ true → list_all (reads (frame_by fixed final) wide false) index ≡ true
@@ -161,6 +163,13 @@ module _ (fixed : Fixed) where
   good_index_on next final scope wide starts widens (op.Extract div size from) index good = tt
   good_index_on next final scope wide starts widens (op.Offset high size low) index good = tt
   good_index_on next final scope wide starts widens (op.Read place layout field) index good = index_on next final scope wide starts widens layout index good
+  good_index_on next final scope wide starts widens (op.Active place) index good = by_known (scope.places place) refl good
+    where
+      by_known : (found : Option KnownPlace) → scope.places place ≡ found → holds_of (λ known. index_fits (frame_by fixed next) scope known.layout index) found ≡ true
+          → holds_of (λ (known : KnownPlace). index_fits (frame_by fixed final) wide known.layout index) (wide.places place) ≡ true
+      by_known None e h = absurd (cc)
+      by_known (Some known) e h = subst (λ (found : Option KnownPlace). holds_of (λ known. index_fits (frame_by fixed final) wide known.layout index) found ≡ true) (sym (widens.places place known e))
+          (index_on next final scope wide starts widens known.layout index h)
   good_index_on next final scope wide starts widens (op.OwnRead layout field) index good = tt
 
   pub step_reads_on : (next final : Next) (scope wide : Scope) → Starts next final → Widens scope wide → (how : Step) → step_reads (frame_by fixed next) scope how ≡ true → step_reads (frame_by fixed final) wide how ≡ true
@@ -190,6 +199,7 @@ word_fits at scope n (op.Mulq a b s) index rest reads_ok type good more = both _
 word_fits at scope n (op.Extract div size from) index rest reads_ok type good more = both _ _ (both _ _ reads_ok type) more
 word_fits at scope n (op.Offset high size low) index rest reads_ok type good more = both _ _ (both _ _ reads_ok type) more
 word_fits at scope n (op.Read place layout field) index rest reads_ok type good more = both _ _ (both _ _ reads_ok (both _ _ type good)) more
+word_fits at scope n (op.Active place) index rest reads_ok type good more = both _ _ (both _ _ reads_ok (both _ _ type good)) more
 word_fits at scope n (op.OwnRead layout field) index rest reads_ok type good more = both _ _ (both _ _ reads_ok type) more
 
 -- ---- what is known, where more is in scope and more was put out

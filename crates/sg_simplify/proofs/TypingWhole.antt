@@ -17,6 +17,7 @@ use Rattle.sg_simplify.specs.steps.Pass.{Given, Next, given_of, first_pass, firs
 use Rattle.sg_simplify.specs.steps.Counted.{regs_set, places_set}
 use Rattle.sg_simplify.specs.steps.Judged.{fits_scope}
 use Rattle.sg_simplify.specs.steps.Typed.{Fixed, frame_by, Typed, AreWalked}
+use Rattle.sg_simplify.specs.steps.Ruled.{HasRoots}
 use Rattle.sg_simplify.proofs.SettingVars.{simplified_count}
 use Rattle.sg_simplify.proofs.Tallying.{code_regs, code_places, code_vars}
 use Rattle.sg_simplify.proofs.Judging.{code_fits}
@@ -73,10 +74,10 @@ same_frame shapes regs other places room vars more setters counts a b c d =
     ∙ (ap (λ (x : List Ty). framed shapes other room x setters) c
     ∙ ap (λ (x : ℕ → ℕ). framed shapes other room more x) d))
 
-pub simple_well_typed : (shapes : List Shape) (domain : Domain) (code made : Code) → AreWalked shapes → is_well_typed shapes code ≡ true → IsScoped nothing (block_in code)
+pub simple_well_typed : (shapes : List Shape) (domain : Domain) (code made : Code) → AreWalked shapes → is_well_typed shapes code ≡ true → IsScoped nothing (block_in code) → HasRoots (given_of shapes domain code.regs (block_in code)).roots (block_in code)
     → (out : Block × Next) → simplified (given_of shapes domain code.regs (block_in code)) (block_in code) first_pass first_next ≡ out
     → block_in made ≡ out.0 → made.regs ≡ out.1.types → made.places ≡ out.1.places → made.vars ≡ code.vars → is_well_typed shapes made ≡ true
-simple_well_typed shapes domain code made walked good scoped out is same_block same_regs same_places same_vars =
+simple_well_typed shapes domain code made walked good scoped are out is same_block same_regs same_places same_vars =
     let block = block_in code in
     let given : Given = given_of shapes domain code.regs block in
     let result = simplified given block first_pass first_next in
@@ -85,7 +86,7 @@ simple_well_typed shapes domain code made walked good scoped out is same_block s
     let fixed : Fixed = record { shapes = shapes; vars = code.vars; setters = setters } in
     let start = first_scope code.body in
     let typed : Typed fixed start first_next result = simplified_typed given code.vars setters code.places walked block nothing start start first_pass first_next scoped (λ r e. none_set e)
-    (code_fits (frame_of shapes code) code.body start ∙ parts.0) (λ v e. e) (λ r e. none_set e)
+    (code_fits (frame_of shapes code) code.body start ∙ parts.0) are (λ p known e. absurd (cc)) (λ v e. e) (λ r e. none_set e)
     (record { even = refl; ops = tt; steps = tt; free_regs = λ r above. refl; free_places = λ p above. refl }) in
     let whole : block_in made ≡ result.0 = same_block ∙ ap (λ (o : Block × Next). o.0) (sym is) in
     let counts : setters_in made.body ≡ setters = fun_ext (λ v. sym (code_vars made.regs made.body v) ∙ (ap (sets v) whole ∙ (simplified_count given v block first_pass first_next ∙ code_vars code.regs code.body v))) in

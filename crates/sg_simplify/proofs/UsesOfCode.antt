@@ -9,7 +9,7 @@ use Rattle.sg_flat.specs.declared.effects.Way.TheVariants.{Own, Acc}
 use Rattle.sg_ir.specs.declared.code.Inst.{Inst, fold-Inst}
 use Rattle.sg_ir.specs.Apt.{Use, Writes, Reads, ReadsOwn, uses_step, uses_in}
 use Rattle.sg_ir.specs.Blocks.{Block, End, Link, chained, link_step, link, block_of}
-use Rattle.sg_ir.proofs.Uses.{fold-Const, fold-Var, fold-Set, fold-Bin, fold-Un, fold-Mulq, fold-Root, fold-Check, fold-Extract, fold-Offset, fold-Child, fold-HashChild, fold-MaskBit, fold-DynCell, fold-ReadCell, fold-OwnRead, fold-OwnWrite, fold-Acc, fold-Want, fold-If, fold-For}
+use Rattle.sg_ir.proofs.Uses.{fold-Const, fold-Var, fold-Set, fold-Bin, fold-Un, fold-Mulq, fold-Root, fold-Check, fold-Extract, fold-Offset, fold-Child, fold-HashChild, fold-MaskBit, fold-DynCell, fold-ReadCell, fold-IsActive, fold-OwnRead, fold-OwnWrite, fold-Acc, fold-Want, fold-If, fold-For}
 use Rattle.sg_simplify.specs.steps.Pass.{given_of, first_pass, first_next, simple}
 use Rattle.sg_simplify.specs.steps.Serves.{EachByRecursion}
 use Rattle.sg_simplify.specs.steps.Only.{has_use}
@@ -83,6 +83,7 @@ module _ (types : List Ty) (test : Use → Bool) where
       (λ to place node offset. carry _ _ _ _ (fold-MaskBit (link_step types) to place node offset) (fold-MaskBit uses_step to place node offset) (λ rest. refl))
       (λ to place node offset. carry _ _ _ _ (fold-DynCell (link_step types) to place node offset) (fold-DynCell uses_step to place node offset) (λ rest. refl))
       (λ to place layout field index. carry _ _ _ _ (fold-ReadCell (link_step types) to place layout field index) (fold-ReadCell uses_step to place layout field index) (λ rest. or_one (test (Reads layout field)) (has_use test rest)))
+      (λ to place index. carry _ _ _ _ (fold-IsActive (link_step types) to place index) (fold-IsActive uses_step to place index) (λ rest. refl))
       (λ to layout field. carry _ _ _ _ (fold-OwnRead (link_step types) to layout field) (fold-OwnRead uses_step to layout field) (λ rest. or_one (test (ReadsOwn layout field)) (has_use test rest)))
       (λ layout field from stmt. carry _ _ _ _ (fold-OwnWrite (link_step types) layout field from stmt) (fold-OwnWrite uses_step layout field from stmt) (λ rest. or_one (test (Writes layout field Own)) (has_use test rest)))
       (λ how layout field place from index stmt. carry _ _ _ _ (fold-Acc (link_step types) how layout field place from index stmt) (fold-Acc uses_step how layout field place from index stmt) (λ rest. or_one (test (Writes layout field (Acc how))) (has_use test rest)))

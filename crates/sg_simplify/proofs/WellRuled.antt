@@ -13,9 +13,13 @@ use Rattle.sg_ir.specs.Span.{whole_i32, sets, domain_span, first_spans}
 use Rattle.sg_ir.specs.Shared.{is_single}
 use Rattle.sg_ir.specs.WellTyped.{Frame, frame_of, first_scope, judged, set_regs, set_places, setters_in, has_no_twice, most_loop_vars, is_well_typed}
 use Rattle.sg_ir.specs.InScope.{nothing}
-use Rattle.sg_simplify.specs.steps.Pass.{given_of, first_pass, vars_of}
+use Rattle.sg_simplify.specs.steps.Pass.{roots_in, given_of, first_pass, vars_of}
+use Rattle.sg_simplify.specs.steps.Judged.{fits_scope}
 use Rattle.sg_simplify.specs.steps.Ruled.{IsRuled}
 use Rattle.sg_simplify.specs.steps.Counted.{regs_set, places_set, Counts, AddsUp, IsWhole, Meets, CanBeWalked, has_words}
+use Rattle.sg_simplify.proofs.Judging.{code_fits}
+use Rattle.sg_simplify.proofs.Fitted.{fitted}
+use Rattle.sg_simplify.proofs.Rooted.{has_roots}
 use Rattle.sg_simplify.proofs.Rulings.{code_rules}
 use Rattle.sg_simplify.proofs.Tallying.{code_regs, code_places, code_vars, once_at_most}
 
@@ -34,7 +38,7 @@ wide_of n span some = by_test (n == 0) refl
     by_test false e = refl
 
 pub well_typed_is_ruled : (shapes : List Shape) (domain : Domain) (code : Code) → CanBeWalked shapes → is_well_typed shapes code ≡ true → list_all (λ b. b) (map has_words code.body) ≡ true
-    → IsRuled shapes (given_of shapes domain code.regs (block_of code.regs code.body)).single (vars_of (given_of shapes domain code.regs (block_of code.regs code.body)) first_pass) nothing (block_of code.regs code.body)
+    → IsRuled shapes (given_of shapes domain code.regs (block_of code.regs code.body)).roots (given_of shapes domain code.regs (block_of code.regs code.body)).single (vars_of (given_of shapes domain code.regs (block_of code.regs code.body)) first_pass) nothing (block_of code.regs code.body)
 well_typed_is_ruled shapes domain code laid good words =
     let block = block_of code.regs code.body in
     let at : Frame = frame_of shapes code in
@@ -57,10 +61,18 @@ well_typed_is_ruled shapes domain code laid good words =
       loops = λ x. inl (λ span. refl);
     } in
     let adds : AddsUp totals (record { vars = λ x. 0; regs = λ r. 0; places = λ p. 0 }) block = record { vars = λ x. nothing_more (sets x block); regs = λ r. nothing_more (regs_set r block); places = λ p. nothing_more (places_set p block) } in
-    let ruled = code_rules shapes (is_single block) (first_spans shapes domain block).others totals at code.regs refl laid entire code.body words
+    let ruled = code_rules (is_single block) (first_spans shapes domain block).others totals at code.regs entire code.body words
     (first_scope code.body) nothing (record { vars = λ x. 0; regs = λ r. 0; places = λ p. 0 }) [] End parts.0 starts adds
-    (λ inside beside m a. record { scoped = tt; settled = tt; spanned = tt; fitted = tt }) in
-    record { scoped = ruled.scoped; settled = ruled.settled; spanned = ruled.spanned; fitted = ruled.fitted }
+    (λ inside beside m a. record { scoped = tt; settled = tt; spanned = tt }) in
+    let rooted = has_roots (roots_in [] block) block nothing [] ruled.scoped (λ p set. none_set set) (λ p set. none_set set) (λ p. entire.places p) (λ p some. refl) in
+    let judged_so : fits_scope at (first_scope code.body) block ≡ true = code_fits at code.body (first_scope code.body) ∙ parts.0 in
+    record {
+      scoped = ruled.scoped;
+      settled = ruled.settled;
+      spanned = ruled.spanned;
+      fitted = fitted at (roots_in [] block) laid block (first_scope code.body) judged_so rooted (λ p known e. absurd (cc));
+      rooted = rooted;
+    }
   where
     nothing_more : (n : ℕ) → n ≡ 0 + n
     nothing_more n = omega arith

@@ -21,7 +21,7 @@ abbrev pub is_end : Block → Bool
 is_end End = true
 is_end (Word to how rest) = false
 is_end (Spot to how rest) = false
-is_end (Cell to place layout field index rest) = false
+is_end (Cell to place sight index rest) = false
 is_end (Do what rest) = false
 is_end (Branch cond block otherwise rest) = false
 is_end (Loop var lo hi body rest) = false
@@ -39,7 +39,7 @@ abbrev pub kept_part : Keep → Block → Block
 kept_part keep End = End
 kept_part keep (Word to how rest) = behind_where (keep.regs to) (Word to how) (kept_part keep rest)
 kept_part keep (Spot to how rest) = behind_where (keep.places to) (Spot to how) (kept_part keep rest)
-kept_part keep (Cell to place layout field index rest) = behind_where (keep.regs to) (Cell to place layout field index) (kept_part keep rest)
+kept_part keep (Cell to place sight index rest) = behind_where (keep.regs to) (Cell to place sight index) (kept_part keep rest)
 kept_part keep (Do what rest) = behind_where (keeps_act keep what) (Do what) (kept_part keep rest)
 kept_part keep (Branch cond block otherwise rest) =
     behind_where (not (is_end (kept_part keep block) && is_end (kept_part keep otherwise))) (Branch cond (kept_part keep block) (kept_part keep otherwise)) (kept_part keep rest)
@@ -55,6 +55,7 @@ op_vars (op.Mulq a b s) = []
 op_vars (op.Extract div size from) = []
 op_vars (op.Offset high size low) = []
 op_vars (op.Read place layout field) = []
+op_vars (op.Active place) = []
 op_vars (op.OwnRead layout field) = []
 
 -- whatever a block reads is kept, and the variable of each loop is
@@ -62,7 +63,7 @@ abbrev pub ReadsKept : Keep → Block → Type 0
 ReadsKept keep End = Unit {0}
 ReadsKept keep (Word to how rest) = AreSet keep.regs (op_regs how) × AreSet keep.places (op_places how) × AreSet keep.vars (op_vars how) × ReadsKept keep rest
 ReadsKept keep (Spot to how rest) = AreSet keep.regs (step_regs how) × AreSet keep.places (step_places how) × ReadsKept keep rest
-ReadsKept keep (Cell to place layout field index rest) = AreSet keep.regs index × (keep.places place ≡ true) × ReadsKept keep rest
+ReadsKept keep (Cell to place sight index rest) = AreSet keep.regs index × (keep.places place ≡ true) × ReadsKept keep rest
 ReadsKept keep (Do what rest) = AreSet keep.regs (act_regs what) × AreSet keep.places (act_places what) × ReadsKept keep rest
 ReadsKept keep (Branch cond block otherwise rest) = (keep.regs cond ≡ true) × ReadsKept keep block × ReadsKept keep otherwise × ReadsKept keep rest
 ReadsKept keep (Loop var lo hi body rest) = (keep.vars var ≡ true) × ReadsKept keep body × ReadsKept keep rest

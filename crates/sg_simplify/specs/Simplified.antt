@@ -1,5 +1,5 @@
 -- What simplified code keeps of the given code, and what it gains.
-use Rattle.std.specs.Prelude.{◌≡◌, true, List, Contains}
+use Rattle.std.specs.Prelude.{◌≡◌, ℕ, true, List, Contains}
 use Rattle.sg_coord.specs.declared.coord.Coord.{Coord}
 use Rattle.sg_layout.specs.declared.shape.Shape.{Shape}
 use Rattle.sg_flat.specs.declared.effects.Domain.{Domain}
@@ -14,7 +14,7 @@ use Rattle.sg_ir.specs.WellTyped.{is_well_typed}
 use Rattle.sg_ir.specs.Apt.{Use, uses_in}
 use Rattle.sg_ir.specs.Blocks.{block_in}
 use Rattle.sg_ir.specs.Shared.{is_shared}
-use Rattle.sg_ir.specs.Trimmed.{is_trimmed}
+use Rattle.sg_ir.specs.Trimmed.{asked_in, is_trimmed}
 use Rattle.sg_simplify.specs.Kept.{IsLean}
 
 -- two runs tell the same: the same writes with their values, and the same wants, in order
@@ -29,8 +29,8 @@ AlwaysTellsTheSame shapes domain given made =
     TellsTheSame (iteration (record { shapes = shapes; state = state; at = at }) given) (iteration (record { shapes = shapes; state = state; at = at }) made)
 
 -- Code that is simplified, over layouts of these shapes and a domain: it tells what the given code does, is well typed, names its accesses,
--- computes nothing twice in a scope, has exactly the checks that spans ask for, uses fields only as the given code does, and has nothing
--- that could be left out.
+-- computes nothing twice in a scope, has exactly the checks that spans ask for, uses fields and asks layouts only as the given code does,
+-- and has nothing that could be left out.
 pub record IsSimplified (shapes : List Shape) (domain : Domain) (given made : Code) : Type 0 where
   pub same : AlwaysTellsTheSame shapes domain given.body made.body
   pub typed : is_well_typed shapes made ≡ true
@@ -38,4 +38,5 @@ pub record IsSimplified (shapes : List Shape) (domain : Domain) (given made : Co
   pub shared : is_shared (block_in made) ≡ true
   pub trimmed : is_trimmed shapes domain (block_in made) ≡ true
   pub only : (it : Use) → Contains (uses_in made.body) it → Contains (uses_in given.body) it
+  pub asks : (layout : ℕ) → Contains (asked_in made.body) layout → Contains (asked_in given.body) layout
   pub lean : IsLean (block_in made)

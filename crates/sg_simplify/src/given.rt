@@ -1,9 +1,11 @@
 //! What is given to the pass.
-ghost use Rattle.std.specs.Prelude.{◌≡◌, Some, slice_get, option_copied};
+ghost use Rattle.std.specs.Prelude.{◌≡◌, [], Some, slice_get, option_copied};
 ghost use Rattle.sg_ir.specs.Blocks.{block_of};
 ghost use Rattle.sg_ir.specs.Span.{walk_span, box_span};
+ghost use Rattle.sg_simplify.specs.steps.Pass.{roots_in};
 ghost use Rattle.sg_simplify.specs.steps.Tally.{TellsSets};
 
+use crate::roots::Roots;
 use crate::setters::Setters;
 use sg_coord::Coord;
 use sg_flat::Domain;
@@ -12,7 +14,7 @@ use sg_layout::{Layout, Layouts};
 use sg_words::Ty;
 use std::alloc::Global;
 
-/// Code with its domain and layouts, and which variables it sets.
+/// Code with its domain and layouts, which variables it sets, and from which roots its places come.
 #[derive(Drop)]
 pub(crate) struct Given<'a> {
     pub alloc: Global,
@@ -20,12 +22,14 @@ pub(crate) struct Given<'a> {
     pub domain: Domain,
     pub layouts: &'a Layouts,
     pub setters: Setters,
+    pub roots: Roots,
     pub ghost counted: { TellsSets (block_of code.now.regs code.now.body) setters.again.entries },
+    pub ghost rooted: { roots.layouts.entries ≡ roots_in [] (block_of code.now.regs code.now.body) },
 }
 
 impl Given<'_> {
     ghost use Rattle.sg_ir.specs.Shared.{is_pure};
-    ghost use Rattle.sg_simplify.specs.steps.Pass.{given_type};
+    ghost use Rattle.sg_simplify.specs.steps.Pass.{given_type, root_known};
     ghost use Rattle.sg_simplify.specs.steps.Made.{given_in};
 
     /// The type of a register; u32 if it isn't there.
@@ -36,6 +40,13 @@ impl Given<'_> {
             Some(ty) => *ty,
             None => Ty::U32,
         }
+    }
+
+    /// The layout from whose root a place of the code comes; 0 if nothing is known of it.
+    pub fn root_of(&self, place: u32) -> u32
+        ensures { result ≡ root_known (given_in self.now).roots place }
+    {
+        self.roots.layout_of(place)
     }
 
     pub fn layout(&self, layout: u32) -> Option<&Layout>

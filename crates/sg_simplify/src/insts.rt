@@ -44,6 +44,7 @@ pub(crate) fn word_inst(to: u32, op: Op, index: Items<u32>) -> Inst
             field,
             index,
         },
+        Op::Active { place } => Inst::IsActive { to, place, index },
         Op::OwnRead { layout, field } => Inst::OwnRead { to, layout, field },
     }
 }

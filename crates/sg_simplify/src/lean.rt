@@ -181,6 +181,11 @@ fn is_kept(marks: &Items<bool>, inst: &Inst) -> bool
             field: _field,
             index: _index,
         } => has_reg(marks, *to),
+        Inst::IsActive {
+            to,
+            place: _place,
+            index: _index,
+        } => has_reg(marks, *to),
         Inst::OwnRead {
             to,
             layout: _layout,

@@ -11,6 +11,7 @@ mod made;
 mod needs;
 mod pass;
 mod places;
+mod roots;
 mod setters;
 mod simple;
 mod words;

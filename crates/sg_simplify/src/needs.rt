@@ -150,6 +150,10 @@ impl Needs {
                 self.all(reg_node(*to), &[place_node(*place), inside])?;
                 self.index(reg_node(*to), index.as_slice())
             }
+            Inst::IsActive { to, place, index } => {
+                self.all(reg_node(*to), &[place_node(*place), inside])?;
+                self.index(reg_node(*to), index.as_slice())
+            }
             Inst::OwnRead {
                 to,
                 layout: _layout,

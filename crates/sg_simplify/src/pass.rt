@@ -9,6 +9,7 @@ ghost use Rattle.sg_simplify.specs.steps.Made.{given_in, put_out, pass_of, next_
 
 use crate::given::Given;
 use crate::made::{Looped, Made, Reg};
+use crate::roots::Roots;
 use crate::setters::Setters;
 use sg_flat::Domain;
 use sg_ir::{Code, Inst, Span};
@@ -29,12 +30,15 @@ pub(crate) fn pass(
     ensures vars { IfOk result (λ it. it.vars ≡ code.now.vars) }
     ensures words { OnOk result (list_all (λ b. b) (map has_words code.now.body) ≡ true) }
 {
+    let setters = Setters::of(alloc, code.body.as_slice())?;
+    let roots = Roots::of(alloc, code.body.as_slice())?;
     let given = Given {
         alloc,
         code,
         domain: *domain,
         layouts,
-        setters: Setters::of(alloc, code.body.as_slice())?,
+        setters,
+        roots,
     };
     let mut made = Made::new(alloc);
     let body = made.block(&given, code.body.as_slice())?;
@@ -96,6 +100,9 @@ impl Made {
                 field,
                 index,
             } => self.read(given, *to, *layout, *field, index.as_slice(), out),
+            Inst::IsActive { to, place, index } => {
+                self.active(given, *to, *place, index.as_slice(), out)
+            }
             Inst::Set { var, from } => self.set(given, *var, *from, out),
             Inst::OwnWrite {
                 layout,

@@ -1,6 +1,6 @@
-//! Registers of the given code that operations and reads of cells set.
+//! Registers of the given code that operations set, and what sees something at a place.
 ghost use Rattle.std.specs.Prelude.{◌≡◌, false, ℕ, List, map, IfOk, OnOk, IfSome, IfNone};
-ghost use Rattle.sg_ir.specs.Blocks.{Block, link, Cell};
+ghost use Rattle.sg_ir.specs.Blocks.{Block, link, Cell, Value, Activity};
 ghost use Rattle.sg_ir.specs.Shared.{is_pure};
 ghost use Rattle.sg_simplify.specs.steps.Pass.{Making, made_name, given_type, numbered, simplified};
 ghost use Rattle.sg_simplify.specs.steps.Made.{given_in, pass_of, next_of, onward, is_word, HasTruth, Goes};
@@ -123,7 +123,7 @@ impl Made {
         out: &mut Items<Inst>,
     ) -> Result<(), Memory>
         ensures { OnOk result ((place : ℕ) (rest : Block) → Goes self.old self.new out.old out.new
-            (simplified (given_in given.now) (Cell from place layout field index.now rest)) (simplified (given_in given.now) rest)) }
+            (simplified (given_in given.now) (Cell from place (Value layout field) index.now rest)) (simplified (given_in given.now) rest)) }
     {
         let index = self.index(given, index)?;
         let place = self.place(given, layout, index.as_slice(), out)?;
@@ -132,6 +132,27 @@ impl Made {
             layout,
             field,
         };
+        let to = self.taken(given, given.ty(from), op, index, out)?;
+        self.names.insert(from, to)?;
+        Ok(())
+    }
+
+    /// A register of the given code that tells whether a place is active.
+    pub fn active(
+        &mut self,
+        given: &Given,
+        from: u32,
+        place: u32,
+        index: &[u32],
+        out: &mut Items<Inst>,
+    ) -> Result<(), Memory>
+        ensures { OnOk result ((rest : Block) → Goes self.old self.new out.old out.new
+            (simplified (given_in given.now) (Cell from place Activity index.now rest)) (simplified (given_in given.now) rest)) }
+    {
+        let layout = given.root_of(place);
+        let index = self.index(given, index)?;
+        let place = self.place(given, layout, index.as_slice(), out)?;
+        let op = Op::Active { place };
         let to = self.taken(given, given.ty(from), op, index, out)?;
         self.names.insert(from, to)?;
         Ok(())

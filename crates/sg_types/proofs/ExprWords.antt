@@ -12,11 +12,11 @@ use Rattle.sg_ast.specs.declared.token.Name.{Name}
 use Rattle.sg_ast.specs.declared.expr.Callee.{Callee}
 use Rattle.sg_ast.specs.declared.expr.Expr.{Expr}
 use Rattle.sg_ast.specs.declared.expr.Expr.TheVariants as e
-use Rattle.sg_ast.proofs.Uses.{fold-Number_expr, fold-Truth_expr, fold-Name_expr, fold-Read_expr, fold-Paren_expr, fold-Un_expr, fold-Bin_expr, fold-Call_expr}
+use Rattle.sg_ast.proofs.Uses.{fold-Number_expr, fold-Truth_expr, fold-Name_expr, fold-Read_expr, fold-Paren_expr, fold-Un_expr, fold-Bin_expr, fold-Call_expr, fold-Active_expr}
 use Rattle.sg_names.specs.Tables.{Tables, field_named}
 use Rattle.sg_types.specs.declared.typed.Form.TheVariants as form
 use Rattle.sg_types.specs.Scopes.{Known, NamedLocal, is_taken, name_expr}
-use Rattle.sg_types.specs.Expressions.{knows, knows_step, counts, counts_step, field_axes, equals_some, typed_expr, typed_step, number_ty, all_some, un_expr, bin_expr, call_expr, access_expr}
+use Rattle.sg_types.specs.Expressions.{knows, knows_step, counts, counts_step, field_axes, equals_some, typed_expr, typed_step, number_ty, all_some, un_expr, bin_expr, call_expr, access_expr, active_expr}
 
 module _ (known : Known) (scope : List NamedLocal) where
   pub knows-Number : (value : ℕ) (unsigned : Bool) → knows known scope (e.Number value unsigned) ≡ true
@@ -45,6 +45,10 @@ module _ (known : Known) (scope : List NamedLocal) where
   knows-Call callee arguments = fold-Call_expr (knows_step known scope) callee arguments
       ∙ list_all-map (λ (part : Bool). part) (knows known scope) arguments
 
+  pub knows-Active : (field : Name) (index : List Expr) → knows known scope (e.Active field index) ≡ (is_some (field_named known.tables field) && list_all (knows known scope) index)
+  knows-Active field index = fold-Active_expr (knows_step known scope) field index
+      ∙ ap (λ rest. is_some (field_named known.tables field) && rest) (list_all-map (λ (part : Bool). part) (knows known scope) index)
+
   pub typed-Number : (value : ℕ) (unsigned : Bool) → typed_expr known scope (e.Number value unsigned) ≡ Some (record { ty = number_ty unsigned; form = form.Literal value })
   typed-Number value unsigned = fold-Number_expr (typed_step known scope) value unsigned
 
@@ -68,6 +72,9 @@ module _ (known : Known) (scope : List NamedLocal) where
 
   pub typed-Call : (callee : Callee) (arguments : List Expr) → typed_expr known scope (e.Call callee arguments) ≡ option_and_then (call_expr callee) (all_some (map (typed_expr known scope) arguments))
   typed-Call callee arguments = fold-Call_expr (typed_step known scope) callee arguments
+
+  pub typed-Active : (field : Name) (index : List Expr) → typed_expr known scope (e.Active field index) ≡ option_and_then (λ at. option_and_then (active_expr at) (all_some (map (typed_expr known scope) index))) (field_named known.tables field)
+  typed-Active field index = fold-Active_expr (typed_step known scope) field index
 
 module _ (tables : Tables) where
   pub counts-Number : (value : ℕ) (unsigned : Bool) → counts tables (e.Number value unsigned) ≡ true
@@ -96,12 +103,23 @@ module _ (tables : Tables) where
   counts-Call callee arguments = fold-Call_expr (counts_step tables) callee arguments
       ∙ list_all-map (λ (part : Bool). part) (counts tables) arguments
 
+  pub counts-Active : (field : Name) (index : List Expr) → counts tables (e.Active field index) ≡ (equals_some (field_axes tables field) (length index) && list_all (counts tables) index)
+  counts-Active field index = fold-Active_expr (counts_step tables) field index
+      ∙ rw (length-map, list_all-map) refl
+
 -- a read, where its own test and that of its indices are known
 pub knows_read : (known : Known) (scope : List NamedLocal) (field : Name) (index : List Expr) (expr : Expr) → expr ≡ e.Read field index
     → (own parts : Bool) → own ≡ is_some (field_named known.tables field) → parts ≡ list_all (knows known scope) index → (own && parts) ≡ knows known scope expr
 knows_read known scope field index expr is own parts p q =
     ap (λ b. b && parts) p ∙ (ap (λ rest. is_some (field_named known.tables field) && rest) q
     ∙ (sym (knows-Read known scope field index) ∙ ap (knows known scope) (sym is)))
+
+-- a question, as a read
+pub knows_active : (known : Known) (scope : List NamedLocal) (field : Name) (index : List Expr) (expr : Expr) → expr ≡ e.Active field index
+    → (own parts : Bool) → own ≡ is_some (field_named known.tables field) → parts ≡ list_all (knows known scope) index → (own && parts) ≡ knows known scope expr
+knows_active known scope field index expr is own parts p q =
+    ap (λ b. b && parts) p ∙ (ap (λ rest. is_some (field_named known.tables field) && rest) q
+    ∙ (sym (knows-Active known scope field index) ∙ ap (knows known scope) (sym is)))
 
 pub knows_call : (known : Known) (scope : List NamedLocal) (callee : Callee) (arguments : List Expr) (expr : Expr) → expr ≡ e.Call callee arguments
     → (parts : Bool) → parts ≡ list_all (knows known scope) arguments → parts ≡ knows known scope expr
@@ -112,6 +130,12 @@ pub counts_read : (tables : Tables) (field : Name) (index : List Expr) (expr : E
 counts_read tables field index expr is own parts p q =
     ap (λ b. b && parts) p ∙ (ap (λ rest. equals_some (field_axes tables field) (length index) && rest) q
     ∙ (sym (counts-Read tables field index) ∙ ap (counts tables) (sym is)))
+
+pub counts_active : (tables : Tables) (field : Name) (index : List Expr) (expr : Expr) → expr ≡ e.Active field index
+    → (own parts : Bool) → own ≡ equals_some (field_axes tables field) (length index) → parts ≡ list_all (counts tables) index → (own && parts) ≡ counts tables expr
+counts_active tables field index expr is own parts p q =
+    ap (λ b. b && parts) p ∙ (ap (λ rest. equals_some (field_axes tables field) (length index) && rest) q
+    ∙ (sym (counts-Active tables field index) ∙ ap (counts tables) (sym is)))
 
 pub counts_call : (tables : Tables) (callee : Callee) (arguments : List Expr) (expr : Expr) → expr ≡ e.Call callee arguments
     → (parts : Bool) → parts ≡ list_all (counts tables) arguments → parts ≡ counts tables expr

@@ -23,15 +23,15 @@ use Rattle.sg_names.specs.Tables.{field_named, axes_of}
 use Rattle.sg_types.specs.declared.scope.Local.{Local}
 use Rattle.sg_types.specs.declared.typed.TypedExpr.{TypedExpr}
 use Rattle.sg_types.specs.declared.typed.Form.TheVariants as form
-use Rattle.sg_types.specs.TypeTable.{is_numeric, is_signed, same_ty, bin_ty, un_ty}
+use Rattle.sg_types.specs.TypeTable.{is_numeric, is_signed, same_ty, bin_ty, un_ty, is_truth}
 use Rattle.sg_types.specs.Scopes.{Known, NamedLocal, local_named, earlier_constant, local_or_constant}
-use Rattle.sg_types.specs.Expressions.{typed_expr, counts, field_axes, equals_some, number_ty, all_some, un_expr, bin_expr, mulq_expr, convert_expr, call_expr, access_expr, on_one, on_two, on_three, is_signed_expr}
+use Rattle.sg_types.specs.Expressions.{typed_expr, counts, field_axes, equals_some, number_ty, all_some, un_expr, bin_expr, mulq_expr, convert_expr, call_expr, access_expr, active_expr, on_one, on_two, on_three, is_signed_expr}
 use Rattle.sg_types.specs.WellTyped.{Visible, Surroundings, setting, is_well_typed_expr, is_ty, field_in, axes_in, is_visible, is_local}
 use Rattle.sg_types.specs.Laws.{TablesFit}
 use Rattle.sg_types.proofs.Standing.{find_good}
 use Rattle.sg_types.proofs.Outcomes.{some_same, option_and_then_some, option_map_some, if_some}
-use Rattle.sg_types.proofs.ExprWords.{typed-Number, typed-Truth, typed-Name, typed-Read, typed-Paren, typed-Un, typed-Bin, typed-Call, counts-Read, counts-Paren, counts-Un, counts-Bin, counts-Call}
-use Rattle.sg_types.proofs.FitWords.{fits-Literal, fits-Constant, fits-Var, fits-Read, fits-Paren, fits-Un, fits-Bin, fits-Mulq, fits-Convert}
+use Rattle.sg_types.proofs.ExprWords.{typed-Number, typed-Truth, typed-Name, typed-Read, typed-Paren, typed-Un, typed-Bin, typed-Call, typed-Active, counts-Read, counts-Paren, counts-Un, counts-Bin, counts-Call, counts-Active}
+use Rattle.sg_types.proofs.FitWords.{fits-Literal, fits-Constant, fits-Var, fits-Read, fits-Paren, fits-Un, fits-Bin, fits-Mulq, fits-Convert, fits-Active}
 use Rattle.sg_ast.proofs.Uses.{by_exprs}
 
 pub same_ty-same : (given : Ty) → same_ty given given ≡ true
@@ -169,6 +169,19 @@ module _ (known : Known) (shapes : List Shape) (fit : TablesFit known.tables sha
         (is_ty-some (field_in shapes place.layout place.place) place.ty (fit.fields field place found.1))
         (index_fits field place index parts.0 found.1 counted.0 signed.0 well.0 well.1))
 
+    active_fits : (field : Name) (index : List Expr) → AllByRecursion FitsWell index → FitsWell (e.Active field index)
+    active_fits field index all typed h g =
+        let found = option_and_then_some (λ place. option_and_then (active_expr place) (all_some (map (typed_expr known scope) index))) (field_named known.tables field) typed (sym (typed-Active known scope field index) ∙ h) in
+        let place = found.0 in
+        let parts = option_and_then_some (active_expr place) (all_some (map (typed_expr known scope) index)) typed found.2 in
+        let signed = if_some (list_all is_signed_expr parts.0) (record { ty = ty.Bool; form = form.Active place.layout parts.0 }) typed parts.2 in
+        let counted = and_parts (equals_some (field_axes known.tables field) (length index)) (list_all (counts known.tables) index) (sym (counts-Active known.tables field index) ∙ g) in
+        let well = all_fit index all parts.0 parts.1 counted.1 in
+        ap (is_well_typed_expr at) (sym signed.1)
+        ∙ (fits-Active at ty.Bool place.layout parts.0
+        ∙ and_from (is_truth ty.Bool) (equals_some (axes_in shapes place.layout) (length parts.0) && list_all (λ part. is_signed part.ty && is_well_typed_expr at part) parts.0) refl
+        (index_fits field place index parts.0 found.1 counted.0 signed.0 well.0 well.1))
+
     paren_fits : (inner : Expr) → FitsWell inner → FitsWell (e.Paren inner)
     paren_fits inner fits typed h g =
         let found = option_map_some (λ (it : TypedExpr). record { ty = it.ty; form = form.Paren it }) (typed_expr known scope inner) typed (sym (typed-Paren known scope inner) ∙ h) in
@@ -254,7 +267,7 @@ module _ (known : Known) (shapes : List Shape) (fit : TablesFit known.tables sha
     expr_fits = by_exprs FitsWell
         (λ value unsigned typed h g. same (record { ty = number_ty unsigned; form = form.Literal value }) typed (sym (typed-Number known scope value unsigned) ∙ h) (fits-Literal at (number_ty unsigned) value ∙ number_fits unsigned value))
         (λ truth typed h g. same (record { ty = ty.Bool; form = form.Literal (flag truth) }) typed (sym (typed-Truth known scope truth) ∙ h) (fits-Literal at ty.Bool (flag truth) ∙ truth_fits truth))
-        name_fits read_fits paren_fits un_fits bin_fits call_fits
+        name_fits read_fits paren_fits un_fits bin_fits call_fits active_fits
 
     all_exprs : (exprs : List Expr) → AllByRecursion FitsWell exprs
     all_exprs [] = tt

@@ -12,7 +12,7 @@ use Rattle.sg_flat.specs.declared.effects.Way.{Way}
 use Rattle.sg_types.specs.declared.typed.TypedExpr.{TypedExpr}
 use Rattle.sg_types.specs.declared.typed.Form.{Form, fold-Form, fold-roll-Form}
 use Rattle.sg_types.specs.declared.typed.Form.TheVariants as form
-use Rattle.sg_types.specs.declared.typed.Form.TheVariants.{rolls-Literal, rolls-Constant, rolls-Var, rolls-Read, rolls-Paren, rolls-Un, rolls-Bin, rolls-Mulq, rolls-Convert}
+use Rattle.sg_types.specs.declared.typed.Form.TheVariants.{rolls-Literal, rolls-Constant, rolls-Var, rolls-Read, rolls-Paren, rolls-Un, rolls-Bin, rolls-Mulq, rolls-Convert, rolls-Active}
 use Rattle.sg_types.specs.declared.typed.Form.TheOpen as f
 use Rattle.sg_types.specs.declared.typed.Form.TheOpen.{TypedExpr-F}
 use Rattle.sg_types.specs.declared.typed.TypedRange.{TypedRange}
@@ -79,6 +79,11 @@ module _ (at : Surroundings) (given : Ty) where
 
   pub fits-Convert : (inner : TypedExpr) → is_well_typed_expr at (record { ty = given; form = form.Convert inner }) ≡ (is_numeric given && (is_numeric inner.ty && is_well_typed_expr at inner))
   fits-Convert inner = has_form (form.Convert inner) ∙ (ap has (sym (rolls-Convert inner)) ∙ (ap (λ (it : Ty → Bool). it given) (fold-roll-Form (Ty → Bool) Judged (form_step at) shown_judged (f.Convert inner)) ∙ ap (λ (t : Ty). is_numeric given && (is_numeric t && is_well_typed_expr at inner)) (type_judged at inner)))
+
+  pub fits-Active : (layout : ℕ) (index : List TypedExpr) → is_well_typed_expr at (record { ty = given; form = form.Active layout index })
+      ≡ (is_truth given && (equals_some (axes_in at.shapes layout) (length index) && list_all (λ part. is_signed part.ty && is_well_typed_expr at part) index))
+  fits-Active layout index = has_form (form.Active layout index) ∙ (ap has (sym (rolls-Active layout index)) ∙ (ap (λ (it : Ty → Bool). it given) (fold-roll-Form (Ty → Bool) Judged (form_step at) shown_judged (f.Active layout index))
+      ∙ (rw (length-map, list_all-map) refl ∙ ap (λ x. is_truth given && (equals_some (axes_in at.shapes layout) (length index) && x)) (list_all-same (λ part. is_index (judged_expr at part)) (λ part. is_signed part.ty && is_well_typed_expr at part) index_is index))))
 
 module _ (shapes : List Shape) (types : List Ty) (number : ℕ) where
   abbrev fits_as : TypedKind → Fitting

@@ -3,12 +3,13 @@ use Rattle.std.proofs.Common.{◌≡◌, ℕ, Bool, ◌==◌, if◌then◌else�
 use Rattle.sg_words.specs.declared.operators.Ty.{Ty}
 use Rattle.sg_words.specs.declared.operators.BinOp.{BinOp}
 use Rattle.sg_words.specs.declared.operators.UnOp.{UnOp}
-use Rattle.sg_words.specs.Words.{applied, applied_un, mulq_of, word_of}
+use Rattle.sg_words.specs.Words.{applied, applied_un, mulq_of, word_of, flag}
 use Rattle.sg_flat.specs.declared.effects.Way.{Way}
+use Rattle.sg_flat.specs.Domain.{is_active}
 use Rattle.sg_types.specs.declared.typed.TypedExpr.{TypedExpr}
 use Rattle.sg_types.specs.declared.typed.Form.{Form, fold-Form, fold-roll-Form}
 use Rattle.sg_types.specs.declared.typed.Form.TheVariants as form
-use Rattle.sg_types.specs.declared.typed.Form.TheVariants.{rolls-Literal, rolls-Constant, rolls-Var, rolls-Read, rolls-Paren, rolls-Un, rolls-Bin, rolls-Mulq, rolls-Convert}
+use Rattle.sg_types.specs.declared.typed.Form.TheVariants.{rolls-Literal, rolls-Constant, rolls-Var, rolls-Read, rolls-Paren, rolls-Un, rolls-Bin, rolls-Mulq, rolls-Convert, rolls-Active}
 use Rattle.sg_types.specs.declared.typed.Form.TheOpen as f
 use Rattle.sg_types.specs.declared.typed.Form.TheOpen.{TypedExpr-F}
 use Rattle.sg_types.specs.declared.typed.TypedRange.{TypedRange}
@@ -69,6 +70,9 @@ module _ (world : World) (now : Moment) where
   pub value-Convert : (given : Ty) (inner : TypedExpr) → expr_word world now (record { ty = given; form = form.Convert inner }) ≡ expr_word world now inner
   value-Convert given inner = word_of_form given (form.Convert inner) ∙ (ap word_in (sym (rolls-Convert inner)) ∙ fold-roll-Form ℕ TypedWord (value_step world now) shown_word (f.Convert inner))
 
+  pub value-Active : (given : Ty) (layout : ℕ) (index : List TypedExpr) → expr_word world now (record { ty = given; form = form.Active layout index }) ≡ flag (is_active world.state layout (coord_of (map (expr_word world now) index)))
+  value-Active given layout index = word_of_form given (form.Active layout index) ∙ (ap word_in (sym (rolls-Active layout index)) ∙ (fold-roll-Form ℕ TypedWord (value_step world now) shown_word (f.Active layout index) ∙ ap (λ (words : List ℕ). flag (is_active world.state layout (coord_of words))) (map-map (λ (part : TypedWord). part.1) (typed_word world now) index)))
+
 module _ (world : World) (number : ℕ) where
   abbrev done_by : TypedKind → ℕ → StmtAction
   done_by = fold-TypedKind (ℕ → StmtAction) StmtAction (kind_step world) shown_action
@@ -102,6 +106,7 @@ pub ruleset effect_equations = (
   value-Bin,
   value-Mulq,
   value-Convert,
+  value-Active,
   action-Let,
   action-Assign,
   action-Write,

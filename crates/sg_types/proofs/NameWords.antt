@@ -12,13 +12,13 @@ use Rattle.sg_ast.specs.declared.stmt.WayDecl.{WayDecl}
 use Rattle.sg_ast.specs.declared.stmt.RangeDecl.{RangeDecl}
 use Rattle.sg_ast.specs.declared.stmt.Stmt.{Stmt}
 use Rattle.sg_ast.specs.declared.stmt.Stmt.TheVariants as stmt
-use Rattle.sg_ast.proofs.Uses.{fold-Number_expr, fold-Truth_expr, fold-Name_expr, fold-Read_expr, fold-Paren_expr, fold-Un_expr, fold-Bin_expr, fold-Call_expr, fold-Let_stmt, fold-Assign_stmt, fold-Write_stmt, fold-If_stmt, fold-If_else_stmt, fold-For_stmt}
+use Rattle.sg_ast.proofs.Uses.{fold-Number_expr, fold-Truth_expr, fold-Name_expr, fold-Read_expr, fold-Paren_expr, fold-Un_expr, fold-Bin_expr, fold-Call_expr, fold-Active_expr, fold-Let_stmt, fold-Assign_stmt, fold-Write_stmt, fold-If_stmt, fold-If_else_stmt, fold-For_stmt}
 use Rattle.sg_flat.specs.declared.effects.Way.{Way}
 use Rattle.sg_names.specs.Tables.{field_named}
 use Rattle.sg_types.specs.declared.typed.TypedExpr.{TypedExpr}
 use Rattle.sg_types.specs.declared.typed.Form.{Form, fold-Form, fold-roll-Form}
 use Rattle.sg_types.specs.declared.typed.Form.TheVariants as form
-use Rattle.sg_types.specs.declared.typed.Form.TheVariants.{rolls-Literal, rolls-Constant, rolls-Var, rolls-Read as form_rolls-Read, rolls-Paren as form_rolls-Paren, rolls-Un as form_rolls-Un, rolls-Bin as form_rolls-Bin, rolls-Mulq, rolls-Convert}
+use Rattle.sg_types.specs.declared.typed.Form.TheVariants.{rolls-Literal, rolls-Constant, rolls-Var, rolls-Read as form_rolls-Read, rolls-Paren as form_rolls-Paren, rolls-Un as form_rolls-Un, rolls-Bin as form_rolls-Bin, rolls-Mulq, rolls-Convert, rolls-Active as form_rolls-Active}
 use Rattle.sg_types.specs.declared.typed.Form.TheOpen as f
 use Rattle.sg_types.specs.declared.typed.Form.TheOpen.{TypedExpr-F}
 use Rattle.sg_types.specs.declared.typed.TypedRange.{TypedRange}
@@ -29,7 +29,7 @@ use Rattle.sg_types.specs.declared.typed.TypedKind.TheOpen as k
 use Rattle.sg_types.specs.declared.typed.TypedKind.TheOpen.{TypedStmt-F}
 use Rattle.sg_types.specs.declared.typed.TypedStmt.{TypedStmt}
 use Rattle.sg_types.specs.Scopes.{Known, earlier_constant}
-use Rattle.sg_types.specs.NamesBack.{constant_mark, field_mark, marked_constant, marked_field, call_or_operator, marked_step, marked_expr, marked_range, marked_stmt_step, marked_stmt, names_step, stmt_names, block_names, else_names, name_at, literal_expr, conversion, named_step, named_expr, named_range, way_back, named_kind, named_stmt}
+use Rattle.sg_types.specs.NamesBack.{constant_mark, field_mark, layout_mark, marked_constant, marked_field, marked_layout, layout_of, call_or_operator, marked_step, marked_expr, marked_range, marked_stmt_step, marked_stmt, names_step, stmt_names, block_names, else_names, name_at, literal_expr, conversion, named_step, named_expr, named_range, way_back, named_kind, named_stmt}
 use Rattle.sg_types.proofs.FoldWords.{fold-expr, fold-stmt}
 
 module _ (known : Known) where
@@ -56,6 +56,9 @@ module _ (known : Known) where
 
   pub marked-Call : (callee : Callee) (arguments : List Expr) → marked_expr known (e.Call callee arguments) ≡ call_or_operator callee (map (marked_expr known) arguments)
   marked-Call callee arguments = fold-Call_expr (marked_step known) callee arguments
+
+  pub marked-Active : (field : Name) (index : List Expr) → marked_expr known (e.Active field index) ≡ e.Active (marked_layout field (layout_of (field_named known.tables field))) (map (marked_expr known) index)
+  marked-Active field index = fold-Active_expr (marked_step known) field index
 
   pub marked_stmt-Let : (name : Name) (value : Expr) → marked_stmt known (stmt.Let name value) ≡ stmt.Let name (marked_expr known value)
   marked_stmt-Let name value = fold-Let_stmt (marked_stmt_step known) name value
@@ -128,6 +131,9 @@ module _ (names : List Name) where
 
   pub named-Convert : (given : Ty) (inner : TypedExpr) → named_expr names (record { ty = given; form = form.Convert inner }) ≡ e.Call (conversion given) (named_expr names inner ∷ [])
   named-Convert given inner = of_form given (form.Convert inner) ∙ (ap (λ (it : Form). named_form it given) (sym (rolls-Convert inner)) ∙ ap (λ (it : Ty → Expr). it given) (fold-roll-Form (Ty → Expr) Expr (named_step names) shown_expr (f.Convert inner)))
+
+  pub named-Active : (given : Ty) (layout : ℕ) (index : List TypedExpr) → named_expr names (record { ty = given; form = form.Active layout index }) ≡ e.Active (layout_mark layout) (map (named_expr names) index)
+  named-Active given layout index = of_form given (form.Active layout index) ∙ (ap (λ (it : Form). named_form it given) (sym (form_rolls-Active layout index)) ∙ ap (λ (it : Ty → Expr). it given) (fold-roll-Form (Ty → Expr) Expr (named_step names) shown_expr (f.Active layout index)))
 
 module _ (names : List Name) (number : ℕ) where
   abbrev named_as : TypedKind → Stmt

@@ -39,18 +39,18 @@ use Rattle.sg_types.specs.declared.typed.TypedDomain.TheVariants as typed
 use Rattle.sg_types.specs.declared.typed.TypedKernel.{TypedKernel}
 use Rattle.sg_types.specs.TypeTable.{is_numeric, is_truth, same_ty, bin_ty, un_ty}
 use Rattle.sg_types.specs.Scopes.{Known, NamedLocal, local_named, earlier_constant, is_taken, local_or_constant}
-use Rattle.sg_types.specs.Expressions.{typed_expr, number_ty, all_some, un_expr, bin_expr, mulq_expr, convert_expr, call_expr, access_expr, on_one, on_two, on_three, is_signed_expr}
+use Rattle.sg_types.specs.Expressions.{typed_expr, number_ty, all_some, un_expr, bin_expr, mulq_expr, convert_expr, call_expr, access_expr, active_expr, on_one, on_two, on_three, is_signed_expr}
 use Rattle.sg_types.specs.Statements.{Reached, next_statement, with_variable, let_wrongs, if_wrongs, for_wrongs, assign_kind, write_kind, declared_way, typed_range}
 use Rattle.sg_words.specs.Options.{only_where}
 use Rattle.sg_types.specs.Programs.{any_earlier, typed_domain, first_reached}
-use Rattle.sg_types.specs.NamesBack.{no_name, field_mark, marked_constant, marked_field, marked_layout, call_or_operator, marked_expr, marked_range, marked_stmt, marked_domain, stmt_names, block_names, else_names, variable_names, literal_expr, named_expr, named_range, way_back, named_stmt, named_domain, named_kernel}
+use Rattle.sg_types.specs.NamesBack.{no_name, field_mark, marked_constant, marked_field, marked_layout, call_or_operator, marked_expr, marked_range, marked_stmt, marked_domain, stmt_names, block_names, else_names, variable_names, literal_expr, named_expr, named_range, way_back, named_stmt, named_domain, named_kernel, layout_mark, layout_of}
 use Rattle.sg_types.specs.Laws.{NamesComeBack}
 use Rattle.sg_types.proofs.Outcomes.{Fits, some_same, option_and_then_some, option_map_some, if_some, only_where_some}
-use Rattle.sg_types.proofs.ExprWords.{typed-Number, typed-Truth, typed-Name, typed-Read, typed-Paren, typed-Un, typed-Bin, typed-Call}
+use Rattle.sg_types.proofs.ExprWords.{typed-Number, typed-Truth, typed-Name, typed-Read, typed-Paren, typed-Un, typed-Bin, typed-Call, typed-Active}
 use Rattle.sg_ast.proofs.Uses.{same_name-is, by_exprs}
 use Rattle.sg_types.proofs.Walk.{of_kind, block_end, Turn, Cases, walk_turn, kernel_parts}
 use Rattle.sg_types.proofs.Beginnings.{one, begun, length_begun}
-use Rattle.sg_types.proofs.NameWords.{marked-Number, marked-Truth, marked-Name, marked-Read, marked-Paren, marked-Un, marked-Bin, marked-Call, marked_stmt-Let, marked_stmt-Assign, marked_stmt-Write, marked_stmt-If, marked_stmt-For, names-Let, names-Assign, names-Write, names-If, names-For, named-Literal, named-Constant, named-Var, named-Read, named-Paren, named-Un, named-Bin, named-Mulq, named-Convert, named_stmt-Let, named_stmt-Assign, named_stmt-Write, named_stmt-If, named_stmt-For}
+use Rattle.sg_types.proofs.NameWords.{marked-Number, marked-Truth, marked-Name, marked-Read, marked-Paren, marked-Un, marked-Bin, marked-Call, marked-Active, marked_stmt-Let, marked_stmt-Assign, marked_stmt-Write, marked_stmt-If, marked_stmt-For, names-Let, names-Assign, names-Write, names-If, names-For, named-Literal, named-Constant, named-Var, named-Read, named-Paren, named-Un, named-Bin, named-Mulq, named-Convert, named-Active, named_stmt-Let, named_stmt-Assign, named_stmt-Write, named_stmt-If, named_stmt-For}
 
 none_of : {A : Type 0} (o : Option A) → is_some o ≡ false → o ≡ None
 none_of None h = refl
@@ -139,6 +139,17 @@ module _ (known : Known) (names : List Name) where
         ∙ (ap (e.Read (field_mark place.layout place.place)) (all_kept index all parts.0 parts.1)
         ∙ (ap (λ (o : Option FieldAt). e.Read (marked_field field o) (map (marked_expr known) index)) (sym found.1) ∙ sym (marked-Read known field index))))
 
+    active_kept : (field : Name) (index : List Expr) → AllByRecursion Kept index → Kept (e.Active field index)
+    active_kept field index all typed h =
+        let found = option_and_then_some (λ place. option_and_then (active_expr place) (all_some (map (typed_expr known scope) index))) (field_named known.tables field) typed (sym (typed-Active known scope field index) ∙ h) in
+        let place = found.0 in
+        let parts = option_and_then_some (active_expr place) (all_some (map (typed_expr known scope) index)) typed found.2 in
+        let signed = if_some (list_all is_signed_expr parts.0) (record { ty = ty.Bool; form = form.Active place.layout parts.0 }) typed parts.2 in
+        ap (named_expr names) (sym signed.1)
+        ∙ (named-Active names ty.Bool place.layout parts.0
+        ∙ (ap (e.Active (layout_mark place.layout)) (all_kept index all parts.0 parts.1)
+        ∙ (ap (λ (o : Option FieldAt). e.Active (marked_layout field (layout_of o)) (map (marked_expr known) index)) (sym found.1) ∙ sym (marked-Active known field index))))
+
     paren_kept : (inner : Expr) → Kept inner → Kept (e.Paren inner)
     paren_kept inner kept typed h =
         let found = option_map_some (λ (it : TypedExpr). record { ty = it.ty; form = form.Paren it }) (typed_expr known scope inner) typed (sym (typed-Paren known scope inner) ∙ h) in
@@ -203,7 +214,7 @@ module _ (known : Known) (names : List Name) where
         (named-Literal names (number_ty unsigned) value ∙ (number_kept unsigned value ∙ sym (marked-Number known value unsigned))))
         (λ truth typed h. same (record { ty = ty.Bool; form = form.Literal (flag truth) }) typed (e.Truth truth) (sym (typed-Truth known scope truth) ∙ h)
         (named-Literal names ty.Bool (flag truth) ∙ (truth_kept truth ∙ sym (marked-Truth known truth))))
-        name_kept read_kept paren_kept un_kept bin_kept call_kept
+        name_kept read_kept paren_kept un_kept bin_kept call_kept active_kept
 
     exprs_all : (exprs : List Expr) → AllByRecursion Kept exprs
     exprs_all [] = tt

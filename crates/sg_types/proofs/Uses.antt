@@ -3,10 +3,10 @@
 pub mod Folds
 pub mod Inductions
 -- any fold, at each form and kind, and all of these to compute with
-pub use Rattle.sg_types.proofs.Uses.Folds.{fold-Literal, fold-Constant, fold-Var, fold-Read, fold-Paren, fold-Un, fold-Bin, fold-Mulq, fold-Convert, expr_folds}
+pub use Rattle.sg_types.proofs.Uses.Folds.{fold-Literal, fold-Constant, fold-Var, fold-Read, fold-Paren, fold-Un, fold-Bin, fold-Mulq, fold-Convert, fold-Active, expr_folds}
 pub use Rattle.sg_types.proofs.Uses.Folds.{fold-Let, fold-Assign, fold-Write, fold-If, fold-For, stmt_folds}
 -- the word of an expression at each form, and what a statement does at each kind
-pub use Rattle.sg_types.proofs.FormWords.{value-Literal, value-Constant, value-Var, value-Read, value-Paren, value-Un, value-Bin, value-Mulq, value-Convert}
+pub use Rattle.sg_types.proofs.FormWords.{value-Literal, value-Constant, value-Var, value-Read, value-Paren, value-Un, value-Bin, value-Mulq, value-Convert, value-Active}
 pub use Rattle.sg_types.proofs.FormWords.{action-Let, action-Assign, action-Write, action-If, action-For, effect_equations}
 -- ways of writing that are counted as one
 pub use Rattle.sg_types.proofs.Texts.{same_way_is}

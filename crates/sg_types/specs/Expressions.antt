@@ -32,6 +32,7 @@ knows_step known scope (e.Paren inner) = inner
 knows_step known scope (e.Un op operand) = operand
 knows_step known scope (e.Bin op left right) = left && right
 knows_step known scope (e.Call callee arguments) = list_all (λ part. part) arguments
+knows_step known scope (e.Active field index) = is_some (field_named known.tables field) && list_all (λ part. part) index
 
 -- every plain name in the expression is known, and every field
 abbrev pub knows : Known → List NamedLocal → Expr → Bool
@@ -58,8 +59,9 @@ counts_step tables (e.Paren inner) = inner
 counts_step tables (e.Un op operand) = operand
 counts_step tables (e.Bin op left right) = left && right
 counts_step tables (e.Call callee arguments) = list_all (λ part. part) arguments
+counts_step tables (e.Active field index) = equals_some (field_axes tables field) (length index) && list_all (λ part. part) index
 
--- every read in the expression has as many indices as its layout has axes
+-- every access in the expression has as many indices as its layout has axes
 abbrev pub counts : Tables → Expr → Bool
 counts tables = fold-Expr Bool (counts_step tables)
 
@@ -124,6 +126,11 @@ abbrev pub access_expr : FieldAt → List TypedExpr → Option TypedExpr
 access_expr at index =
     if list_all is_signed_expr index then Some (record { ty = at.ty; form = form.Read at.layout at.place index }) else None
 
+-- a question whether the coordinate of typed indices, which are I32, is active in the layout of a field
+abbrev pub active_expr : FieldAt → List TypedExpr → Option TypedExpr
+active_expr at index =
+    if list_all is_signed_expr index then Some (record { ty = ty.Bool; form = form.Active at.layout index }) else None
+
 -- one layer of an expression, where each part is given as a typed expression if its types fit
 abbrev pub typed_step : Known → List NamedLocal → Expr-F (Option TypedExpr) → Option TypedExpr
 typed_step known scope (e.Number value unsigned) = Some (record { ty = number_ty unsigned; form = form.Literal value })
@@ -134,6 +141,7 @@ typed_step known scope (e.Paren inner) = option_map (λ typed. record { ty = typ
 typed_step known scope (e.Un op operand) = option_and_then (un_expr op) operand
 typed_step known scope (e.Bin op left right) = option_and_then (λ l. option_and_then (bin_expr op l) right) left
 typed_step known scope (e.Call callee arguments) = option_and_then (call_expr callee) (all_some arguments)
+typed_step known scope (e.Active field index) = option_and_then (λ at. option_and_then (active_expr at) (all_some index)) (field_named known.tables field)
 
 -- the typed expression, where names are known and all types fit
 abbrev pub typed_expr : Known → List NamedLocal → Expr → Option TypedExpr

@@ -1,6 +1,6 @@
 -- Putting the names back into a typed kernel, and the declared kernel to which that leads: the one where the names of constants, fields
 -- and layouts are replaced by what they stand for. A word doesn't tell which constant it came from, so no way leads back to that name.
-use Rattle.std.specs.Prelude.{ℕ, true, false, not, ◌==◌, if◌then◌else◌, List, [], ◌∷◌, ◌++◌, map, take, slice_get, unwrap_or, Option, Some, None}
+use Rattle.std.specs.Prelude.{ℕ, true, false, not, ◌==◌, if◌then◌else◌, List, [], ◌∷◌, ◌++◌, map, take, slice_get, unwrap_or, Option, Some, None, option_map}
 use Rattle.sg_words.specs.declared.operators.Ty.{Ty}
 use Rattle.sg_words.specs.declared.operators.Ty.TheVariants as ty
 use Rattle.sg_words.specs.declared.operators.BinOp.TheVariants as b
@@ -76,13 +76,17 @@ abbrev pub marked_layout : Name → Option ℕ → Name
 marked_layout name None = name
 marked_layout name (Some layout) = layout_mark layout
 
+-- the layout of a field
+abbrev pub layout_of : Option FieldAt → Option ℕ
+layout_of = option_map (λ at. at.layout)
+
 -- `min(a, b)` and `max(a, b)` are operators
 abbrev pub call_or_operator : Callee → List Expr → Expr
 call_or_operator c.Min (left ∷ right ∷ []) = e.Bin b.Min left right
 call_or_operator c.Max (left ∷ right ∷ []) = e.Bin b.Max left right
 call_or_operator callee arguments = e.Call callee arguments
 
--- one layer of an expression, where its parts have marks
+-- One layer of an expression, where its parts have marks. What is active is asked of a layout: each of its fields asks the same.
 abbrev pub marked_step : Known → Expr-F Expr → Expr
 marked_step known (x.Number value unsigned) = e.Number value unsigned
 marked_step known (x.Truth truth) = e.Truth truth
@@ -92,6 +96,7 @@ marked_step known (x.Paren inner) = e.Paren inner
 marked_step known (x.Un op operand) = e.Un op operand
 marked_step known (x.Bin op left right) = e.Bin op left right
 marked_step known (x.Call callee arguments) = call_or_operator callee arguments
+marked_step known (x.Active field index) = e.Active (marked_layout field (layout_of (field_named known.tables field))) index
 
 -- an expression with marks for the names of constants and fields
 abbrev pub marked_expr : Known → Expr → Expr
@@ -188,6 +193,7 @@ named_step names (f.Un op operand) given = e.Un op operand
 named_step names (f.Bin op left right) given = e.Bin op left right
 named_step names (f.Mulq a b s) given = e.Call c.Mulq (a ∷ b ∷ s ∷ [])
 named_step names (f.Convert inner) given = e.Call (conversion given) (inner ∷ [])
+named_step names (f.Active layout index) given = e.Active (layout_mark layout) index
 
 -- a typed expression with the names of its variables, and marks for what it reads
 abbrev pub named_expr : List Name → TypedExpr → Expr

@@ -2,7 +2,7 @@
 use Rattle.std.specs.Prelude.{ℕ, Bool, true, false, ◌&&◌, ◌==◌, List, map, reverse, length, find, get_or, Option, Some, None}
 use Rattle.sg_words.specs.declared.operators.Ty.{Ty}
 use Rattle.sg_words.specs.declared.operators.Ty.TheVariants as ty
-use Rattle.sg_words.specs.Words.{number, applied, applied_un, mulq_of}
+use Rattle.sg_words.specs.Words.{number, flag, applied, applied_un, mulq_of}
 use Rattle.sg_coord.specs.declared.coord.Coord.{Coord}
 use Rattle.sg_layout.specs.declared.shape.Shape.{Shape}
 use Rattle.sg_flat.specs.declared.effects.Way.{Way}
@@ -10,6 +10,7 @@ use Rattle.sg_flat.specs.declared.effects.Way.TheVariants.{Own, Acc}
 use Rattle.sg_flat.specs.declared.effects.Write.{Write}
 use Rattle.sg_flat.specs.declared.state.FlatState.{FlatState}
 use Rattle.sg_flat.specs.State as flat
+use Rattle.sg_flat.specs.Domain.{is_active}
 use Rattle.sg_types.specs.declared.typed.TypedExpr.{TypedExpr, fold-TypedExpr}
 use Rattle.sg_types.specs.declared.typed.Form.TheOpen as f
 use Rattle.sg_types.specs.declared.typed.Form.TheOpen.{Form-F, TypedExpr-F}
@@ -57,7 +58,7 @@ abbrev pub TypedWord : Type 0
 TypedWord = Ty × ℕ
 
 -- One layer of an expression, where the type and the word of each part are given. An operator works in the type of its
--- left operand; a conversion leaves the word.
+-- left operand; a conversion leaves the word. What is active is asked of the state at the start, whatever was written.
 abbrev pub value_step : World → Moment → Form-F ℕ TypedWord → ℕ
 value_step world now (f.Literal word) = word
 value_step world now (f.Constant word) = word
@@ -68,6 +69,7 @@ value_step world now (f.Un op operand) = applied_un op operand.1
 value_step world now (f.Bin op left right) = applied op left.0 left.1 right.1
 value_step world now (f.Mulq a b s) = mulq_of a.1 b.1 s.1
 value_step world now (f.Convert inner) = inner.1
+value_step world now (f.Active layout index) = flag (is_active world.state layout (coord_of (map (λ part. part.1) index)))
 
 -- the type of an expression and the word that it gives at a moment
 abbrev pub typed_word : World → Moment → TypedExpr → TypedWord

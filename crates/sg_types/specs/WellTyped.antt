@@ -72,12 +72,13 @@ form_step at (f.Un op operand) given = is_ty (un_ty op operand.0) given && opera
 form_step at (f.Bin op left right) given = is_ty (bin_ty op left.0 right.0) given && (left.1 && right.1)
 form_step at (f.Mulq a b s) given = is_signed given && (is_index a && (is_index b && is_index s))
 form_step at (f.Convert inner) given = is_numeric given && (is_numeric inner.0 && inner.1)
+form_step at (f.Active layout index) given = is_truth given && (equals_some (axes_in at.shapes layout) (length index) && list_all is_index index)
 
 -- an expression with its type, judged
 abbrev pub judged_expr : Surroundings → TypedExpr → Judged
 judged_expr at = fold-TypedExpr (Ty → Bool) Judged (form_step at) (λ expr. (expr.ty, expr.form expr.ty))
 
--- every part of an expression has the type that the table gives it, and every read as many indices as its layout has axes
+-- every part of an expression has the type that the table gives it, and every access as many indices as its layout has axes
 abbrev pub is_well_typed_expr : Surroundings → TypedExpr → Bool
 is_well_typed_expr at expr = (judged_expr at expr).1
 

@@ -30,6 +30,9 @@ impl<'a> Known<'a> {
                 self.knows(scope, left.get()) && self.knows(scope, right.get())
             }
             Expr::Call { args, .. } => self.knows_all(scope, args.as_slice()),
+            Expr::Active { field, index } => {
+                self.has_field(field) && self.knows_all(scope, index.as_slice())
+            }
         }
     }
 
@@ -45,7 +48,7 @@ impl<'a> Known<'a> {
         true
     }
 
-    /// Whether every read in an expression has as many indices as its layout has axes.
+    /// Whether every access in an expression has as many indices as its layout has axes.
     #[cycle(counts)]
     pub fn counts(&self, expr: &Expr) -> bool
         ensures { result ≡ spec.counts self.now.names.now expr.now }
@@ -59,6 +62,9 @@ impl<'a> Known<'a> {
             Expr::Un { of, .. } => self.counts(of.get()),
             Expr::Bin { left, right, .. } => self.counts(left.get()) && self.counts(right.get()),
             Expr::Call { args, .. } => self.counts_all(args.as_slice()),
+            Expr::Active { field, index } => {
+                self.has_axes(field, index.len()) && self.counts_all(index.as_slice())
+            }
         }
     }
 
@@ -115,6 +121,12 @@ impl<'a> Known<'a> {
                     return Ok(None);
                 };
                 make::call(self.alloc, *callee, args)
+            }
+            Expr::Active { field, index } => {
+                let Some(index) = self.typed_all(scope, index.as_slice())? else {
+                    return Ok(None);
+                };
+                Ok(make::active(self.names.field(field), index))
             }
         }
     }

@@ -66,6 +66,24 @@ pub(crate) fn read(at: Option<FieldAt>, index: Items<TypedExpr>) -> Option<Typed
     }
 }
 
+/// Whether a coordinate is active in the layout of a field, if there is one.
+pub(crate) fn active(at: Option<FieldAt>, index: Items<TypedExpr>) -> Option<TypedExpr>
+    ensures { result ≡ option_and_then (λ at. spec.active_expr at index) at }
+{
+    let at = at?;
+    if all_signed(index.as_slice()) {
+        Some(TypedExpr {
+            ty: Ty::Bool,
+            form: Form::Active {
+                layout: at.layout,
+                index,
+            },
+        })
+    } else {
+        None
+    }
+}
+
 pub(crate) fn paren(alloc: Global, inner: TypedExpr) -> Result<Option<TypedExpr>, Memory>
     ensures { IfOk result (λ typed. typed ≡ Some (record { ty = inner.ty; form = form.Paren inner })) }
 {

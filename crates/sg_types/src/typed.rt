@@ -106,4 +106,8 @@ pub enum Form {
         s: Boxed<TypedExpr>,
     },
     Convert(Boxed<TypedExpr>),
+    Active {
+        layout: u32,
+        index: Items<TypedExpr>,
+    },
 }

@@ -6,7 +6,7 @@ use Rattle.sg_types.specs.declared.typed.TypedStmt.{TypedStmt}
 use Rattle.sg_admit.specs.declared.marks.Marks.{Marks}
 use Rattle.sg_admit.specs.Clean.{Unclean}
 use Rattle.sg_admit.specs.Bounds.{is_constant, constant_word}
-use Rattle.sg_admit.specs.Rules.{Facts, is_of_field, first_way, has_own, has_acc}
+use Rattle.sg_admit.specs.Rules.{Facts, is_of_field, first_way, has_own, has_acc, writes_layout}
 
 -- what isn't clean by the marks: the fields that are written, and the variables marked dirty
 abbrev pub unclean_of : Marks → Unclean
@@ -21,6 +21,7 @@ marked_facts marks = record {
   first = first_way marks.ways;
   own = has_own marks.ways;
   acc = has_acc marks.ways;
+  written = writes_layout marks.ways;
   vars = marks.vars;
   walked = marks.walked;
   unclean = unclean_of marks;

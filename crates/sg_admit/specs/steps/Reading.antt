@@ -1,5 +1,5 @@
 -- What the walk over a kernel's statements looks at.
-use Rattle.std.specs.Prelude.{◌≡◌, ℕ, ◌+◌, ◌*◌, Bool, ◌&&◌, if◌then◌else◌, nat_le, length, Option, Some, None}
+use Rattle.std.specs.Prelude.{◌≡◌, ℕ, ◌+◌, ◌*◌, Bool, not, ◌&&◌, List, if◌then◌else◌, nat_le, length, Option, Some, None}
 use Rattle.std.specs.List.{list_all}
 use Rattle.sg_types.specs.declared.typed.TypedRange.{TypedRange}
 use Rattle.sg_admit.specs.declared.faults.Reading.{Reading}
@@ -9,7 +9,8 @@ use Rattle.sg_admit.specs.Limits.{most_loops, most_loop_turns}
 use Rattle.sg_admit.specs.Lines.{Around}
 use Rattle.sg_admit.specs.Clean.{is_clean}
 use Rattle.sg_admit.specs.Bounds.{is_constant_range, turns_of, turns_over}
-use Rattle.sg_admit.specs.Rules.{Facts, is_own_read, is_unaccumulated, has_good_reads}
+use Rattle.sg_admit.specs.Rules.{Facts, is_own_read, is_unaccumulated, writes_layout, has_good_reads, has_good_asks}
+use Rattle.sg_admit.specs.declared.ways.FieldWay.{FieldWay}
 use Rattle.sg_admit.specs.steps.Marked.{unclean_of}
 
 -- whether a read is good by the rule that looks at reads so
@@ -35,3 +36,11 @@ pub record IsRound (marks : Marks) (clean : Bool) (depth turns : ℕ) (around : 
 -- each read in the bounds of a range is good
 abbrev pub is_good_range : ℕ → (ℕ → ℕ → Bool → Bool) → TypedRange → Bool
 is_good_range vars good range = has_good_reads vars good range.lo && has_good_reads vars good range.hi
+
+-- a layout may be asked, if any may, unless it is written in one of these ways
+abbrev pub may_ask : Bool → List FieldWay → ℕ → Bool
+may_ask any ways layout = any && not (writes_layout ways layout)
+
+-- each `active` in the bounds of a range asks a layout that may be asked
+abbrev pub is_askable_range : (ℕ → Bool) → TypedRange → Bool
+is_askable_range good range = has_good_asks good range.lo && has_good_asks good range.hi

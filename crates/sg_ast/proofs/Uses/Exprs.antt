@@ -9,18 +9,19 @@ use Rattle.sg_words.specs.declared.operators.BinOp.{BinOp}
 use Rattle.sg_words.specs.declared.operators.BinOp.TheVariants as b
 use Rattle.sg_words.specs.declared.operators.UnOp.{UnOp}
 use Rattle.sg_ast.specs.declared.token.Name.{Name}
+use Rattle.sg_ast.specs.declared.token.Word.TheVariants as w
 use Rattle.sg_ast.specs.declared.token.Sign.TheVariants as s
 use Rattle.sg_ast.specs.declared.token.Token.TheVariants as t
 use Rattle.sg_ast.specs.declared.expr.Callee.{Callee}
 use Rattle.sg_ast.specs.declared.expr.Expr.{Expr, out-Expr, roll-Expr, roll-out-Expr, para-roll-Expr}
 use Rattle.sg_ast.specs.declared.expr.Expr.TheVariants as e
-use Rattle.sg_ast.specs.declared.expr.Expr.TheVariants.{rolls-Number, rolls-Truth, rolls-Name, rolls-Read, rolls-Paren, rolls-Un, rolls-Bin, rolls-Call}
+use Rattle.sg_ast.specs.declared.expr.Expr.TheVariants.{rolls-Number, rolls-Truth, rolls-Name, rolls-Read, rolls-Paren, rolls-Un, rolls-Bin, rolls-Call, rolls-Active}
 use Rattle.sg_ast.specs.declared.expr.Expr.TheOpen as f
 use Rattle.sg_ast.specs.declared.expr.Expr.TheOpen.{Expr-F}
 use Rattle.sg_ast.specs.Token.{is_name, is_number}
 use Rattle.sg_ast.specs.Expr.{tokens_of, tokens_step, access_tokens, with_commas, op_token, un_token, callee_token, truth_token, depth, depth_step, largest, level, level_step, op_level, un_level, primary_level, left_needs, right_needs, levelled, levelled_step}
 use Rattle.sg_ast.specs.Grammar.{is_formed, formed_step, is_infix, arity, one_or_more}
-use Rattle.sg_ast.proofs.Uses.Folds.{fold-Number_expr, fold-Truth_expr, fold-Name_expr, fold-Read_expr, fold-Paren_expr, fold-Un_expr, fold-Bin_expr, fold-Call_expr}
+use Rattle.sg_ast.proofs.Uses.Folds.{fold-Number_expr, fold-Truth_expr, fold-Name_expr, fold-Read_expr, fold-Paren_expr, fold-Un_expr, fold-Bin_expr, fold-Call_expr, fold-Active_expr}
 
 -- the tokens
 pub tokens_of-Number : (value : ℕ) (unsigned : Bool) → tokens_of (e.Number value unsigned) ≡ t.Number value unsigned ∷ []
@@ -47,6 +48,9 @@ tokens_of-Bin op left right = fold-Bin_expr tokens_step op left right
 pub tokens_of-Call : (callee : Callee) (arguments : List Expr) → tokens_of (e.Call callee arguments) ≡ callee_token callee ∷ t.Sign s.OpenParen ∷ (with_commas (map tokens_of arguments) ++ t.Sign s.CloseParen ∷ [])
 tokens_of-Call callee arguments = fold-Call_expr tokens_step callee arguments
 
+pub tokens_of-Active : (field : Name) (index : List Expr) → tokens_of (e.Active field index) ≡ t.Word w.Active ∷ t.Sign s.OpenParen ∷ (access_tokens field (map tokens_of index) ++ t.Sign s.CloseParen ∷ [])
+tokens_of-Active field index = fold-Active_expr tokens_step field index
+
 -- the depth
 pub depth-Number : (value : ℕ) (unsigned : Bool) → depth (e.Number value unsigned) ≡ 1
 depth-Number value unsigned = fold-Number_expr depth_step value unsigned
@@ -71,6 +75,9 @@ depth-Bin op left right = fold-Bin_expr depth_step op left right
 
 pub depth-Call : (callee : Callee) (arguments : List Expr) → depth (e.Call callee arguments) ≡ largest (map depth arguments) + 1
 depth-Call callee arguments = fold-Call_expr depth_step callee arguments
+
+pub depth-Active : (field : Name) (index : List Expr) → depth (e.Active field index) ≡ largest (map depth index) + 1
+depth-Active field index = fold-Active_expr depth_step field index
 
 -- the level
 pub level-Number : (value : ℕ) (unsigned : Bool) → level (e.Number value unsigned) ≡ primary_level
@@ -97,6 +104,9 @@ level-Bin op left right = fold-Bin_expr level_step op left right
 pub level-Call : (callee : Callee) (arguments : List Expr) → level (e.Call callee arguments) ≡ primary_level
 level-Call callee arguments = fold-Call_expr level_step callee arguments
 
+pub level-Active : (field : Name) (index : List Expr) → level (e.Active field index) ≡ primary_level
+level-Active field index = fold-Active_expr level_step field index
+
 -- whether it is levelled
 pub levelled-Number : (value : ℕ) (unsigned : Bool) → levelled (e.Number value unsigned) ≡ true
 levelled-Number value unsigned = ap levelled (sym (rolls-Number value unsigned)) ∙ para-roll-Expr Bool levelled_step (f.Number value unsigned)
@@ -121,6 +131,9 @@ levelled-Bin op left right = ap levelled (sym (rolls-Bin op left right)) ∙ par
 
 pub levelled-Call : (callee : Callee) (arguments : List Expr) → levelled (e.Call callee arguments) ≡ list_all levelled arguments
 levelled-Call callee arguments = ap levelled (sym (rolls-Call callee arguments)) ∙ para-roll-Expr Bool levelled_step (f.Call callee arguments) ∙ list_all-map (λ (part : Expr × Bool). part.1) (λ part. (part, levelled part)) arguments
+
+pub levelled-Active : (field : Name) (index : List Expr) → levelled (e.Active field index) ≡ list_all levelled index
+levelled-Active field index = ap levelled (sym (rolls-Active field index)) ∙ para-roll-Expr Bool levelled_step (f.Active field index) ∙ list_all-map (λ (part : Expr × Bool). part.1) (λ part. (part, levelled part)) index
 
 -- whether each node is one of the grammar's
 pub is_formed-Number : (value : ℕ) (unsigned : Bool) → is_formed (e.Number value unsigned) ≡ is_number value unsigned
@@ -147,6 +160,9 @@ is_formed-Bin op left right = fold-Bin_expr formed_step op left right
 pub is_formed-Call : (callee : Callee) (arguments : List Expr) → is_formed (e.Call callee arguments) ≡ ((length arguments == arity callee) && list_all is_formed arguments)
 is_formed-Call callee arguments = fold-Call_expr formed_step callee arguments ∙ rw (length-map, list_all-map) refl
 
+pub is_formed-Active : (field : Name) (index : List Expr) → is_formed (e.Active field index) ≡ (is_name field && one_or_more is_formed index)
+is_formed-Active field index = fold-Active_expr formed_step field index ∙ rw (length-map, list_all-map) refl
+
 -- all of them, to compute with
 pub ruleset expr_equations = (
   tokens_of-Number,
@@ -157,6 +173,7 @@ pub ruleset expr_equations = (
   tokens_of-Un,
   tokens_of-Bin,
   tokens_of-Call,
+  tokens_of-Active,
   depth-Number,
   depth-Truth,
   depth-Name,
@@ -165,6 +182,7 @@ pub ruleset expr_equations = (
   depth-Un,
   depth-Bin,
   depth-Call,
+  depth-Active,
   level-Number,
   level-Truth,
   level-Name,
@@ -173,6 +191,7 @@ pub ruleset expr_equations = (
   level-Un,
   level-Bin,
   level-Call,
+  level-Active,
   levelled-Number,
   levelled-Truth,
   levelled-Name,
@@ -181,6 +200,7 @@ pub ruleset expr_equations = (
   levelled-Un,
   levelled-Bin,
   levelled-Call,
+  levelled-Active,
   is_formed-Number,
   is_formed-Truth,
   is_formed-Name,
@@ -189,6 +209,7 @@ pub ruleset expr_equations = (
   is_formed-Un,
   is_formed-Bin,
   is_formed-Call,
+  is_formed-Active,
 )
 
 -- the left operand of an operator holds as tightly as the operator
@@ -246,7 +267,8 @@ module _ (P : Expr → Type 0)
     (on_paren : (inner : Expr) → P (e.Paren inner))
     (on_un : (op : UnOp) (operand : Expr) → P (e.Un op operand))
     (on_bin : (op : BinOp) (left right : Expr) → P (e.Bin op left right))
-    (on_call : (callee : Callee) (arguments : List Expr) → P (e.Call callee arguments)) where
+    (on_call : (callee : Callee) (arguments : List Expr) → P (e.Call callee arguments))
+    (on_active : (field : Name) (index : List Expr) → P (e.Active field index)) where
   by_layer : (layer : Expr-F Expr) → P (roll-Expr layer)
   by_layer (f.Number value unsigned) = rw (rolls-Number value unsigned) (on_number value unsigned)
   by_layer (f.Truth truth) = rw (rolls-Truth truth) (on_truth truth)
@@ -256,6 +278,7 @@ module _ (P : Expr → Type 0)
   by_layer (f.Un op operand) = rw (rolls-Un op operand) (on_un op operand)
   by_layer (f.Bin op left right) = rw (rolls-Bin op left right) (on_bin op left right)
   by_layer (f.Call callee arguments) = rw (rolls-Call callee arguments) (on_call callee arguments)
+  by_layer (f.Active field index) = rw (rolls-Active field index) (on_active field index)
 
   pub by_variant : (expr : Expr) → P expr
   by_variant expr = rw (← roll-out-Expr expr) (by_layer (out-Expr expr))
@@ -271,6 +294,7 @@ depth_some = by_variant (λ expr. 1 ≤ depth expr)
     (λ op operand. omega (arith, depth-Un op operand))
     (λ op left right. omega (arith, depth-Bin op left right))
     (λ callee arguments. omega (arith, depth-Call callee arguments))
+    (λ field index. omega (arith, depth-Active field index))
 
 -- a claim on every expression, from the claim on each variant with the claim on its parts
 module _ (P : Expr → Type 0)
@@ -281,7 +305,8 @@ module _ (P : Expr → Type 0)
     (on_paren : (inner : Expr) → P inner → P (e.Paren inner))
     (on_un : (op : UnOp) (operand : Expr) → P operand → P (e.Un op operand))
     (on_bin : (op : BinOp) (left right : Expr) → P left → P right → P (e.Bin op left right))
-    (on_call : (callee : Callee) (arguments : List Expr) → AllByRecursion P arguments → P (e.Call callee arguments)) where
+    (on_call : (callee : Callee) (arguments : List Expr) → AllByRecursion P arguments → P (e.Call callee arguments))
+    (on_active : (field : Name) (index : List Expr) → AllByRecursion P index → P (e.Active field index)) where
   module _ (d : ℕ) (below : (expr : Expr) → depth expr ≤ d → P expr) where
     parts : (exprs : List Expr) → largest (map depth exprs) ≤ d → AllByRecursion P exprs
     parts [] h = tt
@@ -302,6 +327,7 @@ module _ (P : Expr → Type 0)
         (below left (omega (arith, depth-Bin op left right, le-max_left (depth left) (depth right))))
         (below right (omega (arith, depth-Bin op left right, le-max_right (depth left) (depth right)))))
         (λ callee arguments h. on_call callee arguments (parts arguments (omega (arith, depth-Call callee arguments))))
+        (λ field index h. on_active field index (parts index (omega (arith, depth-Active field index))))
 
   below_depth : (d : ℕ) (expr : Expr) → depth expr ≤ d → P expr
   below_depth zero expr h = absurd (omega (arith, depth_some expr))

@@ -7,7 +7,7 @@ use Rattle.sg_ast.specs.declared.token.Name.{Name}
 use Rattle.sg_ast.specs.declared.expr.Callee.{Callee}
 use Rattle.sg_ast.specs.declared.expr.Expr.{Expr, fold-Expr, fold-roll-Expr}
 use Rattle.sg_ast.specs.declared.expr.Expr.TheVariants as e
-use Rattle.sg_ast.specs.declared.expr.Expr.TheVariants.{rolls-Number, rolls-Truth, rolls-Name, rolls-Read, rolls-Paren, rolls-Un, rolls-Bin, rolls-Call}
+use Rattle.sg_ast.specs.declared.expr.Expr.TheVariants.{rolls-Number, rolls-Truth, rolls-Name, rolls-Read, rolls-Paren, rolls-Un, rolls-Bin, rolls-Call, rolls-Active}
 use Rattle.sg_ast.specs.declared.expr.Expr.TheOpen as f
 use Rattle.sg_ast.specs.declared.expr.Expr.TheOpen.{Expr-F}
 use Rattle.sg_ast.specs.declared.stmt.WayDecl.{WayDecl}
@@ -54,6 +54,10 @@ fold-Bin_expr {X} step op left right = ap (fold-Expr X step) (sym (rolls-Bin op 
 pub fold-Call_expr : {X : Type 0} (step : Expr-F X → X) (callee : Callee) (arguments : List Expr)
     → fold-Expr X step (e.Call callee arguments) ≡ step (f.Call callee (map (fold-Expr X step) arguments))
 fold-Call_expr {X} step callee arguments = ap (fold-Expr X step) (sym (rolls-Call callee arguments)) ∙ fold-roll-Expr X step (f.Call callee arguments)
+
+pub fold-Active_expr : {X : Type 0} (step : Expr-F X → X) (field : Name) (index : List Expr)
+    → fold-Expr X step (e.Active field index) ≡ step (f.Active field (map (fold-Expr X step) index))
+fold-Active_expr {X} step field index = ap (fold-Expr X step) (sym (rolls-Active field index)) ∙ fold-roll-Expr X step (f.Active field index)
 
 pub fold-Let_stmt : {X : Type 0} (step : Stmt-F X → X) (name : Name) (value : Expr)
     → fold-Stmt X step (s.Let name value) ≡ step (g.Let name value)
@@ -123,6 +127,7 @@ pub ruleset fold_equations = (
   fold-Un_expr,
   fold-Bin_expr,
   fold-Call_expr,
+  fold-Active_expr,
   fold-Let_stmt,
   fold-Assign_stmt,
   fold-Write_stmt,

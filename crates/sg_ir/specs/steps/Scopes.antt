@@ -49,6 +49,7 @@ origin_step (i.HashChild to place node offset) = Some (o.Place place node)
 origin_step (i.MaskBit to place node offset) = Some (o.Place place node)
 origin_step (i.DynCell to place node offset) = Some (o.Place place node)
 origin_step (i.ReadCell to place layout field index) = None
+origin_step (i.IsActive to place index) = None
 origin_step (i.OwnRead to layout field) = None
 origin_step (i.OwnWrite layout field from stmt) = None
 origin_step (i.Acc op layout field place from index stmt) = None

@@ -38,6 +38,7 @@ left_step (i.HashChild to place node offset) = Some (t.Place to)
 left_step (i.MaskBit to place node offset) = Some (t.Place to)
 left_step (i.DynCell to place node offset) = Some (t.Place to)
 left_step (i.ReadCell to place layout field index) = Some (t.Reg to)
+left_step (i.IsActive to place index) = Some (t.Reg to)
 left_step (i.OwnRead to layout field) = Some (t.Reg to)
 left_step (i.OwnWrite layout field from stmt) = None
 left_step (i.Acc op layout field place from index stmt) = None

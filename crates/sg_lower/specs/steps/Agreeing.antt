@@ -20,6 +20,7 @@ use Rattle.sg_ir.specs.Places.{place_at}
 use Rattle.sg_ir.specs.Named.{AreNamed}
 use Rattle.sg_ir.specs.Emits.{Extends}
 use Rattle.sg_lower.specs.Lowered.{code_write, want_of}
+use Rattle.sg_flat.specs.Domain.{is_active}
 use Rattle.sg_lower.specs.steps.Basis.{Basis, is_owned}
 
 -- what code tells of the writes so far: in a slice wants, else writes
@@ -34,8 +35,8 @@ told_wants basis writes = if basis.slicing then map want_of writes else []
 abbrev pub inside_or_none : List Shape → ℕ → Coord → Option Coord
 inside_or_none shapes layout at = if is_inside_of (slice_get shapes layout) at then Some at else None
 
--- a world over these layouts in which values are words, and what holds of every world: operators give words, and a coordinate inside
--- is that of its place
+-- a world over these layouts in which values are words and nothing outside is active, and what holds of every world: operators give
+-- words, and a coordinate inside is that of its place
 pub record IsWorld (shapes : List Shape) (world : World) : Type 0 where
   pub shapes_are : world.shapes ≡ shapes
   pub applied : (op : BinOp) (given : Ty) (a b : ℕ) → AppliedIsWord op given a b
@@ -43,6 +44,7 @@ pub record IsWorld (shapes : List Shape) (world : World) : Type 0 where
   pub mulq : (a b s : ℕ) → MulqIsWord a b s
   pub small : (layout place : ℕ) (at : Coord) → IsWord (flat.value_of world.shapes world.state layout place at)
   pub reached : (layout : ℕ) (at : Coord) → at_of world.shapes (place_at world.shapes layout at) ≡ inside_or_none world.shapes layout at
+  pub inside : (layout : ℕ) (at : Coord) → is_inside_of (slice_get world.shapes layout) at ≡ false → is_active world.state layout at ≡ false
 
 -- a coordinate with so many parts, all of them numbers of words
 pub record IsPoint (vars : ℕ) (at : Coord) : Type 0 where

@@ -42,6 +42,7 @@ fit_step basis (f.Un op operand) = (None, operand.1)
 fit_step basis (f.Bin op left right) = (None, left.1 && right.1)
 fit_step basis (f.Mulq a b s) = (None, a.1 && (b.1 && s.1))
 fit_step basis (f.Convert inner) = (None, inner.1)
+fit_step basis (f.Active layout index) = (None, equals_some (axes_in basis.shapes layout) (length index) && list_all (λ part. part.1) index)
 
 -- the variable that an expression is the bare name of, or none, and whether it can be lowered
 abbrev pub fitted : Basis → TypedExpr → Fitted
@@ -72,6 +73,10 @@ lowered_layer basis (k.For var range body) = nat_le basis.vars var && (is_consta
 -- a statement can be lowered
 abbrev pub stmt_fits : Basis → TypedStmt → Bool
 stmt_fits basis = fold-TypedStmt Bool Bool (lowered_layer basis) (λ stmt. stmt.kind)
+
+-- a question whether a coordinate is active
+abbrev pub typed_active : Ty → ℕ → List TypedExpr → TypedExpr
+typed_active ty layout index = record { ty = ty; form = form.Active layout index }
 
 -- a read, and a write
 abbrev pub typed_read : Ty → ℕ → ℕ → List TypedExpr → TypedExpr

@@ -29,6 +29,7 @@ use_step owned (f.Un op operand) = operand
 use_step owned (f.Bin op left right) = left ++ right
 use_step owned (f.Mulq a b s) = a ++ (b ++ s)
 use_step owned (f.Convert inner) = inner
+use_step owned (f.Active layout index) = flat_map (λ uses. uses) index
 
 -- the uses of an expression, and of expressions one after the other
 abbrev pub expr_uses : List Field → TypedExpr → List Use

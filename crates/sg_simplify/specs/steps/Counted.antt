@@ -14,7 +14,7 @@ use Rattle.sg_ir.specs.SpanLaws.{IsSpanned}
 use Rattle.sg_ir.specs.WellTyped.{KnownPlace, Scope, Frame, Judge}
 use Rattle.sg_ir.specs.InScope.{InScope, IsScoped}
 use Rattle.sg_simplify.specs.steps.Serves.{EachByRecursion, Leads}
-use Rattle.sg_simplify.specs.steps.Ruled.{HasSettledOps, HasAccessLayouts}
+use Rattle.sg_simplify.specs.steps.Ruled.{HasSettledOps}
 
 -- 1 if the test holds, else 0
 abbrev pub one_where : Bool → ℕ
@@ -25,7 +25,7 @@ abbrev pub regs_set : ℕ → Block → ℕ
 regs_set r End = 0
 regs_set r (Word to how rest) = one_where (to == r) + regs_set r rest
 regs_set r (Spot to how rest) = regs_set r rest
-regs_set r (Cell to place layout field index rest) = one_where (to == r) + regs_set r rest
+regs_set r (Cell to place sight index rest) = one_where (to == r) + regs_set r rest
 regs_set r (Do what rest) = regs_set r rest
 regs_set r (Branch cond block otherwise rest) = regs_set r block + (regs_set r otherwise + regs_set r rest)
 regs_set r (Loop var lo hi body rest) = regs_set r body + regs_set r rest
@@ -35,7 +35,7 @@ abbrev pub places_set : ℕ → Block → ℕ
 places_set p End = 0
 places_set p (Word to how rest) = places_set p rest
 places_set p (Spot to how rest) = one_where (to == p) + places_set p rest
-places_set p (Cell to place layout field index rest) = places_set p rest
+places_set p (Cell to place sight index rest) = places_set p rest
 places_set p (Do what rest) = places_set p rest
 places_set p (Branch cond block otherwise rest) = places_set p block + (places_set p otherwise + places_set p rest)
 places_set p (Loop var lo hi body rest) = places_set p body + places_set p rest
@@ -73,12 +73,11 @@ pub record Meets (totals : Counts) (scope : Scope) (inner : InScope) (outside : 
 abbrev pub CanBeWalked : List Shape → Type 0
 CanBeWalked shapes = (layout : ℕ) (shape : Shape) → slice_get shapes layout ≡ Some shape → (1 ≤ shape.axes) × ((words : List ℕ) → length words ≡ shape.axes → EachByRecursion IsWord words → Leads shapes layout shape words)
 
--- what the pass asks of a block
-pub record Rules (shapes : List Shape) (single : ℕ → Bool) (others : ℕ → Span) (inner : InScope) (loops : List (ℕ × Span)) (block : Block) : Type 0 where
+-- what the pass asks of a block, beside that its accesses have their layouts
+pub record Rules (single : ℕ → Bool) (others : ℕ → Span) (inner : InScope) (loops : List (ℕ × Span)) (block : Block) : Type 0 where
   pub scoped : IsScoped inner block
   pub settled : HasSettledOps single block
   pub spanned : IsSpanned (record { regs = []; loops = loops; others = others }) block
-  pub fitted : HasAccessLayouts shapes block
 
 -- One layer: whether constants are words.
 abbrev pub words_step : Inst-F Bool → Bool
@@ -92,8 +91,8 @@ abbrev pub has_words : Inst → Bool
 has_words = fold-Inst Bool words_step
 
 -- a judgement and a link that together give what the pass asks, where what follows has it
-abbrev pub Rule : List Shape → (ℕ → Bool) → (ℕ → Span) → Counts → Judge → Link → Type 0
-Rule shapes single others totals judge link =
+abbrev pub Rule : (ℕ → Bool) → (ℕ → Span) → Counts → Judge → Link → Type 0
+Rule single others totals judge link =
     (scope : Scope) (inner : InScope) (outside : Counts) (loops : List (ℕ × Span)) (rest : Block) → (judge scope).0 ≡ true → Meets totals scope inner outside loops → AddsUp totals outside (link rest) →
-    ((inside : InScope) (beside : Counts) → Meets totals (judge scope).1 inside beside loops → AddsUp totals beside rest → Rules shapes single others inside loops rest) →
-    Rules shapes single others inner loops (link rest)
+    ((inside : InScope) (beside : Counts) → Meets totals (judge scope).1 inside beside loops → AddsUp totals beside rest → Rules single others inside loops rest) →
+    Rules single others inner loops (link rest)

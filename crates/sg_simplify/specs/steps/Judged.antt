@@ -9,7 +9,7 @@ use Rattle.sg_ir.specs.declared.op.Step.{Step}
 use Rattle.sg_ir.specs.declared.op.Step.TheVariants as step
 use Rattle.sg_ir.specs.declared.op.Descent.{Descent}
 use Rattle.sg_ir.specs.declared.op.Descent.TheVariants as by
-use Rattle.sg_ir.specs.Blocks.{Block, End, Word, Spot, Cell, Do, Branch, Loop, Act, SetVar, WriteOwn, Contribute, Wish}
+use Rattle.sg_ir.specs.Blocks.{Sight, Value, Activity, sight_op, Block, End, Word, Spot, Cell, Do, Branch, Loop, Act, SetVar, WriteOwn, Contribute, Wish}
 use Rattle.sg_ir.specs.WellTyped.{KnownPlace, Scope, Frame, with_reg, with_place, with_var, is_truth, is_truth_as, reads, indexes, is_i32, takes_truth, gives_truth, is_lnot, Way_down, ByChild, ByKey, ByBit, ByLength, holds_of, checkable, descends, is_cell}
 
 -- a type that may be there is that of a truth value, or isn't, as may be known
@@ -31,6 +31,7 @@ truth_of shapes vars (op.Mulq a b s) = Some false
 truth_of shapes vars (op.Extract div size from) = Some false
 truth_of shapes vars (op.Offset high size low) = Some false
 truth_of shapes vars (op.Read place layout field) = field_truth shapes layout field
+truth_of shapes vars (op.Active place) = Some true
 truth_of shapes vars (op.OwnRead layout field) = field_truth shapes layout field
 
 -- what an operation reads may be read
@@ -43,15 +44,21 @@ operands_fit at scope (op.Mulq a b s) = reads at scope false a && (reads at scop
 operands_fit at scope (op.Extract div size from) = nat_lt 0 div && (nat_lt 0 size && reads at scope false from)
 operands_fit at scope (op.Offset high size low) = nat_lt 0 size && (reads at scope false high && reads at scope false low)
 operands_fit at scope (op.Read place layout field) = holds_of (is_cell at layout) (scope.places place)
+operands_fit at scope (op.Active place) = holds_of (λ known. is_cell at known.layout known) (scope.places place)
 operands_fit at scope (op.OwnRead layout field) = true
 
 -- index registers that name a coordinate of a layout
 abbrev pub index_fits : Frame → Scope → ℕ → List ℕ → Bool
 index_fits at scope layout index = holds_of (λ shape. indexes at scope shape index) (slice_get at.shapes layout)
 
--- a read of a cell has such index registers
+-- index registers that name a coordinate of the layout of a place
+abbrev pub index_of_place : Frame → Scope → ℕ → List ℕ → Bool
+index_of_place at scope place index = holds_of (λ known. index_fits at scope known.layout index) (scope.places place)
+
+-- what sees something at a place has such index registers
 abbrev pub IndexIsGood : Frame → Scope → Op → List ℕ → Type 0
 IndexIsGood at scope (op.Read place layout field) index = index_fits at scope layout index ≡ true
+IndexIsGood at scope (op.Active place) index = index_of_place at scope place index ≡ true
 IndexIsGood at scope how index = Unit {0}
 
 -- how a place goes down a node by this instruction: to a child, by a key, by a bit, or below a length
@@ -104,15 +111,21 @@ is_no_read (op.Mulq a b s) = true
 is_no_read (op.Extract div size from) = true
 is_no_read (op.Offset high size low) = true
 is_no_read (op.Read place layout field) = false
+is_no_read (op.Active place) = false
 is_no_read (op.OwnRead layout field) = true
+
+-- index registers that name a coordinate of the layout at a place of which something is seen
+abbrev pub sight_fits : Frame → Scope → ℕ → Sight → List ℕ → Bool
+sight_fits at scope place (Value layout field) index = index_fits at scope layout index
+sight_fits at scope place Activity index = index_of_place at scope place index
 
 -- a block in a scope
 abbrev pub fits_scope : Frame → Scope → Block → Bool
 fits_scope at scope End = true
 fits_scope at scope (Word to how rest) = (is_no_read how && (operands_fit at scope how && gives_type (truth_of at.shapes at.vars how) (slice_get at.regs to))) && fits_scope at (with_reg to scope) rest
 fits_scope at scope (Spot to how rest) = (nat_lt to at.places && step_reads at scope how) && fits_scope at (and_known to (step_known scope how) scope) rest
-fits_scope at scope (Cell to place layout field index rest) =
-    (operands_fit at scope (op.Read place layout field) && (gives_type (field_truth at.shapes layout field) (slice_get at.regs to) && index_fits at scope layout index))
+fits_scope at scope (Cell to place sight index rest) =
+    (operands_fit at scope (sight_op place sight) && (gives_type (truth_of at.shapes at.vars (sight_op place sight)) (slice_get at.regs to) && sight_fits at scope place sight index))
     && fits_scope at (with_reg to scope) rest
 fits_scope at scope (Do what rest) = act_fits at scope what && fits_scope at (behind_act what scope) rest
 fits_scope at scope (Branch cond block otherwise rest) = (reads at scope true cond && (fits_scope at scope block && fits_scope at scope otherwise)) && fits_scope at scope rest

@@ -1,5 +1,5 @@
 -- Code from which the pass's output is made, and what is left of that.
-use Rattle.std.specs.Prelude.{◌≡◌, Bool, true, List, [], ◌∷◌, Contains}
+use Rattle.std.specs.Prelude.{◌≡◌, ℕ, Bool, true, List, [], ◌∷◌, Contains}
 use Rattle.sg_layout.specs.declared.shape.Shape.{Shape}
 use Rattle.sg_flat.specs.declared.effects.Domain.{Domain}
 use Rattle.sg_ir.specs.declared.code.Code.{Code}
@@ -11,7 +11,7 @@ use Rattle.sg_ir.specs.WellTyped.{is_well_typed}
 use Rattle.sg_ir.specs.Apt.{Use, uses_in}
 use Rattle.sg_ir.specs.Blocks.{block_in}
 use Rattle.sg_ir.specs.Shared.{is_shared}
-use Rattle.sg_ir.specs.Trimmed.{is_trimmed}
+use Rattle.sg_ir.specs.Trimmed.{asked_in, is_trimmed}
 use Rattle.sg_simplify.specs.Kept.{Keep, kept_part}
 use Rattle.sg_simplify.specs.Simplified.{AlwaysTellsTheSame}
 use Rattle.sg_words.specs.Spread.{IsLeastSpread, bears_mark}
@@ -25,6 +25,7 @@ pub record IsSimple (shapes : List Shape) (domain : Domain) (given made : Code) 
   pub shared : is_shared (block_in made) ≡ true
   pub trimmed : is_trimmed shapes domain (block_in made) ≡ true
   pub only : (it : Use) → Contains (uses_in made.body) it → Contains (uses_in given.body) it
+  pub asks : (layout : ℕ) → Contains (asked_in made.body) layout → Contains (asked_in given.body) layout
 
 -- what is left of code where the least set of nodes that has each need is kept
 pub record IsLeft (code left : Code) : Type 0 where
@@ -52,6 +53,7 @@ stays_step keep (i.HashChild to place node offset) = keep.places to
 stays_step keep (i.MaskBit to place node offset) = keep.places to
 stays_step keep (i.DynCell to place node offset) = keep.places to
 stays_step keep (i.ReadCell to place layout field index) = keep.regs to
+stays_step keep (i.IsActive to place index) = keep.regs to
 stays_step keep (i.OwnRead to layout field) = keep.regs to
 stays_step keep (i.OwnWrite layout field from stmt) = true
 stays_step keep (i.Acc how layout field place from index stmt) = true

@@ -31,7 +31,7 @@ abbrev pub blocks_in : Block → ℕ
 blocks_in End = 0
 blocks_in (Word to how rest) = blocks_in rest
 blocks_in (Spot to how rest) = blocks_in rest
-blocks_in (Cell to place layout field index rest) = blocks_in rest
+blocks_in (Cell to place sight index rest) = blocks_in rest
 blocks_in (Do what rest) = blocks_in rest
 blocks_in (Branch cond block otherwise rest) = suc (blocks_in block + (blocks_in otherwise + blocks_in rest))
 blocks_in (Loop var lo hi body rest) = suc (blocks_in body + blocks_in rest)
@@ -49,7 +49,7 @@ abbrev pub needs_of : ℕ → ℕ → Block → List Link
 needs_of here next End = []
 needs_of here next (Word to how rest) = link_all (reg_node to) (map reg_node (op_regs how) ++ (map place_node (op_places how) ++ (map var_node (op_vars how) ++ here ∷ []))) ++ needs_of here next rest
 needs_of here next (Spot to how rest) = link_all (place_node to) (map reg_node (step_regs how) ++ (map place_node (step_places how) ++ here ∷ [])) ++ needs_of here next rest
-needs_of here next (Cell to place layout field index rest) = link_all (reg_node to) (place_node place ∷ here ∷ []) ++ (link_all (reg_node to) (map reg_node index) ++ needs_of here next rest)
+needs_of here next (Cell to place sight index rest) = link_all (reg_node to) (place_node place ∷ here ∷ []) ++ (link_all (reg_node to) (map reg_node index) ++ needs_of here next rest)
 needs_of here next (Do what rest) = act_needs here what ++ needs_of here next rest
 needs_of here next (Branch cond block otherwise rest) =
     link_all (block_node next) (reg_node cond ∷ here ∷ [])
@@ -68,7 +68,7 @@ abbrev pub left_in : Keep → Block → List Bool
 left_in keep End = []
 left_in keep (Word to how rest) = left_in keep rest
 left_in keep (Spot to how rest) = left_in keep rest
-left_in keep (Cell to place layout field index rest) = left_in keep rest
+left_in keep (Cell to place sight index rest) = left_in keep rest
 left_in keep (Do what rest) = left_in keep rest
 left_in keep (Branch cond block otherwise rest) = not (is_end (kept_part keep block) && is_end (kept_part keep otherwise)) ∷ (left_in keep block ++ (left_in keep otherwise ++ left_in keep rest))
 left_in keep (Loop var lo hi body rest) = not (is_end (kept_part keep body)) ∷ (left_in keep body ++ left_in keep rest)

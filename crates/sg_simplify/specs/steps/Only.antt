@@ -4,7 +4,7 @@ use Rattle.sg_flat.specs.declared.effects.Way.TheVariants.{Own, Acc}
 use Rattle.sg_ir.specs.declared.op.Op.{Op}
 use Rattle.sg_ir.specs.declared.op.Op.TheVariants as op
 use Rattle.sg_ir.specs.Apt.{Use, Writes, Reads, ReadsOwn}
-use Rattle.sg_ir.specs.Blocks.{Block, End, Word, Spot, Cell, Do, Branch, Loop, Act, SetVar, WriteOwn, Contribute, Wish}
+use Rattle.sg_ir.specs.Blocks.{sight_op, Block, End, Word, Spot, Cell, Do, Branch, Loop, Act, SetVar, WriteOwn, Contribute, Wish}
 
 -- a use that passes a test
 abbrev pub op_use : (Use → Bool) → Op → Bool
@@ -24,7 +24,7 @@ abbrev pub has_use : (Use → Bool) → Block → Bool
 has_use test End = false
 has_use test (Word to how rest) = op_use test how || has_use test rest
 has_use test (Spot to how rest) = has_use test rest
-has_use test (Cell to place layout field index rest) = test (Reads layout field) || has_use test rest
+has_use test (Cell to place sight index rest) = op_use test (sight_op place sight) || has_use test rest
 has_use test (Do what rest) = act_use test what || has_use test rest
 has_use test (Branch cond block otherwise rest) = has_use test block || (has_use test otherwise || has_use test rest)
 has_use test (Loop var lo hi body rest) = has_use test body || has_use test rest

@@ -18,20 +18,41 @@ use Rattle.sg_ir.specs.declared.op.Step.TheVariants as step
 use Rattle.sg_ir.specs.declared.op.Descent.{Descent}
 use Rattle.sg_ir.specs.declared.op.Descent.TheVariants as by
 use Rattle.sg_ir.specs.Places.{extents_in}
-use Rattle.sg_ir.specs.Blocks.{Block, End, Word, Spot, Cell, Do, Branch, Loop, Act, SetVar, WriteOwn, Contribute, Wish}
+use Rattle.sg_ir.specs.Blocks.{Sight, Value, Activity, sight_op, Block, End, Word, Spot, Cell, Do, Branch, Loop, Act, SetVar, WriteOwn, Contribute, Wish}
 use Rattle.sg_ir.specs.declared.span.Span.{Span}
 use Rattle.sg_ir.specs.Span.{whole_i32, Spans, bin_span, range_span, op_span, first_spans}
 use Rattle.sg_ir.specs.Shared.{same_op, same_step, is_pure, is_single}
 use Rattle.sg_ir.specs.Trimmed.{is_within}
 use Rattle.sg_ir.specs.WellTyped.{is_truth}
 
--- what is given: the layouts, the types of the given registers, which variables at most one instruction sets, and the spans of the
--- variables outside of inner loops of them
+-- what is given: the layouts, the types of the given registers, which variables at most one instruction sets, the spans of the variables
+-- outside of inner loops of them, and the layouts from whose roots given places come
 pub record Given : Type 0 where
   pub shapes : List Shape
   pub types : List Ty
   pub single : ℕ → Bool
   pub others : ℕ → Span
+  pub roots : List (ℕ × ℕ)
+
+-- the layout from whose root a place comes; 0 if nothing is known of it
+abbrev pub root_known : List (ℕ × ℕ) → ℕ → ℕ
+root_known roots place = unwrap_or (lookup (nat_eq place) roots) 0
+
+-- the layout from whose root the place comes that a step gives
+abbrev pub root_by : List (ℕ × ℕ) → Step → ℕ
+root_by roots (step.Root layout) = layout
+root_by roots (step.Check place axis extent index) = root_known roots place
+root_by roots (step.Down descent place node offset) = root_known roots place
+
+-- the same for each place that a block sets, in order of the text, beside those that are known before
+abbrev pub roots_in : List (ℕ × ℕ) → Block → List (ℕ × ℕ)
+roots_in roots End = roots
+roots_in roots (Word to how rest) = roots_in roots rest
+roots_in roots (Spot to how rest) = roots_in (insert_entry nat_eq roots to (root_by roots how)) rest
+roots_in roots (Cell to place sight index rest) = roots_in roots rest
+roots_in roots (Do what rest) = roots_in roots rest
+roots_in roots (Branch cond block otherwise rest) = roots_in (roots_in (roots_in roots block) otherwise) rest
+roots_in roots (Loop var lo hi body rest) = roots_in (roots_in roots body) rest
 
 -- what is known in scope: the registers of pure operations and the places of steps that were put out, the oldest first; and the spans
 -- of the variables of the inner loops round here, the last first
@@ -94,6 +115,7 @@ renamed next (op.Mulq a b s) = op.Mulq (made_name next a) (made_name next b) (ma
 renamed next (op.Extract div size from) = op.Extract div size (made_name next from)
 renamed next (op.Offset high size low) = op.Offset (made_name next high) size (made_name next low)
 renamed next (op.Read place layout field) = op.Read place layout field
+renamed next (op.Active place) = op.Active place
 renamed next (op.OwnRead layout field) = op.OwnRead layout field
 
 -- what is known after a register and a place that are put out
@@ -108,9 +130,10 @@ and_step how to pass = record { ops = pass.ops; steps = pass.steps ++ (how, to) 
 abbrev pub put_in_front : (Block → Block) → Block × Next → Block × Next
 put_in_front link made = (link made.0, made.1)
 
--- the instruction that sets a register to an operation; a read of a cell has index registers besides
+-- the instruction that sets a register to an operation; what sees something at a place has index registers besides
 abbrev pub set_word : ℕ → Op → List ℕ → Block → Block
-set_word to (op.Read place layout field) index rest = Cell to place layout field index rest
+set_word to (op.Read place layout field) index rest = Cell to place (Value layout field) index rest
+set_word to (op.Active place) index rest = Cell to place Activity index rest
 set_word to how index rest = Word to how rest
 
 -- `go` is what follows, given the register. A new register; and one that holds the operation: a known one, else a new one.
@@ -228,6 +251,15 @@ placed_in given (Some shape) layout index go pass next =
 abbrev pub place_made : Given → ℕ → List ℕ → (ℕ → Making) → Making
 place_made given layout index go pass next = placed_in given (slice_get given.shapes layout) layout index go pass next
 
+-- the layout at a given place of which something is seen: that of the field, or that from whose root the place comes
+abbrev pub sight_layout : List (ℕ × ℕ) → ℕ → Sight → ℕ
+sight_layout roots place (Value layout field) = layout
+sight_layout roots place Activity = root_known roots place
+
+-- the same, where the roots of given places are known
+abbrev pub layout_seen : Given → ℕ → Sight → ℕ
+layout_seen given = sight_layout given.roots
+
 -- an act
 abbrev pub act_made : Given → Act → Making → Making
 act_made given (SetVar var from) go pass next = put_in_front (Do (SetVar var (made_name next from))) (go pass next)
@@ -247,9 +279,9 @@ simplified given End pass next = (End, next)
 simplified given (Word to how rest) pass next =
     numbered (is_pure given.single how) given (given_type given to) (renamed next how) (λ t now later. simplified given rest now (with_name to t later)) pass next
 simplified given (Spot to how rest) pass next = simplified given rest pass next
-simplified given (Cell to place layout field index rest) pass next =
-    place_made given layout (map (made_name next) index)
-    (λ p. taken given (given_type given to) (op.Read p layout field) (map (made_name next) index)
+simplified given (Cell to place sight index rest) pass next =
+    place_made given (layout_seen given place sight) (map (made_name next) index)
+    (λ p. taken given (given_type given to) (sight_op p sight) (map (made_name next) index)
     (λ t now later. simplified given rest now (with_name to t later))) pass next
 simplified given (Do what rest) pass next = act_made given what (simplified given rest) pass next
 simplified given (Branch cond block otherwise rest) pass next =
@@ -264,7 +296,7 @@ simplified given (Loop var lo hi body rest) pass next =
 
 -- what is given with a whole block over a domain, and the starts
 abbrev pub given_of : List Shape → Domain → List Ty → Block → Given
-given_of shapes domain types block = record { shapes = shapes; types = types; single = is_single block; others = (first_spans shapes domain block).others }
+given_of shapes domain types block = record { shapes = shapes; types = types; single = is_single block; others = (first_spans shapes domain block).others; roots = roots_in [] block }
 
 -- at the start of a whole block nothing is known, and no inner loop is round here
 abbrev pub first_pass : Pass

@@ -6,7 +6,7 @@ use Rattle.sg_flat.specs.declared.effects.Domain.TheVariants.{Walk}
 use Rattle.sg_ir.specs.declared.op.Op.TheVariants as op
 use Rattle.sg_ir.specs.declared.op.Step.TheVariants as step
 use Rattle.sg_ir.specs.declared.op.Descent.TheVariants as by
-use Rattle.sg_ir.specs.Blocks.{End, Word, Spot, Cell, Do, Branch, WriteOwn}
+use Rattle.sg_ir.specs.Blocks.{Value, End, Word, Spot, Cell, Do, Branch, WriteOwn}
 use Rattle.sg_ir.specs.Shared.{is_shared}
 use Rattle.sg_ir.specs.Trimmed.{is_trimmed}
 use Rattle.sg_ir.specs.BlockExamples.{row_of_eight, two_reads}
@@ -23,8 +23,8 @@ branches_keep_apart : simple [] (Walk 0) [] (Word 4 (op.Const 0 true) (Branch 4 
 branches_keep_apart = refl
 
 -- the check of a read at i isn't needed
-needless_check_goes : simple (row_of_eight ∷ []) (Walk 0) [] (Word 0 (op.Var 0) (Spot 0 (step.Root 0) (Spot 1 (step.Check 0 0 8 0) (Word 1 (op.Extract 1 8 0) (Spot 2 (step.Down by.Child 1 1 1) (Cell 2 2 0 0 (0 ∷ []) End))))))
-    ≡ Word 0 (op.Var 0) (Spot 0 (step.Root 0) (Spot 1 (step.Down by.Child 0 1 0) (Cell 1 1 0 0 (0 ∷ []) End)))
+needless_check_goes : simple (row_of_eight ∷ []) (Walk 0) [] (Word 0 (op.Var 0) (Spot 0 (step.Root 0) (Spot 1 (step.Check 0 0 8 0) (Word 1 (op.Extract 1 8 0) (Spot 2 (step.Down by.Child 1 1 1) (Cell 2 2 (Value 0 0) (0 ∷ []) End))))))
+    ≡ Word 0 (op.Var 0) (Spot 0 (step.Root 0) (Spot 1 (step.Down by.Child 0 1 0) (Cell 1 1 (Value 0 0) (0 ∷ []) End)))
 needless_check_goes = refl
 
 -- the part of an index on an axis that isn't split is 0, and an offset with 0 for its other part is the one part

@@ -13,12 +13,12 @@ use Rattle.sg_ir.specs.declared.op.Step.{Step}
 use Rattle.sg_ir.specs.declared.op.Step.TheVariants as step
 use Rattle.sg_ir.specs.Runs.{Seen, Place, coord_of}
 use Rattle.sg_ir.specs.Places.{place_at}
-use Rattle.sg_ir.specs.Blocks.{Block, End, Word, Spot, Cell, Do, Branch, Loop, Act, SetVar, WriteOwn, Contribute, Wish}
+use Rattle.sg_ir.specs.Blocks.{sight_op, Block, End, Word, Spot, Cell, Do, Branch, Loop, Act, SetVar, WriteOwn, Contribute, Wish}
 use Rattle.sg_ir.specs.declared.span.Span.{Span}
 use Rattle.sg_ir.specs.Span.{whole_i32, Spans, bin_span, range_span, op_span, sets}
 use Rattle.sg_ir.specs.Shared.{same_op, same_step}
 use Rattle.sg_ir.specs.SpanLaws.{Lies, HasConstantWord, WhereTest, EachTurn, IsSpanned, RoomFits, FitsSpans}
-use Rattle.sg_ir.specs.Scoped.{RunMoment, Room, room_reg, room_place, op_word, step_place, moment_after_act, at_turn, run}
+use Rattle.sg_ir.specs.Scoped.{RunMoment, Room, room_reg, room_place, op_word, step_root, step_place, moment_after_act, at_turn, run}
 use Rattle.sg_ir.specs.Places.{extents_in}
 use Rattle.sg_ir.specs.steps.Walks.{checks, led}
 use Rattle.sg_simplify.specs.steps.Pass.{Given, Pass, Next, Making, span_in, vars_of}
@@ -32,13 +32,19 @@ EachByRecursion P (x ∷ xs) = P x × EachByRecursion P xs
 abbrev pub IsAt : List Shape → Room → ℕ → ℕ → List ℕ → Type 0
 IsAt shapes room place layout index = room.places place ≡ place_at shapes layout (coord_of (map room.regs index))
 
+-- what sees something at a place is at the place of its coordinate: in the layout of the field, or in that from whose root the place comes
+abbrev pub OpIsAt : List Shape → Room → Op → List ℕ → Type 0
+OpIsAt shapes room (op.Read place layout field) index = IsAt shapes room place layout index
+OpIsAt shapes room (op.Active place) index = IsAt shapes room place (room.roots place) index
+OpIsAt shapes room how index = Unit {0}
+
 -- along a run of a block each access is at its place
 abbrev pub NamesAll : Seen → Block → Room → RunMoment → Type 0
 NamesAll seen End room now = Unit {0}
 NamesAll seen (Word to how rest) room now = NamesAll seen rest (room_reg to (op_word seen room now how) room) now
-NamesAll seen (Spot to how rest) room now = NamesAll seen rest (room_place to (step_place seen room how) room) now
-NamesAll seen (Cell to place layout field index rest) room now =
-    IsAt seen.shapes room place layout index × NamesAll seen rest (room_reg to (op_word seen room now (op.Read place layout field)) room) now
+NamesAll seen (Spot to how rest) room now = NamesAll seen rest (room_place to (step_root room how) (step_place seen room how) room) now
+NamesAll seen (Cell to place sight index rest) room now =
+    OpIsAt seen.shapes room (sight_op place sight) index × NamesAll seen rest (room_reg to (op_word seen room now (sight_op place sight)) room) now
 NamesAll seen (Do what rest) room now = ActIsAt what × NamesAll seen rest room (moment_after_act seen room what now)
   where
     ActIsAt : Act → Type 0
@@ -63,6 +69,7 @@ OpBelow regs places (op.Mulq a b s) = (a < regs) × (b < regs) × (s < regs)
 OpBelow regs places (op.Extract div size from) = from < regs
 OpBelow regs places (op.Offset high size low) = (high < regs) × (low < regs)
 OpBelow regs places (op.Read place layout field) = place < places
+OpBelow regs places (op.Active place) = place < places
 OpBelow regs places (op.OwnRead layout field) = Unit {0}
 
 -- the place and the register that a step reads are below these numbers; a root reads none
@@ -85,11 +92,12 @@ pub record OpHolds (seen : Seen) (rest : Block) (next : Next) (room : Room) (now
   pub word : room.regs entry.1 ≡ op_word seen room now entry.0
   pub lies : Lies (span_in next entry.1) (room.regs entry.1)
 
--- a known step reads what was put out, and its place, put out too, is in this room the one that the step gives
+-- a known step reads what was put out, and its place, put out too, is in this room the one that the step gives, and from the same root
 pub record StepHolds (seen : Seen) (next : Next) (room : Room) (entry : Step × ℕ) : Type 0 where
   pub named : entry.1 < next.places
   pub below : StepBelow (length next.spans) next.places entry.0
   pub place : room.places entry.1 ≡ step_place seen room entry.0
+  pub root : room.roots entry.1 ≡ step_root room entry.0
 
 -- what is known holds in a room at a moment, from which the rest of a block runs
 pub record HoldsInRoom (seen : Seen) (given : Given) (rest : Block) (pass : Pass) (next : Next) (room : Room) (now : RunMoment) : Type 0 where
@@ -105,6 +113,7 @@ pub record Later (next : Next) (room : Room) (further : Next) (beyond : Room) : 
   pub spans : (r : ℕ) → r < length next.spans → span_in further r ≡ span_in next r
   pub kept : (r : ℕ) → r < length next.spans → beyond.regs r ≡ room.regs r
   pub kept_places : (p : ℕ) → p < next.places → beyond.places p ≡ room.places p
+  pub kept_roots : (p : ℕ) → p < next.places → beyond.roots p ≡ room.roots p
 
 -- the same inner loops are round here, and given registers have the same names
 pub record Alike (pass : Pass) (next : Next) (known : Pass) (further : Next) : Type 0 where
@@ -122,16 +131,11 @@ Serves seen given rest pass next room now result word go =
     (t : ℕ) (known : Pass) (further : Next) (beyond : Room) → Later next room further beyond → Alike pass next known further → HoldsInRoom seen given rest known further beyond now →
     t < length further.spans → beyond.regs t ≡ word → Lies (span_in further t) word → Good seen (go t known further) beyond now result
 
--- what follows is good, given a place of this room that is this one, or none if this is none
-abbrev pub ServesPlace : Seen → Given → Block → Pass → Next → Room → RunMoment → RunMoment → Option Place → (ℕ → Making) → Type 0
-ServesPlace seen given rest pass next room now result place go =
+-- what follows is good, given a place of this room that is this one, or none if this is none, and comes from the root of this layout
+abbrev pub ServesPlace : Seen → Given → Block → Pass → Next → Room → RunMoment → RunMoment → ℕ → Option Place → (ℕ → Making) → Type 0
+ServesPlace seen given rest pass next room now result root place go =
     (t : ℕ) (known : Pass) (further : Next) (beyond : Room) → Later next room further beyond → Alike pass next known further → HoldsInRoom seen given rest known further beyond now →
-    t < further.places → beyond.places t ≡ place → Good seen (go t known further) beyond now result
-
--- an access by a read of a cell is at its place
-abbrev pub OpIsAt : List Shape → Room → Op → List ℕ → Type 0
-OpIsAt shapes room (op.Read place layout field) index = IsAt shapes room place layout index
-OpIsAt shapes room how index = Unit {0}
+    t < further.places → beyond.places t ≡ place → beyond.roots t ≡ root → Good seen (go t known further) beyond now result
 
 -- what the laws of words and of equality say
 pub record Laws (seen : Seen) : Type 0 where

@@ -29,6 +29,7 @@ GoesOnAt scope next go = (t : ℕ) (known : Pass) (further : Next) (wide : InSco
 -- a read of a cell has its index registers in scope
 abbrev pub IndexIsSet : InScope → Op → List ℕ → Type 0
 IndexIsSet scope (op.Read place layout field) index = AreSet scope.regs index
+IndexIsSet scope (op.Active place) index = AreSet scope.regs index
 IndexIsSet scope how index = Unit {0}
 
 -- the new names of given registers in scope are in scope

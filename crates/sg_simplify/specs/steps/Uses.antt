@@ -29,6 +29,7 @@ pub record AreOld (known : Pass) (next : Next) : Type 0 where
 -- no known operation and no known step reads a place
 pub record IsUnread (known : Pass) (p : ℕ) : Type 0 where
   pub reads : (layout field : ℕ) → lookup (same_op (op.Read p layout field)) known.ops ≡ None
+  pub asks : lookup (same_op (op.Active p)) known.ops ≡ None
   pub steps : (how : Step) → step_places how ≡ p ∷ [] → lookup (same_step how) known.steps ≡ None
 
 -- a place has passed the checks that are pending; if there are some, nothing known reads it

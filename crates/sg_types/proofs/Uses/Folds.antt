@@ -7,7 +7,7 @@ use Rattle.sg_flat.specs.declared.effects.Way.{Way}
 use Rattle.sg_types.specs.declared.typed.TypedExpr.{TypedExpr, fold-TypedExpr, fold-roll-TypedExpr}
 use Rattle.sg_types.specs.declared.typed.Form.{Form, fold-Form, fold-roll-Form}
 use Rattle.sg_types.specs.declared.typed.Form.TheVariants as form
-use Rattle.sg_types.specs.declared.typed.Form.TheVariants.{rolls-Literal, rolls-Constant, rolls-Var, rolls-Read, rolls-Paren, rolls-Un, rolls-Bin, rolls-Mulq, rolls-Convert}
+use Rattle.sg_types.specs.declared.typed.Form.TheVariants.{rolls-Literal, rolls-Constant, rolls-Var, rolls-Read, rolls-Paren, rolls-Un, rolls-Bin, rolls-Mulq, rolls-Convert, rolls-Active}
 use Rattle.sg_types.specs.declared.typed.Form.TheOpen as f
 use Rattle.sg_types.specs.declared.typed.Form.TheOpen.{Form-F, TypedExpr-F}
 use Rattle.sg_types.specs.declared.typed.TypedRange.{TypedRange}
@@ -55,6 +55,9 @@ module _ {A A' : Type 0} (s : Form-F A A' → A) (s' : TypedExpr-F A A' → A') 
   pub fold-Convert : (ty : Ty) (inner : TypedExpr) → fold-TypedExpr A A' s s' (record { ty = ty; form = form.Convert inner }) ≡ s' (record { ty = ty; form = s (f.Convert (whole inner)) })
   fold-Convert ty inner = at_form ty (form.Convert inner) ∙ ap (λ (it : A). s' (record { ty = ty; form = it })) (ap in_form (sym (rolls-Convert inner)) ∙ fold-roll-Form A A' s s' (f.Convert inner))
 
+  pub fold-Active : (ty : Ty) (layout : ℕ) (index : List TypedExpr) → fold-TypedExpr A A' s s' (record { ty = ty; form = form.Active layout index }) ≡ s' (record { ty = ty; form = s (f.Active layout (map whole index)) })
+  fold-Active ty layout index = at_form ty (form.Active layout index) ∙ ap (λ (it : A). s' (record { ty = ty; form = it })) (ap in_form (sym (rolls-Active layout index)) ∙ fold-roll-Form A A' s s' (f.Active layout index))
+
 module _ {A A' : Type 0} (s : TypedKind-F A A' → A) (s' : TypedStmt-F A A' → A') where
   abbrev whole_stmt : TypedStmt → A'
   whole_stmt = fold-TypedStmt A A' s s'
@@ -81,6 +84,6 @@ module _ {A A' : Type 0} (s : TypedKind-F A A' → A) (s' : TypedStmt-F A A' →
   fold-For number var range body = at_kind number (kind.For var range body) ∙ ap (λ (it : A). s' (record { number = number; kind = it })) (ap in_kind (sym (rolls-For var range body)) ∙ fold-roll-TypedKind A A' s s' (k.For var range body))
 
 -- all of them, to compute with
-pub ruleset expr_folds = (fold-Literal, fold-Constant, fold-Var, fold-Read, fold-Paren, fold-Un, fold-Bin, fold-Mulq, fold-Convert)
+pub ruleset expr_folds = (fold-Literal, fold-Constant, fold-Var, fold-Read, fold-Paren, fold-Un, fold-Bin, fold-Mulq, fold-Convert, fold-Active)
 
 pub ruleset stmt_folds = (fold-Let, fold-Assign, fold-Write, fold-If, fold-For)

@@ -8,7 +8,7 @@ use Rattle.sg_flat.specs.declared.effects.Way.{Way}
 use Rattle.sg_types.specs.declared.typed.TypedExpr.{TypedExpr, ind-TypedExpr}
 use Rattle.sg_types.specs.declared.typed.Form.{Form, roll-Form, map-Form}
 use Rattle.sg_types.specs.declared.typed.Form.TheVariants as form
-use Rattle.sg_types.specs.declared.typed.Form.TheVariants.{rolls-Literal, rolls-Constant, rolls-Var, rolls-Read, rolls-Paren, rolls-Un, rolls-Bin, rolls-Mulq, rolls-Convert}
+use Rattle.sg_types.specs.declared.typed.Form.TheVariants.{rolls-Literal, rolls-Constant, rolls-Var, rolls-Read, rolls-Paren, rolls-Un, rolls-Bin, rolls-Mulq, rolls-Convert, rolls-Active}
 use Rattle.sg_types.specs.declared.typed.Form.TheOpen as f
 use Rattle.sg_types.specs.declared.typed.Form.TheOpen.{Form-F}
 use Rattle.sg_types.specs.declared.typed.TypedRange.{TypedRange}
@@ -34,7 +34,8 @@ module _ (P : TypedExpr → Type 0)
     (on_un : (ty : Ty) (op : UnOp) (operand : TypedExpr) → P operand → P (record { ty = ty; form = form.Un op operand }))
     (on_bin : (ty : Ty) (op : BinOp) (left right : TypedExpr) → P left → P right → P (record { ty = ty; form = form.Bin op left right }))
     (on_mulq : (ty : Ty) (a b shift : TypedExpr) → P a → P b → P shift → P (record { ty = ty; form = form.Mulq a b shift }))
-    (on_convert : (ty : Ty) (inner : TypedExpr) → P inner → P (record { ty = ty; form = form.Convert inner })) where
+    (on_convert : (ty : Ty) (inner : TypedExpr) → P inner → P (record { ty = ty; form = form.Convert inner }))
+    (on_active : (ty : Ty) (layout : ℕ) (index : List TypedExpr) → AllByRecursion P index → P (record { ty = ty; form = form.Active layout index })) where
   abbrev AtForm : Form → Type 0
   AtForm it = (ty : Ty) → P (record { ty = ty; form = it })
 
@@ -48,6 +49,7 @@ module _ (P : TypedExpr → Type 0)
   form_layer a b h (f.Bin op left right) ty = rw (rolls-Bin op (b left) (b right)) (on_bin ty op (b left) (b right) (h left) (h right))
   form_layer a b h (f.Mulq x y shift) ty = rw (rolls-Mulq (b x) (b y) (b shift)) (on_mulq ty (b x) (b y) (b shift) (h x) (h y) (h shift))
   form_layer a b h (f.Convert inner) ty = rw (rolls-Convert (b inner)) (on_convert ty (b inner) (h inner))
+  form_layer a b h (f.Active layout index) ty = rw (rolls-Active layout (map b index)) (on_active ty layout (map b index) (all_parts P b h index))
 
   pub by_exprs : (expr : TypedExpr) → P expr
   by_exprs = ind-TypedExpr AtForm P (λ x y e. subst (λ x. AtForm (roll-Form x)) e (form_layer (λ u. u.0) (λ u. u.0) (λ u. u.1) y))

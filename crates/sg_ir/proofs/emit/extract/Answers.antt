@@ -1,5 +1,7 @@
-use Rattle.std.proofs.Common.{refl}
+use Rattle.std.proofs.Common.{ℕ, List, refl, ap}
 use Rattle.sg_ir.specs.declared.code.Inst.TheVariants as v
+use Rattle.sg_ir.specs.Trimmed.{Ways}
+use Rattle.sg_ir.proofs.Trailing.{trail-Extract}
 use Rattle.sg_ir.proofs.Equations.{does-Extract}
 use Rattle.sg_ir.proofs.Emitting.{computes}
 use Rattle.sg_ir.proofs.Fronts.{front-kept, front-reg, front-put-reg}
@@ -8,6 +10,7 @@ use Rattle.sg_ir.proofs.emit.extract.Goals as goal
 pub returns-clause-computes : goal.returns-clause-computes
 returns-clause-computes c =
     computes _ _ (λ to. v.Extract to c.args.div c.args.size c.args.from) _ _ _ _ _ (λ seen now. does-Extract seen c.in_ok-to.to c.args.div c.args.size c.args.from now)
+    (λ ways. ap (λ (t : List ℕ × Ways). t.1) (trail-Extract c.in_ok-to.to c.args.div c.args.size c.args.from ways))
     (record { names = c.in_ok-to.ensures.adds; block = c.in_ok-push.ensures.ok })
 
 pub returns-in_err-to-clause-front : goal.returns-in_err-to-clause-front

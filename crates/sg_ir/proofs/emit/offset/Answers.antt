@@ -1,5 +1,7 @@
-use Rattle.std.proofs.Common.{refl}
+use Rattle.std.proofs.Common.{ℕ, List, refl, ap}
 use Rattle.sg_ir.specs.declared.code.Inst.TheVariants as v
+use Rattle.sg_ir.specs.Trimmed.{Ways}
+use Rattle.sg_ir.proofs.Trailing.{trail-Offset}
 use Rattle.sg_ir.proofs.Equations.{does-Offset}
 use Rattle.sg_ir.proofs.Emitting.{computes}
 use Rattle.sg_ir.proofs.Fronts.{front-kept, front-reg, front-put-reg}
@@ -8,6 +10,7 @@ use Rattle.sg_ir.proofs.emit.offset.Goals as goal
 pub returns-clause-computes : goal.returns-clause-computes
 returns-clause-computes c =
     computes _ _ (λ to. v.Offset to c.args.high c.args.size c.args.low) _ _ _ _ _ (λ seen now. does-Offset seen c.in_ok-to.to c.args.high c.args.size c.args.low now)
+    (λ ways. ap (λ (t : List ℕ × Ways). t.1) (trail-Offset c.in_ok-to.to c.args.high c.args.size c.args.low ways))
     (record { names = c.in_ok-to.ensures.adds; block = c.in_ok-push.ensures.ok })
 
 pub returns-in_err-to-clause-front : goal.returns-in_err-to-clause-front

@@ -1,5 +1,7 @@
-use Rattle.std.proofs.Common.{refl}
+use Rattle.std.proofs.Common.{ℕ, List, refl, ap}
 use Rattle.sg_ir.specs.declared.code.Inst.TheVariants as v
+use Rattle.sg_ir.specs.Trimmed.{Ways}
+use Rattle.sg_ir.proofs.Trailing.{trail-ReadCell}
 use Rattle.sg_ir.proofs.Equations.{does-ReadCell}
 use Rattle.sg_ir.proofs.Emitting.{fetches}
 use Rattle.sg_ir.proofs.Fronts.{front-kept, front-reg, front-put-reg}
@@ -8,6 +10,7 @@ use Rattle.sg_ir.proofs.emit.read_cell.Goals as goal
 pub returns-clause-fetches : goal.returns-clause-fetches
 returns-clause-fetches c =
     fetches _ _ _ (λ to. v.ReadCell to c.args.place c.args.layout c.args.field c.args.index) _ _ _ _ _ (λ seen now. does-ReadCell seen c.in_ok-to.to c.args.place c.args.layout c.args.field c.args.index now)
+    (λ ways. ap (λ (t : List ℕ × Ways). t.1) (trail-ReadCell c.in_ok-to.to c.args.place c.args.layout c.args.field c.args.index ways))
     (record { names = c.in_ok-to.ensures.adds; block = c.in_ok-push.ensures.ok })
 
 pub returns-in_err-to-clause-front : goal.returns-in_err-to-clause-front

@@ -1,6 +1,8 @@
-use Rattle.std.proofs.Common.{true, false, [], ◌∙◌}
+use Rattle.std.proofs.Common.{true, false, List, [], ◌∙◌, subst}
+use Rattle.sg_types.specs.declared.typed.TypedStmt.{TypedStmt}
 use Rattle.sg_words.specs.declared.operators.Ty.TheVariants as ty
 use Rattle.sg_lower.specs.steps.Basis.{Basis}
+use Rattle.sg_lower.specs.steps.Asking.{AsksBlock}
 use Rattle.sg_lower.proofs.Lowered.{writes_told, named_told, wants_told, tells_same, owned_is, body_fit, slice_fit}
 use Rattle.sg_lower.proofs.UsingLines.{uses_same}
 use Rattle.sg_lower.proofs.Aptness.{point, code_apt}
@@ -14,7 +16,7 @@ returns-clause-writes c =
     let owned = c.in_ok-owned.owned in
     let laws = c.operators_give_words.ensures in
     let basis : Basis = record { shapes = shapes; owned = owned; vars = kept.kernel.vars; slicing = false } in
-    writes_told c.numbering.ensures.inside_test c.paths_tell.ensures.coordinate laws.applied laws.applied_un laws.mulq shapes kept.kernel owned c.in_ok-code.code.body
+    writes_told c.numbering.ensures.inside_test c.closure_members.ensures.inside c.paths_tell.ensures.coordinate laws.applied laws.applied_un laws.mulq shapes kept.kernel owned c.in_ok-code.code.body
     (tells_same basis c.as_slice-2.result.now kept.kernel.body c.in_ok-code.code.body c.as_slice-2.ensures c.in_ok-code.ensures.tells
     (body_fit shapes kept owned c.dirty_is_closed.ensures c.faults_are_first.ensures c.requires.admitted c.requires.typed c.requires.numbered c.as_slice.result.now c.as_slice.ensures c.in_ok-owned.ensures))
 
@@ -25,7 +27,7 @@ returns-clause-wants c =
     let owned = c.in_ok-owned.owned in
     let laws = c.operators_give_words.ensures in
     let basis : Basis = record { shapes = shapes; owned = owned; vars = kept.kernel.vars; slicing = true } in
-    wants_told c.numbering.ensures.inside_test c.paths_tell.ensures.coordinate laws.applied laws.applied_un laws.mulq shapes kept.kernel owned c.slice_wants_what_is_written.ensures kept c.requires.admitted c.in_ok-slice.slice.body
+    wants_told c.numbering.ensures.inside_test c.closure_members.ensures.inside c.paths_tell.ensures.coordinate laws.applied laws.applied_un laws.mulq shapes kept.kernel owned c.slice_wants_what_is_written.ensures kept c.requires.admitted c.in_ok-slice.slice.body
     (tells_same basis c.as_slice-3.result.now kept.slice c.in_ok-slice.slice.body c.as_slice-3.ensures c.in_ok-slice.ensures.tells
     (slice_fit shapes kept owned c.dirty_is_closed.ensures c.faults_are_first.ensures c.requires.admitted c.requires.typed c.requires.numbered c.as_slice.result.now c.as_slice.ensures c.in_ok-owned.ensures))
 
@@ -36,7 +38,7 @@ returns-clause-code_named c =
     let owned = c.in_ok-owned.owned in
     let laws = c.operators_give_words.ensures in
     let basis : Basis = record { shapes = shapes; owned = owned; vars = kept.kernel.vars; slicing = false } in
-    named_told c.numbering.ensures.inside_test c.paths_tell.ensures.coordinate laws.applied laws.applied_un laws.mulq shapes kept.kernel owned false kept.kernel.body c.in_ok-code.code.body
+    named_told c.numbering.ensures.inside_test c.closure_members.ensures.inside c.paths_tell.ensures.coordinate laws.applied laws.applied_un laws.mulq shapes kept.kernel owned false kept.kernel.body c.in_ok-code.code.body
     (tells_same basis c.as_slice-2.result.now kept.kernel.body c.in_ok-code.code.body c.as_slice-2.ensures c.in_ok-code.ensures.tells
     (body_fit shapes kept owned c.dirty_is_closed.ensures c.faults_are_first.ensures c.requires.admitted c.requires.typed c.requires.numbered c.as_slice.result.now c.as_slice.ensures c.in_ok-owned.ensures))
 
@@ -47,7 +49,7 @@ returns-clause-slice_named c =
     let owned = c.in_ok-owned.owned in
     let laws = c.operators_give_words.ensures in
     let basis : Basis = record { shapes = shapes; owned = owned; vars = kept.kernel.vars; slicing = true } in
-    named_told c.numbering.ensures.inside_test c.paths_tell.ensures.coordinate laws.applied laws.applied_un laws.mulq shapes kept.kernel owned true kept.slice c.in_ok-slice.slice.body
+    named_told c.numbering.ensures.inside_test c.closure_members.ensures.inside c.paths_tell.ensures.coordinate laws.applied laws.applied_un laws.mulq shapes kept.kernel owned true kept.slice c.in_ok-slice.slice.body
     (tells_same basis c.as_slice-3.result.now kept.slice c.in_ok-slice.slice.body c.as_slice-3.ensures c.in_ok-slice.ensures.tells
     (slice_fit shapes kept owned c.dirty_is_closed.ensures c.faults_are_first.ensures c.requires.admitted c.requires.typed c.requires.numbered c.as_slice.result.now c.as_slice.ensures c.in_ok-owned.ensures))
 
@@ -62,6 +64,7 @@ returns-clause-apt c =
     c.domain_bounds.ensures.walked c.domain_bounds.ensures.boxed owned c.as_slice.result.now c.as_slice.ensures c.in_ok-owned.ensures c.in_ok-slice.slice c.in_ok-code.code fit
     (returns-clause-writes c) (returns-clause-wants c) (returns-clause-slice_named c) (returns-clause-code_named c)
     (uses_same basis c.as_slice-2.result.now kept.kernel.body [] c.in_ok-code.code.body c.as_slice-2.ensures c.in_ok-code.ensures.uses)
+    (subst (λ (stmts : List TypedStmt). AsksBlock stmts [] c.in_ok-code.code.body) c.as_slice-2.ensures c.in_ok-code.ensures.asks)
 
 pub returns-clause-well_typed : goal.returns-clause-well_typed
 returns-clause-well_typed c =

@@ -17,6 +17,9 @@ decreases-read_indices l = 16 * l.inner + 2
 abbrev pub decreases-read_call_expr : goal.decreases-read_call_expr
 decreases-read_call_expr l = 16 * l.inner + 2
 
+abbrev pub decreases-active_expr : goal.decreases-active_expr
+decreases-active_expr l = 16 * l.inner + 3
+
 abbrev pub decreases-paren_expr : goal.decreases-paren_expr
 decreases-paren_expr l = 16 * l.inner + 1
 
@@ -27,13 +30,13 @@ abbrev pub decreases-read_name_expr : goal.decreases-read_name_expr
 decreases-read_name_expr l = 16 * l.inner + 3
 
 abbrev pub decreases-word_expr : goal.decreases-word_expr
-decreases-word_expr l = 16 * l.inner + 3
+decreases-word_expr l = 16 * l.inner + 4
 
 abbrev pub decreases-sign_expr : goal.decreases-sign_expr
 decreases-sign_expr l = 16 * l.inner + 2
 
 abbrev pub decreases-prefix : goal.decreases-prefix
-decreases-prefix l = 16 * l.inner + 4
+decreases-prefix l = 16 * l.inner + 5
 
 abbrev pub decreases-climb : goal.decreases-climb
 decreases-climb l = 16 * l.inner + 1

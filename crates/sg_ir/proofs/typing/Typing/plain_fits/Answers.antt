@@ -2,7 +2,7 @@ use Rattle.std.proofs.Common.{ℕ, List, Bool, sym, ap, ◌∙◌}
 use Rattle.sg_ir.specs.WellTyped.{Scope, inst_fits}
 use Rattle.sg_ir.specs.declared.code.Inst.TheOpen as i
 use Rattle.sg_ir.specs.steps.Frames.{frame_in, scope_in, is_good}
-use Rattle.sg_ir.proofs.Judging.{judges-Var, judges-Set, judges-Bin, judges-Un, judges-Mulq, judges-Check, judges-Extract, judges-Offset, judges-Child, judges-HashChild, judges-MaskBit, judges-DynCell, judges-OwnWrite, judges-Acc}
+use Rattle.sg_ir.proofs.Judging.{judges-Var, judges-Set, judges-Bin, judges-Un, judges-Mulq, judges-Check, judges-Extract, judges-Offset, judges-Child, judges-HashChild, judges-MaskBit, judges-DynCell, judges-IsActive, judges-OwnWrite, judges-Acc}
 use Rattle.sg_ir.proofs.typing.Typing.plain_fits.Goals as goal
 
 pub returns-in-Var : goal.returns-in-Var
@@ -76,6 +76,13 @@ returns-in-DynCell c =
     let good = λ (reached : Bool × Scope). reached.0 in
     let e = ap (is_good c.args.self.now c.args.before.now) c.in-DynCell.is ∙ ap good (judges-DynCell (frame_in c.args.self.now) c.in-DynCell.to c.in-DynCell.place c.in-DynCell.node c.in-DynCell.offset (scope_in c.args.self.now c.args.before.now)) in
     c.step_fits-in-DynCell.ensures ∙ sym e
+
+pub returns-in-IsActive : goal.returns-in-IsActive
+returns-in-IsActive c =
+    let good = λ (reached : Bool × Scope). reached.0 in
+    let e = ap (is_good c.args.self.now c.args.before.now) c.in-IsActive.is ∙ ap good (judges-IsActive (frame_in c.args.self.now) c.in-IsActive.to c.in-IsActive.place c.in-IsActive.index (scope_in c.args.self.now c.args.before.now)) in
+    let by_index = λ (index : List ℕ). (inst_fits (frame_in c.args.self.now) (i.IsActive c.in-IsActive.to c.in-IsActive.place index) (scope_in c.args.self.now c.args.before.now)).0 in
+    c.active_fits.ensures ∙ ap by_index c.as_slice-in-IsActive.ensures ∙ sym e
 
 pub returns-in-OwnWrite : goal.returns-in-OwnWrite
 returns-in-OwnWrite c =

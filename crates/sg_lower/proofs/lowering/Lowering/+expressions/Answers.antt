@@ -11,18 +11,23 @@ use Rattle.sg_types.specs.WellTyped.{axes_in}
 use Rattle.sg_ir.specs.Apt.{Use}
 use Rattle.sg_lower.specs.steps.Basis.{basis_of}
 use Rattle.sg_lower.specs.steps.Using.{expr_uses, all_uses, Uses}
+use Rattle.sg_lower.specs.steps.Asking.{AsksExprs}
 use Rattle.sg_lower.specs.steps.Typing.{IsCell, AddsIndex}
 use Rattle.sg_ir.specs.WellTyped.{sets_step}
 use Rattle.sg_ir.specs.EmitTypes.{Adds, CanRead}
-use Rattle.sg_ir.proofs.Uses.{fold-Const, fold-Var, fold-Bin, fold-Un, fold-Mulq, fold-ReadCell, fold-OwnRead}
+use Rattle.sg_ir.specs.declared.code.Inst.TheVariants as v
+use Rattle.sg_ir.specs.Trimmed.{Ways}
+use Rattle.sg_ir.proofs.Uses.{trail-Const, trail-Var, trail-OwnRead}
+use Rattle.sg_ir.proofs.Uses.{fold-Const, fold-Var, fold-Bin, fold-Un, fold-Mulq, fold-ReadCell, fold-IsActive, fold-OwnRead}
 use Rattle.sg_lower.proofs.SettingVars.{vars_kept}
-use Rattle.sg_lower.proofs.TypingForms.{const_ok, var_typed, paren_typed, convert_typed, un_typed, bin_typed, mulq_typed, own_read_typed, cell_read_typed, read_form_typed, index_more}
+use Rattle.sg_lower.proofs.TypingForms.{const_ok, var_typed, paren_typed, convert_typed, un_typed, bin_typed, mulq_typed, own_read_typed, cell_read_typed, read_form_typed, active_typed, active_form_typed, index_more}
 use Rattle.sg_lower.proofs.Simulating.{values-more}
 use Rattle.sg_lower.proofs.Turns.{item_holds, take_item, grows-trans, named-more}
-use Rattle.sg_lower.proofs.Forms.{literal_ok, constant_ok, var_ok, paren_ok, convert_ok, un_ok, bin_ok, mulq_ok}
+use Rattle.sg_lower.proofs.Forms.{literal_ok, constant_ok, var_ok, paren_ok, convert_ok, un_ok, bin_ok, mulq_ok, active_form_ok}
 use Rattle.sg_lower.specs.steps.Fitting.{can_be_lowered}
-use Rattle.sg_lower.proofs.CellReads.{own_read_ok, read_ok}
-use Rattle.sg_lower.proofs.UsingForms.{uses-trans, all_uses-push, literal_uses, constant_uses, var_uses, paren_uses, convert_uses, un_uses, bin_uses, mulq_uses, read_form_uses, own_read_uses, cell_read_uses}
+use Rattle.sg_lower.proofs.CellReads.{own_read_ok, read_ok, active_ok}
+use Rattle.sg_lower.proofs.UsingForms.{uses-trans, all_uses-push, literal_uses, constant_uses, var_uses, paren_uses, convert_uses, un_uses, bin_uses, mulq_uses, read_form_uses, own_read_uses, cell_read_uses, active_form_uses, active_uses}
+use Rattle.sg_lower.proofs.AskingForms.{quiet_asks, paren_asks, convert_asks, un_asks, bin_asks, mulq_asks, read_form_asks, cell_read_asks, active_form_asks, active_asks, asks_more}
 use Rattle.sg_lower.proofs.lowering.Lowering.+expressions.Goals as goal
 
 pub expr-returns-in-Literal-clause-values : goal.expr-returns-in-Literal-clause-values
@@ -79,6 +84,8 @@ indices-loop-part-preserved t c =
       uses = subst (λ (done : List TypedExpr). Uses (all_uses basis.owned done) c.args.block.now c.expr.new.block) (sym (take_item c.args.index.now c.loop-part.part-index c.part-item.result c.loop-part-test.true c.part-item.is))
           (subst (λ (us : List Use). Uses us c.args.block.now c.expr.new.block) (sym (all_uses-push basis.owned (take c.loop-part.part-index c.args.index.now) c.part-item.result))
           (uses-trans (all_uses basis.owned (take c.loop-part.part-index c.args.index.now)) (expr_uses basis.owned c.part-item.result) c.args.block.now c.loop-part.block c.expr.new.block before.uses c.in_ok-expr.ensures.uses));
+      asks = subst (λ (done : List TypedExpr). AsksExprs done c.args.block.now c.expr.new.block) (sym (take_item c.args.index.now c.loop-part.part-index c.part-item.result c.loop-part-test.true c.part-item.is))
+          (asks_more (take c.loop-part.part-index c.args.index.now) c.part-item.result c.args.block.now c.loop-part.block c.expr.new.block before.asks c.in_ok-expr.ensures.asks);
       typed = subst (λ (all : List ℕ). AddsIndex c.args.layouts.now.list (take (c.loop-part.part-index + 1) c.args.index.now) all c.args.names.now c.expr.new.names c.args.block.now c.expr.new.block) (sym pushed)
           (subst (λ (done : List TypedExpr). AddsIndex c.args.layouts.now.list done (regs ++ to ∷ []) c.args.names.now c.expr.new.names c.args.block.now c.expr.new.block) (sym (take_item c.args.index.now c.loop-part.part-index c.part-item.result c.loop-part-test.true c.part-item.is))
           (index_more c.args.layouts.now.list (take c.loop-part.part-index c.args.index.now) c.part-item.result regs to c.args.names.now c.loop-part.names c.expr.new.names c.args.block.now c.loop-part.block c.expr.new.block before.named before.typed c.in_ok-expr.ensures.typed));
@@ -110,7 +117,7 @@ read-returns-clause-values t c =
     let basis = basis_of c.args.layouts.now c.args.self.now in
     read_ok basis c.args.names.now _ c.args.block.now _ c.read_cell.result c.args.ty c.args.layout c.args.place c.args.index.now c.in_ok-regs.regs c.in_ok-at.at c.indices.new.names c.named_place.new.names c.indices.new.block c.named_place.new.block
     (sym c.is_owned.ensures ∙ c.if-is_owned.false) c.in_ok-regs.ensures.values c.in_ok-regs.ensures.count
-    (subst (λ (regs : List ℕ). equals_some (axes_in basis.shapes c.args.layout) (length regs) ≡ true → LeadsToPlace basis.shapes regs (λ seen now. place_at basis.shapes c.args.layout (named_by regs now)) c.in_ok-at.at c.indices.new.names c.named_place.new.names c.indices.new.block c.named_place.new.block) c.as_slice.ensures c.in_ok-at.ensures.leads)
+    (subst (λ (regs : List ℕ). equals_some (axes_in basis.shapes c.args.layout) (length regs) ≡ true → LeadsToPlace basis.shapes regs (λ seen now. place_at basis.shapes c.args.layout (named_by regs now)) c.args.layout c.in_ok-at.at c.indices.new.names c.named_place.new.names c.indices.new.block c.named_place.new.block) c.as_slice.ensures c.in_ok-at.ensures.leads)
     c.read_cell.ensures.fetches
 
 pub expr-returns-in-Literal-clause-uses : goal.expr-returns-in-Literal-clause-uses
@@ -248,3 +255,99 @@ read-returns-then-is_owned-clause-vars t c = vars_kept c.own_read.result _ _ _ _
 pub read-returns-clause-vars : goal.read-returns-clause-vars
 read-returns-clause-vars t c =
     vars_kept c.read_cell.result _ _ _ _ _ _ _ (λ to. fold-ReadCell sets_step to c.in_ok-at.at c.args.layout c.args.place c.in_ok-regs.regs) (c.in_ok-at.ensures.vars ∙ c.in_ok-regs.ensures.vars) c.read_cell.ensures.puts
+
+-- ---- questions
+
+pub expr-returns-in-Active-clause-values : goal.expr-returns-in-Active-clause-values
+expr-returns-in-Active-clause-values t c =
+    active_form_ok (basis_of c.args.layouts.now c.args.self.now) _ _ _ _ c.active.result c.args.expr.now c.in-Active.layout c.as_slice-in-Active.result.now (c.in-Active.is ∙ ap (form.Active c.in-Active.layout) (sym c.as_slice-in-Active.ensures)) c.active.ensures.values
+
+pub expr-returns-in-Active-clause-uses : goal.expr-returns-in-Active-clause-uses
+expr-returns-in-Active-clause-uses t c = active_form_uses c.args.self.now.owned c.active.result c.args.names.now _ _ c.args.expr.now c.in-Active.layout c.in-Active.index c.as_slice-in-Active.result.now c.in-Active.is c.as_slice-in-Active.ensures c.active.ensures.uses
+
+pub expr-returns-in-Active-clause-typed : goal.expr-returns-in-Active-clause-typed
+expr-returns-in-Active-clause-typed t c = active_form_typed c.args.layouts.now.list _ _ _ c.args.names.now c.active.result c.args.expr.now c.in-Active.layout c.in-Active.index c.as_slice-in-Active.result.now c.in-Active.is c.as_slice-in-Active.ensures c.active.ensures.typed
+
+pub active-returns-clause-values : goal.active-returns-clause-values
+active-returns-clause-values t c =
+    let basis = basis_of c.args.layouts.now c.args.self.now in
+    active_ok basis c.args.names.now _ c.args.block.now _ c.is_active.result c.args.ty c.args.layout c.args.index.now c.in_ok-regs.regs c.in_ok-at.at c.indices.new.names c.named_place.new.names c.indices.new.block c.named_place.new.block
+    c.in_ok-regs.ensures.values c.in_ok-regs.ensures.count
+    (subst (λ (regs : List ℕ). equals_some (axes_in basis.shapes c.args.layout) (length regs) ≡ true → LeadsToPlace basis.shapes regs (λ seen now. place_at basis.shapes c.args.layout (named_by regs now)) c.args.layout c.in_ok-at.at c.indices.new.names c.named_place.new.names c.indices.new.block c.named_place.new.block) c.as_slice.ensures c.in_ok-at.ensures.leads)
+    c.is_active.ensures.fetches
+
+pub active-returns-clause-uses : goal.active-returns-clause-uses
+active-returns-clause-uses t c =
+    active_uses c.args.self.now.owned c.is_active.result _ _ _ c.args.ty c.args.layout c.args.index.now c.in_ok-regs.regs c.in_ok-at.at _ c.indices.new.block c.named_place.new.block
+    c.in_ok-regs.ensures.uses c.in_ok-at.ensures.uses c.is_active.ensures.puts
+
+pub active-returns-clause-typed : goal.active-returns-clause-typed
+active-returns-clause-typed t c =
+    let shapes = c.args.layouts.now.list in
+    active_typed shapes _ _ _ c.args.names.now c.indices.new.names c.named_place.new.names c.indices.new.block c.named_place.new.block c.is_active.result c.args.ty c.args.layout c.args.index.now c.in_ok-regs.regs c.in_ok-at.at
+    c.in_ok-regs.ensures.count c.in_ok-regs.ensures.grows.1 c.in_ok-regs.ensures.typed
+    (subst (λ (regs : List ℕ). equals_some (axes_in shapes c.args.layout) (length regs) ≡ true → Adds shapes (CanRead regs) (IsCell c.in_ok-at.at c.args.layout) c.indices.new.names c.named_place.new.names c.indices.new.block c.named_place.new.block) c.as_slice.ensures c.in_ok-at.ensures.typed)
+    c.is_active.ensures.puts
+
+pub active-returns-clause-vars : goal.active-returns-clause-vars
+active-returns-clause-vars t c =
+    vars_kept c.is_active.result _ _ _ _ _ _ _ (λ to. fold-IsActive sets_step to c.in_ok-at.at c.in_ok-regs.regs) (c.in_ok-at.ensures.vars ∙ c.in_ok-regs.ensures.vars) c.is_active.ensures.puts
+
+-- ---- what is asked
+
+pub expr-returns-in-Literal-clause-asks : goal.expr-returns-in-Literal-clause-asks
+expr-returns-in-Literal-clause-asks t c = quiet_asks c.constant.result _ _ _ c.args.expr.now _ (λ to. v.Const to c.in-Literal.word) _ (λ to ways. ap (λ (t : List ℕ × Ways). t.0) (trail-Const to c.in-Literal.word ways)) c.constant.ensures.puts
+
+pub expr-returns-in-Constant-clause-asks : goal.expr-returns-in-Constant-clause-asks
+expr-returns-in-Constant-clause-asks t c = quiet_asks c.constant-in-Constant.result _ _ _ c.args.expr.now _ (λ to. v.Const to c.in-Constant.word) _ (λ to ways. ap (λ (t : List ℕ × Ways). t.0) (trail-Const to c.in-Constant.word ways)) c.constant-in-Constant.ensures.puts
+
+pub expr-returns-in-Var-clause-asks : goal.expr-returns-in-Var-clause-asks
+expr-returns-in-Var-clause-asks t c = quiet_asks c.variable.result _ _ _ c.args.expr.now _ (λ to. v.Var to c.in-Var.var) _ (λ to ways. ap (λ (t : List ℕ × Ways). t.0) (trail-Var to c.in-Var.var ways)) c.variable.ensures.puts
+
+pub expr-returns-in-Read-clause-asks : goal.expr-returns-in-Read-clause-asks
+expr-returns-in-Read-clause-asks t c = read_form_asks c.read.result c.args.names.now _ _ c.args.expr.now c.in-Read.layout c.in-Read.place c.in-Read.index c.as_slice.result.now c.in-Read.is c.as_slice.ensures c.read.ensures.asks
+
+pub expr-returns-in-Paren-clause-asks : goal.expr-returns-in-Paren-clause-asks
+expr-returns-in-Paren-clause-asks t c = paren_asks c.expr.result c.args.names.now _ _ c.args.expr.now c.get.result.now (c.in-Paren.is ∙ ap form.Paren (sym c.get.ensures)) c.expr.ensures.asks
+
+pub expr-returns-in_ok-a-in-Un-clause-asks : goal.expr-returns-in_ok-a-in-Un-clause-asks
+expr-returns-in_ok-a-in-Un-clause-asks t c =
+    un_asks c.unary.result _ _ _ c.args.expr.now c.in-Un.op c.get-of.result.now _ _ c.in_ok-a-in-Un.a _ _ (c.in-Un.is ∙ ap (form.Un c.in-Un.op) (sym c.get-of.ensures)) c.in_ok-a-in-Un.ensures.asks c.unary.ensures.puts
+
+pub expr-returns-in_ok-b-in-Bin-clause-asks : goal.expr-returns-in_ok-b-in-Bin-clause-asks
+expr-returns-in_ok-b-in-Bin-clause-asks t c =
+    let i = c.in-Bin in
+    bin_asks c.binary.result _ _ _ c.args.expr.now i.op c.get-left.result.now c.get-right.result.now _ _ c.in_ok-a-in-Bin.a c.in_ok-b-in-Bin.b _ _ _
+    (i.is ∙ (ap (λ (x : TypedExpr). form.Bin i.op x i.right) (sym c.get-left.ensures) ∙ ap (λ (x : TypedExpr). form.Bin i.op c.get-left.result.now x) (sym c.get-right.ensures)))
+    c.in_ok-a-in-Bin.ensures.asks c.in_ok-b-in-Bin.ensures.asks c.binary.ensures.puts
+
+pub expr-returns-in_ok-s-in-Mulq-clause-asks : goal.expr-returns-in_ok-s-in-Mulq-clause-asks
+expr-returns-in_ok-s-in-Mulq-clause-asks t c =
+    let i = c.in-Mulq in
+    mulq_asks c.product.result _ _ _ c.args.expr.now c.get-in-Mulq.result.now c.get-in-Mulq-2.result.now c.get-in-Mulq-3.result.now _ c.in_ok-a-in-Mulq.a c.in_ok-b-in-Mulq.b c.in_ok-s-in-Mulq.s _ _ _ _
+    (i.is ∙ (ap (λ (x : TypedExpr). form.Mulq x i.b i.s) (sym c.get-in-Mulq.ensures) ∙ (ap (λ (x : TypedExpr). form.Mulq c.get-in-Mulq.result.now x i.s) (sym c.get-in-Mulq-2.ensures) ∙ ap (λ (x : TypedExpr). form.Mulq c.get-in-Mulq.result.now c.get-in-Mulq-2.result.now x) (sym c.get-in-Mulq-3.ensures))))
+    c.in_ok-a-in-Mulq.ensures.asks c.in_ok-b-in-Mulq.ensures.asks c.in_ok-s-in-Mulq.ensures.asks c.product.ensures.puts
+
+pub expr-returns-in-Convert-clause-asks : goal.expr-returns-in-Convert-clause-asks
+expr-returns-in-Convert-clause-asks t c = convert_asks c.expr-in-Convert.result c.args.names.now _ _ c.args.expr.now c.get-in-Convert.result.now (c.in-Convert.is ∙ ap form.Convert (sym c.get-in-Convert.ensures)) c.expr-in-Convert.ensures.asks
+
+pub expr-returns-in-Active-clause-asks : goal.expr-returns-in-Active-clause-asks
+expr-returns-in-Active-clause-asks t c = active_form_asks c.active.result c.args.names.now _ _ c.args.expr.now c.in-Active.layout c.in-Active.index c.as_slice-in-Active.result.now c.in-Active.is c.as_slice-in-Active.ensures c.active.ensures.asks
+
+pub indices-returns-clause-asks : goal.indices-returns-clause-asks
+indices-returns-clause-asks t c =
+    subst (λ (done : List TypedExpr). AsksExprs done c.args.block.now c.loop-part.block) (take_all c.loop-part.part-index c.args.index.now c.loop-part-test.false) c.loop-part.invariant.asks
+
+pub read-returns-then-is_owned-clause-asks : goal.read-returns-then-is_owned-clause-asks
+read-returns-then-is_owned-clause-asks t c =
+    quiet_asks c.own_read.result _ _ _ _ _ (λ to. v.OwnRead to c.args.layout c.args.place) _ (λ to ways. ap (λ (t : List ℕ × Ways). t.0) (trail-OwnRead to c.args.layout c.args.place ways)) c.own_read.ensures.puts
+
+pub read-returns-clause-asks : goal.read-returns-clause-asks
+read-returns-clause-asks t c =
+    cell_read_asks c.read_cell.result _ _ _ c.args.ty c.args.layout c.args.place c.args.index.now c.in_ok-regs.regs c.in_ok-at.at _ c.indices.new.block c.named_place.new.block
+    c.in_ok-regs.ensures.asks c.in_ok-at.ensures.asks c.read_cell.ensures.puts
+
+pub active-returns-clause-asks : goal.active-returns-clause-asks
+active-returns-clause-asks t c =
+    active_asks c.is_active.result _ _ _ c.args.ty c.args.layout c.args.index.now c.in_ok-regs.regs c.in_ok-at.at _ c.indices.new.block c.named_place.new.block
+    c.in_ok-regs.ensures.asks c.in_ok-at.ensures.asks c.in_ok-at.ensures.comes c.is_active.ensures.puts

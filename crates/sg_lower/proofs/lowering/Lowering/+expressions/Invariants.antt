@@ -5,6 +5,7 @@ use Rattle.sg_lower.specs.steps.Basis.{basis_of}
 use Rattle.sg_lower.specs.steps.Fitting.{can_be_lowered}
 use Rattle.sg_lower.specs.steps.Agreeing.{AllValues}
 use Rattle.sg_lower.specs.steps.Using.{all_uses, Uses}
+use Rattle.sg_lower.specs.steps.Asking.{AsksExprs}
 use Rattle.sg_lower.specs.steps.Typing.{AddsIndex}
 use Rattle.sg_ir.specs.WellTyped.{set_vars}
 use Rattle.sg_lower.proofs.lowering.Lowering.+expressions.Given as goal
@@ -17,6 +18,7 @@ invariant-indices-loop-part l = record {
   count : length l.regs ≡ l.part-index;
   values : list_all (can_be_lowered (basis_of l.layouts l.self)) l.index ≡ true → AllValues (basis_of l.layouts l.self) (take l.part-index l.index) l.regs l.fn.names l.names l.fn.block l.block;
   uses : Uses (all_uses l.self.owned (take l.part-index l.index)) l.fn.block l.block;
+  asks : AsksExprs (take l.part-index l.index) l.fn.block l.block;
   typed : AddsIndex l.layouts.list (take l.part-index l.index) l.regs l.fn.names l.names l.fn.block l.block;
   vars : set_vars l.block ≡ set_vars l.fn.block;
 }

@@ -11,11 +11,13 @@ use Rattle.sg_lower.specs.steps.Basis.{basis_of}
 use Rattle.sg_lower.specs.steps.Fitting.{stmt_fits, write_stmt}
 use Rattle.sg_lower.specs.steps.Agreeing.{Steps}
 use Rattle.sg_lower.specs.steps.Using.{UsesStmt, UsesBlock}
+use Rattle.sg_lower.specs.steps.Asking.{AsksStmt, AsksBlock}
 use Rattle.sg_lower.specs.steps.Typing.{AddsStmt, AddsBlock, SetsStmt, SetsBlock}
 use Rattle.sg_lower.proofs.SettingLines.{sets_let, sets_assign, sets_if, sets_for, sets_next}
 use Rattle.sg_lower.proofs.TypingLines.{let_typed, assign_typed}
 use Rattle.sg_lower.proofs.TypingBlocks.{block_same, block_next, if_typed, for_typed}
 use Rattle.sg_lower.proofs.Stepping.{of_kind, does_let, does_assign, does_if, does_for, steps-next, block_does}
+use Rattle.sg_lower.proofs.AskingLines.{asks_let, asks_assign, asks_if, asks_for, asks_next}
 use Rattle.sg_lower.proofs.UsingLines.{uses_let, uses_assign, uses_if, uses_for, uses_same, uses_next}
 use Rattle.sg_lower.proofs.Turns.{item_holds, take_item}
 use Rattle.sg_lower.proofs.lowering.Lowering.+statements.Goals as goal
@@ -72,6 +74,8 @@ stmts-loop-stmt-preserved t c =
           (steps-next basis done c.stmt-item.result c.args.block.now c.loop-stmt.block c.stmt.new.block (before.steps h) (c.in_ok-stmt.ensures.steps item));
       uses = subst (λ (list : List TypedStmt). UsesBlock basis list c.args.block.now c.stmt.new.block) one_more
           (uses_next basis done c.stmt-item.result c.args.block.now c.loop-stmt.block c.stmt.new.block before.uses c.in_ok-stmt.ensures.uses);
+      asks = subst (λ (list : List TypedStmt). AsksBlock list c.args.block.now c.stmt.new.block) one_more
+          (asks_next done c.stmt-item.result c.args.block.now c.loop-stmt.block c.stmt.new.block before.asks c.in_ok-stmt.ensures.asks);
       typed = subst (λ (list : List TypedStmt). AddsBlock c.args.layouts.now.list list c.args.names.now c.stmt.new.names c.args.block.now c.stmt.new.block) one_more
           (block_next c.args.layouts.now.list done c.stmt-item.result c.args.names.now c.loop-stmt.names c.stmt.new.names c.args.block.now c.loop-stmt.block c.stmt.new.block before.typed c.in_ok-stmt.ensures.typed);
       sets = subst (λ (list : List TypedStmt). SetsBlock list c.args.block.now c.stmt.new.block) one_more
@@ -203,3 +207,40 @@ stmt-returns-in_ok-push-in-For-clause-sets t c =
     let pushed : c.push-in-For.new.self ≡ c.args.block.now ++ v.For i.var c.constant_number-lo.result c.constant_number-hi.result c.in_ok-body-in-For.body ∷ [] = search rules in
     sets_for c.args.stmt.now i.var i.range i.body c.constant_number-lo.result c.constant_number-hi.result c.in_ok-body-in-For.body _ _ i.is
     (subst (λ (list : List TypedStmt). SetsBlock list [] c.in_ok-body-in-For.body) c.as_slice-in-For.ensures c.in_ok-body-in-For.ensures.sets) pushed
+
+-- ---- what is asked
+
+pub stmts-returns-clause-asks : goal.stmts-returns-clause-asks
+stmts-returns-clause-asks t c =
+    subst (λ (done : List TypedStmt). AsksBlock done c.args.block.now c.loop-stmt.block) (take_all c.loop-stmt.stmt-index c.args.stmts.now c.loop-stmt-test.false) c.loop-stmt.invariant.asks
+
+pub inner_block-returns-clause-asks : goal.inner_block-returns-clause-asks
+inner_block-returns-clause-asks t c = subst (λ (first : List Inst). AsksBlock c.args.stmts.now first c.stmts.new.block) c.new-block.ensures c.in_ok-stmts.ensures.asks
+
+pub stmt-returns-in_ok-push-in-Let-clause-asks : goal.stmt-returns-in_ok-push-in-Let-clause-asks
+stmt-returns-in_ok-push-in-Let-clause-asks t c = asks_let c.args.stmt.now c.in-Let.var c.in-Let.value c.in_ok-from-in-Let.from _ _ _ c.in-Let.is c.in_ok-from-in-Let.ensures.asks c.in_ok-push-in-Let.ensures.ok
+
+pub stmt-returns-in_ok-push-in-Assign-clause-asks : goal.stmt-returns-in_ok-push-in-Assign-clause-asks
+stmt-returns-in_ok-push-in-Assign-clause-asks t c =
+    asks_assign c.args.stmt.now c.in-Assign.var c.in-Assign.value c.in_ok-from-in-Assign.from _ _ _ c.in-Assign.is c.in_ok-from-in-Assign.ensures.asks c.in_ok-push-in-Assign.ensures.ok
+
+pub stmt-returns-in_ok-write-in-Write-clause-asks : goal.stmt-returns-in_ok-write-in-Write-clause-asks
+stmt-returns-in_ok-write-in-Write-clause-asks t c =
+    let i = c.in-Write in
+    of_kind (λ (stmt : TypedStmt). AsksStmt stmt c.args.block.now c.write.new.block) c.args.stmt.now (kind.Write i.layout i.place i.index i.way i.value) i.is
+    (subst (λ (index : List TypedExpr). AsksStmt (write_stmt c.args.stmt.now.number i.layout i.place index i.way i.value) c.args.block.now c.write.new.block) c.as_slice-index.ensures c.in_ok-write-in-Write.ensures.asks)
+
+pub stmt-returns-in_ok-push-in-If-clause-asks : goal.stmt-returns-in_ok-push-in-If-clause-asks
+stmt-returns-in_ok-push-in-If-clause-asks t c =
+    let i = c.in-If in
+    asks_if c.args.stmt.now i.cond i.yes i.no i._has_else c.in_ok-cond-in-If.cond c.in_ok-yes-in-If.yes c.in_ok-no-in-If.no _ _ _ i.is c.in_ok-cond-in-If.ensures.asks
+    (subst (λ (list : List TypedStmt). AsksBlock list [] c.in_ok-yes-in-If.yes) c.as_slice.ensures c.in_ok-yes-in-If.ensures.asks)
+    (subst (λ (list : List TypedStmt). AsksBlock list [] c.in_ok-no-in-If.no) c.as_slice-in-If.ensures c.in_ok-no-in-If.ensures.asks)
+    c.in_ok-push-in-If.ensures.ok
+
+pub stmt-returns-in_ok-push-in-For-clause-asks : goal.stmt-returns-in_ok-push-in-For-clause-asks
+stmt-returns-in_ok-push-in-For-clause-asks t c =
+    let i = c.in-For in
+    let pushed : c.push-in-For.new.self ≡ c.args.block.now ++ v.For i.var c.constant_number-lo.result c.constant_number-hi.result c.in_ok-body-in-For.body ∷ [] = search rules in
+    asks_for c.args.stmt.now i.var i.range i.body c.constant_number-lo.result c.constant_number-hi.result c.in_ok-body-in-For.body _ _ i.is
+    (subst (λ (list : List TypedStmt). AsksBlock list [] c.in_ok-body-in-For.body) c.as_slice-in-For.ensures c.in_ok-body-in-For.ensures.asks) pushed

@@ -4,6 +4,7 @@ use Rattle.sg_ir.specs.declared.code.Inst.{Inst}
 use Rattle.sg_lower.specs.steps.Basis.{basis_of}
 use Rattle.sg_lower.specs.steps.Agreeing.{Steps}
 use Rattle.sg_lower.specs.steps.Using.{UsesBlock}
+use Rattle.sg_lower.specs.steps.Asking.{AsksBlock}
 use Rattle.sg_lower.specs.steps.Typing.{AddsBlock, SetsBlock}
 use Rattle.sg_ir.specs.declared.names.Names.{Names}
 use Rattle.sg_lower.proofs.Opening.{tells}
@@ -27,3 +28,6 @@ returns-clause-typed c =
 
 pub returns-clause-sets : goal.returns-clause-sets
 returns-clause-sets c = subst (λ (first : List Inst). SetsBlock c.args.stmts.now first c.stmts.new.block) c.new-body.ensures c.in_ok-stmts.ensures.sets
+
+pub returns-clause-asks : goal.returns-clause-asks
+returns-clause-asks c = subst (λ (first : List Inst). AsksBlock c.args.stmts.now first c.stmts.new.block) c.new-body.ensures c.in_ok-stmts.ensures.asks

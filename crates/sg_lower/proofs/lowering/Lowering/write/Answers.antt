@@ -14,6 +14,7 @@ use Rattle.sg_ir.proofs.Uses.{fold-OwnWrite, fold-Acc, fold-Want}
 use Rattle.sg_lower.proofs.SettingLines.{none_set, sets_write}
 use Rattle.sg_lower.proofs.TypingLines.{want_typed, own_typed, acc_typed}
 use Rattle.sg_lower.proofs.UsingLines.{uses_want, uses_own, uses_acc}
+use Rattle.sg_lower.proofs.AskingLines.{asks_want, asks_own, asks_acc}
 use Rattle.sg_lower.proofs.lowering.Lowering.write.Goals as goal
 
 pub returns-then-self-clause-steps : goal.returns-then-self-clause-steps
@@ -32,7 +33,7 @@ returns-in_ok-push-in-Acc-clause-steps c =
     let basis = basis_of a.layouts.now a.self.now in
     does_acc basis a.stmt a.layout a.place a.index.now a.way c.in-Acc.op c.in-Acc.is a.value.now c.in_ok-from.from c.in_ok-at-in-Acc.at c.in_ok-index-in-Acc.index _ _ c.indices-in-Acc.new.names c.named_place.new.names _ _ c.indices-in-Acc.new.block c.named_place.new.block _
     c.if-self.false c.in_ok-from.ensures.values c.in_ok-index-in-Acc.ensures.values c.in_ok-index-in-Acc.ensures.count
-    (subst (λ (regs : List ℕ). equals_some (axes_in basis.shapes a.layout) (length regs) ≡ true → LeadsToPlace basis.shapes regs (λ seen now. place_at basis.shapes a.layout (named_by regs now)) c.in_ok-at-in-Acc.at c.indices-in-Acc.new.names c.named_place.new.names c.indices-in-Acc.new.block c.named_place.new.block) c.as_slice.ensures c.in_ok-at-in-Acc.ensures.leads)
+    (subst (λ (regs : List ℕ). equals_some (axes_in basis.shapes a.layout) (length regs) ≡ true → LeadsToPlace basis.shapes regs (λ seen now. place_at basis.shapes a.layout (named_by regs now)) a.layout c.in_ok-at-in-Acc.at c.indices-in-Acc.new.names c.named_place.new.names c.indices-in-Acc.new.block c.named_place.new.block) c.as_slice.ensures c.in_ok-at-in-Acc.ensures.leads)
     c.in_ok-push-in-Acc.ensures.ok
 
 pub returns-then-self-clause-uses : goal.returns-then-self-clause-uses
@@ -86,3 +87,19 @@ returns-in_ok-push-in-Acc-clause-sets c =
     sets_write a.stmt a.layout a.place a.index.now a.way a.value.now (v.Acc c.in-Acc.op a.layout a.place c.in_ok-at-in-Acc.at c.in_ok-from.from c.in_ok-index-in-Acc.index a.stmt) _ _ _
     (c.in_ok-at-in-Acc.ensures.vars ∙ (c.in_ok-index-in-Acc.ensures.vars ∙ c.in_ok-from.ensures.vars)) c.in_ok-push-in-Acc.ensures.ok
     (none_set _ (fold-Acc sets_step c.in-Acc.op a.layout a.place c.in_ok-at-in-Acc.at c.in_ok-from.from c.in_ok-index-in-Acc.index a.stmt))
+
+pub returns-then-self-clause-asks : goal.returns-then-self-clause-asks
+returns-then-self-clause-asks c =
+    let a = c.args in
+    asks_want a.stmt a.layout a.place a.index.now a.way a.value.now c.in_ok-index.index _ _ _ c.in_ok-index.ensures.asks c.in_ok-push.ensures.ok
+
+pub returns-in_ok-push-in-Own-clause-asks : goal.returns-in_ok-push-in-Own-clause-asks
+returns-in_ok-push-in-Own-clause-asks c =
+    let a = c.args in
+    asks_own a.stmt a.layout a.place a.index.now a.way a.value.now c.in_ok-from.from _ _ _ c.in_ok-from.ensures.asks c.in_ok-push-in-Own.ensures.ok
+
+pub returns-in_ok-push-in-Acc-clause-asks : goal.returns-in_ok-push-in-Acc-clause-asks
+returns-in_ok-push-in-Acc-clause-asks c =
+    let a = c.args in
+    asks_acc a.stmt a.layout a.place a.index.now a.way a.value.now c.in-Acc.op c.in_ok-from.from c.in_ok-at-in-Acc.at c.in_ok-index-in-Acc.index _ _ c.indices-in-Acc.new.block c.named_place.new.block _
+    c.in_ok-from.ensures.asks c.in_ok-index-in-Acc.ensures.asks c.in_ok-at-in-Acc.ensures.asks c.in_ok-push-in-Acc.ensures.ok

@@ -4,8 +4,8 @@ use Rattle.std.proofs.lemmas.Result.{on_ok_weaker}
 use Rattle.std.proofs.lemmas.List.{drop_more}
 use Rattle.sg_ir.specs.declared.code.Inst.{Inst}
 use Rattle.sg_ir.specs.declared.code.Inst.TheVariants as v
-use Rattle.sg_ir.specs.Blocks.{Block, Link, Cell, Do, SetVar, WriteOwn, Contribute, Wish, Branch, Loop, link_step, link, block_of}
-use Rattle.sg_ir.proofs.Uses.{fold-ReadCell, fold-Set, fold-OwnWrite, fold-Acc, fold-Want, fold-If, fold-For}
+use Rattle.sg_ir.specs.Blocks.{Value, Activity, Block, Link, Cell, Do, SetVar, WriteOwn, Contribute, Wish, Branch, Loop, link_step, link, block_of}
+use Rattle.sg_ir.proofs.Uses.{fold-ReadCell, fold-IsActive, fold-Set, fold-OwnWrite, fold-Acc, fold-Want, fold-If, fold-For}
 use Rattle.sg_ir.specs.declared.span.Span.{Span}
 use Rattle.sg_ir.specs.Span.{range_span}
 use Rattle.sg_simplify.specs.steps.Pass.{Pass, simplified}
@@ -48,10 +48,20 @@ inst-returns-in-ReadCell t c =
     let is = c.in-ReadCell in
     let regs = c.args.given.now.code.now.regs in
     on_ok_weaker c.read.result
-    (λ goes. linked-goes (given_in c.args.given.now) regs c.args.inst.now (Cell is.to is._place is.layout is.field is.index) c.args.self.now c.read.new.self c.args.out.now c.read.new.out
+    (λ goes. linked-goes (given_in c.args.given.now) regs c.args.inst.now (Cell is.to is._place (Value is.layout is.field) is.index) c.args.self.now c.read.new.self c.args.out.now c.read.new.out
     (λ rest. ap (λ it. link regs it rest) is.is ∙ ap (λ (l : Link). l rest) (fold-ReadCell (link_step regs) is.to is._place is.layout is.field is.index))
-    (subst (λ (index : List ℕ). (rest : Block) → Goes c.args.self.now c.read.new.self c.args.out.now c.read.new.out (simplified (given_in c.args.given.now) (Cell is.to is._place is.layout is.field index rest)) (simplified (given_in c.args.given.now) rest)) c.as_slice.ensures (goes is._place)))
+    (subst (λ (index : List ℕ). (rest : Block) → Goes c.args.self.now c.read.new.self c.args.out.now c.read.new.out (simplified (given_in c.args.given.now) (Cell is.to is._place (Value is.layout is.field) index rest)) (simplified (given_in c.args.given.now) rest)) c.as_slice.ensures (goes is._place)))
     c.read.ensures
+
+pub inst-returns-in-IsActive : goal.inst-returns-in-IsActive
+inst-returns-in-IsActive t c =
+    let is = c.in-IsActive in
+    let regs = c.args.given.now.code.now.regs in
+    on_ok_weaker c.active.result
+    (λ goes. linked-goes (given_in c.args.given.now) regs c.args.inst.now (Cell is.to is.place Activity is.index) c.args.self.now c.active.new.self c.args.out.now c.active.new.out
+    (λ rest. ap (λ it. link regs it rest) is.is ∙ ap (λ (l : Link). l rest) (fold-IsActive (link_step regs) is.to is.place is.index))
+    (subst (λ (index : List ℕ). (rest : Block) → Goes c.args.self.now c.active.new.self c.args.out.now c.active.new.out (simplified (given_in c.args.given.now) (Cell is.to is.place Activity index rest)) (simplified (given_in c.args.given.now) rest)) c.as_slice-in-IsActive.ensures goes))
+    c.active.ensures
 
 pub inst-returns-in-Set : goal.inst-returns-in-Set
 inst-returns-in-Set t c =
@@ -126,7 +136,7 @@ pub inst-returns-in_default-inst : goal.inst-returns-in_default-inst
 inst-returns-in_default-inst t c =
     let it = c.in_default-inst in
     left-out (given_in c.args.given.now) c.args.given.now.code.now.regs c.args.self.now c.args.out.now c.args.inst.now c.in_default.ensures.none
-    it.not-ReadCell it.not-Set it.not-OwnWrite it.not-Acc it.not-Want it.not-If it.not-For
+    it.not-ReadCell it.not-IsActive it.not-Set it.not-OwnWrite it.not-Acc it.not-Want it.not-If it.not-For
 
 pub turn-returns : goal.turn-returns
 turn-returns t c =

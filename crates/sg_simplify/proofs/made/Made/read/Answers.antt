@@ -1,6 +1,7 @@
 use Rattle.std.proofs.Common.{ap, subst, List, ℕ, refl}
 use Rattle.sg_words.specs.declared.operators.Ty.{Ty}
 use Rattle.sg_ir.specs.declared.op.Op.TheVariants as op
+use Rattle.sg_ir.specs.Blocks.{Value}
 use Rattle.sg_simplify.specs.steps.Pass.{Making, place_made, taken}
 use Rattle.sg_simplify.specs.steps.Made.{given_in, next_of, Goes}
 use Rattle.sg_simplify.proofs.Acting.{read-goes}
@@ -14,5 +15,5 @@ returns c = λ there.
     let to = c.in_ok-to.to in
     let goes = subst (λ (names : List ℕ). (go : ℕ → Making) → Goes c.args.self.now c.place.new.self c.args.out.now c.place.new.out (place_made given c.args.layout names go) (go place)) c.as_slice.ensures c.in_ok-place.ensures in
     let takes = subst (λ (type : Ty). (go : ℕ → Making) → Goes c.place.new.self c.taken.new.self c.place.new.out c.taken.new.out (taken given type (op.Read place c.args.layout c.args.field) c.in_ok-index.index go) (go to)) c.ty.ensures c.in_ok-to.ensures in
-    read-goes given c.args.self.now c.place.new.self c.taken.new.self _ c.args.out.now c.place.new.out c.taken.new.out c.args.from there c.args.layout c.args.field c.args.index.now c.in_ok-index.index place to
+    read-goes given c.args.self.now c.place.new.self c.taken.new.self _ c.args.out.now c.place.new.out c.taken.new.out c.args.from there (Value c.args.layout c.args.field) c.args.index.now c.in_ok-index.index place to
     c.in_ok-index.ensures goes takes (ap (with_names (next_of c.taken.new.self)) c.in_ok-insert.ensures.entries) refl

@@ -1,0 +1,9 @@
+use Rattle.std.proofs.Common.{true, List, ap, ◌∙◌}
+use Rattle.std.specs.List.{list_all}
+use Rattle.sg_admit.specs.declared.ways.FieldWay.{FieldWay}
+use Rattle.sg_admit.specs.Rules.{has_good_asks}
+use Rattle.sg_admit.specs.steps.Reading.{may_ask}
+use Rattle.sg_admit.proofs.marks.Marks.all_ask_unwritten.Goals as goal
+
+pub returns : goal.returns
+returns c = c.all_good_asks.ensures ∙ ap (λ (ways : List FieldWay). list_all (has_good_asks (may_ask true ways)) c.args.exprs.now) c.as_slice.ensures

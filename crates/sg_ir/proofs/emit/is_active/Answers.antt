@@ -1,0 +1,24 @@
+use Rattle.std.proofs.Common.{ℕ, List, refl, ap}
+use Rattle.sg_ir.specs.declared.code.Inst.TheVariants as v
+use Rattle.sg_ir.specs.Trimmed.{Ways}
+use Rattle.sg_ir.proofs.Trailing.{trail-IsActive}
+use Rattle.sg_ir.proofs.Equations.{does-IsActive}
+use Rattle.sg_ir.proofs.Emitting.{fetches}
+use Rattle.sg_ir.proofs.Fronts.{front-kept, front-reg, front-put-reg}
+use Rattle.sg_ir.proofs.emit.is_active.Goals as goal
+
+pub returns-clause-fetches : goal.returns-clause-fetches
+returns-clause-fetches c =
+    fetches _ _ _ (λ to. v.IsActive to c.args.place c.args.index) _ _ _ _ _ (λ seen now. does-IsActive seen c.in_ok-to.to c.args.place c.args.index now)
+    (λ ways. ap (λ (t : List ℕ × Ways). t.1) (trail-IsActive c.in_ok-to.to c.args.place c.args.index ways))
+    (record { names = c.in_ok-to.ensures.adds; block = c.in_ok-push.ensures.ok })
+
+pub returns-in_err-to-clause-front : goal.returns-in_err-to-clause-front
+returns-in_err-to-clause-front c = front-kept _ _ _ _ c.in_err-to.ensures.kept refl
+
+pub returns-in_err-push-clause-front : goal.returns-in_err-push-clause-front
+returns-in_err-push-clause-front c = front-reg _ _ _ _ _ _ c.in_ok-to.ensures.adds c.in_err-push.ensures.err
+
+pub returns-clause-front : goal.returns-clause-front
+returns-clause-front c =
+    front-put-reg _ (λ to. v.IsActive to c.args.place c.args.index) _ _ _ _ _ (record { names = c.in_ok-to.ensures.adds; block = c.in_ok-push.ensures.ok })
