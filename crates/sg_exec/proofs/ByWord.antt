@@ -1,7 +1,7 @@
 -- Operators on a row and one word, and quotients by a product and a shift.
 use Rattle.std.proofs.Common.{◌≡◌, ℕ, zero, suc, ◌+◌, ◌-◌, ◌*◌, ◌/◌, ◌%◌, ◌^◌, ◌<◌, ◌≤◌, Bool, true, false, cond, ℤ, pos, negsuc, neg_ℤ, List, [], ◌∷◌, length, map, get_or, inl, inr, refl, sym, ap, ap₂, ◌∙◌, subst, arith, pow_mono, pow-add, mod-lt, div-add-mod'}
 use Rattle.std.specs.Prelude.{◌==◌, nat_lt, int_div, if◌then◌else◌}
-use Rattle.std.proofs.lemmas.Bool.{cases_lt, cond-true, cond-false, ltb-true, ltb-false, lt-ltb, le-ltb, eqb-true}
+use Rattle.std.proofs.lemmas.Bool.{cases_eq, cases_lt, cond-true, cond-false, ltb-true, ltb-false, lt-ltb, le-ltb, eqb-true}
 use Rattle.std.proofs.lemmas.Int.{ints}
 use Rattle.std.proofs.lemmas.Nat.{mul-le, div-mul-add}
 use lib.Lanes.{zip2}
@@ -75,7 +75,7 @@ pub record IsOver (div log over : ℕ) : Type 0 where
 top_is : (log : ℕ) → 2 ^ (log + 32) ≡ 2 ^ log * 2 ^ 32
 top_is log = pow-add 2 log 32
 
-next_is : (log : ℕ) → 2 ^ (log + 1) ≡ 2 ^ log * 2
+pub next_is : (log : ℕ) → 2 ^ (log + 1) ≡ 2 ^ log * 2
 next_is log = pow-add 2 log 1
 
 below_top : (size div log : ℕ) → size ≤ 2 ^ 31 → div < 2 ^ (log + 1) → size * div < 2 ^ (log + 32)
@@ -164,8 +164,11 @@ power_fits log few =
     let low : 2 ^ (log + 32) ≤ 2 ^ 62 = pow_mono h in
     omega (arith, low)
 
-pub next_word : (log : ℕ) → log < 30 → (2 * 2 ^ log) % 2 ^ 32 ≡ 2 ^ (log + 1)
-next_word log few =
-    let h : log ≤ 30 = omega (arith, few) in
-    let low : 2 ^ log ≤ 2 ^ 30 = pow_mono h in
-    omega (arith, low, next_is log)
+-- the exponent of a power up to a number that is one as I32
+pub log_few : (log number : ℕ) → log < 32 → 2 ^ log ≤ number → number < 2 ^ 31 → log ≤ 30
+log_few log number few low small = elim (cases_eq log 31) [
+  | inl same ↦
+      let least : 2 ^ 31 ≤ number = subst (λ (n : ℕ). 2 ^ n ≤ number) same low in
+      absurd (omega (arith, least, small))
+  | inr other ↦ omega (arith, few, other)
+]

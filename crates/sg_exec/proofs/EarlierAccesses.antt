@@ -6,12 +6,12 @@ use Rattle.sg_words.specs.Words.{word_of}
 use Rattle.sg_flat.specs.Domain.{numbers}
 use Rattle.sg_store.specs.StoreWords.{StoreWords}
 use Rattle.sg_ir.specs.declared.code.Inst.{Inst, fold-Inst, out-Inst, roll-Inst, roll-out-Inst}
-use Rattle.sg_ir.specs.declared.code.Inst.TheVariants.{rolls-Const, rolls-Var, rolls-Set, rolls-Bin, rolls-Un, rolls-Mulq, rolls-Root, rolls-Check, rolls-Extract, rolls-Offset, rolls-Child, rolls-HashChild, rolls-MaskBit, rolls-DynCell, rolls-ReadCell, rolls-OwnRead, rolls-OwnWrite, rolls-Acc, rolls-Want, rolls-If, rolls-For}
+use Rattle.sg_ir.specs.declared.code.Inst.TheVariants.{rolls-Const, rolls-Var, rolls-Set, rolls-Bin, rolls-Un, rolls-Mulq, rolls-Root, rolls-Check, rolls-Extract, rolls-Offset, rolls-Child, rolls-HashChild, rolls-MaskBit, rolls-DynCell, rolls-ReadCell, rolls-IsActive, rolls-OwnRead, rolls-OwnWrite, rolls-Acc, rolls-Want, rolls-If, rolls-For}
 use Rattle.sg_ir.specs.declared.code.Inst.TheOpen as i
 use Rattle.sg_ir.specs.declared.code.Inst.TheOpen.{Inst-F}
 use Rattle.sg_ir.specs.Runs.{Seen, Moved, Access, InstAction, set_var_word, actions_in_turn, inst_step, does, named_by}
 use Rattle.sg_ir.specs.Named.{IsNamedAccess, AreNamed}
-use Rattle.sg_ir.proofs.Uses.{fold-Const, fold-Var, fold-Set, fold-Bin, fold-Un, fold-Mulq, fold-Root, fold-Check, fold-Extract, fold-Offset, fold-Child, fold-HashChild, fold-MaskBit, fold-DynCell, fold-ReadCell, fold-OwnRead, fold-OwnWrite, fold-Acc, fold-Want, fold-If, fold-For}
+use Rattle.sg_ir.proofs.Uses.{fold-Const, fold-Var, fold-Set, fold-Bin, fold-Un, fold-Mulq, fold-Root, fold-Check, fold-Extract, fold-Offset, fold-Child, fold-HashChild, fold-MaskBit, fold-DynCell, fold-ReadCell, fold-IsActive, fold-OwnRead, fold-OwnWrite, fold-Acc, fold-Want, fold-If, fold-For}
 use Rattle.sg_exec.specs.Standing.{shapes_of}
 
 -- all accesses but the last are named, and the last is
@@ -87,11 +87,13 @@ module _ (stores : List StoreWords) (seen : Seen) where
     by_layer (i.MaskBit to place node offset) = rw (rolls-MaskBit to place node offset) (λ below. leaf _ _ (fold-MaskBit (inst_step seen) to place node offset) (λ now named. named))
     by_layer (i.DynCell to place node offset) = rw (rolls-DynCell to place node offset) (λ below. leaf _ _ (fold-DynCell (inst_step seen) to place node offset) (λ now named. named))
     by_layer (i.ReadCell to place layout field index) = rw (rolls-ReadCell to place layout field index) (λ below. leaf _ _ (fold-ReadCell (inst_step seen) to place layout field index)
-        (λ now named. (named_before stores now.accesses (record { layout = layout; place = now.places place; at = named_by index now }) named).0))
+        (λ now named. (named_before stores now.accesses (record { asks = false; layout = layout; place = now.places place; at = named_by index now }) named).0))
+    by_layer (i.IsActive to place index) = rw (rolls-IsActive to place index) (λ below. leaf _ _ (fold-IsActive (inst_step seen) to place index)
+        (λ now named. (named_before stores now.accesses (record { asks = true; layout = now.roots place; place = now.places place; at = named_by index now }) named).0))
     by_layer (i.OwnRead to layout field) = rw (rolls-OwnRead to layout field) (λ below. leaf _ _ (fold-OwnRead (inst_step seen) to layout field) (λ now named. named))
     by_layer (i.OwnWrite layout field from stmt) = rw (rolls-OwnWrite layout field from stmt) (λ below. leaf _ _ (fold-OwnWrite (inst_step seen) layout field from stmt) (λ now named. named))
     by_layer (i.Acc how layout field place from index stmt) = rw (rolls-Acc how layout field place from index stmt) (λ below. leaf _ _ (fold-Acc (inst_step seen) how layout field place from index stmt)
-        (λ now named. (named_before stores now.accesses (record { layout = layout; place = now.places place; at = named_by index now }) named).0))
+        (λ now named. (named_before stores now.accesses (record { asks = false; layout = layout; place = now.places place; at = named_by index now }) named).0))
     by_layer (i.Want layout index stmt) = rw (rolls-Want layout index stmt) (λ below. leaf _ _ (fold-Want (inst_step seen) layout index stmt) (λ now named. named))
     by_layer (i.If cond block otherwise) = rw (rolls-If cond block otherwise) (λ below.
         let under : suc (max (largest (map depth block)) (largest (map depth otherwise))) < suc n = subst (λ (k : ℕ). k < suc n) (fold-If depth_step cond block otherwise) below in

@@ -24,7 +24,7 @@ use Rattle.sg_ir.specs.declared.code.Inst.{Inst}
 use Rattle.sg_ir.specs.declared.code.Inst.TheVariants as v
 use Rattle.sg_ir.specs.Runs.{is_own}
 use Rattle.sg_ir.specs.Apt.{Use, Writes, Reads, ReadsOwn, uses_step, uses_in}
-use Rattle.sg_ir.proofs.Uses.{uses-append, fold-Const, fold-Var, fold-Set, fold-Bin, fold-Un, fold-Mulq, fold-Root, fold-Check, fold-Extract, fold-Offset, fold-Child, fold-HashChild, fold-MaskBit, fold-DynCell, fold-ReadCell, fold-OwnRead, fold-OwnWrite, fold-Acc, fold-Want, fold-If, fold-For, by_inst}
+use Rattle.sg_ir.proofs.Uses.{uses-append, fold-Const, fold-Var, fold-Set, fold-Bin, fold-Un, fold-Mulq, fold-Root, fold-Check, fold-Extract, fold-Offset, fold-Child, fold-HashChild, fold-MaskBit, fold-DynCell, fold-ReadCell, fold-IsActive, fold-OwnRead, fold-OwnWrite, fold-Acc, fold-Want, fold-If, fold-For, by_inst}
 use Rattle.sg_exec.proofs.UsedWrites.{flat_of_map}
 use Rattle.sg_exec.specs.declared.results.shared.Accumulated.{Accumulated}
 use Rattle.sg_exec.specs.declared.results.shared.Owned.{Owned}
@@ -91,6 +91,7 @@ module _ (stores : List StoreWords) where
     used = λ k it at. absurd (cc (at));
     each = λ layout field op has active. absurd (contains_none _ has);
     own = λ layout field has. absurd (contains_none _ has);
+    own_used = λ own has. absurd (contains_none _ has);
   }
 
   -- more uses, for whose fields there is what is needed
@@ -111,6 +112,7 @@ module _ (stores : List StoreWords) where
       | inl before ↦ have.own layout field before
       | inr later ↦ own layout field later
     ];
+    own_used = λ it has. Contains-append_left uses more _ (have.own_used it has);
   }
 
   -- an accumulated field that has a pass, or no cell
@@ -141,17 +143,32 @@ module _ (stores : List StoreWords) where
   -- another own-written field
   pub have_owned : (uses : List Use) (accumulated : List Accumulated) (seats : List AccSeat) (owned : List Owned) (own : Owned) → HaveFields stores uses accumulated seats owned
       → HaveFields stores (uses ++ Writes own.layout own.field Own ∷ []) accumulated seats (owned ++ own ∷ [])
-  have_owned uses accumulated seats owned own have =
-      have_own own.layout own.field uses accumulated seats (owned ++ own ∷ [])
-      (record {
-        passes = have.passes;
-        are_seats = have.are_seats;
-        new = have.new;
-        used = have.used;
-        each = have.each;
-        own = λ layout field has. let is = have.own layout field has in (is.0, (Contains-append_left owned (own ∷ []) is.0 is.1.0, is.1.1));
-      })
-      (own, (Contains-append_right owned (own ∷ []) own (contains_head own own [] refl), (refl, refl)))
+  have_owned uses accumulated seats owned own have = record {
+    passes = have.passes;
+    are_seats = have.are_seats;
+    new = have.new;
+    used = λ k it at. Contains-append_left uses (Writes own.layout own.field Own ∷ []) _ (have.used k it at);
+    each = λ layout field op has active. elim (Contains-append_cases uses (Writes own.layout own.field Own ∷ []) (Writes layout field (Acc op)) has) [
+      | inl before ↦ have.each layout field op before active
+      | inr new ↦ absurd (not_own own.layout layout own.field field op (one_use (Writes own.layout own.field Own) (Writes layout field (Acc op)) new))
+    ];
+    own = λ layout field has. elim (Contains-append_cases uses (Writes own.layout own.field Own ∷ []) (Writes layout field Own) has) [
+      | inl before ↦ (let is = have.own layout field before in (is.0, (Contains-append_left owned (own ∷ []) is.0 is.1.0, is.1.1)))
+      | inr new ↦ (let same = one_use (Writes own.layout own.field Own) (Writes layout field Own) new in
+          (own, (Contains-append_right owned (own ∷ []) own (contains_head own own [] refl), (ap layout_of same, ap field_of same))))
+    ];
+    own_used = λ it has. elim (Contains-append_cases owned (own ∷ []) it has) [
+      | inl before ↦ Contains-append_left uses (Writes own.layout own.field Own ∷ []) _ (have.own_used it before)
+      | inr new ↦ Contains-append_right uses (Writes own.layout own.field Own ∷ []) _ (into_uses it new)
+    ];
+  }
+    where
+      into_uses : (it : Owned) → Contains (own ∷ []) it → Contains (Writes own.layout own.field Own ∷ []) (Writes it.layout it.field Own)
+      into_uses it has = by (contains_cases it own [] has)
+        where
+          by : (own ≡ it) ⊎ Contains [] it → Contains (Writes own.layout own.field Own ∷ []) (Writes it.layout it.field Own)
+          by (inl same) = contains_head (Writes it.layout it.field Own) (Writes own.layout own.field Own) [] (ap (λ (o : Owned). Writes o.layout o.field Own) same)
+          by (inr none) = absurd (contains_none it none)
 
   -- another pass
   pub have_pass : (uses : List Use) (accumulated : List Accumulated) (seats : List AccSeat) (owned : List Owned) (it : Accumulated) (seat : AccSeat) → HaveFields stores uses accumulated seats owned
@@ -206,6 +223,7 @@ module _ (stores : List StoreWords) where
       | inl before ↦ have.own layout field before
       | inr new ↦ absurd (not_own layout it.layout field it.field it.op (sym (one_use (Writes it.layout it.field (Acc it.op)) (Writes layout field Own) new)))
     ];
+    own_used = λ own has. Contains-append_left uses (Writes it.layout it.field (Acc it.op) ∷ []) _ (have.own_used own has);
   }
     where
       later : (layout field : ℕ) → HasPass accumulated layout field → HasPass (accumulated ++ it ∷ []) layout field
@@ -312,6 +330,7 @@ quiet =
     (λ to place node offset na nw ni nf. no_use _ (fold-MaskBit uses_step to place node offset))
     (λ to place node offset na nw ni nf. no_use _ (fold-DynCell uses_step to place node offset))
     (λ to place layout field index na nw ni nf. one_read _ (Reads layout field) refl (fold-ReadCell uses_step to place layout field index))
+    (λ to place index na nw ni nf. no_use _ (fold-IsActive uses_step to place index))
     (λ to layout field na nw ni nf. one_read _ (ReadsOwn layout field) refl (fold-OwnRead uses_step to layout field))
     (λ layout field from stmt na nw ni nf. absurd (nw layout field from stmt refl))
     (λ op layout field place from index stmt na nw ni nf. absurd (na op layout field place from index stmt refl))

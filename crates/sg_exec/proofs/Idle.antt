@@ -38,7 +38,7 @@ module _ (stores : List StoreWords) where
 
   active : (state : FlatState) → Sees stores state → (want : CodeWant) → IsIdleWant stores want → IsActive stores (want_write want)
   active state sees want idle =
-      let found = flat_at stores sees.standing.layouts want.layout idle.store sees.stand idle.there in
+      let found = flat_at stores state.layouts want.layout idle.store sees.stand idle.there in
       subst (λ (o : Option StoreWords). IsSome (option_and_then (λ (s : StoreWords). cell_in s want.at) o)) (sym idle.there) (idle.active found.0 found.2)
 
   active_all : (state : FlatState) → Sees stores state → (wants : List CodeWant) → All (IsIdleWant stores) wants → All (IsActive stores) (map want_write wants)

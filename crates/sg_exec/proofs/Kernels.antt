@@ -1,9 +1,9 @@
 -- The meaning of a kernel run, from what its steps found.
-use Rattle.std.proofs.Common.{◌≡◌, false, inl, inr, List, [], ◌∷◌, map, Option, Some, None, Result, Err, refl, sym, ap, ◌∙◌, subst}
-use Rattle.std.specs.Prelude.{slice_get, Contains}
+use Rattle.std.proofs.Common.{◌≡◌, ℕ, ◌+◌, false, inl, inr, List, [], ◌∷◌, map, Option, Some, None, Result, Err, refl, sym, ap, ◌∙◌, subst, arith}
+use Rattle.std.specs.Prelude.{filter, slice_get, Contains}
 use Rattle.std.specs.Option.{option_or}
 use Rattle.std.specs.Result.{IsOkAnd}
-use Rattle.std.specs.List.{AllZip}
+use Rattle.std.specs.List.{AllZip, list_any}
 use Rattle.sg_coord.specs.declared.coord.Coord.{Coord}
 use Rattle.sg_coord.specs.Laws.{InsideTest}
 use Rattle.sg_layout.specs.declared.shape.Shape.{Shape}
@@ -13,15 +13,17 @@ use Rattle.sg_flat.specs.declared.effects.Turn.{Turn}
 use Rattle.sg_flat.specs.declared.effects.RunFault.{RunFault}
 use Rattle.sg_flat.specs.declared.state.FlatLayout.{FlatLayout}
 use Rattle.sg_flat.specs.declared.state.FlatState.{FlatState}
-use Rattle.sg_flat.specs.Domain.{domain_points}
-use Rattle.sg_flat.specs.Effects.{writes_of}
+use Rattle.sg_flat.specs.Domain.{domain_points, is_active, same_coord}
+use Rattle.sg_flat.specs.Effects.{writes_of, written_in}
 use Rattle.sg_flat.specs.Kernel.{outside_among, first_outside, first_full_layout, kernel_meaning}
 use Rattle.sg_flat.specs.State.{IsFlat}
 use Rattle.sg_store.specs.StoreWords.{StoreWords}
 use Rattle.sg_store.specs.StandsFor.{StandsFor}
 use Rattle.sg_ir.specs.declared.code.KernelCode.{KernelCode}
 use Rattle.sg_ir.specs.Runs.{iteration}
+use Rattle.sg_ir.specs.Trimmed.{asked_in}
 use Rattle.sg_words.proofs.Uses.{contains_none, contains_cases}
+use Rattle.sg_ir.proofs.Uses.{well_typed_asks}
 use Rattle.sg_exec.specs.Standing.{shapes_of, StandForState}
 use Rattle.sg_exec.specs.Running.{IsRunnable, code_turn, run_meaning, load_meaning, turn_of}
 use Rattle.sg_exec.specs.steps.Machines.{seen_in}
@@ -31,6 +33,9 @@ use Rattle.sg_exec.specs.steps.Wants.{acts, AreWants, reached_layouts}
 use Rattle.sg_exec.proofs.Covered.{turn_writes}
 use Rattle.sg_exec.proofs.Ending.{ended, meaning_outside, meaning_full}
 use Rattle.sg_exec.proofs.Sliced.{wants_of, wants_of_turns, first_same, wants_same, of_writes}
+use Rattle.sg_exec.proofs.Seeing.{reached_state, AsksTheSame}
+use Rattle.sg_exec.proofs.Settled.{is_in, wants_none, none_written, unwritten_same}
+use Rattle.sg_exec.proofs.UsedWrites.{write_used}
 use Rattle.sg_exec.proofs.Located.{wanted_are, located_made, left_at_loop}
 use Rattle.sg_exec.proofs.Walked.{all_flat, StandsActive, left_out, stands_inside, stands_active}
 
@@ -96,6 +101,20 @@ module _ (laws : KernelLaws) (stores : List StoreWords) (state : FlatState) (ker
 
   pub code_is_named : AreNamedAt stores state kernel.code.body points
   code_is_named = λ at has. runnable.apt.code_named state flat at (visited at has)
+
+  -- a layout that the code asks isn't written, so what the slice wants activates nothing in it
+  asked_same : (layout : ℕ) → Contains (asked_in kernel.code.body) layout → (there : Coord) → is_active state layout there ≡ is_active (reached_state (shapes_of stores) state (map slice points)) layout there
+  asked_same layout has there =
+      let place : layout ≡ 0 + layout = omega arith in
+      ap (list_any (same_coord there)) (sym (unwritten_same 0 (shapes_of stores) state.layouts (map slice points) layout flat
+      (subst (λ (n : ℕ). written_in n (map slice points) ≡ []) place
+      (none_written layout slice points (λ at visit.
+      ap (filter (is_in layout)) (each_slice at visit)
+      ∙ wants_none kernel.domain at layout (iteration (seen_in stores state at) kernel.slice.body).wants (iteration (seen_in stores state at) kernel.code.body).writes
+      (λ write is same. runnable.apt.asks write.layout write.field write.way (write_used (seen_in stores state at) kernel.code.body write is).0 (subst (λ (l : ℕ). Contains (asked_in kernel.code.body) l) (sym same) has)))))))
+
+  pub asks_settled : AsksTheSame (shapes_of stores) state (reached_state (shapes_of stores) state (map slice points)) kernel.code.body points
+  asks_settled = λ at has k access below asks there. asked_same _ (well_typed_asks (shapes_of stores) kernel.code runnable.code_typed (seen_in stores state at) k access below asks) there
 
   -- if the slice wants nothing outside, the code's writes are at the coordinates that it has
   pub turns_are : first_outside (shapes_of stores) (map slice points) ≡ None → AreTurnsOf stores state kernel.code.body points code

@@ -19,6 +19,7 @@ pub mod HeldWords
 pub mod DenseSteps
 pub mod Reading
 pub mod FieldValues
+pub mod CellsNear
 pub mod LatestWrites
 pub mod BoxPoints
 pub mod Ranges
@@ -66,6 +67,7 @@ pub mod Iterations
 pub mod RunAhead
 pub mod KeptOwn
 pub mod UsedWrites
+pub mod Settled
 pub mod FieldsFound
 pub mod PassesLanded
 pub mod SumsPut
@@ -83,3 +85,10 @@ pub mod BlockRows
 pub mod HeadRows
 pub mod RowsLand
 pub mod RunsLoaded
+pub mod PutsUsed
+pub mod WantedText
+pub mod Mixed
+pub mod LandsBeside
+pub mod LocalRuns
+pub mod PreparedRuns
+pub mod Uses

@@ -24,8 +24,8 @@ use Rattle.sg_ir.specs.declared.code.Inst.{Inst}
 use Rattle.sg_ir.specs.declared.code.Inst.TheVariants as v
 use Rattle.sg_ir.specs.declared.code.Inst.TheOpen as i
 use Rattle.sg_ir.specs.Runs.{Seen, Moved, InstAction, actions_in_turn, coord_of, does, inst_step, iteration_start, part_words, put, runs, set_reg, set_var_word}
-use Rattle.sg_ir.proofs.Uses.{by_inst, fold-Const, fold-Var, fold-Set, fold-Bin, fold-Un, fold-Mulq, fold-Root, fold-Check, fold-Extract, fold-Offset, fold-Child, fold-HashChild, fold-MaskBit, fold-DynCell, fold-ReadCell, fold-OwnRead, fold-OwnWrite, fold-Acc, fold-Want, fold-If, fold-For}
-use Rattle.sg_ir.proofs.Uses.{does-Const, does-Var, does-Set, does-Bin, does-Un, does-Mulq, does-Root, does-Check, does-Extract, does-Offset, does-Child, does-HashChild, does-MaskBit, does-DynCell, does-ReadCell, does-OwnRead, does-OwnWrite, does-Acc, does-Want, does-If, does-For}
+use Rattle.sg_ir.proofs.Uses.{by_inst, fold-Const, fold-Var, fold-Set, fold-Bin, fold-Un, fold-Mulq, fold-Root, fold-Check, fold-Extract, fold-Offset, fold-Child, fold-HashChild, fold-MaskBit, fold-DynCell, fold-ReadCell, fold-IsActive, fold-OwnRead, fold-OwnWrite, fold-Acc, fold-Want, fold-If, fold-For}
+use Rattle.sg_ir.proofs.Uses.{does-Const, does-Var, does-Set, does-Bin, does-Un, does-Mulq, does-Root, does-Check, does-Extract, does-Offset, does-Child, does-HashChild, does-MaskBit, does-DynCell, does-ReadCell, does-IsActive, does-OwnRead, does-OwnWrite, does-Acc, does-Want, does-If, does-For}
 use Rattle.sg_exec.specs.declared.activation.limits.Limits.{Limits}
 use Rattle.sg_exec.specs.declared.workers.points.Most.{Most}
 use Rattle.sg_exec.specs.steps.Machines.{seen_in}
@@ -96,6 +96,8 @@ module _ (stores : List StoreWords) (limits : Limits) where
       (λ to place node offset. leaf _ _ (λ seen. inst_step seen (i.DynCell to place node offset)) (fold-DynCell (past_step limits) to place node offset) (λ seen now. does-DynCell seen to place node offset now)
       (λ test seen now is. record { regs = is.regs; vars = is.vars; wants = is.wants }))
       (λ to place layout field index. leaf _ _ (λ seen. inst_step seen (i.ReadCell to place layout field index)) (fold-ReadCell (past_step limits) to place layout field index) (λ seen now. does-ReadCell seen to place layout field index now)
+      (λ free seen now is. record { regs = put_keeps limits.regs.items now.regs to _ is.regs (free_keeps _ _ free); vars = is.vars; wants = is.wants }))
+      (λ to place index. leaf _ _ (λ seen. inst_step seen (i.IsActive to place index)) (fold-IsActive (past_step limits) to place index) (λ seen now. does-IsActive seen to place index now)
       (λ free seen now is. record { regs = put_keeps limits.regs.items now.regs to _ is.regs (free_keeps _ _ free); vars = is.vars; wants = is.wants }))
       (λ to layout field. leaf _ _ (λ seen. inst_step seen (i.OwnRead to layout field)) (fold-OwnRead (past_step limits) to layout field) (λ seen now. does-OwnRead seen to layout field now)
       (λ free seen now is. reg_set to _ now (free_keeps _ _ free) is))

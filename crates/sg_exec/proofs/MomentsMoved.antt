@@ -126,7 +126,7 @@ pub contributions_done : (old mid new : Batch) (regs : List ℕ) (on : ℕ → T
     → AllMove (λ seen. does seen (v.Acc op layout field place from index stmt)) on old new
 contributions_done old mid new regs on op layout field place from index stmt same_regs keeps only keep made =
     let code : Seen → Moved → CodeWrite = λ seen now. record { layout = layout; field = field; stmt = stmt; at = at_of seen.shapes (now.places place); way = Acc op; value = now.regs from } in
-    let access : Moved → Access = λ now. record { layout = layout; place = now.places place; at = named_by index now } in
+    let access : Moved → Access = λ now. record { asks = false; layout = layout; place = now.places place; at = named_by index now } in
     let act : Seen → Moved → Moved = λ seen now. add_code_write (code seen now) (add_access (access now) now) in
     let Becomes : ℕ → Moment → Moment → Type 0 = λ k. IsContributed mid.places.stores (item_in mid.places.list None k place) op layout field (item_in regs 0 k from) in
     all_by act (λ seen. does seen (v.Acc op layout field place from index stmt)) (λ seen now. sym (does-Acc seen op layout field place from index stmt now)) on old new

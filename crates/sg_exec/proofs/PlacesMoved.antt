@@ -30,9 +30,9 @@ pub record OnlyPlaces (old new : Batch) : Type 0 where
   pub stores : new.places.stores ≡ old.places.stores
 
 -- where places have become others
-places_moved : (stores : List StoreWords) (at : Coord) (old new : Batch) (k : ℕ) (moment : Moment) (now : Moved) (places : ℕ → Option Place) → OnlyPlaces old new → ((p : ℕ) → HoldsPlace stores (item_in new.places.list None k p) (places p))
-    → IsMoved stores at (column old k moment) now → IsMoved stores at (column new k moment) (record now { places = places })
-places_moved stores at old new k moment now places only are moved = record {
+places_moved : (stores : List StoreWords) (at : Coord) (old new : Batch) (k : ℕ) (moment : Moment) (now : Moved) (places : ℕ → Option Place) (roots : ℕ → ℕ) → OnlyPlaces old new → ((p : ℕ) → HoldsPlace stores (item_in new.places.list None k p) (places p))
+    → IsMoved stores at (column old k moment) now → IsMoved stores at (column new k moment) (record now { places = places; roots = roots })
+places_moved stores at old new k moment now places roots only are moved = record {
   stores_are = only.stores ∙ moved.stores_are;
   regs_are = λ number. ap (λ it. item_in it.items 0 k number) only.regs ∙ moved.regs_are number;
   vars_are = λ number. ap (λ it. item_in it.items 0 k number) only.vars ∙ moved.vars_are number;
@@ -45,12 +45,12 @@ places_moved stores at old new k moment now places only are moved = record {
 }
 
 -- place registers become what is held for the values of how far the run has come
-pub places_done : (old mid new : Batch) (on : ℕ → Type 0) (to : ℕ) (Holds : ℕ → Option Held → Type 0) (value : Seen → Moved → Option Place) (act : Seen → Moved → Moved) → ((seen : Seen) (now : Moved) → act seen now ≡ set_place to (value seen now) now)
+pub places_done : (old mid new : Batch) (on : ℕ → Type 0) (to : ℕ) (Holds : ℕ → Option Held → Type 0) (root : Moved → ℕ) (value : Seen → Moved → Option Place) (act : Seen → Moved → Moved) → ((seen : Seen) (now : Moved) → act seen now ≡ set_place to (root now) (value seen now) now)
     → KeepsRows old mid → OnlyPlaces mid new → (new.lacks ≡ false → IsPut Holds on to None mid.places.list new.places.list)
     → ((k : ℕ) (held : Option Held) (stores : List StoreWords) (state : FlatState) (at : Coord) (moment : Moment) (now : Moved) → k < 32 → Holds k held → Sees stores state → IsMoved stores at (column mid k moment) now
     → HoldsPlace stores held (value (seen_in stores state at) now))
     → AllMove act on old new
-places_done old mid new on to Holds value act is keeps only has same =
+places_done old mid new on to Holds root value act is keeps only has same =
     let same_moments : new.moments.items ≡ mid.moments.items = ap (λ ms. ms.items) only.moments in
     kept_then act on old mid new keeps (record {
       over = over_same mid new same_moments only.stores;
@@ -63,7 +63,7 @@ places_done old mid new on to Holds value act is keeps only has same =
                 as_moved (sym (is (seen_in stores state here) now))
                 (λ lacks named.
                 let moved = follows (only.kept lacks) named in
-                places_moved stores here mid new k before now (put to (value (seen_in stores state here) now) now.places) only
+                places_moved stores here mid new k before now (put to (value (seen_in stores state here) now) now.places) (put to (root now) now.roots) only
                 (put_there (HoldsPlace stores) Holds on to None mid.places.list new.places.list k (value (seen_in stores state here) now) now.places small (has lacks)
                 (same k (item_in new.places.list None k to) stores state here before now small ((has lacks).there k small inside) sees moved) moved.places_are) moved);
           });
@@ -73,7 +73,7 @@ places_done old mid new on to Holds value act is keeps only has same =
             kept = λ lacks. only.kept lacks;
             follows = λ stores state here sees now follows lacks named.
                 let moved = follows (only.kept lacks) named in
-                places_moved stores here mid new k before now now.places only
+                places_moved stores here mid new k before now now.places now.roots only
                 (λ p. subst (λ (held : Option Held). HoldsPlace stores held (now.places p)) (sym (other_item Holds on to None mid.places.list new.places.list k p (has lacks) small (λ (it : (p ≡ to) × on k). out it.1))) (moved.places_are p)) moved;
           });
     })

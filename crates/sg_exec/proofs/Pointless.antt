@@ -3,7 +3,7 @@ use Rattle.std.proofs.Common.{◌≡◌, ℕ, suc, ◌+◌, ◌*◌, ◌/◌, �
 use Rattle.std.specs.Prelude.{◌==◌, if◌then◌else◌}
 use Rattle.std.proofs.lemmas.Bool.{ltb-false}
 use Rattle.std.proofs.lemmas.List.{drop_all}
-use Rattle.sg_words.specs.Words.{applied, applied_un, mulq_of, word_of}
+use Rattle.sg_words.specs.Words.{applied, applied_un, mulq_of, word_of, flag}
 use Rattle.sg_coord.specs.declared.coord.Coord.{Coord}
 use Rattle.sg_layout.specs.declared.shape.Shape.{Shape}
 use Rattle.sg_flat.specs.declared.state.FlatState.{FlatState}
@@ -11,9 +11,9 @@ use Rattle.sg_flat.specs.Domain.{numbers}
 use Rattle.sg_ir.specs.declared.code.Inst.{Inst}
 use Rattle.sg_ir.specs.declared.code.Inst.TheVariants as v
 use Rattle.sg_ir.specs.declared.code.Inst.TheOpen as i
-use Rattle.sg_ir.specs.Runs.{Seen, Moved, Place, CodeWant, InstAction, actions_in_turn, at_of, cell_value, check, coord_of, does, down, inst_step, put, set_place, set_reg, set_var_word}
-use Rattle.sg_ir.proofs.Uses.{by_inst, fold-Const, fold-Var, fold-Set, fold-Bin, fold-Un, fold-Mulq, fold-Root, fold-Check, fold-Extract, fold-Offset, fold-Child, fold-HashChild, fold-MaskBit, fold-DynCell, fold-ReadCell, fold-OwnRead, fold-OwnWrite, fold-Acc, fold-Want, fold-If, fold-For}
-use Rattle.sg_ir.proofs.Uses.{does-Const, does-Var, does-Set, does-Bin, does-Un, does-Mulq, does-Root, does-Check, does-Extract, does-Offset, does-Child, does-HashChild, does-MaskBit, does-DynCell, does-ReadCell, does-OwnWrite, does-Acc, does-Want, does-If, does-For}
+use Rattle.sg_ir.specs.Runs.{Seen, Moved, Place, CodeWant, InstAction, actions_in_turn, at_of, cell_value, is_active_place, check, coord_of, does, down, inst_step, put, set_place, set_reg, set_var_word}
+use Rattle.sg_ir.proofs.Uses.{by_inst, fold-Const, fold-Var, fold-Set, fold-Bin, fold-Un, fold-Mulq, fold-Root, fold-Check, fold-Extract, fold-Offset, fold-Child, fold-HashChild, fold-MaskBit, fold-DynCell, fold-ReadCell, fold-IsActive, fold-OwnRead, fold-OwnWrite, fold-Acc, fold-Want, fold-If, fold-For}
+use Rattle.sg_ir.proofs.Uses.{does-Const, does-Var, does-Set, does-Bin, does-Un, does-Mulq, does-Root, does-Check, does-Extract, does-Offset, does-Child, does-HashChild, does-MaskBit, does-DynCell, does-ReadCell, does-IsActive, does-OwnWrite, does-Acc, does-Want, does-If, does-For}
 use Rattle.sg_exec.specs.Running.{seen_at}
 use Rattle.sg_exec.specs.steps.Alike.{reads_point, reads_step, AreAlike, BlockIsAlike, InstIsAlike}
 
@@ -42,8 +42,8 @@ var_alike var x y one other same is = record {
   wants = is.wants;
 }
 
-place_alike : (to : ℕ) (x y : Option Place) (one other : Moved) → x ≡ y → AreAlike one other → AreAlike (set_place to x one) (set_place to y other)
-place_alike to x y one other same is = record {
+place_alike : (to m n : ℕ) (x y : Option Place) (one other : Moved) → x ≡ y → AreAlike one other → AreAlike (set_place to m x one) (set_place to n y other)
+place_alike to m n x y one other same is = record {
   regs = is.regs;
   vars = is.vars;
   places = λ k. put_alike to x y one.places other.places same k (is.places k);
@@ -59,6 +59,12 @@ same_value : (shapes : List Shape) (state : FlatState) (at there : Coord) (layou
 same_value shapes state at there layout field None = refl
 same_value shapes state at there layout field (Some cell) = refl
 
+same_activity : (shapes : List Shape) (state : FlatState) (at there : Coord) (found : Option Coord) (place : Option Place)
+    → flag (is_active_place (seen_at shapes state at) found place) ≡ flag (is_active_place (seen_at shapes state there) found place)
+same_activity shapes state at there None place = refl
+same_activity shapes state at there (Some cell) None = refl
+same_activity shapes state at there (Some cell) (Some spot) = refl
+
 moved_alike : (a b one other : Moved) → a ≡ one → b ≡ other → AreAlike one other → AreAlike a b
 moved_alike a b one other is is' alike = subst (λ (m : Moved). AreAlike m b) (sym is) (subst (λ (m : Moved). AreAlike one m) (sym is') alike)
 
@@ -73,9 +79,9 @@ leaf inst test act same is keeps none shapes state at there one other alike =
     moved_alike _ _ _ _ (is (seen_at shapes state at) one) (is (seen_at shapes state there) other) (keeps (sym same ∙ none) shapes state at there one other alike)
 
 goes_down : (to place node offset : ℕ) (shapes : List Shape) (one other : Moved) → AreAlike one other
-    → AreAlike (set_place to (down shapes node (one.regs offset) (one.places place)) one) (set_place to (down shapes node (other.regs offset) (other.places place)) other)
+    → AreAlike (set_place to (one.roots place) (down shapes node (one.regs offset) (one.places place)) one) (set_place to (other.roots place) (down shapes node (other.regs offset) (other.places place)) other)
 goes_down to place node offset shapes one other is =
-    place_alike to _ _ one other
+    place_alike to _ _ _ _ one other
     (ap (λ (w : ℕ). down shapes node w (one.places place)) (is.regs offset) ∙ ap (λ (p : Option Place). down shapes node (other.regs offset) p) (is.places place)) is
 
 pub pointless_alike : (inst : Inst) → Pointless inst
@@ -94,9 +100,9 @@ pointless_alike = by_inst Pointless
     (λ test shapes state at there one other is. reg_alike to _ _ one other
     (ap (λ (w : ℕ). mulq_of w (one.regs b) (one.regs s)) (is.regs a) ∙ ap (λ (w : ℕ). mulq_of (other.regs a) w (one.regs s)) (is.regs b) ∙ ap (λ (w : ℕ). mulq_of (other.regs a) (other.regs b) w) (is.regs s)) is))
     (λ to layout. leaf _ _ (λ seen. inst_step seen (i.Root to layout)) (fold-Root reads_step to layout) (λ seen now. does-Root seen to layout now)
-    (λ test shapes state at there one other is. place_alike to _ _ one other refl is))
+    (λ test shapes state at there one other is. place_alike to _ _ _ _ one other refl is))
     (λ to place axis extent index. leaf _ _ (λ seen. inst_step seen (i.Check to place axis extent index)) (fold-Check reads_step to place axis extent index) (λ seen now. does-Check seen to place axis extent index now)
-    (λ test shapes state at there one other is. place_alike to _ _ one other
+    (λ test shapes state at there one other is. place_alike to _ _ _ _ one other
     (ap (λ (w : ℕ). check extent w (one.places place)) (is.regs index) ∙ ap (λ (p : Option Place). check extent (other.regs index) p) (is.places place)) is))
     (λ to div size from. leaf _ _ (λ seen. inst_step seen (i.Extract to div size from)) (fold-Extract reads_step to div size from) (λ seen now. does-Extract seen to div size from now)
     (λ test shapes state at there one other is. reg_alike to _ _ one other (ap (λ (w : ℕ). w / div % size) (is.regs from)) is))
@@ -115,6 +121,15 @@ pointless_alike = by_inst Pointless
     (λ test shapes state at there one other is. record {
       regs = λ k. put_alike to _ _ one.regs other.regs
           (same_value shapes state at there layout field (at_of shapes (one.places place)) ∙ ap (λ (p : Option Place). cell_value (seen_at shapes state there) layout field (at_of shapes p)) (is.places place)) k (is.regs k);
+      vars = is.vars;
+      places = is.places;
+      wants = is.wants;
+    }))
+    (λ to place index. leaf _ _ (λ seen. inst_step seen (i.IsActive to place index)) (fold-IsActive reads_step to place index) (λ seen now. does-IsActive seen to place index now)
+    (λ test shapes state at there one other is. record {
+      regs = λ k. put_alike to _ _ one.regs other.regs
+          (same_activity shapes state at there (at_of shapes (one.places place)) (one.places place)
+          ∙ ap (λ (p : Option Place). flag (is_active_place (seen_at shapes state there) (at_of shapes p) p)) (is.places place)) k (is.regs k);
       vars = is.vars;
       places = is.places;
       wants = is.wants;

@@ -1,6 +1,7 @@
 -- A hand after all iterations of a run.
 use Rattle.std.proofs.Common.{◌≡◌, ℕ, ◌+◌, ◌-◌, ◌≤◌, List, [], map, length, take, Result, Ok, Err, sym, ap, ◌∙◌, subst, arith}
-use Rattle.std.specs.Prelude.{IfOk}
+use Rattle.std.specs.Prelude.{◌++◌, Contains, IfOk}
+use Rattle.std.specs.List.{flat_map}
 use Rattle.std.proofs.lemmas.List.{take_all}
 use Rattle.sg_words.specs.declared.memory.Memory.{Memory}
 use Rattle.sg_coord.specs.declared.coord.Coord.{Coord}
@@ -15,12 +16,14 @@ use Rattle.sg_exec.specs.declared.results.shared.Owned.{Owned}
 use Rattle.sg_exec.specs.declared.workers.state.Hand.{Hand}
 use Rattle.sg_exec.specs.steps.Machines.{AreCells}
 use Rattle.sg_exec.specs.steps.Landing.{Lands}
-use Rattle.sg_exec.specs.steps.Racing.{between, wrote, AreSeats, HaveShares}
+use Rattle.sg_exec.specs.declared.lanes.cell_write.CellWrite.{CellWrite}
+use Rattle.sg_exec.specs.steps.Racing.{between, last_own, wrote, AreSeats, HaveShares}
 use Rattle.sg_exec.specs.steps.Passes.{HaveFields, AreGiven, passed}
 use Rattle.sg_exec.specs.steps.Working.{HasRunAt, HasRaced}
 use Rattle.sg_exec.specs.steps.Puts.{kept_writes}
 use Rattle.sg_exec.proofs.CellsLanded.{landings_are}
 use Rattle.sg_exec.proofs.PassesLanded.{turns_writes}
+use Rattle.sg_exec.proofs.PutsUsed.{kept_used}
 use Rattle.sg_exec.proofs.RacedRun.{are_whole, gave_reached, are_given, puts_are, raced_lands, turn_is, turn_used, turn_own}
 
 -- the first seats have all shares
@@ -45,6 +48,8 @@ module _ (stores : List StoreWords) (code : List Inst) (points : List Coord) (ac
   raced after seats cells ran = record {
     seats = seats;
     cells = cells;
+    used = λ write has. kept_used (uses_in code) owned ran.turns have.own_used write
+        (subst (λ (ws : List CellWrite). Contains ws write) (ran.worked.puts ∙ ap (λ (ws : List CellWrite). ws ++ flat_map (last_own owned) ran.turns) none) has);
     whole = are_whole stores (uses_in code) accumulated owned _ _ old after have seats ran;
     reached = gave_reached stores (uses_in code) accumulated owned _ _ old after have seats ran;
     turns = λ one_way state sees named turn are.

@@ -1,6 +1,6 @@
 -- Reads, writes and wants of the executor.
 use Rattle.std.proofs.Common.{◌≡◌, ℕ, zero, suc, ◌<◌, ◌≤◌, arith, Bool, true, false, ◌&&◌, ◌==◌, if◌then◌else◌, find, List, [], ◌∷◌, ◌++◌, map, length, reverse, get_or, Option, Some, None, refl, sym, ap, ◌∙◌, subst}
-use Rattle.std.specs.Prelude.{option_map, option_and_then, slice_get, IfSome}
+use Rattle.std.specs.Prelude.{option_map, option_and_then, slice_get, Contains, IfSome, IsSome}
 use Rattle.std.specs.List.{AllZip}
 use Rattle.std.proofs.lemmas.Bool.{cond-true}
 use Rattle.std.proofs.lemmas.List.{map-append, reverse-append, append-nil}
@@ -19,13 +19,17 @@ use Rattle.sg_flat.specs.State.{value_at, value_of}
 use Rattle.sg_flat.specs.Kernel.{is_inside_of}
 use Rattle.sg_store.specs.StoreWords.{StoreWords}
 use Rattle.sg_store.specs.StandsFor.{StandsFor}
-use Rattle.sg_store.specs.Spots.{LeadsAlong}
-use Rattle.sg_store.specs.Walks.{cell_in}
-use Rattle.sg_store.specs.WellFormed.{IsReached}
+use Rattle.sg_store.specs.Spots.{LeadsAlong, place_of_spot}
+use Rattle.sg_store.specs.StoreLaws.{CellsAreActive}
+use Rattle.sg_store.specs.Walks.{cell_in, cell_along}
+use Rattle.sg_store.specs.WellFormed.{IsReached, IsWellFormed}
 use Rattle.sg_ir.specs.Runs as ir
-use Rattle.sg_ir.specs.Runs.{Place, CodeWrite, is_own, at_of, cell_value, coord_of}
+use Rattle.sg_ir.specs.Runs.{Place, CodeWrite, is_own, at_of, cell_value, coord_of, is_active_place}
 use Rattle.sg_ir.specs.Places.{place_of_coord, place_at}
 use Rattle.sg_ir.specs.Laws.{PlaceHasCoordinate}
+use Rattle.sg_words.specs.Words.{flag}
+use Rattle.sg_flat.specs.Domain.{is_active}
+use Rattle.sg_flat.proofs.Uses.{active_is, active_not}
 use Rattle.sg_exec.specs.declared.lanes.held.Held.{Held}
 use Rattle.sg_exec.specs.declared.lanes.cell_write.CellWrite.{CellWrite}
 use Rattle.sg_exec.specs.Standing.{shapes_of}
@@ -62,11 +66,10 @@ told stores (Some write) value = refl
 
 -- the value of an own read
 pub own_value_is : (stores : List StoreWords) (state : FlatState) (at here : Coord) (sees : Sees stores state) (layout field word : ℕ) (writes : List CellWrite) (made : List CodeWrite) → here ≡ at → writes ≡ map (cell_write stores) made
-    → word ≡ last_or (own_write layout field writes) (value_of (shapes_of stores) sees.standing layout field here)
+    → word ≡ last_or (own_write layout field writes) (value_of (shapes_of stores) state layout field here)
     → word ≡ ir.value_or_own (ir.own_write layout field made) (value_of (shapes_of stores) state layout field at)
 own_value_is stores state at here sees layout field word writes made same is value =
-    value ∙ ap (λ (x : Coord). last_or (own_write layout field writes) (value_of (shapes_of stores) sees.standing layout field x)) same
-    ∙ ap (last_or (own_write layout field writes)) (sees.same_values layout field at)
+    value ∙ ap (λ (x : Coord). last_or (own_write layout field writes) (value_of (shapes_of stores) state layout field x)) same
     ∙ ap (λ (ws : List CellWrite). last_or (own_write layout field ws) (value_of (shapes_of stores) state layout field at)) is
     ∙ ap (λ (o : Option CellWrite). last_or o (value_of (shapes_of stores) state layout field at)) (own_told stores layout field made)
     ∙ told stores (ir.own_write layout field made) (value_of (shapes_of stores) state layout field at)
@@ -145,6 +148,42 @@ value_dead stores state loop layout field at (Some place) all test point_of_row 
     sym (ap (cell_value (seen_in stores state loop) layout field) (told_at stores layout at place found has is) ∙ value_there stores state layout field at store flat found.there stood.1
     ∙ idle_zero store.shape flat field at test point_of_row stood.2.is_flat idle)
 
+-- and it isn't active
+pub active_dead : (stores : List StoreWords) (state : FlatState) (loop : Coord) (layout : ℕ) (at : Coord) (place : Option Place) → AllZip StandsFor stores state.layouts
+    → PlaceHasCoordinate (shapes_of stores) layout at → IsDead stores place → place ≡ place_at (shapes_of stores) layout at
+    → 0 ≡ flag (is_active_place (seen_in stores state loop) (at_of (shapes_of stores) place) place)
+active_dead stores state loop layout at None all has dead is = refl
+active_dead stores state loop layout at (Some place) all has dead is =
+    let found = place_found stores layout at place is in
+    let stood = flat_at stores state.layouts layout found.store all found.there in
+    let here : slice_get stores place.layout ≡ Some found.store = ap (slice_get stores) found.same_layout ∙ found.there in
+    let idle = (dead found.store here at [] (sym found.path ∙ sym (append-nil place.path))).idle stood.0 stood.2 in
+    sym (ap (λ (told : Option Coord). flag (is_active_place (seen_in stores state loop) told (Some place))) (told_at stores layout at place found has is)
+    ∙ (ap (λ (l : ℕ). flag (is_active state l at)) found.same_layout ∙ ap flag (active_not state layout stood.0 at stood.1 idle)))
+
+-- a register that holds a spot after the last node: the coordinate is active
+pub active_live : (stores : List StoreWords) (state : FlatState) (loop : Coord) (layout : ℕ) (at : Coord) (place : Option Place) (held : Held) (store : StoreWords) (cell : Bool) → AllZip StandsFor stores state.layouts
+    → LeadsTo stores held place → slice_get stores held.layout ≡ Some store → CellsAreActive store → PlaceHasCoordinate (shapes_of stores) layout at → place ≡ place_at (shapes_of stores) layout at
+    → ((path : List ℕ) → LeadsAlong store held.spot path → length path ≡ length store.shape.nodes → (cell ≡ true) × IsWellFormed store)
+    → flag cell ≡ flag (is_active_place (seen_in stores state loop) (at_of (shapes_of stores) place) place)
+active_live stores state loop layout at place held store cell all leads there law has is tells =
+    let mine : Place = record { layout = held.layout; path = leads.path } in
+    let found = place_found stores layout at mine (sym leads.is_place ∙ is) in
+    let stood = flat_at stores state.layouts held.layout store all there in
+    let one : leads.store ≡ store = same_Some leads.store store (sym leads.there ∙ there) in
+    let two : found.store ≡ store = same_Some found.store store (sym found.there ∙ ap (slice_get stores) (sym found.same_layout) ∙ there) in
+    let way : leads.path ≡ offsets store.shape.nodes at = found.path ∙ ap (λ (s : StoreWords). offsets s.shape.nodes at) two in
+    let along : LeadsAlong store held.spot leads.path = subst (λ (s : StoreWords). LeadsAlong s held.spot leads.path) one leads.leads in
+    let told = tells leads.path along (ap length way ∙ offsets_length store.shape.nodes at) in
+    let inside : is_inside (bounds_of_shape store.shape) at ≡ true = subst (λ (s : StoreWords). is_inside (bounds_of_shape s.shape) at ≡ true) two found.inside in
+    let reached : cell_in store at ≡ Some (place_of_spot store.shape.nodes held.spot) =
+    cond-true (is_inside (bounds_of_shape store.shape) at) (cell_along store (offsets store.shape.nodes at)) None inside ∙ (ap (cell_along store) (sym way) ∙ along.leads) in
+    let active : Contains stood.0.active at = (law told.1 stood.0 stood.2 at).0 (subst (λ (o : Option ℕ). IsSome o) (sym reached) refl) in
+    ap flag told.0
+    ∙ sym (ap (λ (p : Option Place). flag (is_active_place (seen_in stores state loop) (at_of (shapes_of stores) p) p)) leads.is_place
+    ∙ (ap (λ (told : Option Coord). flag (is_active_place (seen_in stores state loop) told (Some mine))) (told_at stores layout at mine found has (sym leads.is_place ∙ is))
+    ∙ ap flag (active_is state held.layout stood.0 at stood.1 active)))
+
 -- a register that holds a spot: the value in its store
 pub value_live : (stores : List StoreWords) (state : FlatState) (loop : Coord) (layout field : ℕ) (at : Coord) (place : Option Place) (held : Held) (store : StoreWords) (word : ℕ) → AllZip StandsFor stores state.layouts
     → LeadsTo stores held place → slice_get stores held.layout ≡ Some store → place ≡ place_at (shapes_of stores) layout at
@@ -220,9 +259,3 @@ cell_live stores layout at place held store cell leads there is value =
     let told_it : at_of (shapes_of stores) place ≡ Some (coordinate_of store.shape leads.path) =
     ap (at_of (shapes_of stores)) leads.is_place ∙ ap (option_map (λ (shape : Shape). coordinate_of shape leads.path)) (shape_at stores held.layout store there) in
     sym (ap (cell_there stores layout) told_it ∙ cell_at_store stores layout store (coordinate_of store.shape leads.path) here ∙ value found.same_layout store here leads.path along whole)
-
--- the value of a place, where the stores have the state's values
-pub cell_value_seen : (stores : List StoreWords) (state : FlatState) (loop : Coord) (sees : Sees stores state) (layout field : ℕ) (at : Option Coord)
-    → cell_value (seen_in stores sees.standing loop) layout field at ≡ cell_value (seen_in stores state loop) layout field at
-cell_value_seen stores state loop sees layout field None = refl
-cell_value_seen stores state loop sees layout field (Some at) = sees.same_values layout field at

@@ -8,7 +8,7 @@ use Rattle.sg_exec.proofs.Reaching.{before_push, at_push}
 use Rattle.sg_layout.specs.declared.shape.Shape.{Shape}
 use Rattle.sg_store.specs.StoreWords.{StoreWords}
 use Rattle.sg_exec.specs.Standing.{shapes_of}
-use Rattle.sg_exec.specs.steps.Landing.{current, with_copied_store}
+use Rattle.sg_exec.specs.steps.Landing.{current, with_copied_store, CopiesInto}
 
 pub set_long : {A : Type 0} (xs : List A) (i : ℕ) (x : A) → length (slice_set xs i x) ≡ length xs
 set_long [] i x = refl
@@ -77,5 +77,17 @@ shapes_more stores copies i store copy all count is here j s c is_s is_c = elim 
       let same_store : store ≡ s = same_Some _ _ (sym is ∙ ap (slice_get stores) (sym same) ∙ is_s) in
       let same_copy : copy ≡ c = same_Some _ _ (sym (at_push copies copy) ∙ ap (slice_get (copies ++ copy ∷ [])) (count ∙ sym same) ∙ is_c) in
       subst (λ (x : Option StoreWords). (unwrap_or x s).shape ≡ s.shape) same_copy (subst (λ (x : StoreWords). (unwrap_or copy x).shape ≡ x.shape) same_store here)
+      )
+]
+
+-- one copy more, and where copies are
+pub into_more : (P : ℕ → Type 0) (copies : List (Option StoreWords)) (i : ℕ) (copy : Option StoreWords) → length copies ≡ i → CopiesInto P copies → ((made : StoreWords) → copy ≡ Some made → P i)
+    → (j : ℕ) (made : StoreWords) → slice_get (copies ++ copy ∷ []) j ≡ Some (Some made) → P j
+into_more P copies i copy count before here j made is = elim (cases_lt j i) [
+  | inl low ↦ before j made (sym (before_push copies copy j (omega (arith, low, count))) ∙ is)
+  | inr high ↦ (
+      let long : j < length (copies ++ copy ∷ []) = slice_get_within (copies ++ copy ∷ []) j (Some made) is in
+      let same : j ≡ i = omega (arith, length-append copies (copy ∷ []), long, count, high) in
+      subst P (sym same) (here made (same_Some _ _ (sym (at_push copies copy) ∙ ap (slice_get (copies ++ copy ∷ [])) (count ∙ sym same) ∙ is)))
       )
 ]

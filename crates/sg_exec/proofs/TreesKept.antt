@@ -6,6 +6,7 @@ use Rattle.sg_layout.specs.declared.shape.Shape.{Shape}
 use Rattle.sg_store.specs.StoreWords.{StoreWords, word_in}
 use Rattle.sg_exec.specs.declared.lanes.cell_write.CellWrite.{CellWrite}
 use Rattle.sg_exec.specs.declared.results.sums.Sum.{Sum}
+use Rattle.sg_exec.specs.Standing.{shapes_of}
 use Rattle.sg_exec.specs.steps.Machines.{IsCellOf, AreCells}
 use Rattle.sg_exec.specs.steps.Landing.{current, HasTree}
 use Rattle.sg_exec.specs.steps.Made.{HaveTrees, KeepsField, HasRow, words_of}
@@ -48,6 +49,20 @@ pub trees_set : (stores : List StoreWords) (i : ℕ) (old now : StoreWords) → 
 trees_set [] i old now at tree = absurd (cc)
 trees_set (first ∷ stores) zero old now at tree = (subst (λ (s : StoreWords). HasTree s now) (sym (same_Some _ _ at)) tree, trees_itself stores)
 trees_set (first ∷ stores) (suc i) old now at tree = (refl, trees_set stores i old now at tree)
+
+pub set_other : {A : Type 0} (xs : List A) (i j : ℕ) (x : A) → (i ≡ j → ⊥) → slice_get (slice_set xs i x) j ≡ slice_get xs j
+set_other [] i j x apart = refl
+set_other (y ∷ xs) zero zero x apart = absurd (apart refl)
+set_other (y ∷ xs) zero (suc j) x apart = refl
+set_other (y ∷ xs) (suc i) zero x apart = refl
+set_other (y ∷ xs) (suc i) (suc j) x apart = set_other xs i j x (λ same. apart (ap suc same))
+
+pub trees_shapes : (olds nows : List StoreWords) → HaveTrees olds nows → shapes_of nows ≡ shapes_of olds
+trees_shapes [] [] trees = refl
+trees_shapes [] (now ∷ nows) trees = absurd trees
+trees_shapes (old ∷ olds) [] trees = absurd trees
+trees_shapes (old ∷ olds) (now ∷ nows) trees =
+    ap (λ (s : Shape). s ∷ shapes_of nows) (tree_shape old now trees.0) ∙ ap (λ (ss : List Shape). old.shape ∷ ss) (trees_shapes olds nows trees.1)
 
 -- ---- rows and cells of stores with the same trees
 

@@ -372,7 +372,7 @@ all_told view stores turns (Err stop.Memory) none reached = tt
 all_told view stores turns (Err (stop.Refused fault)) none reached = inr (none, reached)
 
 pub stands_seen : (stores : List StoreWords) (state : FlatState) → AllZip StandsFor stores state.layouts → Sees stores state
-stands_seen stores state all = record { standing = state; stand = all; same_values = λ layout place at. refl }
+stands_seen stores state all = record { stand = all }
 
 -- which fault was told
 pub activated_fault : {A : Type 0} (view : A → List StoreWords) (stores : List StoreWords) (turns : List Turn) (e : Stop RunFault) (fault : RunFault) → TurnsActivated view stores turns (Err e) → e ≡ stop.Refused fault

@@ -8,12 +8,12 @@ use Rattle.sg_words.proofs.Uses.{contains_none, contains_head, contains_cases}
 use Rattle.sg_flat.specs.declared.effects.Way.TheVariants.{Own, Acc}
 use Rattle.sg_flat.specs.Domain.{numbers}
 use Rattle.sg_ir.specs.declared.code.Inst.{Inst, out-Inst, roll-Inst, roll-out-Inst}
-use Rattle.sg_ir.specs.declared.code.Inst.TheVariants.{rolls-Const, rolls-Var, rolls-Set, rolls-Bin, rolls-Un, rolls-Mulq, rolls-Root, rolls-Check, rolls-Extract, rolls-Offset, rolls-Child, rolls-HashChild, rolls-MaskBit, rolls-DynCell, rolls-ReadCell, rolls-OwnRead, rolls-OwnWrite, rolls-Acc, rolls-Want, rolls-If, rolls-For}
+use Rattle.sg_ir.specs.declared.code.Inst.TheVariants.{rolls-Const, rolls-Var, rolls-Set, rolls-Bin, rolls-Un, rolls-Mulq, rolls-Root, rolls-Check, rolls-Extract, rolls-Offset, rolls-Child, rolls-HashChild, rolls-MaskBit, rolls-DynCell, rolls-ReadCell, rolls-IsActive, rolls-OwnRead, rolls-OwnWrite, rolls-Acc, rolls-Want, rolls-If, rolls-For}
 use Rattle.sg_ir.specs.declared.code.Inst.TheOpen as i
 use Rattle.sg_ir.specs.declared.code.Inst.TheOpen.{Inst-F}
 use Rattle.sg_ir.specs.Runs.{Seen, Moved, InstAction, CodeWrite, set_var_word, actions_in_turn, inst_step, does, iteration, iteration_start, at_of}
 use Rattle.sg_ir.specs.Apt.{Use, Writes, Reads, ReadsOwn, uses_step, uses_in}
-use Rattle.sg_ir.proofs.Uses.{fold-Const, fold-Var, fold-Set, fold-Bin, fold-Un, fold-Mulq, fold-Root, fold-Check, fold-Extract, fold-Offset, fold-Child, fold-HashChild, fold-MaskBit, fold-DynCell, fold-ReadCell, fold-OwnRead, fold-OwnWrite, fold-Acc, fold-Want, fold-If, fold-For, largest, depth_step, depth}
+use Rattle.sg_ir.proofs.Uses.{fold-Const, fold-Var, fold-Set, fold-Bin, fold-Un, fold-Mulq, fold-Root, fold-Check, fold-Extract, fold-Offset, fold-Child, fold-HashChild, fold-MaskBit, fold-DynCell, fold-ReadCell, fold-IsActive, fold-OwnRead, fold-OwnWrite, fold-Acc, fold-Want, fold-If, fold-For, largest, depth_step, depth}
 use Rattle.sg_exec.specs.steps.Machines.{IsAtLoop}
 use Rattle.sg_exec.specs.steps.Passes.{uses_of}
 
@@ -122,6 +122,8 @@ module _ (seen : Seen) where
         (λ below. leaf _ [] _ (fold-DynCell uses_step to place node offset) (fold-DynCell (inst_step seen) to place node offset) (λ now write has. inl has))
     by_layer (i.ReadCell to place layout field index) = rw (rolls-ReadCell to place layout field index)
         (λ below. leaf _ (Reads layout field ∷ []) _ (fold-ReadCell uses_step to place layout field index) (fold-ReadCell (inst_step seen) to place layout field index) (λ now write has. inl has))
+    by_layer (i.IsActive to place index) = rw (rolls-IsActive to place index)
+        (λ below. leaf _ [] _ (fold-IsActive uses_step to place index) (fold-IsActive (inst_step seen) to place index) (λ now write has. inl has))
     by_layer (i.OwnRead to layout field) = rw (rolls-OwnRead to layout field)
         (λ below. leaf _ (ReadsOwn layout field ∷ []) _ (fold-OwnRead uses_step to layout field) (fold-OwnRead (inst_step seen) to layout field) (λ now write has. inl has))
     by_layer (i.OwnWrite layout field from stmt) = rw (rolls-OwnWrite layout field from stmt)

@@ -3,6 +3,7 @@ pub mod Stepping
 pub mod Machines
 pub mod Holding
 pub mod FieldReads
+pub mod Nearby
 pub mod Rows
 pub mod Moments
 pub mod Accessing

@@ -9,4 +9,7 @@ pub mod run;
 mod workers;
 
 pub use loads::row_run::RowRun;
-pub use run::{load_rows, load_runs, run_kernel};
+pub use results::commit::land;
+pub use results::made::Made;
+pub use run::{load_rows, load_runs, prepare, run_kernel};
+pub use workers::effort::effort;

@@ -6,6 +6,7 @@ ghost use Rattle.sg_store.specs.Links.{GrowsLinks};
 ghost use Rattle.sg_exec.specs.Standing.{shapes_of, StandForState};
 ghost use Rattle.sg_exec.specs.Running.{IsRunnable, Ran, run_meaning, load_meaning};
 ghost use Rattle.sg_exec.specs.Runs.{IsShortRun, writes_of_runs};
+ghost use Rattle.sg_exec.specs.Preparing.{IsMadeFor, Prepared};
 ghost use Rattle.sg_exec.specs.steps.Landing.{current, with_copied_store, CopiesRan};
 ghost use Rattle.sg_exec.specs.steps.Made.{CanLand, MadeRan};
 
@@ -20,10 +21,13 @@ use crate::results::made::Made;
 use crate::results::sums::raced_points;
 use crate::workers::points::domain_points;
 use sg_coord::numbering;
+use sg_flat::laws::unwritten_stays;
 use sg_flat::{RunFault, Write};
 use sg_ir::KernelCode;
+use sg_ir::laws::reads_decide;
 use sg_layout::{Layouts, closure_closes, closure_members};
 use sg_outside::Gate;
+use sg_store::laws::{stands_for_one, stands_has_room};
 use sg_store::{Store, Stores};
 use sg_words::{Memory, Stop};
 use std::alloc::Global;
@@ -124,6 +128,34 @@ fn load_each<R: Threads + Sync>(
     load_rows(rt, alloc, stores, layouts, rows.as_slice())
 }
 
+/// The first half of a run: what a kernel makes of the stores, which stay as they are, or its refusal. It lands by `land`, in these stores or in
+/// later ones in which the layouts that the kernel touches are the same. Workers and gate as for a run.
+pub fn prepare<R: Threads + Sync, G: Gate + Sync>(
+    rt: &R,
+    alloc: Global,
+    stores: &Stores,
+    layouts: &Layouts,
+    kernel: &KernelCode,
+    workers: u32,
+    gate: &G,
+) -> Result<Made, Stop<RunFault>>
+    requires runnable { IsRunnable layouts.now.list kernel.now }
+    requires some { 1 ≤ workers }
+    requires few { workers ≤ 16 }
+    ensures prepared { (state : FlatState) → StandForState layouts.now.list stores.now.list state →
+        Prepared layouts.now.list kernel.now stores.now.list result }
+    ensures lands { IfOk result (IsMadeFor kernel.now stores.now.list) }
+{
+    let _layouts = layouts;
+    // for the laws that they ensure
+    reads_decide();
+    unwritten_stays();
+    stands_for_one();
+    stands_has_room();
+    stores.well_formed();
+    kernel_made(rt, alloc, stores, kernel, workers, gate)
+}
+
 /// What a kernel makes of the stores, and room to land it.
 pub(crate) fn kernel_made<R: Threads + Sync, G: Gate + Sync>(
     rt: &R,
@@ -138,6 +170,7 @@ pub(crate) fn kernel_made<R: Threads + Sync, G: Gate + Sync>(
     ensures ran { IsRunnable (shapes_of stores.now.list) kernel.now → (state : FlatState) → AllZip StandsFor stores.now.list state.layouts →
         MadeRan stores.now.list result (run_meaning (shapes_of stores.now.list) state kernel.now) }
     ensures lands { IfOk result (CanLand stores.now.list) }
+    ensures goes { IfOk result (IsMadeFor kernel.now stores.now.list) }
 {
     // for the laws that they ensure
     numbering(&ONE_POINT);

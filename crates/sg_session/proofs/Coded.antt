@@ -168,6 +168,7 @@ stays_apt shapes given made simple is_apt =
           (subst (λ (cs : List CodeWrite). AllZip (apt.IsWantOf shapes) (iteration (seen_at shapes state at) given.slice.body).wants (filter (apt.may_activate given.domain) cs)) (sym writes)
           (is_apt.wants state fine at has)));
       ways = subst (λ (d : Domain). apt.KeepsItsWays shapes d (apt.uses_in made.code.body)) goes ways;
+      asks = λ layout field way has asked. is_apt.asks layout field way (only (apt.Writes layout field way) has) (simple.code.asks layout asked);
     }
   where
     only : (it : apt.Use) → Contains (apt.uses_in made.code.body) it → Contains (apt.uses_in given.code.body) it

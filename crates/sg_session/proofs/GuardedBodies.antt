@@ -85,6 +85,7 @@ module _ (walked vars : ℕ) where
       (λ ty op left right i j h. absurd (both_ways false refl (flagged (folds.fold-Bin (guard_step walked vars) its_guard ty op left right) h)))
       (λ ty a b shift i j l h. absurd (both_ways false refl (flagged (folds.fold-Mulq (guard_step walked vars) its_guard ty a b shift) h)))
       (λ ty inner i h. absurd (both_ways false refl (flagged (folds.fold-Convert (guard_step walked vars) its_guard ty inner) h)))
+      (λ ty layout index all h. absurd (both_ways false refl (flagged (folds.fold-Active (guard_step walked vars) its_guard ty layout index) h)))
     where
       flagged : {x y : Guard} → x ≡ y → x.is_zero ≡ true → y.is_zero ≡ true
       flagged e h = sym (ap (λ (it : Guard). it.is_zero) e) ∙ h
@@ -110,6 +111,7 @@ module _ (walked vars : ℕ) where
         (λ ty op left right h k. nameless var _ (name (folds.fold-Bin (guard_step walked vars) its_guard ty op left right)))
         (λ ty a b shift h k l. nameless var _ (name (folds.fold-Mulq (guard_step walked vars) its_guard ty a b shift)))
         (λ ty inner h. nameless var _ (name (folds.fold-Convert (guard_step walked vars) its_guard ty inner)))
+        (λ ty layout index all. nameless var _ (name (folds.fold-Active (guard_step walked vars) its_guard ty layout index)))
       where
         name : {x y : Guard} → x ≡ y → x.name ≡ y.name
         name e = ap (λ (it : Guard). it.name) e
@@ -140,6 +142,7 @@ module _ (walked vars : ℕ) where
         (λ ty op left right i j h. absurd (both_ways false refl (flagged (folds.fold-Bin (guard_step walked vars) its_guard ty op left right) h)))
         (λ ty a b shift i j l h. absurd (both_ways false refl (flagged (folds.fold-Mulq (guard_step walked vars) its_guard ty a b shift) h)))
         (λ ty inner i h. absurd (both_ways false refl (flagged (folds.fold-Convert (guard_step walked vars) its_guard ty inner) h)))
+        (λ ty layout index all h. absurd (both_ways false refl (flagged (folds.fold-Active (guard_step walked vars) its_guard ty layout index) h)))
       where
         flagged : {x y : Guard} → x ≡ y → x.is_cell ≡ true → y.is_cell ≡ true
         flagged e h = sym (ap (λ (it : Guard). it.is_cell) e) ∙ h
@@ -159,6 +162,7 @@ module _ (walked vars : ℕ) where
         (cell_word left) i (zero_word world now right))
         (λ ty a b shift i j l h. absurd (both_ways false refl (flagged (folds.fold-Mulq (guard_step walked vars) its_guard ty a b shift) h)))
         (λ ty inner i h. absurd (both_ways false refl (flagged (folds.fold-Convert (guard_step walked vars) its_guard ty inner) h)))
+        (λ ty layout index all h. absurd (both_ways false refl (flagged (folds.fold-Active (guard_step walked vars) its_guard ty layout index) h)))
       where
         flagged : {x y : Guard} → x ≡ y → x.is_guarded ≡ true → y.is_guarded ≡ true
         flagged e h = sym (ap (λ (it : Guard). it.is_guarded) e) ∙ h

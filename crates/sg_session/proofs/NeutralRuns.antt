@@ -1,7 +1,7 @@
 -- Over two states with the same values a neutral kernel makes the same writes.
 use Rattle.std.proofs.Common.{◌≡◌, ℕ, zero, suc, ◌≤◌, true, List, [], ◌∷◌, ◌++◌, map, Option, Some, Ok, refl, sym, ap, ◌∙◌, subst}
 use Rattle.std.specs.Prelude.{slice_get, option_map}
-use Rattle.std.specs.List.{AllByRecursion, flat_map}
+use Rattle.std.specs.List.{AllByRecursion, flat_map, list_all}
 use Rattle.std.proofs.lemmas.Bool.{and_parts, eqb-true}
 use Rattle.sg_coord.specs.declared.coord.Coord.{Coord}
 use Rattle.sg_coord.specs.Bounds.{Bounds}
@@ -26,7 +26,8 @@ use Rattle.sg_types.specs.Expressions.{equals_some}
 use Rattle.sg_types.specs.Values.{World}
 use Rattle.sg_types.specs.Iterations.{writes_at, domain_of, kernel_effects}
 use Rattle.sg_types.specs.WellTyped.{axes_in, is_well_typed_domain, is_well_typed_kernel}
-use Rattle.sg_admit.specs.Neutral.{is_guarded_body, is_neutral_over, is_neutral_kernel}
+use Rattle.sg_admit.specs.Lines.{Opens, line_of, nothing_round, block_lines, domain_ranges}
+use Rattle.sg_admit.specs.Neutral.{is_guarded_body, asks_nothing_in, asks_nothing, is_neutral_over, is_neutral_kernel}
 use Rattle.sg_session.proofs.Lists.{all_at}
 use Rattle.sg_session.proofs.SameWorlds.{writes_same, domain_same}
 use Rattle.sg_session.proofs.GuardedBodies.{HasPlainElses, writes_nothing}
@@ -96,12 +97,12 @@ module _ (laws : FlatLaws) (shapes shapes' : List Shape) (state state' : FlatSta
   abbrev other : World
   other = record { shapes = shapes'; state = state' }
 
-  written_same : (at : Coord) → writes_at one kernel at ≡ writes_at other kernel at
-  written_same = writes_same one other (values_same shapes shapes' state state' same) kernel
+  written_same : asks_nothing kernel ≡ true → (at : Coord) → writes_at one kernel at ≡ writes_at other kernel at
+  written_same quiet at = writes_same one other (values_same shapes shapes' state state' same) kernel at quiet
 
   -- over the points of a domain that is the same
-  over_points : (ats : List Coord) → writes_of (map (turn_of one kernel) ats) ≡ writes_of (map (turn_of other kernel) ats)
-  over_points ats = writes_of_turns one kernel ats ∙ (flat_same (writes_at one kernel) (writes_at other kernel) written_same ats ∙ sym (writes_of_turns other kernel ats))
+  over_points : asks_nothing kernel ≡ true → (ats : List Coord) → writes_of (map (turn_of one kernel) ats) ≡ writes_of (map (turn_of other kernel) ats)
+  over_points quiet ats = writes_of_turns one kernel ats ∙ (flat_same (writes_at one kernel) (writes_at other kernel) (written_same quiet) ats ∙ sym (writes_of_turns other kernel ats))
 
   shape_at : (number : ℕ) (pair : Pair) → slice_get same.pairs number ≡ Some pair → slice_get shapes number ≡ Some pair.one_shape
   shape_at number pair is =
@@ -130,25 +131,28 @@ module _ (laws : FlatLaws) (shapes shapes' : List Shape) (state state' : FlatSta
       let whole = inside_whole laws.numbers_have_words shape at (all_at (λ (it : Shape). checked_shape it ≡ Ok it) shapes number shape there rules) few inside in
       writes_nothing number kernel.vars one at (whole.0 ∙ (inside.same_axes ∙ vars)) whole.1 (λ place. value_here number pair is place at ∙ zeros place) kernel guarded fit.plain
 
-  walk_same : (number : ℕ) → is_guarded_body number kernel.vars kernel.body ≡ true → equals_some (axes_in shapes number) kernel.vars ≡ true
+  walk_same : asks_nothing kernel ≡ true → (number : ℕ) → is_guarded_body number kernel.vars kernel.body ≡ true → equals_some (axes_in shapes number) kernel.vars ≡ true
       → writes_of (map (turn_of one kernel) (active_in (slice_get state.layouts number))) ≡ writes_of (map (turn_of other kernel) (active_in (slice_get state'.layouts number)))
-  walk_same number guarded axes =
+  walk_same quiet number guarded axes =
       writes_of_turns one kernel (active_in (slice_get state.layouts number))
       ∙ (ap (λ (ls : List FlatLayout). flat_map (writes_at one kernel) (active_in (slice_get ls number))) same.state_is
       ∙ (pairs_walk laws (writes_at one kernel) same.pairs same.all number (none_at number guarded axes)
-      ∙ (flat_same (writes_at one kernel) (writes_at other kernel) written_same (active_in (slice_get (others same.pairs) number))
+      ∙ (flat_same (writes_at one kernel) (writes_at other kernel) (written_same quiet) (active_in (slice_get (others same.pairs) number))
       ∙ (sym (ap (λ (ls : List FlatLayout). flat_map (writes_at other kernel) (active_in (slice_get ls number))) same.state_is')
       ∙ sym (writes_of_turns other kernel (active_in (slice_get state'.layouts number)))))))
 
-  by_domain : (it : TypedDomain) → is_neutral_over kernel it ≡ true → is_well_typed_domain shapes kernel.vars it ≡ true
+  by_domain : asks_nothing kernel ≡ true → (it : TypedDomain) → asks_nothing_in (line_of 0 nothing_round (Opens (domain_ranges it))) ≡ true → is_neutral_over kernel it ≡ true → is_well_typed_domain shapes kernel.vars it ≡ true
       → writes_of (map (turn_of one kernel) (domain_points state (domain_of one it))) ≡ writes_of (map (turn_of other kernel) (domain_points state' (domain_of other it)))
-  by_domain (domain.Walk number) neutral axes = walk_same number neutral axes
-  by_domain (domain.Ranges ranges) neutral axes =
-      over_points (domain_points state (domain_of one (domain.Ranges ranges)))
-      ∙ ap (λ (it : Domain). writes_of (map (turn_of other kernel) (domain_points state' it))) (domain_same one other (values_same shapes shapes' state state' same) (domain.Ranges ranges))
+  by_domain quiet (domain.Walk number) silent neutral axes = walk_same quiet number neutral axes
+  by_domain quiet (domain.Ranges ranges) silent neutral axes =
+      over_points quiet (domain_points state (domain_of one (domain.Ranges ranges)))
+      ∙ ap (λ (it : Domain). writes_of (map (turn_of other kernel) (domain_points state' it))) (domain_same one other (values_same shapes shapes' state state' same) (domain.Ranges ranges) silent)
 
   pub neutral_writes : is_neutral_kernel kernel ≡ true → writes_of (kernel_effects one kernel).turns ≡ writes_of (kernel_effects other kernel).turns
-  neutral_writes neutral = by_domain kernel.domain neutral typed_domain
+  neutral_writes neutral =
+      let each = and_parts (asks_nothing kernel) (is_neutral_over kernel kernel.domain) neutral in
+      let lines = and_parts (asks_nothing_in (line_of 0 nothing_round (Opens (domain_ranges kernel.domain)))) (list_all asks_nothing_in (block_lines kernel.body nothing_round)) each.0 in
+      by_domain each.0 kernel.domain lines.0 each.1 typed_domain
 
   -- so two runs that aren't refused leave the same values
   pub neutral_run : (after after' : FlatState) → is_neutral_kernel kernel ≡ true → kernel_meaning shapes state (kernel_effects one kernel) ≡ Ok after → kernel_meaning shapes' state' (kernel_effects other kernel) ≡ Ok after'

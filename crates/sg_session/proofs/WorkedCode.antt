@@ -53,6 +53,7 @@ no_code_is_its_code = record {
         no_own_read = λ layout field op has reads. contains_none _ has;
         own_axes = λ layout field has. absurd (contains_none _ has);
       };
+      asks = λ layout field way has asked. contains_none _ has;
     };
   };
   domain = refl;

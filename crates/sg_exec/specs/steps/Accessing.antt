@@ -2,13 +2,14 @@
 use Rattle.std.specs.Prelude.{◌≡◌, ◌==◌, ℕ, Bool, true, false, not, List, [], ◌∷◌, ◌++◌, map, length, slice_get, Option, Some}
 use Rattle.std.specs.List.{AllZip}
 use Rattle.sg_words.specs.declared.operators.AccOp.{AccOp}
+use Rattle.sg_words.specs.Words.{flag}
 use Rattle.sg_coord.specs.declared.coord.Coord.{Coord}
 use Rattle.sg_flat.specs.declared.effects.Way.TheVariants.{Own, Acc}
 use Rattle.sg_flat.specs.declared.state.FlatState.{FlatState}
 use Rattle.sg_flat.specs.State.{value_of}
 use Rattle.sg_store.specs.StoreWords.{StoreWords}
 use Rattle.sg_store.specs.StandsFor.{StandsFor}
-use Rattle.sg_ir.specs.Runs.{CodeWant, Place, at_of, cell_value, coord_of}
+use Rattle.sg_ir.specs.Runs.{CodeWant, Place, at_of, cell_value, is_active_place, coord_of}
 use Rattle.sg_ir.specs.Places.{place_at}
 use Rattle.sg_exec.specs.declared.lanes.cell_write.CellWrite.{CellWrite}
 use Rattle.sg_exec.specs.declared.lanes.held.Held.{Held}
@@ -26,6 +27,13 @@ IsValueAt stores held field word = (state : FlatState) → AllZip StandsFor stor
     (there : Option Place) → HoldsPlace stores held there → (layout : ℕ) (at loop : Coord) →
     there ≡ place_at (shapes_of stores) layout at →
     word ≡ cell_value (seen_in stores state loop) layout field (at_of (shapes_of stores) there)
+
+-- a word tells whether a place which a place register holds is active in what the stores stand for
+abbrev pub TellsActive : List StoreWords → Option Held → ℕ → Type 0
+TellsActive stores held word = (state : FlatState) → AllZip StandsFor stores state.layouts →
+    (there : Option Place) → HoldsPlace stores held there → (layout : ℕ) (at loop : Coord) →
+    there ≡ place_at (shapes_of stores) layout at →
+    word ≡ flag (is_active_place (seen_in stores state loop) (at_of (shapes_of stores) there) there)
 
 -- a word is the value of a field in the own cell of the moment of a column: the last own value, or else the stores'
 abbrev pub IsOwnValue : List StoreWords → List Moment → ℕ → ℕ → ℕ → ℕ → Type 0

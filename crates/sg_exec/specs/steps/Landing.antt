@@ -31,6 +31,10 @@ current [] stores = stores
 current (copy ∷ copies) [] = []
 current (copy ∷ copies) (store ∷ stores) = unwrap_or copy store ∷ current copies stores
 
+-- a copy that was made has a number of which something holds
+abbrev pub CopiesInto : (ℕ → Type 0) → List (Option StoreWords) → Type 0
+CopiesInto P copies = (layout : ℕ) (copy : StoreWords) → slice_get copies layout ≡ Some (Some copy) → P layout
+
 -- the stores with a copy in the place of one of them, if there is one
 abbrev pub with_copied_store : List StoreWords → ℕ → Option StoreWords → List StoreWords
 with_copied_store stores number None = stores

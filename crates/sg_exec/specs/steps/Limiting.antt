@@ -67,6 +67,7 @@ past_step limits (i.Mulq to a b s) = binds (most_of limits.regs.items to)
 past_step limits (i.Extract to div size from) = binds (most_of limits.regs.items to)
 past_step limits (i.Offset to high size low) = binds (most_of limits.regs.items to)
 past_step limits (i.ReadCell to place layout field index) = binds (most_of limits.regs.items to)
+past_step limits (i.IsActive to place index) = binds (most_of limits.regs.items to)
 past_step limits (i.OwnRead to layout field) = binds (most_of limits.regs.items to)
 past_step limits (i.Want layout index stmt) = true
 past_step limits (i.If cond block otherwise) = true

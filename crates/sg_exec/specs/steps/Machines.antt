@@ -8,7 +8,6 @@ use Rattle.sg_layout.specs.Path.{offsets}
 use Rattle.sg_flat.specs.declared.effects.Way.TheVariants.{Own}
 use Rattle.sg_flat.specs.declared.effects.Write.{Write}
 use Rattle.sg_flat.specs.declared.state.FlatState.{FlatState}
-use Rattle.sg_flat.specs.State.{value_of}
 use Rattle.sg_store.specs.StoreWords.{StoreWords}
 use Rattle.sg_store.specs.StandsFor.{StandsFor}
 use Rattle.sg_store.specs.Spots.{LeadsAlong}
@@ -28,12 +27,9 @@ use Rattle.sg_exec.specs.steps.Stepping.{IsIdle}
 abbrev pub seen_in : List StoreWords → FlatState → Coord → Seen
 seen_in stores state at = seen_at (shapes_of stores) state at
 
--- The stores have the values of a state: they stand for one that differs from it at most in what is active.
+-- The stores stand for a state.
 pub record Sees (stores : List StoreWords) (state : FlatState) : Type 0 where
-  pub standing : FlatState
-  pub stand : AllZip StandsFor stores standing.layouts
-  pub same_values : (layout place : ℕ) (at : Coord) →
-      value_of (shapes_of stores) standing layout place at ≡ value_of (shapes_of stores) state layout place at
+  pub stand : AllZip StandsFor stores state.layouts
 
 -- ---- places
 

@@ -1,16 +1,20 @@
 -- What a run made, and what it leaves once it has landed in the stores.
-use Rattle.std.specs.Prelude.{◌≡◌, ◌≤◌, ◌<◌, ◌++◌, ◌∷◌, ℕ, List, [], All, length, map, Result, Ok, Err, Some, slice_get, vec_capacity}
+use Rattle.std.specs.Prelude.{◌≡◌, ◌≤◌, ◌<◌, ◌++◌, ◌∷◌, ℕ, List, [], All, Contains, length, map, Result, Ok, Err, Some, slice_get, vec_capacity}
 use Rattle.std.specs.List.{concat, AllPairs, AllZip}
 use Rattle.std.specs.Result.{IsOkAnd}
 use Rattle.sg_words.specs.declared.memory.Stop.{Stop}
 use Rattle.sg_words.specs.declared.memory.Stop.TheVariants as stop
+use Rattle.sg_words.specs.declared.operators.AccOp.{AccOp}
 use Rattle.sg_accum.specs.declared.seat.AccSeat.{AccSeat}
 use Rattle.sg_flat.specs.declared.effects.RunFault.{RunFault}
+use Rattle.sg_flat.specs.declared.effects.Way.TheVariants.{Own, Acc}
 use Rattle.sg_flat.specs.declared.effects.Write.{Write}
 use Rattle.sg_flat.specs.declared.state.FlatState.{FlatState}
 use Rattle.sg_store.specs.StoreWords.{StoreWords, word_in}
 use Rattle.sg_store.specs.Links.{GrowsLinks}
 use Rattle.sg_store.specs.Rows.{IsFieldFront}
+use Rattle.sg_ir.specs.Apt.{Use, Writes}
+use Rattle.sg_exec.specs.declared.lanes.cell_write.CellWrite.{CellWrite}
 use Rattle.sg_exec.specs.declared.results.made.Ended.{Ended}
 use Rattle.sg_exec.specs.declared.results.made.Made.{Made}
 use Rattle.sg_exec.specs.declared.results.shared.Accumulated.{Accumulated}
@@ -62,6 +66,11 @@ pub record AddsSums (accumulated : List Accumulated) (seats : List AccSeat) (old
   pub sums : (stores : List StoreWords) (writes : List Write) → ArePasses stores accumulated → AreGiven stores accumulated seats writes →
       AreSums stores more writes × (summed more writes ≡ passed accumulated writes)
 
+-- each sum is of a field that is accumulated by these uses, and each kept write goes into one that is own-written
+pub record EndsUsed (uses : List Use) (ended : Ended) : Type 0 where
+  pub sums : (sum : Sum) → Contains ended.sums.items sum → (op : AccOp) × Contains uses (Writes sum.layout sum.field (Acc op))
+  pub puts : (write : CellWrite) → Contains (kept_writes ended.puts) write → Contains uses (Writes write.layout write.place Own)
+
 -- ---- what a run made
 
 -- what was made can land in the stores with the copies in their places, and there is room for these
@@ -78,6 +87,22 @@ pub record HasLanded (stores : List StoreWords) (ended : Ended) (news : List Sto
   pub mids : List StoreWords
   pub sums_land : (writes : List Write) → AreSums stores ended.sums.items writes → Lands stores mids (summed ended.sums.items writes)
   pub puts_land : (made : List Write) → (kept_writes ended.puts) ≡ map (landing stores) made → Lands mids news made
+
+-- no sum is of a layout
+abbrev pub NoSumOf : List Sum → ℕ → Type 0
+NoSumOf sums layout = (sum : Sum) → Contains sums sum → sum.layout ≡ layout → ⊥
+
+-- no write goes into a layout
+abbrev pub NoWriteInto : List CellWrite → ℕ → Type 0
+NoWriteInto writes layout = (write : CellWrite) → Contains writes write → write.layout ≡ layout → ⊥
+
+-- in these stores all has landed, and a layout into which nothing goes is as before
+pub record HasPut (stores : List StoreWords) (ended : Ended) (news : List StoreWords) : Type 0 where
+  pub landed : HasLanded stores ended news
+  pub mids_shapes : shapes_of landed.mids ≡ shapes_of stores
+  pub mids_same : (layout : ℕ) → NoSumOf ended.sums.items layout → slice_get landed.mids layout ≡ slice_get stores layout
+  pub news_shapes : shapes_of news ≡ shapes_of landed.mids
+  pub news_same : (layout : ℕ) → NoWriteInto (kept_writes ended.puts) layout → slice_get news layout ≡ slice_get landed.mids layout
 
 -- What was made is what a meaning says: any stores in which it has landed stand for the meaning's state, and a refusal is that of the meaning.
 abbrev pub MadeRan : List StoreWords → Result Made (Stop RunFault) → Result FlatState RunFault → Type 0

@@ -47,7 +47,7 @@ abbrev pub IsAmong : ℕ → ℕ → List Owned → Type 0
 IsAmong layout place owned = (own : Owned) × (Contains owned own × ((own.layout ≡ layout) × (own.field ≡ place)))
 
 -- each field that is accumulated, in a store in which something can be active, has its pass, with a new seat that has the whole
--- share; each pass is used; and each field that is own-written is listed
+-- share; each pass is used; and the fields that are own-written are listed, and no others
 pub record HaveFields (stores : List StoreWords) (uses : List Use) (accumulated : List Accumulated) (seats : List AccSeat) (owned : List Owned) : Type 0 where
   pub passes : ArePasses stores accumulated
   pub are_seats : AreSeats accumulated seats
@@ -55,6 +55,7 @@ pub record HaveFields (stores : List StoreWords) (uses : List Use) (accumulated 
   pub used : (k : ℕ) (it : Accumulated) → slice_get accumulated k ≡ Some it → Contains uses (Writes it.layout it.field (Acc it.op))
   pub each : (layout field : ℕ) (op : AccOp) → Contains uses (Writes layout field (Acc op)) → HasActive stores layout field → HasPass accumulated layout field
   pub own : (layout field : ℕ) → Contains uses (Writes layout field Own) → IsAmong layout field owned
+  pub own_used : (own : Owned) → Contains owned own → Contains uses (Writes own.layout own.field Own)
 
 -- a record of written fields holds the passes, the new seats and the own-written fields that these uses ask for
 abbrev pub HaveWritten : List StoreWords → List Use → WrittenFields → Type 0

@@ -1,5 +1,5 @@
 -- The turns of a run, and what they want in each layout.
-use Rattle.std.specs.Prelude.{◌≡◌, ◌⊎◌, ℕ, suc, ◌+◌, ◌<◌, Bool, ◌&&◌, List, [], ◌∷◌, map, filter, ◌==◌, length, All, Some, Option, None, IsSome, IsTrue, Result, Ok, Err, slice_get}
+use Rattle.std.specs.Prelude.{◌≡◌, ◌⊎◌, ℕ, suc, ◌+◌, ◌<◌, Bool, ◌&&◌, List, [], ◌∷◌, map, filter, ◌==◌, length, All, Contains, Some, Option, None, IsSome, IsTrue, Result, Ok, Err, slice_get}
 use Rattle.std.specs.List.{AllZip}
 use Rattle.sg_words.specs.declared.memory.Stop.{Stop}
 use Rattle.sg_words.specs.declared.memory.Stop.TheVariants as stop
@@ -21,6 +21,7 @@ use Rattle.sg_activate.specs.declared.fault.ActFault.{ActFault}
 use Rattle.sg_activate.specs.declared.fault.ActFault.TheVariants as full
 use Rattle.sg_ir.specs.declared.code.Inst.{Inst}
 use Rattle.sg_ir.specs.Runs.{Seen, Moved, CodeWant, does, runs}
+use Rattle.sg_ir.specs.Touches.{layouts_wanted}
 use Rattle.sg_exec.specs.declared.activation.ahead.Ahead.{Ahead}
 use Rattle.sg_exec.specs.declared.lanes.batch.Batch.{Batch}
 use Rattle.sg_exec.specs.declared.activation.turns.Turns.{Turns}
@@ -70,6 +71,11 @@ BlockSeeksNone block = (layout : ℕ) → BlockWantsNone layout block
 abbrev pub WantsNone : Turns → ℕ → Type 0
 WantsNone (Slice points block) layout = BlockWantsNone layout block.now
 WantsNone (Rows rows) layout = filter (λ row. row.layout == layout) rows.now ≡ []
+
+-- turns may want something in a layout: a slice has an instruction that does
+abbrev pub MayWant : Turns → ℕ → Type 0
+MayWant (Slice points block) layout = Contains (layouts_wanted block.now) layout
+MayWant (Rows rows) layout = Unit {0}
 
 -- the coordinates of the writes into a layout that are inside its bounds
 abbrev pub wanted_of : Bounds → ℕ → List Write → List Coord

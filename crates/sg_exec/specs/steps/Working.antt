@@ -1,5 +1,5 @@
 -- The iterations of a worker at points, over the stores as they were.
-use Rattle.std.specs.Prelude.{◌≡◌, List, map}
+use Rattle.std.specs.Prelude.{◌≡◌, List, map, Contains}
 use Rattle.sg_coord.specs.declared.coord.Coord.{Coord}
 use Rattle.sg_flat.specs.declared.effects.Turn.{Turn}
 use Rattle.sg_flat.specs.declared.effects.Write.{Write}
@@ -7,7 +7,9 @@ use Rattle.sg_flat.specs.declared.state.FlatState.{FlatState}
 use Rattle.sg_flat.specs.Effects.{writes_of}
 use Rattle.sg_store.specs.StoreWords.{StoreWords}
 use Rattle.sg_ir.specs.declared.code.Inst.{Inst}
-use Rattle.sg_ir.specs.Apt.{uses_in}
+use Rattle.sg_flat.specs.declared.effects.Way.TheVariants.{Own}
+use Rattle.sg_ir.specs.Apt.{Writes, uses_in}
+use Rattle.sg_exec.specs.declared.lanes.cell_write.CellWrite.{CellWrite}
 use Rattle.sg_exec.specs.declared.results.shared.Accumulated.{Accumulated}
 use Rattle.sg_exec.specs.declared.results.shared.Owned.{Owned}
 use Rattle.sg_exec.specs.declared.workers.state.Hand.{Hand}
@@ -37,6 +39,7 @@ pub record HasTurns (stores : List StoreWords) (accumulated : List Accumulated) 
 pub record HasRaced (stores : List StoreWords) (code : List Inst) (points : List Coord) (accumulated : List Accumulated) (after : Hand) : Type 0 where
   pub seats : AreSeats accumulated after.seats.items
   pub cells : AreCells stores (kept_writes after.puts)
+  pub used : (write : CellWrite) → Contains (kept_writes after.puts) write → Contains (uses_in code) (Writes write.layout write.place Own)
   pub whole : AreWhole after.seats.items
   pub reached : GaveReached stores accumulated after.seats.items
   pub turns : WritesOneWay (uses_in code) → (state : FlatState) → Sees stores state → AreNamedAt stores state code points →

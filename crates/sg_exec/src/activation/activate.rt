@@ -1,19 +1,21 @@
 //! The stores with what turns want active in them.
 
-ghost use Rattle.std.specs.Prelude.{◌≡◌, ◌≤◌, ◌++◌, ◌∷◌, [], List, map, length, IfOk, IsTrue, OnOk, unwrap_or};
+ghost use Rattle.std.specs.Prelude.{◌≡◌, ◌≤◌, ◌++◌, ◌∷◌, [], List, map, length, Contains, IfOk, IsTrue, OnOk, Some, unwrap_or};
 ghost use Rattle.std.specs.List.{AllZip};
 ghost use Rattle.sg_coord.specs.declared.coord.Coord.{Coord};
 ghost use Rattle.sg_flat.specs.declared.effects.Turn.{Turn};
 ghost use Rattle.sg_flat.specs.declared.state.FlatLayout.{FlatLayout};
 ghost use Rattle.sg_flat.specs.declared.state.FlatState.{FlatState};
 ghost use Rattle.sg_flat.specs.Effects.{writes_of};
+ghost use Rattle.sg_store.specs.StoreWords.{StoreWords};
 ghost use Rattle.sg_store.specs.StandsFor.{StandsFor};
 ghost use Rattle.sg_store.specs.Links.{GrowsLinks};
+ghost use Rattle.sg_ir.specs.Touches.{layouts_wanted};
 ghost use Rattle.sg_exec.specs.Running.{turn_of};
 ghost use Rattle.sg_exec.specs.Standing.{shapes_of};
-ghost use Rattle.sg_exec.specs.steps.Landing.{current};
+ghost use Rattle.sg_exec.specs.steps.Landing.{current, CopiesInto};
 ghost use Rattle.sg_exec.specs.steps.Moments.{AreNamedAt, slice_turn};
-ghost use Rattle.sg_exec.specs.steps.Turning.{AreActive, IsActiveStore, AreMeant, IsMeant, TurnsActivated, full_layout};
+ghost use Rattle.sg_exec.specs.steps.Turning.{AreActive, IsActiveStore, AreMeant, IsMeant, MayWant, TurnsActivated, full_layout};
 ghost use Rattle.sg_exec.specs.steps.Wants.{AreWants, StoreReached, AllReached};
 
 use crate::activation::first_pass::{first_outside, first_pass};
@@ -53,6 +55,7 @@ pub(crate) fn activated_for_slice<R: Threads + Sync, G: Gate + Sync>(
     ensures shapes { IfOk result (λ copies. shapes_of (current copies.items stores.now.list) ≡ shapes_of stores.now.list) }
     ensures room { IfOk result (λ copies. length copies.items ≡ length stores.now.list) }
     ensures links { IfOk result (λ copies. AllZip GrowsLinks stores.now.list (current copies.items stores.now.list)) }
+    ensures into { IfOk result (λ copies. CopiesInto (λ layout. Contains (layouts_wanted block.now) layout) copies.items) }
 {
     let active = first_pass(rt, alloc, stores, points, block, workers)?;
     let turns = Turns::Slice { points, block };
@@ -100,6 +103,7 @@ fn activated_copies<R: Threads + Sync, G: Gate + Sync>(
     ensures shapes { IfOk result (λ copies. shapes_of (current copies.items stores.now.list) ≡ shapes_of stores.now.list) }
     ensures room { IfOk result (λ copies. length copies.items ≡ length stores.now.list) }
     ensures links { IfOk result (λ copies. AllZip GrowsLinks stores.now.list (current copies.items stores.now.list)) }
+    ensures into { IfOk result (λ copies. CopiesInto (MayWant turns.entry) copies.items) }
 {
     let mut copies = Vec::new(alloc);
     // for the laws that they ensure
@@ -149,6 +153,7 @@ fn store_activated<R: Threads + Sync, G: Gate + Sync>(
         StoreReached (λ copy. unwrap_or copy store.now) number store.now.shape flat wanted result }
     ensures shape { IfOk result (λ copy. (unwrap_or copy store.now).shape ≡ store.now.shape) }
     ensures links { IfOk result (λ copy. GrowsLinks store.now (unwrap_or copy store.now)) }
+    ensures into { IfOk result (λ copy. (made : StoreWords) → copy ≡ Some made → MayWant turns.entry number) }
 {
     // for the laws that they ensure
     live_is_need();

@@ -119,6 +119,7 @@ fn word_of(limits: &Limits, inst: &Inst) -> Option<(u32, u32)> {
         Inst::Extract { to, .. } => Some((*to, u32::MAX)),
         Inst::Offset { to, .. } => Some((*to, u32::MAX)),
         Inst::ReadCell { to, .. } => Some((*to, u32::MAX)),
+        Inst::IsActive { to, .. } => Some((*to, u32::MAX)),
         Inst::OwnRead { to, .. } => Some((*to, u32::MAX)),
         _ => None,
     }
@@ -201,6 +202,7 @@ fn sets_past(limits: &Limits, inst: &Inst) -> bool
         Inst::Extract { to, .. } => binds(limits.reg(*to)),
         Inst::Offset { to, .. } => binds(limits.reg(*to)),
         Inst::ReadCell { to, .. } => binds(limits.reg(*to)),
+        Inst::IsActive { to, .. } => binds(limits.reg(*to)),
         Inst::OwnRead { to, .. } => binds(limits.reg(*to)),
         Inst::Want { .. } => true,
         Inst::If { .. } => true,

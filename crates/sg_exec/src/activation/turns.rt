@@ -1,7 +1,8 @@
 //! The turns of a run, and the layouts into which they want to write.
 
-ghost use Rattle.std.specs.Prelude.{◌≡◌, ◌==◌, [], false, filter};
-ghost use Rattle.sg_exec.specs.steps.Turning.{turn_count, WantsNone, BlockWantsNone, InstWantsNone, BlockSeeksNone, InstSeeksNone};
+ghost use Rattle.std.specs.Prelude.{◌≡◌, ◌==◌, [], true, false, filter, Contains};
+ghost use Rattle.sg_ir.specs.Touches.{layouts_wanted, wanted_by};
+ghost use Rattle.sg_exec.specs.steps.Turning.{turn_count, MayWant, WantsNone, BlockWantsNone, InstWantsNone, BlockSeeksNone, InstSeeksNone};
 
 use crate::workers::points::Points;
 use sg_flat::Write;
@@ -29,7 +30,8 @@ pub(crate) fn count_of(turns: Turns) -> usize
 
 /// Whether some turn may want to write into a layout. Where the answer is no, none does.
 pub(crate) fn turns_want(turns: Turns, layout: u32) -> bool
-    ensures { result ≡ false → WantsNone turns.entry layout }
+    ensures none { result ≡ false → WantsNone turns.entry layout }
+    ensures text { result ≡ true → MayWant turns.entry layout }
 {
     match turns {
         Turns::Slice { block, .. } => block_wants(block, layout),
@@ -52,7 +54,8 @@ fn rows_want(rows: &[Write], layout: u32) -> bool
 /// Whether a block has an instruction that wants a coordinate of a layout, however deep it stands.
 #[cycle(wanting)]
 fn block_wants(block: &[Inst], layout: u32) -> bool
-    ensures { result ≡ false → BlockWantsNone layout block.now }
+    ensures none { result ≡ false → BlockWantsNone layout block.now }
+    ensures text { result ≡ true → Contains (layouts_wanted block.now) layout }
 {
     for inst in block {
         if inst_wants(inst, layout) {
@@ -65,7 +68,8 @@ fn block_wants(block: &[Inst], layout: u32) -> bool
 /// Whether an instruction, or one in it, wants a coordinate of a layout. Where the answer is no, none wants one.
 #[cycle(wanting)]
 fn inst_wants(inst: &Inst, layout: u32) -> bool
-    ensures { result ≡ false → InstWantsNone layout inst.now }
+    ensures none { result ≡ false → InstWantsNone layout inst.now }
+    ensures text { result ≡ true → Contains (wanted_by inst.now) layout }
 {
     match inst {
         Inst::Want {

@@ -201,11 +201,5 @@ fn log_of(number: u32) -> u32
     ensures low { 2 ^ result ≤ number }
     ensures high { number < 2 ^ (result + 1) }
 {
-    for log in 0..30 {
-        let next = 2_u32 << log;
-        if number < next {
-            return log;
-        }
-    }
-    30
+    number.ilog2()
 }

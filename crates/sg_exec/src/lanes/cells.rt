@@ -1,5 +1,6 @@
 use crate::lanes::cell_write::CellWrite;
 use crate::lanes::known::Known;
+use crate::lanes::near::{Near, cell_by, near_of};
 use crate::lanes::own::{cell_of, found_in, remember, value_of};
 use crate::lanes::own_cell::OwnCell;
 use crate::lanes::view::View;
@@ -48,6 +49,7 @@ impl<'a> Cells<'a> {
     ghost use Rattle.sg_exec.specs.steps.Landing.{current};
     ghost use Rattle.sg_exec.specs.steps.Written.{own_write, last_or};
     ghost use Rattle.sg_exec.specs.steps.Machines.{cell_there, IsCellOf, IsStoreOf, AreCells};
+    ghost use Rattle.sg_exec.specs.steps.Nearby.{IsNear};
 
     /// No cells over the stores, with each copy in the place of the store that it was made of.
     pub fn new(alloc: Global, stores: &'a Stores, copies: &'a [Option<Store>]) -> Cells<'a>
@@ -91,6 +93,56 @@ impl<'a> Cells<'a> {
         let cell = cell_of(&self.view, layout, self.at);
         remember(&mut self.found, OwnCell { layout, cell });
         cell
+    }
+
+    /// Looks for the cell of the iteration's coordinate in a layout's store, unless it was found already: by what is near, where its cell
+    /// follows that. What is near for the next iteration is answered.
+    #[inline(always)]
+    pub fn find_by(&mut self, layout: u32, near: Option<Near>) -> Option<Near>
+        requires near { IfSome near (IsNear self.old.stores layout) }
+        ensures stays { self.new ≡ self.old }
+        ensures near { IfSome result (IsNear self.old.stores layout) }
+    {
+        match found_in(self.found.as_slice(), layout) {
+            Some(_own) => near,
+            None => self.find_new(layout, near),
+        }
+    }
+
+    /// The same where it wasn't found yet.
+    #[inline(always)]
+    fn find_new(&mut self, layout: u32, near: Option<Near>) -> Option<Near>
+        requires near { IfSome near (IsNear self.old.stores layout) }
+        ensures stays { self.new ≡ self.old }
+        ensures near { IfSome result (IsNear self.old.stores layout) }
+    {
+        match cell_by(near, self.at) {
+            Some(cell) => {
+                self.keep(layout, Some(cell));
+                near
+            }
+            None => self.look(layout),
+        }
+    }
+
+    /// Looks for the cell down the tree.
+    fn look(&mut self, layout: u32) -> Option<Near>
+        ensures stays { self.new ≡ self.old }
+        ensures near { IfSome result (IsNear self.old.stores layout) }
+    {
+        let cell = cell_of(&self.view, layout, self.at);
+        self.keep(layout, cell);
+        near_of(&self.view, layout, self.at, cell)
+    }
+
+    /// Keeps the cell of the iteration's coordinate in a layout's store.
+    #[inline(always)]
+    fn keep(&mut self, layout: u32, cell: Option<u32>)
+        requires own { cell ≡ cell_there self.old.stores layout (Some self.old.at) }
+        requires reached { IfSome cell (IsCellOf self.old.stores layout) }
+        ensures { self.new ≡ self.old }
+    {
+        remember(&mut self.found, OwnCell { layout, cell });
     }
 
     /// The value of a field in the iteration's own cell, both from 0: the last own value, or else the store's, which is 0 if the

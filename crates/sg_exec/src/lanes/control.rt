@@ -13,7 +13,7 @@ ghost use Rattle.sg_exec.specs.steps.Moments.{run_turns, AllMove, IsOver};
 use crate::lanes::batch::Batch;
 use crate::lanes::columns::{Columns, has_some, where_set, where_zero};
 use crate::lanes::effects::{contributions, own_writes, wants};
-use crate::lanes::memory::{checks, own_reads, reads, roots, steps};
+use crate::lanes::memory::{asks, checks, own_reads, reads, roots, steps};
 use crate::lanes::row::row_or_zero;
 use crate::lanes::words::{
     assigns, binaries, constants, extracts, offsets, products, set_vars, unaries, variables,
@@ -110,6 +110,9 @@ fn run(batch: &mut Batch, columns: &Columns, inst: &Inst)
             *field,
             index.as_slice(),
         ),
+        Inst::IsActive { to, place, index } => {
+            asks(batch, columns, *to, *place, index.as_slice())
+        }
         Inst::OwnRead { to, layout, field } => own_reads(batch, columns, *to, *layout, *field),
         Inst::OwnWrite {
             layout,

@@ -27,11 +27,13 @@ pub(crate) fn own_writes(
     stmt: u32,
 )
     requires room { 32 ≤ length batch.old.moments.items }
+    requires over { IsOver batch.old.places.stores batch.old }
     ensures { AllMove (λ seen. does seen (v.OwnWrite layout field from stmt)) (On columns.now.on) batch.old batch.new }
 {
     let _stmt = stmt;
     if batch.has_regs(from, from, from) {
         let wrote = add_own_writes(
+            &batch.places,
             batch.moments.as_mut_slice(),
             batch.regs.as_slice(),
             columns,
@@ -45,9 +47,47 @@ pub(crate) fn own_writes(
     }
 }
 
-/// Own writes. False if memory runs out.
+/// Own writes, each in the iteration's own cell. False if memory runs out.
 #[inline(always)]
 fn add_own_writes(
+    places: &Places,
+    moments: &mut [Moment],
+    regs: &[u32],
+    columns: &Columns,
+    layout: u32,
+    field: u32,
+    from: u32,
+) -> bool
+    requires room { 32 ≤ length moments.old }
+    requires from { from * 32 + 32 ≤ length regs.now }
+    requires over { AreCellsOver places.now.stores moments.old }
+    ensures stores { KeepStores moments.old moments.new }
+    ensures made { IsTrue result → AreMade (λ k before. IsWritten (own_write_at layout field (item_in regs.now 0 k from) before) before)
+        (On columns.now.on) moments.old moments.new }
+{
+    find_cells(places, moments, columns, layout);
+    write_all(moments, regs, columns, layout, field, from)
+}
+
+/// Looks for the own cells of the iterations of some columns in a layout's store, each by the one before where it follows that.
+#[inline(always)]
+pub(crate) fn find_cells(places: &Places, moments: &mut [Moment], columns: &Columns, layout: u32)
+    requires room { 32 ≤ length moments.old }
+    requires over { AreCellsOver places.now.stores moments.old }
+    ensures { moments.new ≡ moments.old }
+{
+    let _places = places;
+    let lanes = columns.on.to_array();
+    let mut near = None;
+    for k in 0..32 {
+        let moment = &mut moments[k];
+        near = moment.find_if(lanes[k], layout, near);
+    }
+}
+
+/// Own writes, where their cells are at hand. False if memory runs out.
+#[inline(always)]
+fn write_all(
     moments: &mut [Moment],
     regs: &[u32],
     columns: &Columns,

@@ -3,7 +3,7 @@
 ghost use Rattle.std.specs.Prelude.{◌≡◌, ◌<◌, ℕ, get_or, IfSome, IsTrue};
 ghost use Rattle.sg_exec.specs.steps.Rows.{On};
 ghost use Rattle.sg_exec.specs.steps.Machines.{IsHeld, IsStoreOf, StepsDown};
-ghost use Rattle.sg_exec.specs.steps.Accessing.{IsValueAt};
+ghost use Rattle.sg_exec.specs.steps.Accessing.{TellsActive, IsValueAt};
 ghost use Rattle.sg_exec.specs.steps.Holding.{held_of, held_at, AreHeldAt, HasLayoutWord, IsOneOf, IsStep};
 
 use crate::lanes::columns::Columns;
@@ -12,11 +12,12 @@ use crate::lanes::held::Held;
 use crate::lanes::held_row::{HeldRow, HeldWords, held_in_some, held_where, one_of, words_of};
 use crate::lanes::known::{Known, known_of};
 use crate::lanes::row_values::{cells_after, values_over};
-use crate::lanes::spots::{below, value_held};
+use crate::lanes::spots::{below, is_cell_held, value_held};
 use crate::lanes::values::ONE_POINT;
 use crate::lanes::view::View;
 use sg_coord::numbering;
 use sg_ir::places_tell;
+use sg_store::laws::cells_are_active;
 use std::simd::prelude::*;
 
 /// The places one node below, over words, in some columns.
@@ -255,6 +256,65 @@ fn value_of(view: &View, known: Option<Known>, held: Option<Held>, field: u32) -
     places_tell();
     match held {
         Some(held) => value_held(view, known, held, field),
+        None => 0,
+    }
+}
+
+/// Whether places are active, as words 1 and 0, in some columns.
+#[inline(always)]
+pub(crate) fn row_active(view: &View, columns: &Columns, row: &HeldRow) -> u32x32
+    requires held { AreHeldAt view.now row.now }
+    ensures { (k : ℕ) → k < 32 → On columns.now.on k → TellsActive view.now (held_at row.now k) (get_or result k 0) }
+{
+    let here = held_in_some(row, columns);
+    all_active(view, &here)
+}
+
+/// The same in all columns.
+#[inline(always)]
+fn all_active(view: &View, row: &HeldRow) -> u32x32
+    requires held { AreHeldAt view.now row.now }
+    ensures { (k : ℕ) → k < 32 → TellsActive view.now (held_at row.now k) (get_or result k 0) }
+{
+    match one_of(row.kinds) {
+        Some(one) => each_active(view, Some(one), row),
+        None => each_active(view, None, row),
+    }
+}
+
+/// The same. Where all that is held is of one layout and node, that is asked once.
+#[inline(always)]
+fn each_active(view: &View, one: Option<u32>, row: &HeldRow) -> u32x32
+    requires held { AreHeldAt view.now row.now }
+    requires one { IfSome one (λ one. (k : ℕ) → k < 32 → IsOneOf (get_or row.now.kinds k 0) one) }
+    ensures { (k : ℕ) → k < 32 → TellsActive view.now (held_at row.now k) (get_or result k 0) }
+{
+    let known = known_by(view, one);
+    let (kinds, parts, slots) = (
+        row.kinds.to_array(),
+        row.parts.to_array(),
+        row.slots.to_array(),
+    );
+    let mut words = [0; 32];
+    for k in 0..32 {
+        let held = held_where(one, kinds[k], parts[k], slots[k]);
+        words[k] = active_word(view, known, held);
+    }
+    u32x32::from_array(words)
+}
+
+/// Whether a place is active, as a word: 0 for none. Where the place is in the known store, that isn't looked for.
+#[inline(always)]
+fn active_word(view: &View, known: Option<Known>, held: Option<Held>) -> u32
+    requires known { IfSome known (λ known. IsStoreOf view.now known.layout known.store.now) }
+    requires held { IfSome held (IsHeld view.now) }
+    ensures { TellsActive view.now held result }
+{
+    // for the laws that they ensure
+    cells_are_active();
+    places_tell();
+    match held {
+        Some(held) => u32::from(is_cell_held(view, known, held)),
         None => 0,
     }
 }

@@ -12,10 +12,11 @@ ghost use Rattle.sg_exec.specs.steps.Rows.{item_in, On, IsPut};
 ghost use Rattle.sg_exec.specs.steps.Machines.{IsStoreOf};
 ghost use Rattle.sg_exec.specs.steps.Written.{own_write, last_or};
 ghost use Rattle.sg_exec.specs.steps.Moments.{AllMove, IsOver};
-ghost use Rattle.sg_exec.specs.steps.Accessing.{AreCellsOver, IsOwnValue, IsValueAt};
+ghost use Rattle.sg_exec.specs.steps.Accessing.{AreCellsOver, TellsActive, IsOwnValue, IsValueAt};
 
 use crate::lanes::batch::Batch;
 use crate::lanes::columns::Columns;
+use crate::lanes::effects::find_cells;
 use crate::lanes::known::Known;
 use crate::lanes::moment::Moment;
 use crate::lanes::places::Places;
@@ -66,7 +67,7 @@ pub(crate) fn steps(
     node: u32,
     offset: u32,
 )
-    ensures { AllMove (λ seen now. set_place to (down seen.shapes node (now.regs offset) (now.places place)) now) (On columns.now.on) batch.old batch.new }
+    ensures { AllMove (λ seen now. set_place to (now.roots place) (down seen.shapes node (now.regs offset) (now.places place)) now) (On columns.now.on) batch.old batch.new }
 {
     if batch.has_regs(offset, offset, offset) && batch.has_places(to, place) {
         batch
@@ -111,6 +112,27 @@ fn put_values(places: &Places, regs: &mut [u32], columns: &Columns, to: u32, pla
     put_row(regs, columns, to, places.values(columns, place, field));
 }
 
+/// Registers tell whether places are active.
+#[inline(never)]
+pub(crate) fn asks(batch: &mut Batch, columns: &Columns, to: u32, place: u32, index: &[u32])
+    ensures { AllMove (λ seen. does seen (v.IsActive to place index.now)) (On columns.now.on) batch.old batch.new }
+{
+    let _index = index;
+    if batch.has_regs(to, to, to) && batch.has_places(place, place) {
+        put_active(&batch.places, batch.regs.as_mut_slice(), columns, to, place);
+    }
+}
+
+/// In these columns a register tells whether a place is active.
+#[inline(always)]
+fn put_active(places: &Places, regs: &mut [u32], columns: &Columns, to: u32, place: u32)
+    requires to { to * 32 + 32 ≤ length regs.old }
+    requires place { place * 32 + 32 ≤ length places.now.list }
+    ensures { IsPut (λ k. TellsActive places.now.stores (item_in places.now.list None k place)) (On columns.now.on) to 0 regs.old regs.new }
+{
+    put_row(regs, columns, to, places.active(columns, place));
+}
+
 /// Registers become the values of a field in the iterations' own cells: the last own value, or else the state's value.
 #[inline(never)]
 pub(crate) fn own_reads(batch: &mut Batch, columns: &Columns, to: u32, layout: u32, field: u32)
@@ -148,6 +170,7 @@ fn put_own_values(
     ensures same { moments.new ≡ moments.old }
     ensures put { IsPut (IsOwnValue places.now.stores moments.old layout field) (On columns.now.on) to 0 regs.old regs.new }
 {
+    find_cells(places, moments, columns, layout);
     let known = places.store_of(layout);
     let lanes = columns.on.to_array();
     let mut words = [0; 32];

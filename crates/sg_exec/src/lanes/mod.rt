@@ -16,6 +16,7 @@ pub(crate) mod held_steps;
 pub(crate) mod known;
 pub(crate) mod memory;
 pub(crate) mod moment;
+pub(crate) mod near;
 pub(crate) mod operators;
 pub(crate) mod own;
 pub(crate) mod own_cell;

@@ -1,5 +1,6 @@
 use crate::lanes::cell_write::CellWrite;
 use crate::lanes::cells::Cells;
+use crate::lanes::near::Near;
 use sg_coord::Coord;
 use sg_flat::{Way, Write};
 use sg_store::{Store, Stores};
@@ -17,6 +18,7 @@ impl<'a> Moment<'a> {
     ghost use Rattle.std.specs.Prelude.{◌≡◌, [], IfSome, IsTrue};
     ghost use Rattle.sg_exec.specs.steps.Landing.{current};
     ghost use Rattle.sg_exec.specs.steps.Machines.{IsCellOf};
+    ghost use Rattle.sg_exec.specs.steps.Nearby.{IsNear};
     ghost use Rattle.sg_exec.specs.steps.Accessing.{contribution, own_write_at, BecomesIf, IsWanted, IsWritten};
 
     /// Nothing made, over the stores, with each copy in the place of the store that it was made of.
@@ -39,6 +41,21 @@ impl<'a> Moment<'a> {
     {
         self.cells.start(at);
         self.wants.clear();
+    }
+
+    /// Looks for the iteration's own cell in a layout's store, if the lane isn't 0: by what is near, where it follows that. What is near
+    /// for the next is answered.
+    #[inline(always)]
+    pub fn find_if(&mut self, lane: u32, layout: u32, near: Option<Near>) -> Option<Near>
+        requires near { IfSome near (IsNear self.old.cells.stores layout) }
+        ensures stays { self.new ≡ self.old }
+        ensures near { IfSome result (IsNear self.old.cells.stores layout) }
+    {
+        if lane == 0 {
+            near
+        } else {
+            self.cells.find_by(layout, near)
+        }
     }
 
     /// An own write, if the lane isn't 0. False if memory runs out.

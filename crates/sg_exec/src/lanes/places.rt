@@ -5,7 +5,7 @@ use crate::lanes::columns::Columns;
 use crate::lanes::held::Held;
 use crate::lanes::held_row::{HeldRow, checked, in_all, words_of};
 use crate::lanes::held_rows::HeldRows;
-use crate::lanes::held_steps::{row_below, row_values};
+use crate::lanes::held_steps::{row_active, row_below, row_values};
 use crate::lanes::known::{Known, known_of};
 use crate::lanes::row::row;
 use crate::lanes::spots::{cell_held, root_of};
@@ -49,7 +49,7 @@ impl<'a> Places<'a> {
     ghost use Rattle.sg_ir.specs.Runs.{Place, down, at_of};
     ghost use Rattle.sg_ir.specs.Places.{place_at};
     ghost use Rattle.sg_exec.specs.Standing.{shapes_of};
-    ghost use Rattle.sg_exec.specs.steps.Accessing.{IsValueAt};
+    ghost use Rattle.sg_exec.specs.steps.Accessing.{TellsActive, IsValueAt};
     ghost use Rattle.sg_exec.specs.steps.Landing.{current};
     ghost use Rattle.sg_exec.specs.steps.Rows.{item_in, On, IsPut};
     ghost use Rattle.sg_exec.specs.steps.Machines.{cell_there, IsCellOf, IsHeld, HoldsPlace, IsStoreOf};
@@ -164,6 +164,16 @@ impl<'a> Places<'a> {
     {
         let held = self.rows.row(place);
         row_values(&self.view, columns, &held, field)
+    }
+
+    /// Whether the places of some columns are active, as words 1 and 0.
+    #[inline(always)]
+    pub fn active(&self, columns: &Columns, place: u32) -> u32x32
+        requires place { place * 32 + 32 ≤ length self.now.list }
+        ensures { (k : ℕ) → k < 32 → On columns.now.on k → TellsActive self.now.stores (item_in self.now.list None k place) (get_or result k 0) }
+    {
+        let held = self.rows.row(place);
+        row_active(&self.view, columns, &held)
     }
 
     /// The cell of a place of a column in a layout's store. None if nothing is active, and where the place is another layout's.

@@ -8,7 +8,7 @@ ghost use Rattle.sg_store.specs.Spots.{LeadsAlong, IsSpot};
 ghost use Rattle.sg_store.specs.StandsFor.{StandsFor};
 ghost use Rattle.sg_store.specs.StoreWords.{StoreWords};
 ghost use Rattle.sg_store.specs.Walks.{cell_in};
-ghost use Rattle.sg_store.specs.WellFormed.{IsReached};
+ghost use Rattle.sg_store.specs.WellFormed.{IsReached, IsWellFormed};
 ghost use Rattle.sg_exec.specs.steps.Machines.{HoldsPlace, IsHeld, IsCellOf, IsStoreOf, StepsDown};
 ghost use Rattle.sg_exec.specs.steps.Holding.{FitsWord, HasLayoutWord};
 ghost use Rattle.sg_exec.specs.steps.Stepping.{can_step, StepLeads, StepIsDead};
@@ -82,6 +82,28 @@ pub(crate) fn value_held(view: &View, known: Option<Known>, held: Held, field: u
         Some(store) => value_in(store, held.spot, field),
         None => 0,
     }
+}
+
+/// Whether the coordinate of a spot is active: whether the spot is after the last node.
+#[inline(always)]
+pub(crate) fn is_cell_held(view: &View, known: Option<Known>, held: Held) -> bool
+    requires known { IfSome known (λ known. IsStoreOf view.now known.layout known.store.now) }
+    requires held { IsHeld view.now held }
+    ensures { (store : StoreWords) → slice_get view.now held.layout ≡ Some store → (path : List ℕ) → LeadsAlong store held.spot path →
+        length path ≡ length store.shape.nodes → (result ≡ true) × IsWellFormed store }
+{
+    match store_of(view, known, held.layout) {
+        Some(store) => is_cell(store, held.spot),
+        None => false,
+    }
+}
+
+/// Whether a spot is after the last node.
+fn is_cell(store: &Store, spot: Spot) -> bool
+    requires leads { IsSpot store.now spot }
+    ensures { (path : List ℕ) → LeadsAlong store.now spot path → length path ≡ length store.now.shape.nodes → (result ≡ true) × IsWellFormed store.now }
+{
+    spot.node as usize == store.layout().nodes()
 }
 
 /// The cell of a spot in a layout's store. None if the spot is another layout's.

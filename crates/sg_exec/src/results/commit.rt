@@ -1,15 +1,17 @@
 //! What a run made lands in its stores. Nothing is copied, and nothing refused.
 
-ghost use Rattle.std.specs.Prelude.{◌≡◌, ◌+◌, ◌<◌, ◌≤◌, ◌++◌, ◌∷◌, [], ℕ, All, List, length, map, IfSome, unwrap_or, vec_capacity};
+ghost use Rattle.std.specs.Prelude.{◌≡◌, ◌+◌, ◌<◌, ◌≤◌, ◌++◌, ◌∷◌, [], ℕ, All, List, length, map, IfSome, slice_get, unwrap_or, vec_capacity};
 ghost use Rattle.std.specs.List.{AllZip};
 ghost use Rattle.sg_flat.specs.declared.effects.Write.{Write};
 ghost use Rattle.sg_store.specs.StoreWords.{StoreWords};
 ghost use Rattle.sg_store.specs.Links.{GrowsLinks};
+ghost use Rattle.sg_ir.specs.declared.code.KernelCode.{KernelCode};
+ghost use Rattle.sg_exec.specs.Preparing.{CanLandIn, HasLandedIn, IsMadeFor, KeepsUnwritten};
 ghost use Rattle.sg_exec.specs.steps.Machines.{IsCellOf, AreCells};
 ghost use Rattle.sg_exec.specs.steps.Landing.{current, landing, Lands};
 ghost use Rattle.sg_exec.specs.steps.Passes.{IsSumOf, into_field};
 ghost use Rattle.sg_exec.specs.steps.Puts.{in_lists, kept_writes};
-ghost use Rattle.sg_exec.specs.steps.Made.{AreSums, CanLand, HasLanded, HasRow, HaveTrees, KeepsField, summed, words_of};
+ghost use Rattle.sg_exec.specs.steps.Made.{AreSums, HasRow, HaveTrees, KeepsField, NoSumOf, NoWriteInto, summed, words_of};
 
 use crate::lanes::cell_write::CellWrite;
 use crate::results::landing::put_cell;
@@ -20,10 +22,12 @@ use sg_store::{Store, Stores};
 use sg_words::Items;
 use std::alloc::Global;
 
-/// Lands what was made in the stores. The copies take the places of their stores first.
-pub(crate) fn land(alloc: Global, stores: &mut Stores, made: Made)
-    requires { CanLand stores.old.list made }
-    ensures landed { HasLanded (current made.copies.items stores.old.list) made.ended stores.new.list }
+/// The second half of a run: lands what was prepared in the stores, in which the layouts that its kernel touches are as they were then. The
+/// copies take the places of their stores first.
+pub fn land(alloc: Global, stores: &mut Stores, made: Made)
+    requires { CanLandIn stores.old.list made }
+    ensures landed { HasLandedIn stores.old.list made stores.new.list }
+    ensures kept { (kernel : KernelCode) → IsMadeFor kernel stores.old.list made → KeepsUnwritten kernel stores.old.list stores.new.list }
     ensures links { AllZip GrowsLinks stores.old.list stores.new.list }
 {
     let Made {
@@ -73,6 +77,7 @@ fn land_sums(stores: &mut Vec<Store>, sums: &[Sum])
     ensures trees { HaveTrees stores.old.items stores.new.items }
     ensures lands { (writes : List Write) → AreSums stores.old.items sums.now writes →
         Lands stores.old.items stores.new.items (summed sums.now writes) }
+    ensures kept { (layout : ℕ) → NoSumOf sums.now layout → slice_get stores.new.items layout ≡ slice_get stores.old.items layout }
 {
     for sum in sums {
         land_sum(stores, sum);
@@ -88,6 +93,7 @@ fn land_sum(stores: &mut Vec<Store>, sum: &Sum)
     ensures lands { (base : List StoreWords) (writes : List Write) → HaveTrees base stores.old.items →
         IsSumOf base sum.now.layout sum.now.field (words_of sum.now) writes → KeepsField base stores.old.items sum.now.layout sum.now.field →
         Lands stores.old.items stores.new.items (into_field sum.now.layout sum.now.field writes) }
+    ensures kept { (layout : ℕ) → (sum.now.layout ≡ layout → ⊥) → slice_get stores.new.items layout ≡ slice_get stores.old.items layout }
 {
     let number = sum.layout as usize;
     if stores.len() <= number {
@@ -103,6 +109,7 @@ fn land_puts(stores: &mut Vec<Store>, puts: &Puts)
     ensures trees { HaveTrees stores.old.items stores.new.items }
     ensures lands { (base : List StoreWords) (made : List Write) → HaveTrees base stores.old.items → kept_writes puts.now ≡ map (landing base) made →
         Lands stores.old.items stores.new.items made }
+    ensures kept { (layout : ℕ) → NoWriteInto (kept_writes puts.now) layout → slice_get stores.new.items layout ≡ slice_get stores.old.items layout }
 {
     land_lists(stores, puts.before.as_slice());
     land_cells(stores, puts.last.as_slice());
@@ -114,6 +121,7 @@ fn land_lists(stores: &mut Vec<Store>, lists: &[Vec<CellWrite>])
     ensures trees { HaveTrees stores.old.items stores.new.items }
     ensures lands { (base : List StoreWords) (made : List Write) → HaveTrees base stores.old.items → in_lists lists.now ≡ map (landing base) made →
         Lands stores.old.items stores.new.items made }
+    ensures kept { (layout : ℕ) → NoWriteInto (in_lists lists.now) layout → slice_get stores.new.items layout ≡ slice_get stores.old.items layout }
 {
     let Some((first, rest)) = lists.split_first() else {
         return;
@@ -128,6 +136,7 @@ fn land_cells(stores: &mut Vec<Store>, writes: &[CellWrite])
     ensures trees { HaveTrees stores.old.items stores.new.items }
     ensures lands { (base : List StoreWords) (made : List Write) → HaveTrees base stores.old.items → writes.now ≡ map (landing base) made →
         Lands stores.old.items stores.new.items made }
+    ensures kept { (layout : ℕ) → NoWriteInto writes.now layout → slice_get stores.new.items layout ≡ slice_get stores.old.items layout }
 {
     for write in writes {
         land_cell(stores, write);
@@ -140,6 +149,7 @@ fn land_cell(stores: &mut Vec<Store>, write: &CellWrite)
     ensures trees { HaveTrees stores.old.items stores.new.items }
     ensures lands { (base : List StoreWords) (made : Write) → HaveTrees base stores.old.items → write.now ≡ landing base made →
         Lands stores.old.items stores.new.items (made ∷ []) }
+    ensures kept { (layout : ℕ) → (write.now.layout ≡ layout → ⊥) → slice_get stores.new.items layout ≡ slice_get stores.old.items layout }
 {
     let number = write.layout as usize;
     if stores.len() <= number {

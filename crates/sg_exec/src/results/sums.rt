@@ -19,7 +19,7 @@ ghost use Rattle.sg_exec.specs.steps.Racing.{AreSeats};
 ghost use Rattle.sg_exec.specs.steps.Working.{HasRaced};
 ghost use Rattle.sg_exec.specs.steps.Passes.{WritesOneWay, HaveFields, AreWhole, IsSumOf, AreActiveTo, into_field, with_row};
 ghost use Rattle.sg_exec.specs.steps.Puts.{kept_writes};
-ghost use Rattle.sg_exec.specs.steps.Made.{AddsSums, HasLanded, HasRow, words_of};
+ghost use Rattle.sg_exec.specs.steps.Made.{AddsSums, EndsUsed, HasLanded, HasRow, words_of};
 
 use crate::lanes::values::ONE_POINT;
 use crate::results::fields::written_fields;
@@ -71,6 +71,7 @@ pub(crate) fn raced_points<R: Threads + Sync, G: Gate + Sync>(
     requires few { workers ≤ 16 }
     ensures rows { IfOk result (λ ended. All (HasRow (current reached.now stores.now.list)) ended.sums.items) }
     ensures cells { IfOk result (λ ended. AreCells (current reached.now stores.now.list) (kept_writes ended.puts)) }
+    ensures used { IfOk result (EndsUsed (uses_in code.now)) }
     ensures lands { IfOk result (λ ended. WritesOneWay (uses_in code.now) → (state : FlatState) → Sees (current reached.now stores.now.list) state →
         AreNamedAt (current reached.now stores.now.list) state code.now points.now →
         (turn : Coord → Turn) → AreTurnsOf (current reached.now stores.now.list) state code.now points.now turn →

@@ -14,7 +14,7 @@ returns-in_err-made-clause-answer g c = λ state stand.
 pub returns-clause-answer : goal.returns-clause-answer
 returns-clause-answer g c = λ state stand.
     ran_ok (λ (shapes : List Shape). run_meaning shapes state c.args.kernel.now) c.args.layouts.now.list c.args.stores.now.list c.land.new.stores.list c.land.new.stores.list stand.shapes_are refl
-    (c.in_ok-made.ensures.ran (runnable_here c.args.layouts.now.list c.args.stores.now.list c.args.kernel.now stand.shapes_are c.requires.runnable) state stand.stand c.land.new.stores.list c.land.ensures.landed)
+    (c.in_ok-made.ensures.ran (runnable_here c.args.layouts.now.list c.args.stores.now.list c.args.kernel.now stand.shapes_are c.requires.runnable) state stand.stand c.land.new.stores.list c.land.ensures.landed.landed)
 
 pub returns-in_err-made-clause-links : goal.returns-in_err-made-clause-links
 returns-in_err-made-clause-links g c = links_itself c.args.stores.now.list

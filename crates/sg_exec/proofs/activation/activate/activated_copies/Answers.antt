@@ -4,9 +4,10 @@ use Rattle.std.proofs.lemmas.Option.{slice_get_read}
 use Rattle.std.proofs.lemmas.List.{length-append}
 use Rattle.sg_store.specs.StoreWords.{StoreWords}
 use Rattle.sg_exec.specs.Standing.{shapes_of}
+use Rattle.sg_exec.specs.steps.Turning.{MayWant}
 use Rattle.sg_exec.specs.steps.Wants.{AreReached}
 use Rattle.sg_exec.proofs.Reaching.{there, reached_none, reached_stand, reached_fault, reached_more}
-use Rattle.sg_exec.proofs.Settling.{current_shapes, shapes_more}
+use Rattle.sg_exec.proofs.Settling.{current_shapes, shapes_more, into_more}
 use Rattle.sg_exec.proofs.LinksKept.{links_current, links_more}
 use Rattle.sg_exec.proofs.Answering.{all_stopped, store_fault}
 use Rattle.sg_exec.proofs.activation.activate.activated_copies.Goals as goal
@@ -33,6 +34,8 @@ loop-number-preserved g c =
           shapes_more stores copies number store c.in_ok-copy.copy c.loop-number.invariant.shapes count is c.in_ok-copy.ensures.shape j s cp is_s (ap (λ (cs : List (Option StoreWords)). slice_get cs j) (sym c.in_ok-add_copy.ensures) ∙ is_c);
       links = λ j s cp is_s is_c.
           links_more stores copies number store c.in_ok-copy.copy c.loop-number.invariant.links count is c.in_ok-copy.ensures.links j s cp is_s (ap (λ (cs : List (Option StoreWords)). slice_get cs j) (sym c.in_ok-add_copy.ensures) ∙ is_c);
+      into = λ layout cp is_c.
+          into_more (MayWant c.args.turns) copies number c.in_ok-copy.copy count c.loop-number.invariant.into c.in_ok-copy.ensures.into layout cp (ap (λ (cs : List (Option StoreWords)). slice_get cs layout) (sym c.in_ok-add_copy.ensures) ∙ is_c);
     }
 
 pub store_activated-requires-clause-active : goal.store_activated-requires-clause-active
@@ -84,3 +87,6 @@ returns-clause-links g c =
     let count = c.loop-number.invariant.count in
     let lengths : length copies ≡ length stores = omega arith in
     links_current copies stores lengths c.loop-number.invariant.links
+
+pub returns-clause-into : goal.returns-clause-into
+returns-clause-into g c = c.loop-number.invariant.into

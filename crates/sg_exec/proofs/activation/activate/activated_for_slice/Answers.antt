@@ -24,3 +24,6 @@ returns-clause-ran g c = λ state all named.
 
 pub activated_copies-requires-clause-active : goal.activated_copies-requires-clause-active
 activated_copies-requires-clause-active g c κs within = λ all state sees named. (c.in_ok-active.ensures state sees named).1 all
+
+pub returns-clause-into : goal.returns-clause-into
+returns-clause-into g c = c.activated_copies.ensures.into

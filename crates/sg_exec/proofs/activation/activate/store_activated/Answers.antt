@@ -2,7 +2,7 @@ use Rattle.std.proofs.Common.{ℕ, ap, ◌∙◌, sym, subst, Some}
 use Rattle.std.specs.Prelude.{unwrap_or}
 use Rattle.sg_coord.specs.Bounds.{bounds_of}
 use Rattle.sg_layout.specs.Axes.{bounds_of_shape}
-use Rattle.sg_exec.specs.steps.Turning.{WantsNone}
+use Rattle.sg_exec.specs.steps.Turning.{MayWant, WantsNone}
 use Rattle.sg_exec.proofs.Uncapped.{empty_wanted}
 use Rattle.sg_exec.proofs.AllActive.{meant_active, active_wanted}
 use Rattle.sg_exec.proofs.Turning.{means_lists, below_all, means_inside}
@@ -13,7 +13,7 @@ pub returns-then-not-turns_want-clause-reached : goal.returns-then-not-turns_wan
 returns-then-not-turns_want-clause-reached g c = λ wanted meant flat stands.
     empty_wanted c.args.store.now flat wanted (c.live_is_need.ensures c.args.store.now) c.layout.ensures.well_formed
     (none_wanted c.args.stores.now.list c.args.turns c.args.number c.args.store.now wanted
-    (subst (λ (n : ℕ). WantsNone c.args.turns n) c.in_ok-layout.ensures (c.turns_want.ensures c.if-not-turns_want.true)) meant) stands
+    (subst (λ (n : ℕ). WantsNone c.args.turns n) c.in_ok-layout.ensures (c.turns_want.ensures.none c.if-not-turns_want.true)) meant) stands
 
 pub returns-then-active-clause-reached : goal.returns-then-active-clause-reached
 returns-then-active-clause-reached g c = λ wanted meant flat stands.
@@ -44,3 +44,12 @@ pub activated-requires-clause-within : goal.activated-requires-clause-within
 activated-requires-clause-within g c κs within = λ list means piece below.
     means_inside c.args.stores.now.list c.args.turns (bounds_of c.extents.result) c.in_ok-layout.layout c.in_ok-count.count list c.numbering.ensures.inside_test
     (c.in_ok-count.ensures ∙ c.count_of.ensures) means piece below
+
+pub returns-then-not-turns_want-clause-into : goal.returns-then-not-turns_want-clause-into
+returns-then-not-turns_want-clause-into g c = λ made is. absurd (cc (is))
+
+pub returns-then-active-clause-into : goal.returns-then-active-clause-into
+returns-then-active-clause-into g c = λ made is. absurd (cc (is))
+
+pub returns-in-Ok-clause-into : goal.returns-in-Ok-clause-into
+returns-in-Ok-clause-into g c = λ made is. subst (MayWant c.args.turns) c.in_ok-layout.ensures (c.turns_want.ensures.text c.if-not-turns_want.false)

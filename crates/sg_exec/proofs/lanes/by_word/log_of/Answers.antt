@@ -1,9 +1,9 @@
 use Rattle.std.proofs.Common.{arith}
-use Rattle.sg_exec.proofs.ByWord.{next_word}
+use Rattle.sg_exec.proofs.ByWord.{log_few, next_is}
 use Rattle.sg_exec.proofs.lanes.by_word.log_of.Goals as goal
 
-pub loop-log-preserved : goal.loop-log-preserved
-loop-log-preserved c = omega (arith, c.if-number-next.false, next_word c.loop-log.log (omega arith))
+pub returns-clause-log : goal.returns-clause-log
+returns-clause-log c = log_few c.ilog2.result c.args.number c.ilog2.ensures.bound c.ilog2.ensures.power_le c.requires.few
 
-pub returns-then-number-next-clause-high : goal.returns-then-number-next-clause-high
-returns-then-number-next-clause-high c = omega (arith, c.if-number-next.true, next_word c.loop-log.log (omega arith))
+pub returns-clause-high : goal.returns-clause-high
+returns-clause-high c = omega (arith, c.ilog2.ensures.next_power_gt, next_is c.ilog2.result)

@@ -52,30 +52,34 @@ run-returns-in-OwnWrite t c = all_inst _ _ c.in-OwnWrite.is _ _ _ c.own_writes.e
 pub run-returns-in-Child : goal.run-returns-in-Child
 run-returns-in-Child t c =
     all_inst _ _ c.in-Child.is _ _ _
-    (all_by (λ seen now. set_place c.in-Child.to (down seen.shapes c.in-Child.node (now.regs c.in-Child.offset) (now.places c.in-Child.place)) now) _
+    (all_by (λ seen now. set_place c.in-Child.to (now.roots c.in-Child.place) (down seen.shapes c.in-Child.node (now.regs c.in-Child.offset) (now.places c.in-Child.place)) now) _
     (λ seen now. sym (does-Child seen c.in-Child.to c.in-Child.place c.in-Child.node c.in-Child.offset now)) _ _ _ c.steps.ensures)
 
 pub run-returns-in-HashChild : goal.run-returns-in-HashChild
 run-returns-in-HashChild t c =
     all_inst _ _ c.in-HashChild.is _ _ _
-    (all_by (λ seen now. set_place c.in-HashChild.to (down seen.shapes c.in-HashChild.node (now.regs c.in-HashChild.offset) (now.places c.in-HashChild.place)) now) _
+    (all_by (λ seen now. set_place c.in-HashChild.to (now.roots c.in-HashChild.place) (down seen.shapes c.in-HashChild.node (now.regs c.in-HashChild.offset) (now.places c.in-HashChild.place)) now) _
     (λ seen now. sym (does-HashChild seen c.in-HashChild.to c.in-HashChild.place c.in-HashChild.node c.in-HashChild.offset now)) _ _ _ c.steps-in-HashChild.ensures)
 
 pub run-returns-in-MaskBit : goal.run-returns-in-MaskBit
 run-returns-in-MaskBit t c =
     all_inst _ _ c.in-MaskBit.is _ _ _
-    (all_by (λ seen now. set_place c.in-MaskBit.to (down seen.shapes c.in-MaskBit.node (now.regs c.in-MaskBit.offset) (now.places c.in-MaskBit.place)) now) _
+    (all_by (λ seen now. set_place c.in-MaskBit.to (now.roots c.in-MaskBit.place) (down seen.shapes c.in-MaskBit.node (now.regs c.in-MaskBit.offset) (now.places c.in-MaskBit.place)) now) _
     (λ seen now. sym (does-MaskBit seen c.in-MaskBit.to c.in-MaskBit.place c.in-MaskBit.node c.in-MaskBit.offset now)) _ _ _ c.steps-in-MaskBit.ensures)
 
 pub run-returns-in-DynCell : goal.run-returns-in-DynCell
 run-returns-in-DynCell t c =
     all_inst _ _ c.in-DynCell.is _ _ _
-    (all_by (λ seen now. set_place c.in-DynCell.to (down seen.shapes c.in-DynCell.node (now.regs c.in-DynCell.offset) (now.places c.in-DynCell.place)) now) _
+    (all_by (λ seen now. set_place c.in-DynCell.to (now.roots c.in-DynCell.place) (down seen.shapes c.in-DynCell.node (now.regs c.in-DynCell.offset) (now.places c.in-DynCell.place)) now) _
     (λ seen now. sym (does-DynCell seen c.in-DynCell.to c.in-DynCell.place c.in-DynCell.node c.in-DynCell.offset now)) _ _ _ c.steps-in-DynCell.ensures)
 
 pub run-returns-in-ReadCell : goal.run-returns-in-ReadCell
 run-returns-in-ReadCell t c =
     all_inst _ _ (c.in-ReadCell.is ∙ ap (λ (index : List ℕ). v.ReadCell c.in-ReadCell.to c.in-ReadCell.place c.in-ReadCell.layout c.in-ReadCell.field index) (sym c.as_slice.ensures)) _ _ _ c.reads.ensures
+
+pub run-returns-in-IsActive : goal.run-returns-in-IsActive
+run-returns-in-IsActive t c =
+    all_inst _ _ (c.in-IsActive.is ∙ ap (λ (index : List ℕ). v.IsActive c.in-IsActive.to c.in-IsActive.place index) (sym c.as_slice-in-IsActive.ensures)) _ _ _ c.asks.ensures
 
 pub run-returns-in-Acc : goal.run-returns-in-Acc
 run-returns-in-Acc t c =

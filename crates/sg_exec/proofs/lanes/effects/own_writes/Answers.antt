@@ -1,12 +1,23 @@
-use Rattle.std.proofs.Common.{◌≡◌, length, refl, ap, arith, true}
+use Rattle.std.proofs.Common.{◌≡◌, List, length, refl, ap, sym, subst, arith, true}
 use Rattle.std.specs.Vec.{with_items}
 use Rattle.sg_exec.specs.declared.lanes.batch.Batch.{Batch}
+use Rattle.sg_exec.specs.declared.lanes.moment.Moment.{Moment}
 use Rattle.sg_exec.specs.steps.Rows.{item_in, On}
-use Rattle.sg_exec.specs.steps.Accessing.{own_write_at, IsWritten}
+use Rattle.sg_exec.specs.steps.Accessing.{own_write_at, AreCellsOver, IsWritten}
 use Rattle.sg_exec.proofs.Added.{keep_as, made_as}
 use Rattle.sg_exec.proofs.MomentsMoved.{own_writes_done, no_lack}
+use Rattle.sg_exec.proofs.PlacesMoved.{over_kept}
 use Rattle.sg_exec.proofs.RowsMoved.{whole_items}
 use Rattle.sg_exec.proofs.lanes.effects.own_writes.Goals as goal
+
+pub add_own_writes-wrote-requires : goal.add_own_writes-wrote-requires
+add_own_writes-wrote-requires c =
+    let mid = c.has_regs.new.self in
+    record {
+      room = omega (arith, c.requires.room, ap length c.as_mut_slice.ensures.value, ap (λ ms. length ms.items) c.has_regs.ensures.keeps.moments);
+      from = omega (arith, ap length c.as_slice.ensures.value, c.if-has_regs.ensures.a refl);
+      over = subst (λ (moments : List Moment). AreCellsOver mid.places.stores moments) (sym c.as_mut_slice.ensures.value) (over_kept c.args.batch.now mid c.has_regs.ensures.keeps c.requires.over);
+    }
 
 pub returns-then-not-wrote : goal.returns-then-not-wrote
 returns-then-not-wrote c =

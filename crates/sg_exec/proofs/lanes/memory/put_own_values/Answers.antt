@@ -11,7 +11,7 @@ use Rattle.sg_exec.proofs.Added.{set_itself, own_value_at}
 use Rattle.sg_exec.proofs.lanes.memory.put_own_values.Goals as goal
 
 pub loop-k-init : goal.loop-k-init
-loop-k-init c = record { same = refl; words = are_none _ _ refl }
+loop-k-init c = record { same = c.find_cells.ensures; words = are_none _ _ refl }
 
 pub own_value_if-requires : goal.own_value_if-requires
 own_value_if-requires c =

@@ -13,7 +13,7 @@ returns-then-has_places c =
     places_done c.args.batch.now mid (record mid { places = c.step.new.self }) (On c.args.columns.now.on) c.args.to
     (λ k held. (there : Option Place) → HoldsPlace mid.places.stores (item_in mid.places.list None k c.args.place) there
     → HoldsPlace mid.places.stores held (down (shapes_of mid.places.stores) c.args.node (item_in c.as_slice.result.now 0 k c.args.offset) there))
-    (λ seen now. down seen.shapes c.args.node (now.regs c.args.offset) (now.places c.args.place)) _ (λ seen now. refl)
+    (λ now. now.roots c.args.place) (λ seen now. down seen.shapes c.args.node (now.regs c.args.offset) (now.places c.args.place)) _ (λ seen now. refl)
     (keeps_both c.args.batch.now c.has_regs.new.self mid c.has_regs.ensures.keeps c.has_places.ensures.keeps) (record { kept = λ lacks. lacks; regs = refl; vars = refl; moments = refl; stores = c.step.ensures.stores }) (λ lacks. c.step.ensures.put)
     (λ k held stores state at moment now small holds sees moved.
     step_holds mid.places.stores stores held (item_in mid.places.list None k c.args.place) (now.places c.args.place) c.args.node (item_in c.as_slice.result.now 0 k c.args.offset) (now.regs c.args.offset) moved.stores_are

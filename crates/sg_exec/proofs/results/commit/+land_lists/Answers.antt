@@ -1,7 +1,10 @@
-use Rattle.std.proofs.Common.{List, Vec, sym, ap, ◌∙◌, subst, arith}
+use Rattle.std.proofs.Common.{◌++◌, List, Vec, sym, ap, ◌∙◌, subst, arith}
+use Rattle.std.specs.Prelude.{Contains}
+use Rattle.std.proofs.lemmas.List.Elements.{Contains-append_left, Contains-append_right}
 use Rattle.std.specs.declared.alloc.Global.{Global}
 use Rattle.sg_exec.specs.declared.lanes.cell_write.CellWrite.{CellWrite}
 use Rattle.sg_exec.specs.steps.Machines.{AreCells}
+use Rattle.sg_exec.specs.steps.Made.{NoWriteInto}
 use Rattle.sg_exec.specs.steps.Puts.{in_lists}
 use Rattle.sg_exec.proofs.KeptLand.{cells_front, cells_back, land_both, land_none}
 use Rattle.sg_exec.proofs.TreesKept.{trees_itself, trees_then, cells_over}
@@ -44,3 +47,11 @@ returns-clause-lands t c = λ base made here is.
     here c.land_cells.ensures.trees (ap in_lists (sym c.in-Some.ensures.cases.0) ∙ is)
     (λ ws trees same. c.land_cells.ensures.lands base ws trees (c.as_slice.ensures.value ∙ same))
     (λ ws trees same. c.land_lists.ensures.lands base ws trees same)
+
+pub returns-clause-kept : goal.returns-clause-kept
+returns-clause-kept t c = λ layout none.
+    let first = c.in-Some.first.now.items in
+    let rest = in_lists c.in-Some.rest.now in
+    let all : NoWriteInto (first ++ rest) layout = subst (λ (lists : List (Vec CellWrite Global)). NoWriteInto (in_lists lists) layout) c.in-Some.ensures.cases.0 none in
+    c.land_lists.ensures.kept layout (λ write has. all write (Contains-append_right first rest write has))
+    ∙ c.land_cells.ensures.kept layout (λ write has. all write (Contains-append_left first rest write (subst (λ (ws : List CellWrite). Contains ws write) c.as_slice.ensures.value has)))

@@ -6,7 +6,7 @@ use Rattle.sg_exec.specs.steps.Landing.{Lands}
 use Rattle.sg_exec.proofs.StoresLanded.{lands_past, lands_one}
 use Rattle.sg_exec.proofs.Reading.{reached_in}
 use Rattle.sg_exec.proofs.CellsLanded.{tree_shape, landing_is, landing_tree}
-use Rattle.sg_exec.proofs.TreesKept.{trees_itself, tree_there, trees_set, past_none}
+use Rattle.sg_exec.proofs.TreesKept.{trees_itself, tree_there, trees_set, set_other, past_none}
 use Rattle.sg_exec.proofs.results.commit.land_cell.Goals as goal
 
 pub returns-then-len-number-clause-trees : goal.returns-then-len-number-clause-trees
@@ -47,3 +47,6 @@ returns-clause-lands c = λ base made trees is.
     subst (λ (l : ℕ). Lands olds (slice_set olds l now) (made ∷ [])) (sym same)
     (lands_one olds old now made (ap (slice_get olds) (sym same) ∙ at) (tree_shape old now c.put_cell.ensures.same)
     (λ flat stands active. c.put_cell.ensures.lands flat stands made (landing_tree found.0 old write made found.1.1 (landing_is base found.0 write made found.1.0 is)) active))
+
+pub returns-clause-kept : goal.returns-clause-kept
+returns-clause-kept c = λ layout apart. set_other c.args.stores.now.items c.args.write.now.layout layout c.put_cell.new.store apart

@@ -1,4 +1,6 @@
 use Rattle.std.proofs.Common.{List, Vec, sym, ap, ◌∙◌, subst}
+use Rattle.std.specs.Prelude.{Contains}
+use Rattle.std.proofs.lemmas.List.Elements.{Contains-append_left, Contains-append_right}
 use Rattle.std.specs.declared.alloc.Global.{Global}
 use Rattle.sg_exec.specs.declared.lanes.cell_write.CellWrite.{CellWrite}
 use Rattle.sg_exec.specs.steps.Machines.{AreCells}
@@ -34,4 +36,9 @@ returns c = record {
       here c.land_lists.ensures.trees is
       (λ ws trees same. c.land_lists.ensures.lands base ws trees (ap in_lists c.as_slice.ensures.value ∙ same))
       (λ ws trees same. c.land_cells.ensures.lands base ws trees (c.as_slice-2.ensures.value ∙ same));
+  kept = λ layout none.
+      let before = in_lists c.args.puts.now.before.items in
+      let last = c.args.puts.now.last.items in
+      c.land_cells.ensures.kept layout (λ write has. none write (Contains-append_right before last write (subst (λ (ws : List CellWrite). Contains ws write) c.as_slice-2.ensures.value has)))
+      ∙ c.land_lists.ensures.kept layout (λ write has. none write (Contains-append_left before last write (subst (λ (lists : List (Vec CellWrite Global)). Contains (in_lists lists) write) c.as_slice.ensures.value has)));
 }

@@ -6,7 +6,7 @@ use Rattle.sg_exec.specs.steps.Landing.{HasTree}
 use Rattle.sg_exec.specs.steps.Made.{words_of}
 use Rattle.sg_exec.proofs.SumsStand.{lands_field}
 use Rattle.sg_exec.proofs.SumsPut.{tree_row}
-use Rattle.sg_exec.proofs.TreesKept.{trees_itself, trees_long, tree_there, trees_set}
+use Rattle.sg_exec.proofs.TreesKept.{trees_itself, trees_long, tree_there, trees_set, set_other}
 use Rattle.sg_exec.proofs.SumsLanded.{fresh_put}
 use Rattle.sg_exec.proofs.results.commit.land_sum.Goals as goal
 
@@ -55,3 +55,6 @@ returns-clause-lands c = λ base writes trees is fresh.
     let found = tree_there base olds sum.layout old trees at in
     lands_field olds sum.layout sum.field old now writes at (ap (λ (s : StoreWords). s.shape) c.put_sum.ensures.set)
     (λ flat stands active. c.put_sum.ensures.lands base found.0 writes is found.1.0 found.1.1 (fresh found.0 old found.1.0 at) flat stands active)
+
+pub returns-clause-kept : goal.returns-clause-kept
+returns-clause-kept c = λ layout apart. set_other c.args.stores.now.items c.args.sum.now.layout layout c.put_sum.new.store apart

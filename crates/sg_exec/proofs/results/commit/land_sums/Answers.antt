@@ -1,5 +1,6 @@
-use Rattle.std.proofs.Common.{◌≡◌, ◌++◌, List, take, get_or, sym, ap, ◌∙◌, subst, arith}
-use Rattle.std.specs.Prelude.{All}
+use Rattle.std.proofs.Common.{◌≡◌, ◌++◌, List, take, get_or, refl, sym, ap, ◌∙◌, subst, arith}
+use Rattle.std.specs.Prelude.{All, Contains}
+use Rattle.std.proofs.lemmas.List.Elements.{Contains-get_or}
 use Rattle.std.proofs.lemmas.List.{take_all}
 use Rattle.sg_flat.specs.declared.effects.Write.{Write}
 use Rattle.sg_exec.specs.declared.results.sums.Sum.{Sum}
@@ -16,6 +17,7 @@ loop-sum-init c = record {
   trees = trees_itself c.args.stores.now.items;
   fresh = λ layout field apart. keeps_itself c.args.stores.now.items layout field;
   lands = λ writes are. lands_nothing c.args.stores.now.items;
+  kept = λ layout none. refl;
 }
 
 pub land_sum-requires : goal.land_sum-requires
@@ -48,6 +50,8 @@ loop-sum-preserved c =
           subst (λ (ws : List Write). Lands olds news ws) (sym (next ∙ ap (λ (it : Sum). summed (take i sums) writes ++ into_field it.layout it.field writes) (sym same)))
           (lands_more olds mids news (summed (take i sums) writes) (into_field sum.layout sum.field writes) (c.loop-sum.invariant.lands writes are)
           (c.land_sum.ensures.lands olds writes c.loop-sum.invariant.trees here (c.loop-sum.invariant.fresh sum.layout sum.field before)));
+      kept = λ layout none.
+          c.land_sum.ensures.kept layout (none sum (subst (λ (it : Sum). Contains c.args.sums.now it) (sym same) (Contains-get_or sums i sum (omega arith)))) ∙ c.loop-sum.invariant.kept layout none;
     }
 
 pub returns-clause-lands : goal.returns-clause-lands

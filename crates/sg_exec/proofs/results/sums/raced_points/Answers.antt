@@ -6,7 +6,7 @@ use Rattle.sg_exec.specs.steps.Landing.{current}
 use Rattle.sg_exec.specs.steps.Racing.{AreSeats}
 use Rattle.sg_exec.specs.steps.Passes.{HaveFields, GaveReached}
 use Rattle.sg_exec.specs.steps.Working.{HasTurns}
-use Rattle.sg_exec.proofs.MadeLands.{if_rows, if_cells, if_lands}
+use Rattle.sg_exec.proofs.MadeLands.{if_rows, if_cells, if_used, if_lands}
 use Rattle.sg_exec.proofs.results.sums.raced_points.Goals as goal
 
 pub raced-requires-clause-fields : goal.raced-requires-clause-fields
@@ -29,6 +29,11 @@ returns-clause-rows g c =
 
 pub returns-clause-cells : goal.returns-clause-cells
 returns-clause-cells g c = if_cells (current c.args.reached.now c.args.stores.now.list) c.in_ok-fields.fields.accumulated.items c.in_ok-after.after c.landed.result c.in_ok-after.ensures.cells c.landed.ensures.puts
+
+pub returns-clause-used : goal.returns-clause-used
+returns-clause-used g c =
+    if_used (current c.args.reached.now c.args.stores.now.list) c.in_ok-fields.fields.accumulated.items c.in_ok-after.after (uses_in c.args.code.now) c.landed.result c.in_ok-fields.ensures.used c.in_ok-after.ensures.used
+    c.landed.ensures.sums c.landed.ensures.puts
 
 pub returns-clause-lands : goal.returns-clause-lands
 returns-clause-lands g c =

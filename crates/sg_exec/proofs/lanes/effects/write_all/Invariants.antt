@@ -1,7 +1,7 @@
 use Rattle.sg_exec.specs.steps.Rows.{item_in}
 use Rattle.sg_exec.specs.steps.Accessing.{own_write_at, IsWritten, KeepStores}
 use Rattle.sg_exec.proofs.Added.{AreMadeBefore}
-use Rattle.sg_exec.proofs.lanes.effects.add_own_writes.Given as goal
+use Rattle.sg_exec.proofs.lanes.effects.write_all.Given as goal
 
 abbrev pub invariant-loop-k : goal.invariant-loop-k
 invariant-loop-k l = record {

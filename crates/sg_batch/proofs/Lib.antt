@@ -1,0 +1,10 @@
+pub mod Members
+pub mod Landed
+pub mod Readied
+pub mod Finding
+pub mod TextLayouts
+pub mod TouchedText
+pub mod Grouped
+pub mod Alone
+pub mod WorkedGroups
+pub mod Uses

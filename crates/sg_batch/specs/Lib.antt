@@ -1,0 +1,4 @@
+pub mod Batches
+pub mod Independent
+pub mod Examples
+pub mod steps
