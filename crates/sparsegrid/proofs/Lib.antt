@@ -43,3 +43,8 @@ pub mod WorkedCompiled
 pub mod WorkedEffects
 pub mod WorkedRun
 pub mod Generating
+pub mod Grouped
+pub mod Advancing
+pub mod GroupsDone
+pub mod GroupFront
+pub mod GroupRuns

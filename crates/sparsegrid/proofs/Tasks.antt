@@ -91,7 +91,7 @@ load_still None = refl
 load_still (Some name) = refl
 
 module _ (compiled : CheckedProgram) (binds : List Bind) (telling : Telling) where
-  tasks_step : (readings : Readings) (number n : ℕ) (state : FlatState) (task : Task) (tasks : List Task)
+  pub tasks_step : (readings : Readings) (number n : ℕ) (state : FlatState) (task : Task) (tasks : List Task)
       → meaning_of_tasks compiled (map binding_read binds) telling readings number n state (task ∷ tasks)
       ≡ task_and_more compiled telling readings number n state task (λ after next. meaning_of_tasks compiled (map binding_read binds) telling readings (suc number) after next tasks)
       (file_of_task compiled.names (map binding_read binds) task)

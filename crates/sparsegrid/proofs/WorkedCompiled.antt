@@ -1,6 +1,7 @@
 -- What the worked programs are compiled to: names, layouts, kernels, commands.
-use Rattle.std.proofs.Common.{◌≡◌, ℕ, List, [], ◌∷◌, ◌++◌, Option, None, Result, Ok, Err, true, refl, ap, ◌∙◌, if◌then◌else◌}
+use Rattle.std.proofs.Common.{◌≡◌, ℕ, List, [], ◌∷◌, ◌++◌, Option, None, Result, Ok, Err, true, ◌&&◌, refl, ap, ◌∙◌, if◌then◌else◌}
 use Rattle.std.specs.Prelude.{codes, pos, nat_lt, Bool}
+use Rattle.std.specs.List.{list_all}
 use Rattle.sg_words.specs.declared.operators.Ty.{Ty}
 use Rattle.sg_words.specs.declared.operators.Ty.TheVariants as ty
 use Rattle.sg_words.specs.declared.operators.AccOp.TheVariants as acc
@@ -40,8 +41,10 @@ use Rattle.sg_admit.specs.Limits.{most_box_points}
 use Rattle.sg_admit.specs.Lines.{Writes, Opens, Around, Line, line_of, nothing_round, line_step, stmt_lines, kernel_lines}
 use Rattle.sg_admit.specs.Clean.{unclean_in}
 use Rattle.sg_admit.specs.Bounds.{box_size, nowhere}
-use Rattle.sg_admit.specs.Rules.{Facts, SeenPart, seen_step, has_good_reads, ways_in, first_way, has_own, has_acc}
+use Rattle.sg_admit.specs.Rules.{Facts, SeenPart, seen_step, has_good_reads, ways_in, first_way, has_own, has_acc, writes_layout}
+use Rattle.sg_admit.specs.Neutral.{asks_nothing_in, asks_nothing, is_neutral_kernel}
 use Rattle.sg_admit.specs.Admission.{first_fault, kept_of, box_answer, admission}
+use Rattle.sg_session.specs.declared.refusal.Refusal.{Refusal}
 use Rattle.sg_session.specs.declared.tasks.Task.TheVariants.{Run, Dump}
 use Rattle.sg_session.specs.declared.tasks.Stage.TheVariants.{Once}
 use Rattle.sg_session.specs.Compiled.{CheckedProgram}
@@ -128,7 +131,7 @@ module _ (vars : ℕ) (good : ℕ → ℕ → Bool → Bool) where
   good-Var given var = ap (λ (seen : SeenPart). seen.1) (fold-Var (seen_step vars good) (λ expr. expr.form) given var)
 
 abbrev facts_in : List Line → Facts
-facts_in lines = record { first = first_way (ways_in lines); own = has_own (ways_in lines); acc = has_acc (ways_in lines); vars = 1; walked = None; unclean = unclean_in lines }
+facts_in lines = record { first = first_way (ways_in lines); own = has_own (ways_in lines); acc = has_acc (ways_in lines); written = writes_layout (ways_in lines); vars = 1; walked = None; unclean = unclean_in lines }
 
 no_fault : (at : ℕ) → first_fault (facts_in (lines_to at)) (lines_to at) ≡ None
 no_fault at = simp (good-Literal, good-Var, expr_folds)
@@ -147,6 +150,15 @@ admitted_is : (at : ℕ) → admission (typed_to at) ≡ Ok (kept_of (typed_to a
 admitted_is at =
     ap (λ (lines : List Line). fault_or (first_fault (facts_in lines) lines) (box_answer (typed_to at))) (lines_are at)
     ∙ (ap (λ (fault : Option AdmitFault). fault_or fault (box_answer (typed_to at))) (no_fault at) ∙ small_box at)
+
+-- no `active` stands in it, and it goes over a box
+none_asked : (at : ℕ) → list_all asks_nothing_in (lines_to at) ≡ true
+none_asked at = simp expr_folds
+
+neutral_is : (at : ℕ) → is_neutral_kernel (typed_to at) ≡ true
+neutral_is at =
+    let quiet : asks_nothing (typed_to at) ≡ true = ap (list_all asks_nothing_in) (lines_are at) ∙ none_asked at in
+    ap (λ (it : Bool). it && true) quiet
 
 -- ---- commands
 
@@ -171,9 +183,20 @@ kernels_are : (at : ℕ) → kernels_of names (program_to at) ≡ Ok (kept_of (t
 unfolding kernels_of
 kernels_are at = rw (typed_is at) (rw (admitted_is at) refl)
 
+-- the program, with what is known of its kernel
+abbrev answer_to : ℕ → Bool → Result CheckedProgram Refusal
+answer_to at neutral =
+    Ok (record {
+      names = names;
+      layouts = shape ∷ [];
+      kernels = kept_of (typed_to at) ∷ [];
+      neutral = neutral ∷ [];
+      commands = Once (Run 0) ∷ Once (Dump field) ∷ [];
+    })
+
 with_names : (at : ℕ) → compiled_with names (program_to at) ≡ Ok (compiled_to at)
 unfolding compiled_with
-with_names at = rw (layouts_are at) (rw (kernels_are at) (rw (no_refusal at) (rw (stages_are at) refl)))
+with_names at = rw (layouts_are at) (rw (kernels_are at) (rw (no_refusal at) (rw (stages_are at) (ap (answer_to at) (neutral_is at)))))
 
 pub compiled_is : (bytes : List ℕ) (at : ℕ) → spelled_program bytes ≡ Ok (program_to at) → compiled_program bytes ≡ Ok (compiled_to at)
 unfolding compiled_program compiled_tree

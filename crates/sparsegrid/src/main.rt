@@ -9,6 +9,7 @@ mod examples;
 #[cfg(test)]
 mod gallery;
 mod generated;
+mod group;
 mod journaling;
 #[cfg(test)]
 mod larger_examples;

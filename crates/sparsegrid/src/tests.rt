@@ -1,8 +1,10 @@
 //! Runs of files over memory, beside what they must write.
 
+mod activity;
 mod admissions;
 mod advice;
 mod audits;
+mod batches;
 mod checks;
 mod commands;
 mod extents;

@@ -11,6 +11,11 @@ static RUNS: &[(&str, u8, &str)] = &[
         "grid 1 4\n0 1601558352\n1 3621746143\n2 4260855159\n3 2147342173\n",
     ),
     (
+        "layout Sheet(i) { pointer(i: 4) cap 4; dense(i: 4); field x: i32; } layout Shadow(i) { dense(i: 16); field y: i32; } kernel drop { for i in 5..6 { x[i] = 7; } } kernel shade { for i in 0..16 { if active(x[i]) { y[i] = 1; } } } run drop; run shade; dump y;",
+        0,
+        "grid 1 16\n0 0\n1 0\n2 0\n3 0\n4 1\n5 1\n6 1\n7 1\n8 0\n9 0\n10 0\n11 0\n12 0\n13 0\n14 0\n15 0\n",
+    ),
+    (
         "layout A(i) { dense(i: 16); field x: i32; } kernel k { for i in 5..6 { x[i] = 7; } } run k; dump x;",
         0,
         "grid 1 16\n0 0\n1 0\n2 0\n3 0\n4 0\n5 7\n6 0\n7 0\n8 0\n9 0\n10 0\n11 0\n12 0\n13 0\n14 0\n15 0\n",

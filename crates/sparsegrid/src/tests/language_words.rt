@@ -50,6 +50,11 @@ static CHECKS: &[(&str, u8, &str)] = &[
         0,
         "kernel k layout-bound\n",
     ),
+    (
+        "layout A(i) { dense(i: 8); field x: i32; field y: i32; } layout V(i) { dense(i: 16); field v: i32; } kernel k { for i in 0..4 { if active(v[i]) { x[i] = 1; } } }",
+        0,
+        "kernel k layout-bound\n",
+    ),
 ];
 
 #[test]

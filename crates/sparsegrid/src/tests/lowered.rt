@@ -25,6 +25,21 @@ static CODES: &[(&str, &str)] = &[
         "layout A(i) { dense(i: 4); field x: i32; field y: i32; } kernel k { for i in A { y[i] = x[(i + 2147483647) - 2147483647] + x[(i + 1) - 1] + x[(i - 2147483647) - 2]; } }",
         "kernel k\nslice\ncode\nr0 = var 0\nr1 = const 2147483647\nr2 = add i32 r0 r1\nr3 = sub i32 r2 r1\nr4 = extract 1 4 r3\np0 = root 0\np1 = check p0 0 4 r3\np2 = child p1 1 r4\nr5 = read p2 0 0 r3\nr6 = const 1\nr7 = add i32 r0 r6\nr8 = sub i32 r7 r6\np3 = child p0 1 r8\nr9 = read p3 0 0 r8\nr10 = add i32 r5 r9\nr11 = sub i32 r0 r1\nr12 = const 2\nr13 = sub i32 r11 r12\nr14 = extract 1 4 r13\np4 = check p0 0 4 r13\np5 = child p4 1 r14\nr15 = read p5 0 0 r13\nr16 = add i32 r10 r15\nownwrite 0 1 r16\n",
     ),
+    // a question goes down to its place as a read does
+    (
+        "layout A(i) { dense(i: 4); field x: i32; } layout B(i) { pointer(i: 4) cap 2; dense(i: 2); field y: i32; } kernel k { for i in A { if active(y[i - 1]) { x[i] = 1; } } }",
+        "kernel k\nslice\ncode\nr0 = var 0\nr1 = const 1\nr2 = sub i32 r0 r1\nr3 = extract 2 4 r2\nr4 = extract 1 2 r2\np0 = root 1\np1 = check p0 0 8 r2\np2 = child p1 1 r3\np3 = child p2 2 r4\nr5 = active p3 r2\nif r5\n  ownwrite 0 0 r1\nelse\nend\n",
+    ),
+    // a question and a read of one place have one way to it
+    (
+        "layout A(i) { dense(i: 4); field x: i32; } layout B(i) { pointer(i: 4) cap 2; dense(i: 2); field y: i32; } kernel k { for i in A { if active(y[i - 1]) { x[i] = y[i - 1]; } } }",
+        "kernel k\nslice\ncode\nr0 = var 0\nr1 = const 1\nr2 = sub i32 r0 r1\nr3 = extract 2 4 r2\nr4 = extract 1 2 r2\np0 = root 1\np1 = check p0 0 8 r2\np2 = child p1 1 r3\np3 = child p2 2 r4\nr5 = active p3 r2\nif r5\n  r6 = read p3 1 0 r2\n  ownwrite 0 0 r6\nelse\nend\n",
+    ),
+    // an index for each axis
+    (
+        "layout A(i, j) { dense(i: 4, j: 4); field x: i32; } layout B(i) { dense(i: 4); field y: i32; } kernel k { for i in B { if active(x[i, 1]) { y[i] = 1; } } }",
+        "kernel k\nslice\ncode\nr0 = var 0\nr1 = const 1\nr2 = offset r0 4 r1\np0 = root 0\np1 = child p0 1 r2\nr3 = active p1 r0 r1\nif r3\n  ownwrite 1 0 r1\nelse\nend\n",
+    ),
     // what each branch of an `if` computes stays its own
     (
         "layout A(i) { pointer(i: 4) cap 2; bitmasked(i: 4); field x: i32; } kernel k { for i in A { if x[i] != 0 { x[i] = x[i] / 2; } else { x[i] = x[i] + 1; } } }",

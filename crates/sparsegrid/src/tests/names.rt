@@ -6,6 +6,21 @@ use std::test::Fail;
 /// Sources with their status and their line: what names are unknown or declared twice.
 static NAMES: &[(&str, u8, &str)] = &[
     (
+        "layout B(i) { dense(i: 4); field f: i32; } kernel k { for i in B { let t = active(B[i]); } }",
+        5,
+        "refused: unknown name: item 2\n",
+    ),
+    (
+        "const N = 4; layout B(i) { dense(i: 4); field f: i32; } kernel k { for i in B { let t = active(f[i]) && active(N[i]); } }",
+        5,
+        "refused: unknown name: item 3\n",
+    ),
+    (
+        "layout B(i) { dense(i: 4); field f: i32; } kernel k { for i in B { let t = active(f[g[i]]); } } layout D(i) { dense(i: 4); field g: i32; }",
+        5,
+        "refused: unknown name: item 2\n",
+    ),
+    (
         "layout B(i) { dense(i: N); field f: i32; } const N = 4;",
         5,
         "refused: unknown name: item 1\n",

@@ -1,3 +1,6 @@
+ghost use Rattle.std.specs.Prelude.{IfSome};
+ghost use Rattle.sg_store.specs.WellFormed.{IsReached};
+
 use crate::run;
 use sg_coord::Coord;
 use sg_outside::{Gate, MemFiles, MemSink, NamedBytes, Phase, Sink};
@@ -21,7 +24,8 @@ pub struct Setting<'a> {
 }
 
 /// What is looked at when a run has ended: its status, whether there is a session, how many of the coordinates from 0 to 3 and from 0 to 15 are
-/// active in the first store, the numbers of the first two containers below the root of that store, and the cells of the coordinates 0 and 2.
+/// active in the first store, the numbers of the first two containers below the root of that store, the cells of the coordinates 0 and 2, and the
+/// word of its first field at 0.
 #[derive(Clone, Copy)]
 pub struct Seen {
     pub status: u8,
@@ -29,6 +33,7 @@ pub struct Seen {
     pub active: Option<(u32, u32)>,
     pub containers: Option<(u32, u32)>,
     pub cells: Option<(u32, u32)>,
+    pub value: Option<u32>,
 }
 
 /// A gate that is open and doesn't say so: all workers start, however little there is to do.
@@ -55,12 +60,14 @@ pub(crate) fn run_over<R: Threads + Sync, S: Sink, G: Gate + Sync>(
         active: None,
         containers: None,
         cells: None,
+        value: None,
     };
     if let Some(session) = &done.session {
         if let Some(store) = session.stores.list.get(0) {
             seen.active = Some(active(store));
             seen.containers = containers(store);
             seen.cells = cells(store);
+            seen.value = value(store);
         }
     }
     seen
@@ -100,7 +107,9 @@ fn containers(store: &Store) -> Option<(u32, u32)> {
 }
 
 /// The cell of a coordinate, if it is active.
-fn cell(store: &Store, a: i32) -> Option<u32> {
+fn cell(store: &Store, a: i32) -> Option<u32>
+    ensures { IfSome result (IsReached store.now) }
+{
     store.cell_of(Coord {
         n: 1,
         a,
@@ -111,6 +120,15 @@ fn cell(store: &Store, a: i32) -> Option<u32> {
 
 fn cells(store: &Store) -> Option<(u32, u32)> {
     Some((cell(store, 0)?, cell(store, 2)?))
+}
+
+/// The word of the first field at the coordinate 0, if there is a field and 0 is active.
+fn value(store: &Store) -> Option<u32> {
+    if store.layout().shape().fields.len() == 0 {
+        return None;
+    }
+    let cell = cell(store, 0)?;
+    Some(store.value(0, cell))
 }
 
 /// What a run left: its status, whether there is a session, and the bytes that the sink took.

@@ -5,7 +5,7 @@ use std::alloc::{AllocError, Global};
 use std::test::Fail;
 
 // Texts with the item and the line of their fault.
-static REFUSED: [(&str, u32, u32); 46] = [
+static REFUSED: [(&str, u32, u32); 47] = [
     ("const N = 3", 1, 1),
     ("const N = 3 ; ;", 2, 1),
     ("const N = 3 ;\nconst\nN = 3", 2, 2),
@@ -70,6 +70,7 @@ static REFUSED: [(&str, u32, u32); 46] = [
     ("kernel K { for i in L { if x { } else if y { } } }", 1, 1),
     ("kernel K { for i in L { else { } } }", 1, 1),
     ("kernel K { for i in L { let F [ i ] = 1 ; } }", 1, 1),
+    ("kernel K { for i in L { let active = 1 ; } }", 1, 1),
     ("kernel K { for i in L { F [ i ] min += 1 ; } }", 1, 1),
     ("kernel K { for i in L { x |= 1 ; } }", 1, 1),
     ("kernel K { for i in L { F [ i ] & = 1 ; } }", 1, 1),
@@ -79,7 +80,7 @@ static REFUSED: [(&str, u32, u32); 46] = [
 ];
 
 // No expressions.
-static NO_EXPRESSIONS: [&str; 21] = [
+static NO_EXPRESSIONS: [&str; 25] = [
     "",
     "1 2",
     "1 +",
@@ -99,7 +100,11 @@ static NO_EXPRESSIONS: [&str; 21] = [
     "i32 ( 1 , 2 )",
     "max ( 1 , 2 , )",
     "min = 1",
-    "active ( F [ 1 ] )",
+    "active",
+    "active F [ 1 ]",
+    "active ( 1 )",
+    "active ( F )",
+    "active ( F [ 1 ] , 2 )",
     "1 .. 2",
 ];
 
@@ -158,7 +163,7 @@ struct Count {
     most: usize,
 }
 
-static COUNTS: [Count; 15] = [
+static COUNTS: [Count; 16] = [
     Count {
         before: "layout L ( i ",
         part: ", i ",
@@ -254,6 +259,14 @@ static COUNTS: [Count; 15] = [
         behind: "] ",
         after: "; } }",
         most: 63,
+    },
+    Count {
+        before: "kernel K { for i in L { x = active ( F [ ",
+        part: "( ",
+        between: "1 ",
+        behind: ") ",
+        after: "] ) ; } }",
+        most: 62,
     },
     Count {
         before: "kernel K { for i in L { x = ",

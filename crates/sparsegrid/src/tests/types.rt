@@ -6,6 +6,19 @@ use std::test::Fail;
 /// Statements of a kernel over `i, j`, with the number of the one that doesn't fit and its code, and 0 if all fit. Before the kernel
 /// stand the constant `C`, the layout `A` of two axes and its fields `f` of I32 and `g` of U32; the constant `Z` stands after it.
 static STATEMENTS: &[(&str, u32, u32)] = &[
+    (
+        "let t = active(f[i, j]); t = true; if active(g[0 - C, 4]) || !t { }",
+        0,
+        0,
+    ),
+    ("let t = active(f[i, j]); t = 1;", 2, 1),
+    ("let t = active(f[i]);", 1, 2),
+    ("let t = active(f[i, 1u]);", 1, 1),
+    ("let t = active(f[i, active(f[i, j])]);", 1, 1),
+    ("let t = active(f[i, j]) + 1;", 1, 1),
+    ("let t = i32(active(f[i, j]));", 1, 1),
+    ("f[i, j] = active(f[i, j]);", 1, 1),
+    ("let t = active(f[i, y]);", 1, 4),
     ("let t = 1 + 1; t = 1;", 0, 0),
     ("let t = 1 + 1u;", 1, 1),
     ("let t = 1 + true;", 1, 1),

@@ -91,10 +91,10 @@ fn no_contribution_is_lost(rt: HostRuntime) -> Result<(), Fail> {
 
 /// Counts what workers pass before their turns of a phase.
 #[derive(Drop)]
-struct Counter {
-    phase: Phase,
-    turns: AtomicU64,
-    sum: AtomicU64,
+pub(super) struct Counter {
+    pub(super) phase: Phase,
+    pub(super) turns: AtomicU64,
+    pub(super) sum: AtomicU64,
 }
 
 impl Gate for Counter {

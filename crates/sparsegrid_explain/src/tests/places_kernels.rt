@@ -54,7 +54,12 @@ static EXPRESSIONS: &[(&str, u32, u32)] = &[
     ("i32 ( 1 , 2 )", 9, 1),
     ("max ( 1 , 2 , )", 13, 1),
     ("min = 1", 5, 1),
-    ("active ( F [ 1 ] )", 1, 6),
+    ("active", 8, 1),
+    ("active F [ 1 ]", 8, 1),
+    ("active ( 1 )", 10, 1),
+    ("active ( F )", 12, 1),
+    ("active ( F [ 1 ] , 2 )", 18, 1),
+    ("active ( F [ 1 ] > 0 )", 18, 1),
     ("1 .. 2", 3, 2),
 ];
 
@@ -116,6 +121,14 @@ static RULES: &[(&str, u32, u32)] = &[
     ("v[x[i]] += 1; x[i] = 0; y[i] += y[i];", 1, 12),
     ("for p in 0..i { y[i] = p; } x[i] += x[i];", 1, 13),
     ("for p in 0..i { y[i] = p; } v[x[i]] += 1; x[i] = 0;", 1, 13),
+    ("if active(v[i]) { v[i] += 1; }", 1, 15),
+    (
+        "if i == 0 && !active(v[i + 1]) { y[i] = 1; } v[0] += 1;",
+        1,
+        30,
+    ),
+    ("v[x[i]] += 1; let seen = active(v[i]);", 15, 23),
+    ("x[i] = 0; if active(v[x[i - 1]]) { v[0] += 1; }", 11, 22),
 ];
 
 #[test]

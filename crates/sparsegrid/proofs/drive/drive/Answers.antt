@@ -1,137 +1,75 @@
-use Rattle.std.proofs.Common.{◌+◌, suc, drop, ap, ◌∙◌, refl, subst, sym, arith, map, List, ℕ, Err, Ok}
+use Rattle.std.proofs.Common.{drop, ◌∙◌, refl, subst, sym, arith, map, List}
+use Rattle.std.specs.List.{AllByRecursion}
 use Rattle.std.proofs.lemmas.List.{drop_all}
-use Rattle.sg_words.specs.declared.memory.Stop.TheVariants as stop
 use Rattle.sg_layout.specs.declared.shape.Shape.{Shape}
 use Rattle.sg_exec.specs.Standing.{StandForState}
-use Rattle.sg_flat.specs.declared.state.FlatState.{FlatState}
-use Rattle.sg_store.specs.StoreWords.{StoreWords}
 use Rattle.sg_names.specs.Tables.{Tables}
-use Rattle.sg_session.specs.declared.binds.Bind.{Bind}
-use Rattle.sg_session.specs.declared.tasks.Task.{Task}
-use Rattle.sg_session.specs.Compiled.{CheckedProgram, CompiledProgram, Compiles, IsTask}
+use Rattle.sg_session.specs.Compiled.{CompiledProgram, Compiles, IsTask}
 use Rattle.sg_session.specs.Bindings.{binding_read}
-use Rattle.sg_session.specs.Performed.{SessionParts, HasFile}
-use Rattle.sparsegrid.specs.Telling.{Telling, telling_of}
-use Rattle.sparsegrid.specs.Outcome.{Outside, output_of, outside_of}
-use Rattle.sparsegrid.specs.steps.Along.{Came, PutsText, Sends}
-use Rattle.sparsegrid.proofs.Bound.{split_at}
-use Rattle.sparsegrid.proofs.Going.{stays_same}
+use Rattle.sg_session.specs.Performed.{HasFile}
+use Rattle.sparsegrid.specs.Telling.{telling_of}
+use Rattle.sparsegrid.specs.Outcome.{output_of, outside_of}
+use Rattle.sparsegrid.specs.steps.Along.{Sends}
 use Rattle.sparsegrid.proofs.Reaching.{one_text}
-use Rattle.sparsegrid.proofs.Tasks.{came_start, came_next, went_all, cut_in_send, cut_in_step, ended_in_task, stepped, has_head, tail_of, line_of, line_status_of}
+use Rattle.sparsegrid.proofs.Tasks.{came_start, went_all}
 use Rattle.sparsegrid.proofs.drive.drive.Goals as goal
 
--- one more task was performed
-counted : (program : CheckedProgram) (binds : List Bind) (telling : Telling) (earlier : ℕ) (start : FlatState) (tasks : List Task) (number : ℕ) (rest : List Task) (stores : List StoreWords) (before now : Outside)
-    → Came program (map binding_read binds) telling earlier start tasks (suc number) rest stores before now → Came program (map binding_read binds) telling earlier start tasks (number + 1) rest stores before now
-counted program binds telling earlier start tasks number rest stores before now came =
-    subst (λ (n : ℕ). Came program (map binding_read binds) telling earlier start tasks n rest stores before now) (omega arith) came
-
-pub loop-task-init : goal.loop-task-init
-loop-task-init g c = record {
+pub loop-at-init : goal.loop-at-init
+loop-at-init g c = record {
+  within = omega arith;
   came = λ program compiles earlier start stand. came_start program c.args.asked.now.binds.list (telling_of program.names program.layouts c.args.what) earlier start c.args.tasks.now c.args.session.now.stores _ (subst (λ (ls : List Shape). StandForState ls c.args.session.now.stores start) compiles.layouts stand);
   compiled = refl;
-  there = c.requires.there;
-  bound = c.requires.bound;
   holds = refl;
   never_falls = omega arith;
   faults = refl;
 }
 
-pub loop-task-preserved : goal.loop-task-preserved
-loop-task-preserved g c =
-    let compiled = c.args.session.now.compiled in
-    let binds = c.args.asked.now.binds.list in
-    let tasks = c.args.tasks.now in
-    let i = c.loop-task.task-index in
-    let split = split_at tasks i _ c.loop-task-test.true in
+pub loop-at-preserved : goal.loop-at-preserved
+loop-at-preserved g c =
+    let held = c.loop-at.invariant in
+    let advanced = rw c.in-Further.is at c.in-Ok.ensures.advanced in
+    let status = rw c.in-Further.is at c.in-Ok.ensures.status in
     record {
-      came = λ program compiles earlier start stand. let came = c.loop-task.invariant.came program compiles earlier start stand in
-          let here = subst (Compiles program) (sym c.loop-task.invariant.compiled) compiles in
-          counted program binds (telling_of program.names program.layouts c.args.what) earlier start tasks i (drop (i + 1) tasks) c.step.new.self.stores _ _
-          (came_next program binds (telling_of program.names program.layouts c.args.what) earlier start tasks i (drop i tasks) (drop (i + 1) tasks) _ c.loop-task.session.stores c.step.new.self.stores c.in-Ok.text _ _
-          (outside_of g.F.Files g.S.Sink c.step.new.files c.loop-task.out) _ split came
-          (stepped program c.loop-task.session.compiled binds came.state _ c.loop-task.session.stores c.step.new.self.stores (Ok c.in-Ok.text) _ _ here came.stand
-          (has_head program compiled binds (drop i tasks) (drop (i + 1) tasks) _ compiles split c.loop-task.invariant.bound)
-          c.in-Ok.ensures.told c.in-Ok.ensures.performed c.in-Ok.ensures.asked c.in-Ok.ensures.reads c.in-Ok.ensures.cause c.in-Ok.ensures.holds)
-          (stays_same (output_of g.S.Sink c.loop-task.out))
-          (subst (λ (text : List ℕ). PutsText (output_of g.S.Sink c.loop-task.out) (output_of g.S.Sink c.send.new.out) text)
-          (c.told_of.ensures program.names program.layouts i ∙ ap ((telling_of program.names program.layouts c.args.what).each i) c.as_slice.ensures) c.in-Ok-send.ensures.sends) refl refl refl refl);
-      compiled = c.step.ensures.compiled ∙ c.loop-task.invariant.compiled;
-      there = tail_of (IsTask compiled) (drop i tasks) (drop (i + 1) tasks) _ split c.loop-task.invariant.there;
-      bound = tail_of (HasFile compiled.names (map binding_read binds)) (drop i tasks) (drop (i + 1) tasks) _ split c.loop-task.invariant.bound;
-      holds = c.step.ensures.holds ∙ c.loop-task.invariant.holds;
-      never_falls = omega (arith, c.step.ensures.never_falls, c.loop-task.invariant.never_falls);
-      faults = c.in-Ok-send.ensures.cause ∙ c.loop-task.invariant.faults;
+      within = status.1;
+      came = λ program compiles earlier start stand. advanced program (subst (Compiles program) (sym held.compiled) compiles) earlier start _ (held.came program compiles earlier start stand);
+      compiled = c.perform_next.ensures.compiled ∙ held.compiled;
+      holds = c.perform_next.ensures.holds ∙ held.holds;
+      never_falls = omega (arith, c.perform_next.ensures.never_falls, held.never_falls);
+      faults = c.in-Ok.ensures.cause ∙ held.faults;
     }
+
+pub loop-at-smaller : goal.loop-at-smaller
+loop-at-smaller g c = let status = rw c.in-Further.is at c.in-Ok.ensures.status in omega (arith, status.0, status.1)
+
+pub perform_next-requires-clause-there : goal.perform_next-requires-clause-there
+perform_next-requires-clause-there g c κs within = subst (λ (compiled : CompiledProgram). AllByRecursion (IsTask compiled) c.args.tasks.now) (sym c.loop-at.invariant.compiled) c.requires.there
+
+pub perform_next-requires-clause-bound : goal.perform_next-requires-clause-bound
+perform_next-requires-clause-bound g c κs within =
+    subst (λ (compiled : CompiledProgram). AllByRecursion (HasFile compiled.names (map binding_read c.args.asked.now.binds.list)) c.args.tasks.now) (sym c.loop-at.invariant.compiled) c.requires.bound
+
+pub returns-in-Ended-clause-status : goal.returns-in-Ended-clause-status
+returns-in-Ended-clause-status g c = rw c.in-Ended.is at c.in-Ok.ensures.status
+
+pub returns-in-Ended-clause-went : goal.returns-in-Ended-clause-went
+returns-in-Ended-clause-went g c = λ program compiles earlier start stand.
+    let held = c.loop-at.invariant in
+    let advanced = rw c.in-Ended.is at c.in-Ok.ensures.advanced in
+    advanced program (subst (Compiles program) (sym held.compiled) compiles) earlier start _ (held.came program compiles earlier start stand)
 
 pub returns-in-Err-clause-went : goal.returns-in-Err-clause-went
 returns-in-Err-clause-went g c = λ program compiles earlier start stand.
-    let compiled = c.args.session.now.compiled in
-    let binds = c.args.asked.now.binds.list in
-    let tasks = c.args.tasks.now in
-    let i = c.loop-task.task-index in
-    let split = split_at tasks i _ c.loop-task-test.true in
-    let came = c.loop-task.invariant.came program compiles earlier start stand in
-    let here = subst (Compiles program) (sym c.loop-task.invariant.compiled) compiles in
-    cut_in_send program binds (telling_of program.names program.layouts c.args.what) earlier start tasks i (drop i tasks) (drop (i + 1) tasks) _ c.loop-task.session.stores c.step.new.self.stores c.in-Ok.text _ _
-    (outside_of g.F.Files g.S.Sink c.step.new.files c.loop-task.out) _ c.in-Err.why split came
-    (stepped program c.loop-task.session.compiled binds came.state _ c.loop-task.session.stores c.step.new.self.stores (Ok c.in-Ok.text) _ _ here came.stand
-    (has_head program compiled binds (drop i tasks) (drop (i + 1) tasks) _ compiles split c.loop-task.invariant.bound)
-    c.in-Ok.ensures.told c.in-Ok.ensures.performed c.in-Ok.ensures.asked c.in-Ok.ensures.reads c.in-Ok.ensures.cause c.in-Ok.ensures.holds)
-    (stays_same (output_of g.S.Sink c.loop-task.out))
-    (subst (λ (text : List ℕ). Sends {A = Unit} (Err c.in-Err.why) (output_of g.S.Sink c.loop-task.out) (output_of g.S.Sink c.send.new.out) text)
-    (c.told_of.ensures program.names program.layouts i ∙ ap ((telling_of program.names program.layouts c.args.what).each i) c.as_slice.ensures) c.in-Err.ensures.sends) refl refl refl
-
-pub returns-in-Err-Refused-clause-went : goal.returns-in-Err-Refused-clause-went
-returns-in-Err-Refused-clause-went g c = λ program compiles earlier start stand.
-    let compiled = c.args.session.now.compiled in
-    let binds = c.args.asked.now.binds.list in
-    let tasks = c.args.tasks.now in
-    let i = c.loop-task.task-index in
-    let split = split_at tasks i _ c.loop-task-test.true in
-    let came = c.loop-task.invariant.came program compiles earlier start stand in
-    let here = subst (Compiles program) (sym c.loop-task.invariant.compiled) compiles in
-    let same = c.step.ensures.compiled ∙ c.loop-task.invariant.compiled in
-    let inside = ap (λ (s : SessionParts). s.compiled.names) c.session.view_is ∙ (ap (λ (p : CompiledProgram). p.names) same ∙ compiles.names) in
-    let told = rw c.in-Err-Refused.field-0-is at c.in-Err-Refused.ensures.told in
-    let performed = rw c.in-Err-Refused.field-0-is at c.in-Err-Refused.ensures.performed in
-    let cause = rw c.in-Err-Refused.field-0-is at c.in-Err-Refused.ensures.cause in
-    let sends = rw c.in-Err-Refused.field-0-is at c.refuse_task.ensures.sends in
-    let status = rw c.in-Err-Refused.field-0-is at c.refuse_task.ensures.status in
-    (ended_in_task program binds (telling_of program.names program.layouts c.args.what) earlier start tasks i (drop i tasks) (drop (i + 1) tasks) _ c.loop-task.session.stores c.step.new.self _ _
-    (outside_of g.F.Files g.S.Sink c.step.new.files c.loop-task.out) _ c.in-Err-Refused.refusal c.refuse_task.result split (subst (Compiles program) (sym same) compiles) came
-    (stepped program c.loop-task.session.compiled binds came.state _ c.loop-task.session.stores c.step.new.self.stores (Err (stop.Refused c.in-Err-Refused.refusal)) _ _ here came.stand
-    (has_head program compiled binds (drop i tasks) (drop (i + 1) tasks) _ compiles split c.loop-task.invariant.bound)
-    told performed c.in-Err-Refused.ensures.asked c.in-Err-Refused.ensures.reads cause c.in-Err-Refused.ensures.holds)
-    c.in-Err-Refused.ensures.stays (stays_same (output_of g.S.Sink c.loop-task.out))
-    (line_of program.names c.session.inside.compiled.names binds _ c.in-Err-Refused.refusal c.refuse_task.result _ _ inside sends)
-    (line_status_of program.names c.session.inside.compiled.names binds _ c.in-Err-Refused.refusal c.refuse_task.result inside status) refl refl refl).went
-
-pub returns-in-Err-Memory-clause-went : goal.returns-in-Err-Memory-clause-went
-returns-in-Err-Memory-clause-went g c = λ program compiles earlier start stand.
-    let compiled = c.args.session.now.compiled in
-    let binds = c.args.asked.now.binds.list in
-    let tasks = c.args.tasks.now in
-    let i = c.loop-task.task-index in
-    let split = split_at tasks i _ c.loop-task-test.true in
-    let came = c.loop-task.invariant.came program compiles earlier start stand in
-    let here = subst (Compiles program) (sym c.loop-task.invariant.compiled) compiles in
-    let told = rw c.in-Err-Memory.field-0-is at c.in-Err-Memory.ensures.told in
-    let performed = rw c.in-Err-Memory.field-0-is at c.in-Err-Memory.ensures.performed in
-    let cause = rw c.in-Err-Memory.field-0-is at c.in-Err-Memory.ensures.cause in
-    cut_in_step program binds (telling_of program.names program.layouts c.args.what) earlier start tasks i (drop i tasks) (drop (i + 1) tasks) _ c.loop-task.session.stores c.step.new.self.stores _ _ _ split came
-    (stepped program c.loop-task.session.compiled binds came.state _ c.loop-task.session.stores c.step.new.self.stores (Err stop.Memory) _ _ here came.stand
-    (has_head program compiled binds (drop i tasks) (drop (i + 1) tasks) _ compiles split c.loop-task.invariant.bound)
-    told performed c.in-Err-Memory.ensures.asked c.in-Err-Memory.ensures.reads cause c.in-Err-Memory.ensures.holds) (stays_same (output_of g.S.Sink c.loop-task.out))
+    let held = c.loop-at.invariant in
+    c.in-Err.ensures.advanced program (subst (Compiles program) (sym held.compiled) compiles) earlier start _ (held.came program compiles earlier start stand)
 
 pub returns-clause-went : goal.returns-clause-went
 returns-clause-went g c = λ program compiles earlier start stand.
-    let came = c.loop-task.invariant.came program compiles earlier start stand in
-    let here = subst (Compiles program) (sym c.loop-task.invariant.compiled) compiles in
-    (went_all program c.args.asked.now.binds.list (telling_of program.names program.layouts c.args.what) earlier start c.args.tasks.now c.loop-task.task-index (drop c.loop-task.task-index c.args.tasks.now) _
-    (outside_of g.F.Files g.S.Sink c.loop-task.files c.loop-task.out) _ c.loop-task.session c.end.result ((telling_of program.names program.layouts c.args.what).ending came.state)
-    (drop_all c.loop-task.task-index c.args.tasks.now (omega arith)) here came (one_text program.names program.layouts c.args.what came.state c.requires.shown)
-    (subst (λ (shapes : List Shape). Sends c.end.result (output_of g.S.Sink c.loop-task.out) (output_of g.S.Sink c.end.new.out) ((telling_of program.names shapes c.args.what).ending came.state)) here.layouts
-    (subst (λ (names : Tables). Sends c.end.result (output_of g.S.Sink c.loop-task.out) (output_of g.S.Sink c.end.new.out) ((telling_of names c.loop-task.session.compiled.layouts c.args.what).ending came.state)) here.names
-    (c.end.ensures.sends came.state (subst (λ (shapes : List Shape). StandForState shapes c.loop-task.session.stores came.state) (sym here.layouts) came.stand))))
+    let came = c.loop-at.invariant.came program compiles earlier start stand in
+    let here = subst (Compiles program) (sym c.loop-at.invariant.compiled) compiles in
+    (went_all program c.args.asked.now.binds.list (telling_of program.names program.layouts c.args.what) earlier start c.args.tasks.now c.loop-at.at (drop c.loop-at.at c.args.tasks.now) _
+    (outside_of g.F.Files g.S.Sink c.loop-at.files c.loop-at.out) _ c.loop-at.session c.end.result ((telling_of program.names program.layouts c.args.what).ending came.state)
+    (drop_all c.loop-at.at c.args.tasks.now (omega arith)) here came (one_text program.names program.layouts c.args.what came.state c.requires.shown)
+    (subst (λ (shapes : List Shape). Sends c.end.result (output_of g.S.Sink c.loop-at.out) (output_of g.S.Sink c.end.new.out) ((telling_of program.names shapes c.args.what).ending came.state)) here.layouts
+    (subst (λ (names : Tables). Sends c.end.result (output_of g.S.Sink c.loop-at.out) (output_of g.S.Sink c.end.new.out) ((telling_of names c.loop-at.session.compiled.layouts c.args.what).ending came.state)) here.names
+    (c.end.ensures.sends came.state (subst (λ (shapes : List Shape). StandForState shapes c.loop-at.session.stores came.state) (sym here.layouts) came.stand))))
     c.end.ensures.status refl refl refl).went
