@@ -1,5 +1,5 @@
 -- Words that are kept by pages: what a write changes, and that there is room for it.
-use Rattle.std.proofs.Common.{◌≡◌, ◌≢◌, ℕ, zero, suc, ◌+◌, ◌-◌, ◌*◌, ◌/◌, ◌%◌, ◌^◌, ◌<◌, ◌≤◌, List, [], ◌∷◌, ◌++◌, length, replicate, refl, sym, ap, ◌∙◌, subst, arith, inl, inr}
+use Rattle.std.proofs.Common.{◌≡◌, ◌≢◌, ℕ, zero, suc, ◌+◌, ◌-◌, ◌*◌, ◌/◌, ◌%◌, ◌<◌, ◌≤◌, List, [], ◌∷◌, ◌++◌, length, replicate, refl, sym, ap, ◌∙◌, subst, arith, inl, inr}
 use Rattle.std.specs.Prelude.{slice_index, slice_set}
 use Rattle.std.proofs.lemmas.Bool.{cases_eq, cases_lt}
 use Rattle.std.proofs.lemmas.List.{length-append, length-replicate, length-set, get_or-set_same, get_or-set_other, get_or_append_left, get_or-append_right, get_or_past}
@@ -325,13 +325,16 @@ page_none words pages row places place other are view none low high = ap (λ (r 
   | inr past ↦ paged_past words pages places other (omega (arith, past))
 ]
 
+-- the places after the last page that stands
+pub past_pages : (words pages row : List ℕ) (places place : ℕ) → ArePages words pages places → paged words pages places ≡ row → 64 * length pages ≤ place → slice_index row place ≡ 0
+past_pages words pages row places place are view past =
+    let beyond : length pages ≤ place / 64 = omega (arith, past) in
+    page_none words pages row places place place are view (get_or_past pages (place / 64) 0 beyond) (omega arith) (omega arith)
+
 -- ── As the code goes, where `row` is what contracts see ──
 
 pub places_are : (words pages row : List ℕ) (places : ℕ) → paged words pages places ≡ row → places ≡ length row
 places_are words pages row places view = sym (paged_long words pages places) ∙ ap length view
-
-pub few_places : (words pages row : List ℕ) (places a b : ℕ) → paged words pages places ≡ row → IsKept words pages places a b → length row < 2 ^ 64
-few_places words pages row places a b view kept = omega (arith, places_are words pages row places view, kept.3)
 
 pub word_is : (words pages row : List ℕ) (places place word : ℕ) → paged words pages places ≡ row → place < places → word ≡ paged_word words pages place → word ≡ slice_index row place
 word_is words pages row places place word view there is = is ∙ sym (paged_at words pages places place there) ∙ ap (λ (r : List ℕ). slice_index r place) view

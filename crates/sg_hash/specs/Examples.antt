@@ -1,9 +1,10 @@
 -- Worked equations: four places, with the keys 6 and 1, whose first places are the same.
-use Rattle.std.specs.Prelude.{◌≡◌, ℕ, zero, suc, Some, None, List, [], ◌∷◌, refl}
+use Rattle.std.specs.Prelude.{◌≡◌, ◌<◌, ◌≤◌, ℕ, zero, suc, Some, None, List, [], ◌∷◌, slice_index, refl}
 use Rattle.std.proofs.Common.{lit<, arith}
 use Rattle.sg_words.specs.RaceMachine.{home}
 use Rattle.sg_hash.specs.Tables.{place, beside}
 use Rattle.sg_hash.specs.Finishing.{LinksHaveKeys}
+use Rattle.sg_hash.specs.Rows.{IsNext}
 
 abbrev pub keys : List ℕ
 keys = 0 ∷ 0 ∷ 7 ∷ 2 ∷ []
@@ -71,3 +72,19 @@ seven_without_link (suc p) linked = linked
 -- a link without a key is one
 pub four_without_key : LinksHaveKeys (0 ∷ []) (5 ∷ []) → ⊥
 four_without_key have = let key = have 0 (lit< tt) in omega arith
+
+-- from place 1 on the next place in use is 2, and from 4 on there is none
+pub two_is_next : IsNext links 1 (Some 2)
+two_is_next = (omega arith, omega arith, λ none. absurd (omega (arith, none)), between)
+  where
+    between : (other : ℕ) → 1 ≤ other → other < 2 → slice_index links other ≡ 0
+    between zero low below = refl
+    between (suc zero) low below = refl
+    between (suc (suc other)) low below = absurd (omega (arith, below))
+
+pub none_is_next : IsNext links 4 None
+none_is_next zero low = refl
+none_is_next (suc zero) low = refl
+none_is_next (suc (suc zero)) low = absurd (omega (arith, low))
+none_is_next (suc (suc (suc zero))) low = absurd (omega (arith, low))
+none_is_next (suc (suc (suc (suc place)))) low = refl

@@ -125,19 +125,34 @@ impl PagedRow {
     }
 
     /// The first place from one on whose word isn't 0. A walk over all such places takes time by the pages that stand, and one step for
-    /// each 64 places.
+    /// each 64 places up to the last of these.
     pub fn next(&self, from: usize) -> Option<usize>
         ensures next { IsNext self.now from result }
         ensures few { length self.now < 2 ^ 64 }
     {
+        let end = self.end();
         let mut place = from;
-        while place < self.places {
+        while place < end {
             if self.get(place) != 0 {
                 return Some(place);
             }
             place = self.past(place);
         }
         None
+    }
+
+    /// The place after the last page that stands, or after the last place: from there on all words are 0.
+    fn end(&self) -> usize
+        ensures within { result ≤ length self.now }
+        ensures zeros { (place : ℕ) → result ≤ place → slice_index self.now place ≡ 0 }
+        ensures few { length self.now + 64 < 2 ^ 64 }
+    {
+        let last = 64 * self.pages.len();
+        if last < self.places {
+            last
+        } else {
+            self.places
+        }
     }
 
     /// A place after one whose word is 0: the next one, or the first past its page if this doesn't stand.

@@ -339,6 +339,14 @@ many_left shape front last at is nodes_are inside kind =
 pub none_left : (shape : Shape) (at : Coord) → is_inside (bounds_of_shape shape) at ≡ false → cells_left shape at ≡ 0
 none_left shape at outside = ap (λ (b : Bool). if b then left_in shape.nodes at else 0) outside
 
+-- where the last node isn't dense, whether the coordinate is inside or not
+pub other_left : (shape : Shape) (front : List NodeShape) (last : NodeShape) (at : Coord) → shape.nodes ≡ front ++ last ∷ [] → is_dense last.kind ≡ false → cells_left shape at ≡ 0
+other_left shape front last at nodes_are kind = by_test (is_inside (bounds_of_shape shape) at) refl
+  where
+    by_test : (b : Bool) → is_inside (bounds_of_shape shape) at ≡ b → cells_left shape at ≡ 0
+    by_test true within = many_left shape front last at false nodes_are within kind
+    by_test false outside = none_left shape at outside
+
 pub other_kind : (kind : Kind) → (kind ≡ Bitmasked) ⊎ ((kind ≡ Pointer) ⊎ ((kind ≡ Hash) ⊎ (kind ≡ Dynamic))) → is_dense kind ≡ false
 other_kind kind (inl is) = ap is_dense is
 other_kind kind (inr (inl is)) = ap is_dense is

@@ -46,11 +46,11 @@ cond_some false w n e = absurd (omega (arith, e))
 
 pub links_are : (keeps : ℕ → Bool) (links kept : List ℕ) (row : List Bool) → AreKeptLinks links kept row (length links) → (slot : ℕ) → slice_index kept slot ≡ kept_link (in_row row) (slice_index links slot)
 links_are keeps links kept row are slot = elim (cases_lt slot (length links)) [
-  | inl below ↦ are.each slot ∙ ap (λ b. cond b (kept_link (in_row row) (slice_index links slot)) (slice_index links slot)) (below_true slot (length links) below)
+  | inl below ↦ are.each slot ∙ ap (λ b. cond b (kept_link (in_row row) (slice_index links slot)) 0) (below_true slot (length links) below)
   | inr past ↦
       let none : slice_index links slot ≡ 0 = get_or_past links slot 0 past in
-      are.each slot ∙ ap (λ b. cond b (kept_link (in_row row) (slice_index links slot)) (slice_index links slot)) (past_false slot (length links) past)
-      ∙ none ∙ sym (ap (kept_link (in_row row)) none)
+      are.each slot ∙ ap (λ b. cond b (kept_link (in_row row) (slice_index links slot)) 0) (past_false slot (length links) past)
+      ∙ sym (ap (kept_link (in_row row)) none)
 ]
 
 pub below_by_word : (words : List ℕ) (slot n : ℕ) → slice_index words slot ≡ suc n → slot < length words

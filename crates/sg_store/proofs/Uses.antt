@@ -14,3 +14,5 @@ pub use Rattle.sg_store.proofs.HasRoom.{opening_closes, opening_fills}
 pub use Rattle.sg_store.proofs.SpotPlaces.{IsNarrow, IsWidth, narrow_start, width_fits, width_on}
 pub use Rattle.sg_store.proofs.Stepping.{read_as}
 pub use Rattle.sg_store.proofs.Walking.{node_is}
+-- a map of bits in which one more is set
+pub use Rattle.sg_store.proofs.Marking.{marked}

@@ -1,8 +1,8 @@
 -- What is done with the words of a row that are in use is done with all of them: those between are 0.
-use Rattle.std.proofs.Common.{◌≡◌, ◌≢◌, ℕ, zero, suc, ◌+◌, ◌-◌, ◌<◌, ◌≤◌, Bool, cond, List, ◌∷◌, [], ◌++◌, length, take, sym, ap, ◌∙◌, subst, arith, inl, inr}
+use Rattle.std.proofs.Common.{◌≡◌, ◌≢◌, ℕ, zero, suc, ◌+◌, ◌-◌, ◌<◌, ◌≤◌, Bool, cond, List, ◌∷◌, [], ◌++◌, length, replicate, take, refl, sym, ap, ◌∙◌, subst, arith, inl, inr}
 use Rattle.std.specs.Prelude.{slice_index, slice_set, nat_lt}
 use Rattle.std.proofs.lemmas.Bool.{cases_eq, cases_lt}
-use Rattle.std.proofs.lemmas.List.{get_or_past, length-set, get_or-set_same, get_or-set_other, take_more, take_all, append-nil}
+use Rattle.std.proofs.lemmas.List.{get_or_past, length-set, length-replicate, get_or-set_same, get_or-set_other, take_more, take_all, append-nil}
 use Rattle.sg_pool.specs.Numbers.{PoolNumbers}
 use Rattle.sg_store.specs.steps.Cuts.{IsCutThrough}
 use Rattle.sg_store.specs.steps.KeptTables.{IsOldTable, IsKeptSoFar}
@@ -29,28 +29,39 @@ some_before words from place number ends is = elim (cases_lt place from) [
 
 -- ── Links that are kept ──
 
-pub kept_next : (links kept new : List ℕ) (row : List Bool) (from next : ℕ) → from ≤ next → next < length links → AreUnused links from next → new ≡ slice_set kept next (kept_link (in_row row) (slice_index kept next)) → AreKeptLinks links kept row from → AreKeptLinks links new row (next + 1)
-kept_next links kept new row from next low there unused is are = record {
-  as_many = ap length is ∙ length-set kept next (kept_link (in_row row) (slice_index kept next)) ∙ are.as_many;
+zeros_at : (n i : ℕ) → slice_index (replicate n 0) i ≡ 0
+zeros_at zero i = refl
+zeros_at (suc n) zero = refl
+zeros_at (suc n) (suc i) = zeros_at n i
+
+-- none is kept at first
+pub kept_none : (links kept : List ℕ) (row : List Bool) → kept ≡ replicate (length links) 0 → AreKeptLinks links kept row 0
+kept_none links kept row is = record {
+  as_many = ap length is ∙ length-replicate (length links) 0;
+  each = λ slot.
+      ap (λ (r : List ℕ). slice_index r slot) is ∙ zeros_at (length links) slot
+      ∙ sym (ap (λ b. cond b (kept_link (in_row row) (slice_index links slot)) 0) (past_false slot 0 (omega arith)));
+}
+
+pub kept_next : (links kept new : List ℕ) (row : List Bool) (from next word : ℕ) → from ≤ next → next < length links → AreUnused links from next → new ≡ slice_set kept next word → word ≡ kept_link (in_row row) (slice_index links next) → AreKeptLinks links kept row from → AreKeptLinks links new row (next + 1)
+kept_next links kept new row from next word low there unused is word_is are = record {
+  as_many = ap length is ∙ length-set kept next word ∙ are.as_many;
   each = each;
 }
   where
     -- what a link comes to where the first so many are kept
     now : ℕ → Bool → ℕ
-    now slot done = cond done (kept_link (in_row row) (slice_index links slot)) (slice_index links slot)
-
-    same_link : slice_index kept next ≡ slice_index links next
-    same_link = are.each next ∙ ap (now next) (past_false next from low)
+    now slot done = cond done (kept_link (in_row row) (slice_index links slot)) 0
 
     stays : (slot : ℕ) → slot ≢ next → slice_index new slot ≡ slice_index kept slot
-    stays slot apart = ap (λ (r : List ℕ). slice_index r slot) is ∙ get_or-set_other kept next slot (kept_link (in_row row) (slice_index kept next)) 0 apart
+    stays slot apart = ap (λ (r : List ℕ). slice_index r slot) is ∙ get_or-set_other kept next slot word 0 apart
 
-    each : (slot : ℕ) → slice_index new slot ≡ cond (nat_lt slot (next + 1)) (kept_link (in_row row) (slice_index links slot)) (slice_index links slot)
+    each : (slot : ℕ) → slice_index new slot ≡ cond (nat_lt slot (next + 1)) (kept_link (in_row row) (slice_index links slot)) 0
     each slot = elim (cases_eq slot next) [
       | inl same ↦
           ap (slice_index new) same ∙ ap (λ (r : List ℕ). slice_index r next) is
-          ∙ get_or-set_same kept next (kept_link (in_row row) (slice_index kept next)) 0 (omega (arith, there, are.as_many))
-          ∙ ap (kept_link (in_row row)) same_link ∙ ap (λ s. kept_link (in_row row) (slice_index links s)) (sym same)
+          ∙ get_or-set_same kept next word 0 (omega (arith, there, are.as_many))
+          ∙ word_is ∙ ap (λ s. kept_link (in_row row) (slice_index links s)) (sym same)
           ∙ sym (ap (now slot) (below_true slot (next + 1) (omega (arith, same))))
       | inr apart ↦ stays slot apart ∙ are.each slot ∙ elim (cases_lt slot from) [
         | inl before ↦ ap (now slot) (below_true slot from before ∙ sym (below_true slot (next + 1) (omega (arith, before, low))))
@@ -59,7 +70,7 @@ kept_next links kept new row from next low there unused is are = record {
             ap (now slot) (past_false slot from beyond) ∙ elim (cases_lt slot next) [
               | inl between ↦
                   let none : slice_index links slot ≡ 0 = unused slot beyond between in
-                  none ∙ sym (ap (now slot) (below_true slot (next + 1) (omega (arith, between))) ∙ ap (kept_link (in_row row)) none)
+                  sym (ap (now slot) (below_true slot (next + 1) (omega (arith, between))) ∙ ap (kept_link (in_row row)) none)
               | inr further ↦ sym (ap (now slot) (past_false slot (next + 1) (omega (arith, further, apart))))
             ]
       ]
@@ -69,24 +80,22 @@ pub kept_all : (links kept : List ℕ) (row : List Bool) (through : ℕ) → End
 kept_all links kept row through ends are = record { as_many = are.as_many; each = each }
   where
     now : ℕ → Bool → ℕ
-    now slot done = cond done (kept_link (in_row row) (slice_index links slot)) (slice_index links slot)
+    now slot done = cond done (kept_link (in_row row) (slice_index links slot)) 0
 
     all : (slot : ℕ) → slice_index kept slot ≡ kept_link (in_row row) (slice_index links slot)
     all slot = are.each slot ∙ elim (cases_lt slot through) [
       | inl below ↦ ap (now slot) (below_true slot through below)
       | inr past ↦
           let low : through ≤ slot = omega (arith, past) in
-          let none : slice_index links slot ≡ 0 = ends slot low in
-          ap (now slot) (past_false slot through low) ∙ none ∙ sym (ap (kept_link (in_row row)) none)
+          ap (now slot) (past_false slot through low) ∙ sym (ap (kept_link (in_row row)) (ends slot low))
     ]
 
-    each : (slot : ℕ) → slice_index kept slot ≡ cond (nat_lt slot (length links)) (kept_link (in_row row) (slice_index links slot)) (slice_index links slot)
+    each : (slot : ℕ) → slice_index kept slot ≡ cond (nat_lt slot (length links)) (kept_link (in_row row) (slice_index links slot)) 0
     each slot = elim (cases_lt slot (length links)) [
       | inl below ↦ all slot ∙ sym (ap (now slot) (below_true slot (length links) below))
       | inr past ↦
           let low : length links ≤ slot = omega (arith, past) in
-          let none : slice_index links slot ≡ 0 = get_or_past links slot 0 low in
-          all slot ∙ ap (kept_link (in_row row)) none ∙ sym (ap (now slot) (past_false slot (length links) low) ∙ none)
+          all slot ∙ ap (kept_link (in_row row)) (get_or_past links slot 0 low) ∙ sym (ap (now slot) (past_false slot (length links) low))
     ]
 
 -- ── Links that are cut ──

@@ -20,17 +20,21 @@ impl Store {
         ensures follow { CellsFollow self.now at result }
         ensures reached { (next : Coord) (cell : ℕ) → cell_in self.now next ≡ Some cell → IsReached self.now cell }
     {
-        // for the laws that they ensure
+        // for the law that it ensures
         paths_tell();
-        numbering(&self.layout.extents());
-        if !inside(&self.layout.extents(), at) {
-            return 0;
-        }
         let nodes = self.layout.shape().nodes.as_slice();
         let last = self.layout.nodes() - 1;
         let node = &nodes[last];
         match node.kind {
-            Kind::Dense => left_in(node, at),
+            Kind::Dense => {
+                // for the law that it ensures
+                numbering(&self.layout.extents());
+                if inside(&self.layout.extents(), at) {
+                    left_in(node, at)
+                } else {
+                    0
+                }
+            }
             Kind::Bitmasked | Kind::Pointer | Kind::Hash | Kind::Dynamic => 0,
         }
     }

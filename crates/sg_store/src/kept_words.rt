@@ -40,26 +40,17 @@ fn keep_bit(kept: &mut WordRow, masks: &WordRow, row: &[bool], slot: usize)
     }
 }
 
-/// The links with those alone whose numbers are kept, and 0 in the place of the others.
+/// The links with those alone whose numbers are kept, and 0 in the place of the others. Pages of which none is kept stand no longer.
 pub(crate) fn kept_links(alloc: Global, links: &PagedRow, row: &[bool]) -> Result<PagedRow, Memory>
     ensures { IfOk result (λ kept. AreKeptLinks links.now kept row.now (length links.now)) }
 {
-    let mut kept = links.copy(alloc)?;
+    let mut kept = PagedRow::zeros(alloc, links.len())?;
     let mut slot = 0;
     while let Some(next) = links.next(slot) {
-        keep_link(&mut kept, row, next);
+        kept.set(next, kept_link(links.get(next), row));
         slot = next + 1;
     }
     Ok(kept)
-}
-
-/// Makes a link 0, where its number is not kept.
-fn keep_link(kept: &mut PagedRow, row: &[bool], slot: usize)
-    requires { slot < length kept.old }
-    ensures { kept.new ≡ slice_set kept.old slot (kept_link (in_row row.now) (slice_index kept.old slot)) }
-{
-    let link = kept.get(slot);
-    kept.set(slot, kept_link(link, row));
 }
 
 /// A link, or 0 if its number is not kept.

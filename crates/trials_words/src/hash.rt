@@ -1,8 +1,9 @@
-ghost use Rattle.std.specs.Prelude.{◌≡◌, [], ◌∷◌, IfOk};
+ghost use Rattle.std.specs.Prelude.{◌≡◌, ◌<◌, [], ◌∷◌, length, IfOk};
 ghost use Rattle.sg_words.specs.RaceMachine.{newcomer};
 ghost use Rattle.sg_hash.specs.Seats.{worker_of, IsSeatOf};
+ghost use Rattle.sg_hash.specs.Tables.{IsTable, AreBeside};
 
-use sg_hash::{Ask, HashLinked, HashPass, HashSeat, PagedRow};
+use sg_hash::{Ask, HashLinked, HashPass, HashSeat, PagedRow, find_in, place_in, put_in};
 use sg_words::{Items, Memory};
 use std::alloc::Global;
 use std::test::Fail;
@@ -119,5 +120,104 @@ fn rows_are_kept_by_pages(rt: HostRuntime) -> Result<(), Fail> {
         (like.get(3), like.get(70), like.next(4)),
         (9, 0, Some(130))
     );
+    Ok(())
+}
+
+#[test]
+fn rows_are_copied(rt: HostRuntime) -> Result<(), Fail> {
+    let mut row = PagedRow::zeros(rt.alloc(), 200)?;
+    row.set(130, 7);
+    let mut copy = row.copy(rt.alloc())?;
+    assert_eq!(rt; (copy.len(), copy.next(0)), (row.len(), row.next(0)));
+    let words = vec![in rt.alloc(); 5; copy.len()]?;
+    copy.overwrite(words.as_slice());
+    assert_eq!(rt; copy.whole(rt.alloc())?, words);
+    Ok(())
+}
+
+// The keys of a table of eight places, all empty, and the links beside them.
+fn no_keys(alloc: Global) -> Result<(PagedRow, PagedRow), Memory>
+    ensures many { IfOk result (λ table. length table.0 ≡ 8) }
+    ensures table { IfOk result (λ table. IsTable table.0) }
+    ensures links { IfOk result (λ table. AreBeside table.0 table.1) }
+{
+    let keys = PagedRow::zeros(alloc, 8)?;
+    let links = PagedRow::zeros(alloc, 8)?;
+    Ok((keys, links))
+}
+
+// Whether a key that isn't in a table is put there with a number.
+fn is_put(keys: &mut PagedRow, links: &mut PagedRow, key: u32, number: u32) -> bool
+    requires some { 0 < length keys.old }
+    requires table { IsTable keys.old }
+    requires links { AreBeside keys.old links.old }
+    ensures many { length keys.new ≡ length keys.old }
+    ensures table { IsTable keys.new }
+    ensures links { AreBeside keys.new links.new }
+{
+    match find_in(keys, links, key) {
+        None => put_in(keys, links, key, number),
+        Some(_number) => false,
+    }
+}
+
+// Puts four keys that all begin at the first place, with the numbers from 10 on.
+fn four_at_once(keys: &mut PagedRow, links: &mut PagedRow) -> [bool; 4]
+    requires some { 0 < length keys.old }
+    requires table { IsTable keys.old }
+    requires links { AreBeside keys.old links.old }
+    ensures many { length keys.new ≡ length keys.old }
+    ensures table { IsTable keys.new }
+    ensures links { AreBeside keys.new links.new }
+{
+    let one = is_put(keys, links, 0, 10);
+    let two = is_put(keys, links, 5, 11);
+    let three = is_put(keys, links, 13, 12);
+    let four = is_put(keys, links, 18, 13);
+    [one, two, three, four]
+}
+
+// Puts a key at its own place, one more that begins at the first place, and two that begin elsewhere, and then one for which no place is left.
+fn five_more(keys: &mut PagedRow, links: &mut PagedRow) -> [bool; 5]
+    requires some { 0 < length keys.old }
+    requires table { IsTable keys.old }
+    requires links { AreBeside keys.old links.old }
+    ensures many { length keys.new ≡ length keys.old }
+    ensures table { IsTable keys.new }
+    ensures links { AreBeside keys.new links.new }
+{
+    let one = is_put(keys, links, 1, 14);
+    let two = is_put(keys, links, 26, 15);
+    let three = is_put(keys, links, 2, 16);
+    let four = is_put(keys, links, 3, 17);
+    let five = is_put(keys, links, 34, 18);
+    [one, two, three, four, five]
+}
+
+// What a table says of a key, by its number and by its place.
+fn asked(keys: &PagedRow, links: &PagedRow, key: u32) -> (Option<u32>, Option<usize>)
+    requires some { 0 < length keys.now }
+    requires table { IsTable keys.now }
+    requires links { AreBeside keys.now links.now }
+{
+    (find_in(keys, links, key), place_in(keys, key))
+}
+
+#[test]
+fn keys_are_put_and_found(rt: HostRuntime) -> Result<(), Fail> {
+    let (mut keys, mut links) = no_keys(rt.alloc())?;
+    let put = four_at_once(&mut keys, &mut links);
+    assert_eq!(rt; put, [true, true, true, true]);
+    assert_eq!(rt; asked(&keys, &links, 0), (Some(10), Some(0)));
+    assert_eq!(rt; asked(&keys, &links, 13), (Some(12), Some(2)));
+    assert_eq!(rt; asked(&keys, &links, 18), (Some(13), Some(3)));
+    // absent: it begins where the four do
+    assert_eq!(rt; asked(&keys, &links, 26), (None, None));
+    let more = five_more(&mut keys, &mut links);
+    assert_eq!(rt; more, [true, true, true, true, false]);
+    assert_eq!(rt; asked(&keys, &links, 2), (Some(16), Some(6)));
+    assert_eq!(rt; asked(&keys, &links, 34), (None, None));
+    assert!(rt; keys.whole(rt.alloc())?.as_slice() == [1, 6, 14, 19, 2, 27, 3, 4].as_slice());
+    assert!(rt; links.whole(rt.alloc())?.as_slice() == [11, 12, 13, 14, 15, 16, 17, 18].as_slice());
     Ok(())
 }

@@ -21,10 +21,10 @@ pub record AreKeptBits (masks kept : List ℕ) (row : List Bool) (through : ℕ)
   pub as_many : length kept ≡ length masks
   pub bits : (slot : ℕ) → mask_bit kept slot ≡ (nat_lt slot through && (mask_bit masks slot && in_row row slot))
 
--- the first so many links are those whose places are kept, and the others are as they were
+-- the first so many links are those whose places are kept, and the others are none
 pub record AreKeptLinks (links kept : List ℕ) (row : List Bool) (through : ℕ) : Type 0 where
   pub as_many : length kept ≡ length links
-  pub each : (slot : ℕ) → slice_index kept slot ≡ cond (nat_lt slot through) (kept_link (in_row row) (slice_index links slot)) (slice_index links slot)
+  pub each : (slot : ℕ) → slice_index kept slot ≡ cond (nat_lt slot through) (kept_link (in_row row) (slice_index links slot)) 0
 
 -- the row keeps exactly those cells in which some field has a word
 abbrev pub HasWords : List (List ℕ) → List Bool → Type 0
