@@ -4,6 +4,7 @@ pub mod Growing
 pub mod Halves
 pub mod Levels
 pub mod Lists
+pub mod Marks
 pub mod Paths
 pub mod Rows
 pub mod WaysOn

@@ -1,18 +1,17 @@
 -- The row numbers that the walk collects are those of the active coordinates, so that in order they are the active list.
-use Rattle.std.proofs.Common.{◌≡◌, ℕ, ◌+◌, ◌<◌, ◌≤◌, Bool, true, false, cond, eqb, List, length, map, filter, take, get_or, None, is_some, Result, Ok, Err, refl, sym, ap, ◌∙◌, subst, arith}
+use Rattle.std.proofs.Common.{◌≡◌, ℕ, ◌<◌, ◌≤◌, Bool, true, false, cond, eqb, List, length, map, filter, take, get_or, None, is_some, Result, Ok, Err, refl, sym, ap, ◌∙◌, subst, arith}
 use Rattle.std.specs.Result.{IfOk}
 use Rattle.std.specs.List.{Contains, All, IsDistinct, range_with_len}
-use Rattle.std.specs.List.Sorted.{IsPermutation, IsSorted, IsStrictlySortedBy}
+use Rattle.std.specs.List.Sorted.{IsPermutation, IsStrictlySortedBy}
 use Rattle.std.specs.Ordering.{nat_cmp}
 use Rattle.std.specs.BTreeSet.{BTreeSet, contains}
 use Rattle.std.proofs.lemmas.Bool.{cond-true, ne_eqb}
 use Rattle.std.proofs.lemmas.Bool.Decides.{nat_tests}
 use Rattle.std.proofs.lemmas.List.{take_all, length-map}
-use Rattle.std.proofs.lemmas.List.FromFn.{length-range_with_len, get_or-range_with_len}
 use Rattle.std.proofs.lemmas.List.Kept.{IsStrictlySortedBy-filter}
 use Rattle.std.proofs.lemmas.List.Elements.{All-from_get_or, All-contains, Contains-get_or}
-use Rattle.std.proofs.lemmas.List.Sorted.{Contains-permutation, IsPermutation-refl, IsPermutation-sym, IsNonDecreasingBy-from_sort}
-use Rattle.std.proofs.lemmas.Map.Keys.{below_from_sorted, IsDistinct-IsPermutation, IsDistinct-from_apart, IsStrictlyIncreasing-from_distinct, sorted_from_strictly_increasing}
+use Rattle.std.proofs.lemmas.List.Sorted.{Contains-permutation, IsPermutation-refl, IsPermutation-sym}
+use Rattle.std.proofs.lemmas.Map.Keys.{below_from_sorted, IsDistinct-IsPermutation, IsDistinct-from_apart}
 use Rattle.std.proofs.lemmas.Map.Views.{btree_set_contains_iff, list_any-from_Contains, Contains-from_any, exact_unsigned_eq}
 use Rattle.std.proofs.lemmas.Map.Made.{length-le_from_is_member}
 use Rattle.std.proofs.lemmas.Map.Steps.{length-le_from_distinct_below}
@@ -36,7 +35,9 @@ use Rattle.sg_store.specs.WellFormed.{IsWellFormed}
 use Rattle.sg_store.specs.StandsFor.{StandsFor}
 use Rattle.sg_store.specs.StoreLaws.{CellsAreActive}
 use Rattle.sg_elements.specs.steps.Levels.{is_led, level_at, row_along, walk_rows}
+use Rattle.sg_elements.specs.steps.Ordered.{AreOrdered}
 use Rattle.sg_elements.proofs.Lists.{AreApart, apart_map, filter-map}
+use Rattle.sg_elements.proofs.Marks.{range_sorted}
 use Rattle.sg_elements.proofs.Levels.{in_range, below_range, from_level, into_level, level_apart}
 
 -- the laws of the crates below, for one store
@@ -145,31 +146,20 @@ rows_below store laws rows mixed =
     let P : ℕ → Type 0 = λ k. k < volume e in
     subst P found.2 (laws.row_below e (coordinate_of store.shape found.0) is.inside))
 
-rows_distinct : (store : StoreWords) → WalkLaws store → IsDistinct eqb (walk_rows store)
-rows_distinct store laws = IsDistinct-from_apart eqb (walk_rows store) (λ i j d less below. ne_eqb _ _ (rows_apart store laws i j d less below))
+walk_distinct : (store : StoreWords) → WalkLaws store → IsDistinct eqb (walk_rows store)
+walk_distinct store laws = IsDistinct-from_apart eqb (walk_rows store) (λ i j d less below. ne_eqb _ _ (rows_apart store laws i j d less below))
+
+pub rows_distinct : (store : StoreWords) → WalkLaws store → (rows : List ℕ) → IsPermutation (walk_rows store) rows → IsDistinct eqb rows
+rows_distinct store laws rows mixed = IsDistinct-IsPermutation eqb (λ x y. grind (arith, nat_tests)) (walk_rows store) rows mixed (walk_distinct store laws)
 
 -- they are no more than the points
 pub rows_few : (store : StoreWords) → WalkLaws store → length (walk_rows store) ≤ volume (bounds_of_shape store.shape)
 rows_few store laws =
     let below = rows_below store laws (walk_rows store) (IsPermutation-refl (walk_rows store)) in
-    length-le_from_distinct_below (walk_rows store) (volume (bounds_of_shape store.shape)) (rows_distinct store laws)
+    length-le_from_distinct_below (walk_rows store) (volume (bounds_of_shape store.shape)) (walk_distinct store laws)
     (λ row has. All-contains (λ (k : ℕ). k < volume (bounds_of_shape store.shape)) (walk_rows store) row below (Contains-from_any {eq = eqb} exact_unsigned_eq row (walk_rows store) has))
 
-rows_sorted : (store : StoreWords) → WalkLaws store → (rows : List ℕ) → IsPermutation (walk_rows store) rows → IsSorted nat_cmp rows → IsStrictlySortedBy nat_cmp rows
-rows_sorted store laws rows mixed sorted =
-    let distinct = rows_distinct store laws in
-    sorted_from_strictly_increasing rows
-    (IsStrictlyIncreasing-from_distinct rows (IsNonDecreasingBy-from_sort (λ (k : ℕ). k) rows sorted)
-    (IsDistinct-IsPermutation eqb (λ x y. grind (arith, nat_tests)) (walk_rows store) rows mixed distinct))
-
 -- numbers in order are those below another that pass a test, where they are the same numbers
-range_sorted : (size : ℕ) → IsStrictlySortedBy nat_cmp (range_with_len 0 size)
-range_sorted size =
-    sorted_from_strictly_increasing (range_with_len 0 size)
-    (λ k below.
-    let last : k + 1 < size = omega (arith, length-range_with_len 0 size) in
-    omega (arith, get_or-range_with_len 0 size k 0 (omega arith), get_or-range_with_len 0 size (k + 1) 0 last))
-
 rows_that_pass : (size : ℕ) (test : ℕ → Bool) (rows : List ℕ) → IsStrictlySortedBy nat_cmp rows → ((row : ℕ) → Contains rows row → (row < size) × (test row ≡ true)) → ((row : ℕ) → row < size → test row ≡ true → Contains rows row)
     → rows ≡ filter test (range_with_len 0 size)
 rows_that_pass size test rows sorted from into =
@@ -187,14 +177,14 @@ rows_that_pass size test rows sorted from into =
     exact_unsigned
 
 -- the points with the row numbers in order are the active list
-pub rows_are_active : (store : StoreWords) → WalkLaws store → (rows : List ℕ) → IsPermutation (walk_rows store) rows → IsSorted nat_cmp rows → (flat : FlatLayout) → StandsFor store flat
-    → map (point_at (bounds_of_shape store.shape)) rows ≡ flat.active
-rows_are_active store laws rows mixed sorted flat stands =
+pub rows_are_active : (store : StoreWords) → WalkLaws store → (rows ordered : List ℕ) → IsPermutation (walk_rows store) rows → AreOrdered rows ordered → (flat : FlatLayout) → StandsFor store flat
+    → map (point_at (bounds_of_shape store.shape)) ordered ≡ flat.active
+rows_are_active store laws rows ordered mixed are flat stands =
     let e = bounds_of_shape store.shape in
     ap (map (point_at e))
-    (rows_that_pass (volume e) (is_active_row store flat) rows (rows_sorted store laws rows mixed sorted)
-    (λ row has. from_rows store laws flat stands row (Contains-permutation rows (walk_rows store) row (IsPermutation-sym (walk_rows store) rows mixed) has))
-    (λ row below test. Contains-permutation (walk_rows store) rows row mixed (into_rows store laws flat stands row below test)))
+    (rows_that_pass (volume e) (is_active_row store flat) ordered are.rise
+    (λ row has. from_rows store laws flat stands row (Contains-permutation rows (walk_rows store) row (IsPermutation-sym (walk_rows store) rows mixed) (are.from row has)))
+    (λ row below test. are.into row (Contains-permutation (walk_rows store) rows row mixed (into_rows store laws flat stands row below test))))
     ∙ sym (filter-map (point_at e) (is_in_closure store.shape flat.active) (range_with_len 0 (volume e)))
     ∙ sym stands.is_flat.closed
 
@@ -220,7 +210,7 @@ rows_count store laws flat stands =
     let size = volume (bounds_of_shape store.shape) in
     let passing = filter (is_active_row store flat) (range_with_len 0 size) in
     let active : flat.active ≡ map (point_at e) passing = stands.is_flat.closed ∙ filter-map (point_at e) (is_in_closure store.shape flat.active) (range_with_len 0 size) in
-    let some = fewer (walk_rows store) passing (rows_distinct store laws)
+    let some = fewer (walk_rows store) passing (walk_distinct store laws)
     (λ row has. let found = from_rows store laws flat stands row has in into_filter (is_active_row store flat) (range_with_len 0 size) row (in_range size row found.0) found.1) in
     let all = fewer passing (walk_rows store) (passing_distinct size (is_active_row store flat))
     (λ row has. let kept = from_filter (is_active_row store flat) (range_with_len 0 size) row has in into_rows store laws flat stands row (below_range size row kept.0) kept.1) in

@@ -4,6 +4,7 @@
 mod branches;
 mod dense;
 pub mod listing;
+mod order;
 mod reached;
 mod ways;
 

@@ -9,6 +9,7 @@ ghost use Rattle.sg_elements.specs.Active.{CountsActive};
 ghost use Rattle.sg_elements.specs.steps.Levels.{walk_rows};
 
 use crate::dense::{every_point, next_point};
+use crate::order::in_order;
 use crate::reached::{reached_count, reached_count_by, reached_rows, rows_reached_by};
 use sg_coord::{Coord, Extents, coord_at, first_coord, numbering};
 use sg_layout::{closure_members, dense_is_full, paths_tell};
@@ -119,9 +120,8 @@ fn points_in_order(alloc: Global, store: &Store, rows: Vec<u32>) -> Result<Items
     closure_members();
     let extents = store.layout().extents();
     numbering(&extents);
-    let mut rows = rows;
-    rows.sort()?;
-    points_of(alloc, &extents, &rows)
+    let ordered = in_order(alloc, rows, extents.volume())?;
+    points_of(alloc, &extents, &ordered)
 }
 
 /// The points with these row numbers. Where they follow each other, each next point is found by counting up.

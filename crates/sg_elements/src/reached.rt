@@ -6,6 +6,7 @@ ghost use Rattle.std.specs.Thread.{IsSync};
 ghost use Rattle.sg_elements.specs.steps.Levels.{AreBranches, AreWays, AreRowsBetween, FewBelow, level_at, rows_upto, walk_rows};
 
 use crate::branches::{Branch, count_between, level_through, rows_between};
+use crate::order::are_many;
 use crate::ways::{Way, ways_of};
 use sg_store::Store;
 use sg_words::Memory;
@@ -79,7 +80,7 @@ fn rows_among<R: Threads + Sync>(
         if waits {
             return rows_apart(rt, alloc, store, node, level, ways, from, to);
         }
-        return sorted_rows(alloc, store, node, level, ways, from, to);
+        return part_rows(alloc, store, node, level, ways, from, to);
     }
     let half = workers / 2;
     let middle = from + (to - from) / 2;
@@ -140,14 +141,14 @@ fn rows_apart<R: Threads + Sync>(
             requires { (node < length store.now.shape.nodes) × AreBranches store.now node level.now (level_at store.now node)
                 × AreWays store.now node ways.now × (from ≤ to) × (to ≤ length level.now) }
             ensures { IfOk result (λ rows. AreRowsBetween store.entry.now node from to rows.items) }
-        { sorted_rows(alloc, store, node, level, ways, from, to) },
+        { part_rows(alloc, store, node, level, ways, from, to) },
         || (),
     );
     rows
 }
 
-/// The same by one worker, in ascending order.
-fn sorted_rows(
+/// The same by one worker. They are sorted, unless they are so many that those of all parts are ordered by marks.
+fn part_rows(
     alloc: Global,
     store: &Store,
     node: usize,
@@ -164,6 +165,9 @@ fn sorted_rows(
     ensures { IfOk result (λ rows. AreRowsBetween store.now node from to rows.items) }
 {
     let mut rows = rows_between(alloc, store, node, level, ways, from, to)?;
+    if are_many(store.layout().extents().volume(), rows.len()) {
+        return Ok(rows);
+    }
     rows.sort()?;
     Ok(rows)
 }

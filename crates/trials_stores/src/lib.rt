@@ -8,6 +8,8 @@ mod flat;
 #[cfg(test)]
 mod layouts;
 #[cfg(test)]
+mod listed;
+#[cfg(test)]
 mod races;
 #[cfg(test)]
 mod recycling;
