@@ -1,6 +1,9 @@
 -- A coordinate whose cell is known, and the cells that follow.
-use Rattle.std.specs.Prelude.{◌≡◌, ℕ, pos, ◌+ℤ◌, List, Some, slice_get}
+use Rattle.std.specs.Prelude.{◌≡◌, ℕ, pos, ◌+ℤ◌, Bool, false, List, length, Some, option_map, unwrap_or, slice_get}
 use Rattle.sg_coord.specs.declared.coord.Coord.{Coord}
+use Rattle.sg_layout.specs.declared.shape.Shape.{Shape}
+use Rattle.sg_layout.specs.Closure.{is_dense}
+use Rattle.sg_layout.specs.Live.{kind_at}
 use Rattle.sg_store.specs.StoreWords.{StoreWords}
 use Rattle.sg_store.specs.Walks.{cell_in}
 use Rattle.sg_store.specs.WellFormed.{IsReached}
@@ -24,6 +27,14 @@ pub record IsNear (stores : List StoreWords) (layout : ℕ) (near : Near) : Type
 pub record IsFound (stores : List StoreWords) (layout : ℕ) (at : Coord) (cell : ℕ) : Type 0 where
   pub is : cell_there stores layout (Some at) ≡ Some cell
   pub of : IsCellOf stores layout cell
+
+-- The last node of a shape is dense. Else no cell follows another along the last axis.
+abbrev pub ends_dense : Shape → Bool
+ends_dense shape = is_dense (kind_at shape.nodes (length shape.nodes))
+
+-- the same of a layout's store
+abbrev pub may_follow : List StoreWords → ℕ → Bool
+may_follow stores layout = unwrap_or (option_map (λ store. ends_dense store.shape) (slice_get stores layout)) false
 
 -- a coordinate so much further along an axis
 abbrev pub on_first : ℕ → Coord → Coord

@@ -18,6 +18,9 @@ use std::alloc::Global;
 /// From this word on a limit says nothing: the word may be a number below 0.
 const FREE: u32 = 0x8000_0000;
 
+/// Room for so many limits is made at once.
+const FEW: usize = 64;
+
 /// For each register, and for each variable, by its number, the greatest word that it may have. Past the end it may have any.
 #[derive(Drop)]
 pub struct Limits {
@@ -55,42 +58,47 @@ fn most_of(limits: &[u32], number: u32) -> u32
 /// Limits for a slice whose point has parts of at most these. They are a guess, of which nothing is promised here.
 pub(crate) fn limits_of(alloc: Global, most: Most, block: &[Inst]) -> Result<Limits, Memory> {
     let mut limits = Limits {
-        regs: Vec::new(alloc),
-        vars: Vec::new(alloc),
+        regs: Vec::with_capacity(alloc, FEW)?,
+        vars: Vec::with_capacity(alloc, FEW)?,
     };
     raise(&mut limits.vars, 0, most.a)?;
     raise(&mut limits.vars, 1, most.b)?;
     raise(&mut limits.vars, 2, most.c)?;
-    // twice, since a loop may read what is set further down
-    raise_all(&mut limits, block)?;
-    raise_all(&mut limits, block)?;
+    // twice where there is a loop, since that may read what is set further down
+    if raise_all(&mut limits, block)? {
+        raise_all(&mut limits, block)?;
+    }
     Ok(limits)
 }
 
-/// Raises limits to what instructions set.
+/// Raises limits to what instructions set. True if there is a loop among them.
 #[cycle(raising)]
-fn raise_all(limits: &mut Limits, block: &[Inst]) -> Result<(), Memory> {
+fn raise_all(limits: &mut Limits, block: &[Inst]) -> Result<bool, Memory> {
+    let mut loops = false;
     for inst in block {
-        raise_by(limits, inst)?;
+        if raise_by(limits, inst)? {
+            loops = true;
+        }
     }
-    Ok(())
+    Ok(loops)
 }
 
 /// The same by one instruction.
 #[cycle(raising)]
-fn raise_by(limits: &mut Limits, inst: &Inst) -> Result<(), Memory> {
+fn raise_by(limits: &mut Limits, inst: &Inst) -> Result<bool, Memory> {
     match inst {
         Inst::Set { var, from } => {
             let most = limits.reg(*from);
-            raise(&mut limits.vars, *var, most)
+            raise(&mut limits.vars, *var, most)?;
+            Ok(false)
         }
         Inst::If {
             cond: _cond,
             yes,
             no,
         } => {
-            raise_all(limits, yes.as_slice())?;
-            raise_all(limits, no.as_slice())
+            let loops = raise_all(limits, yes.as_slice())?;
+            Ok(raise_all(limits, no.as_slice())? || loops)
         }
         Inst::For {
             var,
@@ -99,12 +107,15 @@ fn raise_by(limits: &mut Limits, inst: &Inst) -> Result<(), Memory> {
             body,
         } => {
             raise(&mut limits.vars, *var, u32::MAX)?;
-            raise_all(limits, body.as_slice())
+            raise_all(limits, body.as_slice())?;
+            Ok(true)
         }
-        _ => match word_of(limits, inst) {
-            Some((to, most)) => raise(&mut limits.regs, to, most),
-            None => Ok(()),
-        },
+        _ => {
+            if let Some((to, most)) = word_of(limits, inst) {
+                raise(&mut limits.regs, to, most)?;
+            }
+            Ok(false)
+        }
     }
 }
 

@@ -113,7 +113,7 @@ pub(crate) fn batch_for<'a>(
 ) -> Result<Batch<'a>, Memory>
     ensures over { IfOk result (IsOver (current copies.now stores.now.list)) }
 {
-    let mut moments = Vec::new(alloc);
+    let mut moments = Vec::with_capacity(alloc, SIDE_BY_SIDE)?;
     for _number in 0..SIDE_BY_SIDE {
         moments.push(Moment::new(alloc, stores, copies))?;
     }

@@ -1,6 +1,6 @@
 //! Which of the 32 columns of rows take part.
 
-ghost use Rattle.std.specs.Prelude.{◌≡◌, ◌<◌, ◌≤◌, ◌&&◌, ℕ, false, not, length, IsTrue};
+ghost use Rattle.std.specs.Prelude.{◌≡◌, ◌<◌, ◌≤◌, ◌&&◌, ℕ, false, ◌==◌, not, nat_lt, count_by, length, IsTrue};
 ghost use Rattle.sg_exec.specs.steps.Rows.{is_on, On};
 
 use std::simd::prelude::*;
@@ -88,4 +88,17 @@ pub(crate) fn has_some(columns: &Columns) -> bool
     ensures { result ≡ false → (k : ℕ) → k < 32 → On columns.now.on k → ⊥ }
 {
     u32x32::splat(0).simd_lt(columns.on).to_bitmask() != 0
+}
+
+/// Whether there are several columns among these.
+#[inline(always)]
+pub(crate) fn has_several(columns: &Columns) -> bool
+    ensures { result ≡ nat_lt 1 (count_by (λ word. not (word == 0)) columns.now.on) }
+{
+    columns
+        .on
+        .simd_ne(u32x32::splat(0))
+        .to_bitmask()
+        .count_ones()
+        > 1
 }

@@ -1,6 +1,6 @@
 //! Own writes, contributions and wants, in some columns.
 
-ghost use Rattle.std.specs.Prelude.{◌≡◌, ◌<◌, ◌≤◌, ◌+◌, ◌*◌, ◌==◌, None, true, not, length, get_or, map, IfSome, IsTrue};
+ghost use Rattle.std.specs.Prelude.{◌≡◌, ◌<◌, ◌≤◌, ◌+◌, ◌*◌, ◌==◌, ℕ, None, true, not, length, get_or, map, IfSome, IsTrue};
 ghost use Rattle.sg_ir.specs.declared.code.Inst.TheVariants as v;
 ghost use Rattle.sg_ir.specs.Runs.{does};
 ghost use Rattle.sg_exec.specs.steps.Rows.{item_in, On};
@@ -9,12 +9,14 @@ ghost use Rattle.sg_exec.specs.steps.Moments.{AllMove, IsOver};
 ghost use Rattle.sg_exec.specs.steps.Accessing.{own_write_at, coord_in, AreCellsOver, AreMade, IsCellAt, IsContributed, IsWanted, IsWritten, KeepStores};
 
 use crate::lanes::batch::Batch;
-use crate::lanes::columns::Columns;
+use crate::lanes::columns::{Columns, has_several};
 use crate::lanes::known::Known;
 use crate::lanes::moment::Moment;
 use crate::lanes::places::Places;
+use crate::lanes::row::row_or_zero;
 use sg_coord::Coord;
 use sg_words::AccOp;
+use std::simd::prelude::*;
 
 /// Own writes.
 #[inline(never)]
@@ -69,9 +71,20 @@ fn add_own_writes(
     write_all(moments, regs, columns, layout, field, from)
 }
 
-/// Looks for the own cells of the iterations of some columns in a layout's store, each by the one before where it follows that.
+/// Looks for the own cells of the iterations of some columns in a layout's store, if there are several and cells may follow one another.
 #[inline(always)]
 pub(crate) fn find_cells(places: &Places, moments: &mut [Moment], columns: &Columns, layout: u32)
+    requires room { 32 ≤ length moments.old }
+    requires over { AreCellsOver places.now.stores moments.old }
+    ensures { moments.new ≡ moments.old }
+{
+    if has_several(columns) && places.may_follow(layout) {
+        find_each(places, moments, columns, layout);
+    }
+}
+
+/// Looks for the own cells of the iterations of some columns in a layout's store, each by the one before where it follows that.
+fn find_each(places: &Places, moments: &mut [Moment], columns: &Columns, layout: u32)
     requires room { 32 ≤ length moments.old }
     requires over { AreCellsOver places.now.stores moments.old }
     ensures { moments.new ≡ moments.old }
@@ -247,14 +260,12 @@ fn add_wants(
         return false;
     };
     let lanes = columns.on.to_array();
+    let first = part_row(regs, index, 0).to_array();
+    let second = part_row(regs, index, 1).to_array();
+    let third = part_row(regs, index, 2).to_array();
     for k in 0..32 {
         let moment = &mut moments[k];
-        let at = coord_from(
-            n,
-            part(regs, k, index, 0),
-            part(regs, k, index, 1),
-            part(regs, k, index, 2),
-        );
+        let at = coord_from(n, first[k], second[k], third[k]);
         if !moment.want_if(lanes[k], layout, at, stmt) {
             return false;
         }
@@ -262,15 +273,14 @@ fn add_wants(
     true
 }
 
-/// The word of the index register for an axis, and 0 past the last.
+/// The row of the index register for an axis, and zeros past the last.
 #[inline(always)]
-fn part(regs: &[u32], k: usize, index: &[u32], axis: usize) -> u32
-    requires column { k < 32 }
-    ensures { result ≡ get_or (map (item_in regs.now 0 k) index.now) axis 0 }
+fn part_row(regs: &[u32], index: &[u32], axis: usize) -> u32x32
+    ensures { (k : ℕ) → k < 32 → get_or result k 0 ≡ get_or (map (item_in regs.now 0 k) index.now) axis 0 }
 {
     match index.get(axis) {
-        Some(reg) => regs.get(*reg as usize * 32 + k).copied().unwrap_or(0),
-        None => 0,
+        Some(reg) => row_or_zero(regs, *reg),
+        None => u32x32::splat(0),
     }
 }
 

@@ -5,10 +5,11 @@ ghost use Rattle.sg_store.specs.StoreWords.{StoreWords};
 ghost use Rattle.sg_store.specs.Following.{along};
 ghost use Rattle.sg_exec.specs.steps.Machines.{cell_there};
 ghost use Rattle.sg_store.specs.Walks.{cell_in};
-ghost use Rattle.sg_exec.specs.steps.Nearby.{IsNear, IsNearIn, IsFound, on_first, on_second, on_third};
+ghost use Rattle.sg_exec.specs.steps.Nearby.{IsNear, IsNearIn, IsFound, ends_dense, on_first, on_second, on_third};
 
 use crate::lanes::view::View;
 use sg_coord::Coord;
+use sg_layout::Kind;
 use sg_store::Store;
 
 /// A coordinate with its cell in a layout's store, and how many cells follow it at least.
@@ -48,6 +49,16 @@ fn cell_after(near: Near, at: Coord) -> Option<u32>
         return None;
     }
     Some(cell + far)
+}
+
+/// Whether the last node of a store is dense. Else no cell follows another.
+#[inline(always)]
+pub(crate) fn ends_dense(store: &Store) -> bool
+    ensures { result ≡ ends_dense store.now.shape }
+{
+    let layout = store.layout();
+    let node = &layout.shape().nodes.as_slice()[layout.nodes() - 1];
+    node.kind == Kind::Dense
 }
 
 /// What is near for the next coordinate, where this one has a cell.

@@ -7,6 +7,7 @@ use crate::lanes::held_row::{HeldRow, checked, in_all, words_of};
 use crate::lanes::held_rows::HeldRows;
 use crate::lanes::held_steps::{row_active, row_below, row_values};
 use crate::lanes::known::{Known, known_of};
+use crate::lanes::near::ends_dense;
 use crate::lanes::row::row;
 use crate::lanes::spots::{cell_held, root_of};
 use crate::lanes::view::View;
@@ -52,6 +53,7 @@ impl<'a> Places<'a> {
     ghost use Rattle.sg_exec.specs.steps.Accessing.{TellsActive, IsValueAt};
     ghost use Rattle.sg_exec.specs.steps.Landing.{current};
     ghost use Rattle.sg_exec.specs.steps.Rows.{item_in, On, IsPut};
+    ghost use Rattle.sg_exec.specs.steps.Nearby.{may_follow};
     ghost use Rattle.sg_exec.specs.steps.Machines.{cell_there, IsCellOf, IsHeld, HoldsPlace, IsStoreOf};
 
     /// No places over the stores, with each copy in the place of the store that it was made of.
@@ -154,6 +156,17 @@ impl<'a> Places<'a> {
         ensures { IfSome result (λ known. IsStoreOf self.now.stores known.layout known.store.now) }
     {
         known_of(&self.view, layout)
+    }
+
+    /// Whether cells of a layout's store may follow one another: whether its last node is dense. False if there is no such layout.
+    #[inline(always)]
+    pub fn may_follow(&self, layout: u32) -> bool
+        ensures { result ≡ may_follow self.now.stores layout }
+    {
+        match self.view.get(layout) {
+            Some(store) => ends_dense(store),
+            None => false,
+        }
     }
 
     /// The values of a field, from 0, at the places of some columns: 0 where nothing is active.

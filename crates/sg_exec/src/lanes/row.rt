@@ -26,6 +26,9 @@ pub(crate) fn reaches<T: Copy>(items: &mut Vec<T>, number: u32, none: T) -> bool
     }
 }
 
+/// Room for so many rows is made at once.
+const FEW_ROWS: usize = 256;
+
 /// Makes a list so long, by items `none`. The items aren't passed to it, so that they can stay in registers.
 #[cold]
 #[inline(never)]
@@ -35,8 +38,9 @@ fn lengthen<T: Copy>(items: &mut Vec<T>, count: usize, none: T) -> Result<(), Me
     ensures most { (bound : ℕ) → length items.old.items ≤ bound → count ≤ bound → length items.new.items ≤ bound }
     ensures same { (place : ℕ) → get_or items.new.items place none ≡ get_or items.old.items place none }
 {
-    for _size in items.len()..count {
-        items.push(none)?;
+    if items.len() < count {
+        items.reserve((FEW_ROWS * 32).saturating_sub(items.len()))?;
+        items.resize(count, none)?;
     }
     Ok(())
 }

@@ -20,7 +20,7 @@ loop-k-preserved c =
     let words : List ℕ = map (item_in c.args.regs.now 0 c.loop-k.k) c.args.index.now in
     let named : c.coord_from-at.result ≡ coord_in c.args.regs.now c.loop-k.k c.args.index.now =
     c.coord_from-at.ensures
-    ∙ coord_parts words c.in-Some.n c.part.result c.part-in-loop-k.result c.part-in-loop-k-2.result (c.in-Some.ensures ∙ map_length (item_in c.args.regs.now 0 c.loop-k.k) c.args.index.now) c.part.ensures c.part-in-loop-k.ensures c.part-in-loop-k-2.ensures in
+    ∙ coord_parts words c.in-Some.n (get_or c.part_row.result c.loop-k.k 0) (get_or c.part_row-2.result c.loop-k.k 0) (get_or c.part_row-3.result c.loop-k.k 0) (c.in-Some.ensures ∙ map_length (item_in c.args.regs.now 0 c.loop-k.k) c.args.index.now) (c.part_row.ensures c.loop-k.k (omega arith)) (c.part_row-2.ensures c.loop-k.k (omega arith)) (c.part_row-3.ensures c.loop-k.k (omega arith)) in
     record {
       stores = keep_more c.loop-k.k c.args.moments.now c.loop-k.moments before c.want_if.new.self low here c.loop-k.invariant.stores c.want_if.ensures.stores;
       made = made_more (λ k. IsWanted (record { layout = c.args.layout; stmt = c.args.stmt; at = coord_in c.args.regs.now k c.args.index.now })) c.args.columns.now.on c.loop-k.k c.args.moments.now c.loop-k.moments before c.want_if.new.self low here c.loop-k.invariant.made

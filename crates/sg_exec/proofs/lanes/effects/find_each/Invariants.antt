@@ -1,6 +1,6 @@
 use Rattle.std.specs.Prelude.{◌≡◌, IfSome}
 use Rattle.sg_exec.specs.steps.Nearby.{IsNear}
-use Rattle.sg_exec.proofs.lanes.effects.find_cells.Given as goal
+use Rattle.sg_exec.proofs.lanes.effects.find_each.Given as goal
 
 abbrev pub invariant-loop-k : goal.invariant-loop-k
 invariant-loop-k l = record {

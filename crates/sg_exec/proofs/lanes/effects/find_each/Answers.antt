@@ -5,7 +5,7 @@ use Rattle.sg_store.specs.StoreWords.{StoreWords}
 use Rattle.sg_exec.specs.declared.lanes.moment.Moment.{Moment}
 use Rattle.sg_exec.specs.steps.Nearby.{IsNear}
 use Rattle.sg_exec.proofs.Added.{set_itself}
-use Rattle.sg_exec.proofs.lanes.effects.find_cells.Goals as goal
+use Rattle.sg_exec.proofs.lanes.effects.find_each.Goals as goal
 
 pub loop-k-init : goal.loop-k-init
 loop-k-init c = record { same = refl; near = tt }
