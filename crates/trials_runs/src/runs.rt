@@ -1,5 +1,7 @@
 //! Sessions, what their stores hold after each run of a kernel, and what they keep where a run is refused.
 
+ghost use Rattle.std.specs.Prelude.{◌≤◌};
+
 use sg_coord::Coord;
 use sg_flat::RunFault;
 use sg_grid::dump;
@@ -172,14 +174,18 @@ fn refusal_of(kernel: u32, end: End) -> Option<RunRefusal> {
     })
 }
 
-/// Whether a kernel of this number is there, and its run ends with this refusal, or with none.
+/// Whether a kernel of this number is there, and its run on so many workers ends with this refusal, or with none.
 fn ends<R: Threads + Sync>(
     rt: &R,
     alloc: Global,
     session: &mut Session,
     kernel: u32,
     refusal: Option<RunRefusal>,
-) -> Result<bool, Memory> {
+    workers: u32,
+) -> Result<bool, Memory>
+    requires some { 1 ≤ workers }
+    requires few { workers ≤ 16 }
+{
     if session.compiled.kernels.len() <= kernel as usize {
         return Ok(false);
     }
@@ -193,7 +199,7 @@ fn ends<R: Threads + Sync>(
         Task::Run { kernel },
         &binds,
         &mut files,
-        3,
+        workers,
         &EveryWorker,
     ) {
         Ok(_text) => Ok(refusal == None),
@@ -220,15 +226,20 @@ fn hold(alloc: Global, stores: &[Store], want: &str) -> Result<bool, Memory> {
     Ok(text.as_slice() == want.as_bytes())
 }
 
-/// Whether a session goes through these steps so.
+/// Whether a session goes through these steps so, on so many workers.
 fn goes<R: Threads + Sync>(
     rt: &R,
     alloc: Global,
     session: &mut Session,
     steps: &[Step],
-) -> Result<bool, Memory> {
+    workers: u32,
+) -> Result<bool, Memory>
+    requires some { 1 ≤ workers }
+    requires few { workers ≤ 16 }
+{
     for Step(kernel, end, from, grids) in steps {
-        if !ends(rt, alloc, session, *kernel, refusal_of(*kernel, *end))? {
+        let refusal = refusal_of(*kernel, *end);
+        if !ends(rt, alloc, session, *kernel, refusal, workers)? {
             return Ok(false);
         }
         match session.stores.list.as_slice().get(*from..) {
@@ -246,18 +257,22 @@ fn goes<R: Threads + Sync>(
 }
 
 /// The same of a file, from its start.
-fn tells<R: Threads + Sync>(
+fn tells_on<R: Threads + Sync>(
     rt: &R,
     alloc: Global,
     file: &str,
     steps: &[Step],
-) -> Result<bool, Memory> {
+    workers: u32,
+) -> Result<bool, Memory>
+    requires some { 1 ≤ workers }
+    requires few { workers ≤ 16 }
+{
     if file.len() > 65_536 {
         return Err(Memory);
     }
     match compile(alloc, file.as_bytes()) {
         Ok(compiled) => match Session::open(alloc, compiled) {
-            Ok(mut session) => goes(rt, alloc, &mut session, steps),
+            Ok(mut session) => goes(rt, alloc, &mut session, steps, workers),
             Err(Memory) => Err(Memory),
         },
         Err(Stop::Refused(_refusal)) => Ok(false),
@@ -269,7 +284,82 @@ fn tells<R: Threads + Sync>(
 fn kernels_run_over_stores(rt: HostRuntime) -> Result<(), Fail> {
     let alloc = rt.alloc();
     for (file, steps) in STORIES {
-        assert!(rt; tells(&rt, alloc, file, steps)?, "{file}");
+        assert!(rt; tells_on(&rt, alloc, file, steps, 3)?, "{file}");
+    }
+    Ok(())
+}
+
+/// Files whose last kernel asks what is active in the first layout, and writes 1 where it is, after runs that were refused with a part of what they
+/// want activated.
+static ASKED: &[(&str, &[Step])] = &[
+    // the first block is there, a second one fits, and all four are wanted; then one more is wanted and a write is outside
+    (
+        "layout A(i) { pointer(i: 4) cap 2; dense(i: 2); field x: i32; } layout C(i) { dense(i: 8); field y: i32; } \
+         kernel one { for i in 0..1 { x[i] = 1; } } kernel all { for i in 0..8 { x[i] = 2; } } kernel past { for i in 6..9 { x[i] = 3; } } \
+         kernel ask { for i in 0..8 { if active(x[i]) { y[i] = 1; } } }",
+        &[
+            Step(
+                0,
+                End::Done,
+                1,
+                "grid 1 8\n0 0\n1 0\n2 0\n3 0\n4 0\n5 0\n6 0\n7 0\n",
+            ),
+            Step(
+                1,
+                End::Full(0, 2),
+                1,
+                "grid 1 8\n0 0\n1 0\n2 0\n3 0\n4 0\n5 0\n6 0\n7 0\n",
+            ),
+            Step(
+                2,
+                End::Outside(1, 8),
+                1,
+                "grid 1 8\n0 0\n1 0\n2 0\n3 0\n4 0\n5 0\n6 0\n7 0\n",
+            ),
+            Step(
+                3,
+                End::Done,
+                1,
+                "grid 1 8\n0 1\n1 1\n2 0\n3 0\n4 0\n5 0\n6 0\n7 0\n",
+            ),
+        ],
+    ),
+    // bits in a block that is there and keys that are new: both are wanted, and there is room for one key more
+    (
+        "layout A(i) { hash(i: 8) cap 2; bitmasked(i: 2); field x: i32; } layout C(i) { dense(i: 16); field y: i32; } \
+         kernel one { for i in 5..6 { x[i] = 1; } } kernel all { for i in 4..12 { x[i] = 2; } } \
+         kernel ask { for i in 0..12 { if active(x[i]) { y[i] = 1; } } }",
+        &[
+            Step(
+                0,
+                End::Done,
+                0,
+                "grid 1 1\n5 1\ngrid 1 16\n0 0\n1 0\n2 0\n3 0\n4 0\n5 0\n6 0\n7 0\n8 0\n9 0\n10 0\n11 0\n12 0\n13 0\n14 0\n15 0\n",
+            ),
+            Step(
+                1,
+                End::Full(0, 2),
+                0,
+                "grid 1 1\n5 1\ngrid 1 16\n0 0\n1 0\n2 0\n3 0\n4 0\n5 0\n6 0\n7 0\n8 0\n9 0\n10 0\n11 0\n12 0\n13 0\n14 0\n15 0\n",
+            ),
+            Step(
+                2,
+                End::Done,
+                0,
+                "grid 1 1\n5 1\ngrid 1 16\n0 0\n1 0\n2 0\n3 0\n4 0\n5 1\n6 0\n7 0\n8 0\n9 0\n10 0\n11 0\n12 0\n13 0\n14 0\n15 0\n",
+            ),
+        ],
+    ),
+];
+
+/// A refused run leaves active what was active before it, and nothing else.
+#[test]
+fn a_refused_run_leaves_what_is_active(rt: HostRuntime) -> Result<(), Fail> {
+    let alloc = rt.alloc();
+    for (file, steps) in ASKED {
+        assert!(rt; tells_on(&rt, alloc, file, steps, 1)?, "{file}");
+        assert!(rt; tells_on(&rt, alloc, file, steps, 2)?, "{file}");
+        assert!(rt; tells_on(&rt, alloc, file, steps, 16)?, "{file}");
     }
     Ok(())
 }

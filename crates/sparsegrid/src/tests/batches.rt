@@ -2,8 +2,9 @@
 
 use super::setting::{EveryWorker, Setting};
 use super::values::Counter;
-use sg_outside::{FreeGate, HoldGate, MemSink, Phase};
+use sg_outside::{FreeGate, Gate, HoldGate, MemSink, Phase};
 use std::alloc::Global;
+use std::process::Abort;
 use std::sync::atomic::{AtomicU64, Ordering};
 use std::test::Fail;
 use std::thread::Threads;
@@ -157,6 +158,142 @@ fn as_in_a_run_of_the_program(rt: HostRuntime) -> Result<(), Fail> {
             assert_eq!(rt; seen.status, *status, "{source}");
             assert_eq!(rt; out.bytes(), text.as_bytes(), "{source}");
         }
+    }
+    Ok(())
+}
+
+/// Two kernels each, and whether they are worth running at the same time: two long ones, two of a point each, a long one beside a short one, and one
+/// that has four times as much to do as the other.
+static WORTH: &[(&str, bool)] = &[
+    (
+        "layout A(i) { dense(i: 1); field x: i32; } layout B(i) { dense(i: 1); field y: i32; } \
+         kernel a { for p, q in 0..1024, 0..1024 { x[0] += p; } } kernel b { for p, q in 0..1024, 0..1024 { y[0] += p; } }",
+        true,
+    ),
+    (
+        "layout A(i) { dense(i: 1); field x: i32; } layout B(i) { dense(i: 1); field y: i32; } \
+         kernel a { for p, q in 0..1, 0..1 { x[0] += p; } } kernel b { for p, q in 0..1, 0..1 { y[0] += p; } }",
+        false,
+    ),
+    (
+        "layout A(i) { dense(i: 1); field x: i32; } layout B(i) { dense(i: 1); field y: i32; } \
+         kernel a { for p, q in 0..1024, 0..1024 { x[0] += p; } } kernel b { for p, q in 0..1, 0..1 { y[0] += p; } }",
+        false,
+    ),
+    (
+        "layout A(i) { dense(i: 1); field x: i32; } layout B(i) { dense(i: 1); field y: i32; } \
+         kernel a { for p, q in 0..1024, 0..1024 { x[0] += p; } } kernel b { for p, q in 0..512, 0..512 { y[0] += p; } }",
+        false,
+    ),
+];
+
+#[test]
+fn worth_running_at_the_same_time(rt: HostRuntime) -> Result<(), Fail> {
+    let alloc = rt.alloc();
+    for (source, free) in WORTH {
+        let mut out = MemSink::new(alloc, Vec::new(alloc), 0);
+        let seen = Setting::of(source).gated(&rt, alloc, &mut out, &FreeGate)?;
+        assert_eq!(rt; seen.status, 0);
+        assert_eq!(rt; seen.worth, (*free, true), "{source}");
+    }
+    Ok(())
+}
+
+/// Counts, and says that it holds nobody: as many workers start as in a run of the program, and groups form where they do there.
+#[derive(Drop)]
+struct Unheld {
+    counter: Counter,
+}
+
+impl Gate for Unheld {
+    fn before(&self, phase: Phase, worker: u32, turn: u32) {
+        self.counter.before(phase, worker, turn);
+    }
+
+    fn may_hold(&self) -> bool {
+        false
+    }
+}
+
+/// Workers, a program, how many turns they have, and the sums of their numbers and of those of the turns, each as often as there are turns. Four
+/// workers of one kernel have 8,192 turns each, and two of them 16,384. The first worker of the second of two kernels in a group has the number 2.
+static FORMED: &[(&str, &str, (u64, u64, u64))] = &[
+    // a group of two, which have two workers each
+    (
+        "4",
+        "layout A(i) { dense(i: 1); field x: i32; } layout B(i) { dense(i: 1); field y: i32; } \
+         kernel a { for p in 0..32768 { x[0] += p; } } kernel b { for p in 0..32768 { y[0] += p; } } run a; run b;",
+        (65536, 98304, 536838144),
+    ),
+    // with one worker each
+    (
+        "2",
+        "layout A(i) { dense(i: 1); field x: i32; } layout B(i) { dense(i: 1); field y: i32; } \
+         kernel a { for p in 0..32768 { x[0] += p; } } kernel b { for p in 0..32768 { y[0] += p; } } run a; run b;",
+        (65536, 32768, 1073709056),
+    ),
+    // three would leave a worker without work: the first has all, and the others are a group
+    (
+        "4",
+        "layout A(i) { dense(i: 1); field x: i32; } layout B(i) { dense(i: 1); field y: i32; } layout C(i) { dense(i: 1); field z: i32; } \
+         kernel a { for p in 0..32768 { x[0] += p; } } kernel b { for p in 0..32768 { y[0] += p; } } kernel c { for p in 0..32768 { z[0] += p; } } \
+         run a; run b; run c;",
+        (98304, 147456, 671039488),
+    ),
+    // the second adds to the same cell: all four workers run one, and then the other
+    (
+        "4",
+        "layout A(i) { dense(i: 1); field x: i32; } kernel a { for p in 0..32768 { x[0] += p; } } kernel b { for p in 0..32768 { x[0] += 1; } } run a; run b;",
+        (65536, 98304, 268402688),
+    ),
+    // of a long and a short one each has all workers, of which the short one takes one
+    (
+        "4",
+        "layout A(i) { dense(i: 1); field x: i32; } layout B(i) { dense(i: 1); field y: i32; } \
+         kernel a { for p in 0..32768 { x[0] += p; } } kernel b { for p in 0..16 { y[0] += p; } } run a; run b;",
+        (32784, 49152, 134201464),
+    ),
+    // two short ones, one after the other
+    (
+        "4",
+        "layout A(i) { dense(i: 1); field x: i32; } layout B(i) { dense(i: 1); field y: i32; } \
+         kernel a { for p in 0..16 { x[0] += p; } } kernel b { for p in 0..16 { y[0] += p; } } run a; run b;",
+        (32, 0, 240),
+    ),
+];
+
+/// The turns of so many workers in which a program's values are made, and the sums of their numbers.
+fn formed<R: Threads + Sync + Abort>(
+    rt: &R,
+    alloc: Global,
+    count: &'static str,
+    source: &'static str,
+) -> Result<(u64, u64, u64), Fail> {
+    let words = ["--workers", count, "p.sg"];
+    let setting = Setting {
+        words: &words,
+        ..Setting::of(source)
+    };
+    let counter = Counter {
+        phase: Phase::Values,
+        turns: AtomicU64::new(0),
+        sum: AtomicU64::new(0),
+    };
+    let gate = Unheld { counter };
+    let mut out = MemSink::new(alloc, Vec::new(alloc), 0);
+    let seen = setting.gated(rt, alloc, &mut out, &gate)?;
+    assert_eq!(rt; seen.status, 0);
+    let turns = gate.counter.turns.load(Ordering::SeqCst);
+    let sum = gate.counter.sum.load(Ordering::SeqCst);
+    Ok((turns, sum >> 32, sum & 0xFFFF_FFFF))
+}
+
+/// Which kernels go at the same time in a run of the program is told by the workers that they have.
+#[test]
+fn groups_form_in_a_run_of_the_program(rt: HostRuntime) -> Result<(), Fail> {
+    for (count, source, told) in FORMED {
+        let seen = formed(&rt, rt.alloc(), *count, *source)?;
+        assert_eq!(rt; seen, *told, "{source}");
     }
     Ok(())
 }

@@ -2,9 +2,10 @@ ghost use Rattle.std.specs.Prelude.{IfSome};
 ghost use Rattle.sg_store.specs.WellFormed.{IsReached};
 
 use crate::run;
+use sg_batch::is_worth;
 use sg_coord::Coord;
-use sg_outside::{Gate, MemFiles, MemSink, NamedBytes, Phase, Sink};
-use sg_session::spell;
+use sg_outside::{FreeGate, Gate, MemFiles, MemSink, NamedBytes, Phase, Sink};
+use sg_session::{Session, spell};
 use sg_store::Store;
 use std::alloc::{AllocError, Global};
 use std::process::Abort;
@@ -24,8 +25,8 @@ pub struct Setting<'a> {
 }
 
 /// What is looked at when a run has ended: its status, whether there is a session, how many of the coordinates from 0 to 3 and from 0 to 15 are
-/// active in the first store, the numbers of the first two containers below the root of that store, the cells of the coordinates 0 and 2, and the
-/// word of its first field at 0.
+/// active in the first store, the numbers of the first two containers below the root of that store, the cells of the coordinates 0 and 2, the
+/// word of its first field at 0, and whether the first two kernels are worth running at the same time.
 #[derive(Clone, Copy)]
 pub struct Seen {
     pub status: u8,
@@ -34,6 +35,7 @@ pub struct Seen {
     pub containers: Option<(u32, u32)>,
     pub cells: Option<(u32, u32)>,
     pub value: Option<u32>,
+    pub worth: (bool, bool),
 }
 
 /// A gate that is open and doesn't say so: all workers start, however little there is to do.
@@ -61,8 +63,10 @@ pub(crate) fn run_over<R: Threads + Sync, S: Sink, G: Gate + Sync>(
         containers: None,
         cells: None,
         value: None,
+        worth: (false, false),
     };
     if let Some(session) = &done.session {
+        seen.worth = worth(session);
         if let Some(store) = session.stores.list.get(0) {
             seen.active = Some(active(store));
             seen.containers = containers(store);
@@ -71,6 +75,14 @@ pub(crate) fn run_over<R: Threads + Sync, S: Sink, G: Gate + Sync>(
         }
     }
     seen
+}
+
+/// Whether the first two kernels are worth running at the same time on four workers: by what they have to do, and where a gate may hold a worker.
+fn worth(session: &Session) -> (bool, bool) {
+    let kernels = session.compiled.kernels.as_slice();
+    let free = is_worth(&session.stores, kernels, &[0, 1], 4, &FreeGate);
+    let held = is_worth(&session.stores, kernels, &[0, 1], 4, &EveryWorker);
+    (free, held)
 }
 
 /// How many of the coordinates from 0 to 3 and from 0 to 15 are active.
